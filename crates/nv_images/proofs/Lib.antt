@@ -2,3 +2,4 @@ pub mod Classes
 pub mod Lengths
 pub mod Squares
 pub mod OneWord
+pub mod Known

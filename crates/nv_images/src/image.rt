@@ -1,30 +1,44 @@
 //! The bytes of the image in a file.
 
-ghost use Rattle.std.specs.Prelude.{◌≡◌, OnOk, OnErr, IfOk, IfErr, IfSome, IsNone, Some, codes, length};
-ghost use Rattle.nv_region.specs.Region.{region_of};
+ghost use Rattle.std.specs.Prelude.{◌≡◌, ◌≤◌, OnOk, OnErr, IfOk, IfErr, IfSome, IsNone, Some, codes, length};
+ghost use Rattle.nv_region.specs.Region.{region_of, bytes_of, size};
 ghost use Rattle.nv_super.specs.Super.{IsRefused};
 ghost use Rattle.nv_super.specs.declared.superblock.SuperFault.{SuperFault};
 ghost use Rattle.nv_images.specs.Superblocks.{said_of, known_content};
 ghost use Rattle.std.specs.Io.KnownBytes.{Appends};
 ghost use Rattle.nv_stream.specs.Streams.{AppendsFront};
-ghost use Rattle.nv_images.specs.Images.{IsRegionLength, KeepsLongest, IsUnread, length_of};
+ghost use Rattle.nv_images.specs.Images.{IsRegionLength, KeepsLongest, IsUnread, length_of, HoldsBytes, StartsSettled, KeepsLongestRegion};
 
 use crate::failure::Failure;
 use crate::superblock::{BadSuper, Content, bad_super, known_content};
-use nv_region::ImageRegion;
+use nv_region::{ImageRegion, MemRegion, Pmem, RegionBytes, RegionRefusal};
 use nv_report::{BadLength, LONGEST_REGION, is_region_length};
-use nv_stream::{Contents, Opened, ScriptError, Unread, contents_of, open_at, write_text};
-use std::alloc::Global;
+use nv_stream::{
+    Contents, Opened, ScriptError, Unread, contents_of, copy_whole, open_at, write_text,
+};
+use std::alloc::{AllocError, Global};
 use std::io::{Read, Write};
 use std::rt::Files;
 
 // The status of an image that is refused.
 const REFUSED_STATUS: u8 = 2;
 
+// The words in which what is recognized of a file stands: its first 1088 bytes.
+const WORDS_TO_KNOW: usize = 136;
+
 /// What the file of an image holds.
 #[derive(Drop)]
 pub enum Image {
     Bytes(Vec<u8>),
+    /// More bytes than a region can have, which are not read.
+    TooLong(BadLength),
+}
+
+/// The region in the file of an image.
+#[derive(Drop)]
+pub enum Loaded {
+    /// It, in memory.
+    Region(MemRegion),
     /// More bytes than a region can have, which are not read.
     TooLong(BadLength),
 }
@@ -78,6 +92,65 @@ pub fn image_at<'a, H: Files + AllocGlobal>(rt: &H, path: &'a str) -> Result<Ima
     read_image(rt.alloc(), open_image(rt, path)?)
 }
 
+/// Reads an image as a region, once and in pieces: no more than a piece is held beside the region. It has nothing pending, and no
+/// fuse.
+///
+/// Errors: `CannotRead` where the file can't be read, and want of memory.
+pub fn load_image<'a, F: Read + Drop>(
+    alloc: Global,
+    file: ImageFile<'a, F>,
+) -> Result<Loaded, Failure<'a>>
+    ensures region { IfOk result (λ loaded. IfSome (F.remaining file.entry.opened.file) (λ bytes. HoldsBytes bytes loaded)) }
+    ensures settled { IfOk result StartsSettled }
+    ensures longest { IfOk result KeepsLongestRegion }
+    ensures error { IfErr result (IsUnread file.entry.path) }
+{
+    let ImageFile { path, opened } = file;
+    load_opened(alloc, opened).map_err(|unread| Failure::unread(path, unread))
+}
+
+/// Reads the image in the file at a path as a region, as `load_image` does.
+///
+/// Errors: `CannotRead` where the file can't be opened or read, and want of memory.
+pub fn region_at<'a, H: Files + AllocGlobal>(rt: &H, path: &'a str) -> Result<Loaded, Failure<'a>>
+    ensures settled { IfOk result StartsSettled }
+    ensures longest { IfOk result KeepsLongestRegion }
+    ensures error { IfErr result (IsUnread path.entry) }
+{
+    load_image(rt.alloc(), open_image(rt, path)?)
+}
+
+// A file that says that it is longer isn't read.
+fn load_opened<F: Read + Drop>(alloc: Global, opened: Opened<F>) -> Result<Loaded, Unread>
+    ensures region { IfOk result (λ loaded. IfSome (F.remaining opened.file) (λ bytes. HoldsBytes bytes loaded)) }
+    ensures settled { IfOk result StartsSettled }
+    ensures longest { IfOk result KeepsLongestRegion }
+{
+    let Opened { file, stamp } = opened;
+    let told = stamp.length;
+    match usize::try_from(told) {
+        Ok(length) if length <= LONGEST_REGION => load_pieces(alloc, file, length),
+        _ => Ok(Loaded::TooLong(BadLength::Bytes(told))),
+    }
+}
+
+fn load_pieces<F: Read + Drop>(alloc: Global, file: F, length: usize) -> Result<Loaded, Unread>
+    requires { length ≤ LONGEST_REGION }
+    ensures region { IfOk result (λ loaded. IfSome (F.remaining file) (λ bytes. HoldsBytes bytes loaded)) }
+    ensures settled { IfOk result StartsSettled }
+    ensures longest { IfOk result KeepsLongestRegion }
+{
+    let mut bytes = RegionBytes::new(alloc, length)?;
+    if !copy_whole(file, LONGEST_REGION, &mut bytes)? {
+        return Ok(Loaded::TooLong(BadLength::MoreThan(LONGEST_REGION as u64)));
+    }
+    match bytes.into_region() {
+        Ok(region) => Ok(Loaded::Region(region)),
+        // There are no more bytes than a region can have.
+        Err(RegionRefusal::Length) | Err(RegionRefusal::Memory) => Err(Unread::Memory),
+    }
+}
+
 /// Writes the answer to bytes that are too many for a region, and gives its exit status. Errors: `Write` where the writer failed.
 pub fn refuse_length<W: Write>(writer: &mut W) -> Result<u8, ScriptError>
     ensures ok { OnOk result (Appends (W.contents writer.old) (W.contents writer.new) (codes "refused S1\n")) }
@@ -120,6 +193,29 @@ pub fn why_refused(alloc: Global, bytes: &[u8]) -> Option<Unaccepted>
         words,
         content: known_content(bytes),
     })
+}
+
+/// `why_refused` of the bytes of a region. Errors: `AllocError` where a growth was refused.
+pub fn why_region_refused(
+    alloc: Global,
+    region: &MemRegion,
+) -> Result<Option<Unaccepted>, AllocError>
+    ensures length { IfOk result (λ told. IfSome told (λ why. IfSome why.length (λ told. (told ≡ BadLength.Bytes (size region.now.region)) × (¬ IsRegionLength (size region.now.region))))) }
+    ensures words { IfOk result (λ told. IfSome told (λ why. IfSome why.words (λ words. (fault : SuperFault) × IsRefused region.now.region fault × (said_of region.now.region fault ≡ Some words)))) }
+    ensures content { IfOk result (λ told. IfSome told (λ why. why.content ≡ known_content (bytes_of region.now.region))) }
+    ensures none { IfOk result (λ told. IsNone told → IsRegionLength (size region.now.region)) }
+{
+    let length = told_length(region.len());
+    let words = bad_super(region);
+    if length.is_none() && words.is_none() {
+        return Ok(None);
+    }
+    let content = known_content(&region.first_bytes(WORDS_TO_KNOW)?);
+    Ok(Some(Unaccepted {
+        length,
+        words,
+        content,
+    }))
 }
 
 /// Says on standard error for what the image of these bytes was refused, where an answer of this status may be that.

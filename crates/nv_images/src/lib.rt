@@ -21,12 +21,13 @@ pub use drawing::svg_text;
 pub use explaining::explain;
 pub use failure::{Failure, exit_of};
 pub use image::{
-    Image, ImageFile, Unaccepted, image_at, open_image, read_image, refuse_length, tell_length,
-    tell_refused, tell_unaccepted, why_refused,
+    Image, ImageFile, Loaded, Unaccepted, image_at, load_image, open_image, read_image,
+    refuse_length, region_at, tell_length, tell_refused, tell_unaccepted, why_refused,
+    why_region_refused,
 };
 pub use nv_stream::{Lock, Stamp};
 pub use reason::Reason;
-pub use saving::{Held, Target, hold, save_and_hold, save_file, see_ready};
+pub use saving::{Held, Target, hold, save_and_hold, save_file, save_region, see_ready};
 pub use shown::Shown;
 pub use telling::{ended, print_line, refuse_words, tell_explain, tell_failure, tell_faults};
 pub use words::{Words, words_of};

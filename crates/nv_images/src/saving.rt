@@ -1,14 +1,18 @@
 //! Writing files: images, and what is drawn of them.
 
-ghost use Rattle.std.specs.Prelude.{◌≡◌, IfErr, IfOk, IfSome, true, false, is_none};
+ghost use Rattle.std.specs.Prelude.{◌≡◌, ◌⊎◌, IfErr, IfOk, IfSome, OnOk, true, false, is_none};
+ghost use Rattle.std.specs.Io.KnownBytes.{Appends};
+ghost use Rattle.nv_region.specs.Region.{bytes_of};
 ghost use Rattle.nv_images.specs.Images.{IsUnsaved, IsUnanswered};
 
 use crate::failure::Failure;
 use crate::telling::tell_left;
+use nv_region::MemRegion;
 use nv_stream::{
-    Allowed, Lock, Place, Stamp, hold_place, hold_saved, save_at, try_beside, write_text,
+    Allowed, Content, Lock, Place, ScriptError, Stamp, hold_place, hold_saved, save_at, try_beside,
 };
 use std::io;
+use std::io::{ErrorKind, Write};
 use std::rt::Files;
 
 /// A file that is to be written.
@@ -107,15 +111,23 @@ where
     ensures file { is_none held.now.place ≡ false → IfErr result (IsUnsaved held.now.target.path) }
     ensures output { is_none held.now.place ≡ true → IfErr result IsUnanswered }
 {
-    let path = held.target.path;
-    let Some(place) = &held.place else {
-        write_text(&mut io::writer(rt), bytes)?;
-        return Ok(());
-    };
-    match save_at(rt, path, place, &bytes) {
-        Ok(_file) => Ok(()),
-        Err(unsaved) => Err(Failure::unsaved(path, unsaved)),
-    }
+    let _file = save_content(rt, held, &bytes)?;
+    Ok(())
+}
+
+/// `save_file` of the bytes of a region as it reads, which are written in pieces.
+pub fn save_region<'a, H: Files + AllocGlobal + Print>(
+    rt: &H,
+    held: &Held<'a, H::File>,
+    region: &MemRegion,
+) -> Result<(), Failure<'a>>
+where
+    H::File: Lock,
+    ensures file { is_none held.now.place ≡ false → IfErr result (IsUnsaved held.now.target.path) }
+    ensures output { is_none held.now.place ≡ true → IfErr result IsUnanswered }
+{
+    let _file = save_content(rt, held, &RegionContent { region })?;
+    Ok(())
 }
 
 /// `save_file`, which goes on holding the place: the new file has its lock from before it is there. Answers nothing where the
@@ -133,14 +145,9 @@ where
     ensures file { is_none held.now.place ≡ false → IfErr result (IsUnsaved held.now.target.path) }
     ensures output { is_none held.now.place ≡ true → IfErr result IsUnanswered }
 {
-    let target = held.target;
-    let Some(place) = &held.place else {
-        write_text(&mut io::writer(rt), bytes)?;
-        return Ok(None);
-    };
-    match save_at(rt, target.path, place, &bytes) {
-        Ok(file) => Ok(held_again(rt, target, file)),
-        Err(unsaved) => Err(Failure::unsaved(target.path, unsaved)),
+    match save_content(rt, held, &bytes)? {
+        Some(file) => Ok(held_again(rt, held.target, file)),
+        None => Ok(None),
     }
 }
 
@@ -154,5 +161,54 @@ fn held_again<'a, H: Files>(rt: &H, target: Target<'a>, file: H::File) -> Option
             place: Some(place),
         }),
         Err(_) => None,
+    }
+}
+
+// The bytes of a region, as what a file is to hold.
+#[derive(Drop)]
+struct RegionContent<'a> {
+    region: &'a MemRegion,
+}
+
+impl Content for RegionContent<'_> {
+    ghost use Rattle.nv_region.specs.Region.{bytes_of};
+
+    ghost bytes = { λ content. bytes_of content.region.now.region };
+
+    fn write_to<W: Write>(&self, writer: &mut W) -> Result<(), io::Error> {
+        self.region.write_to(writer)
+    }
+}
+
+// Writes a file of this content at its place, and answers it; or writes the content to standard output.
+fn save_content<'a, H: Files + AllocGlobal + Print, C: Content>(
+    rt: &H,
+    held: &Held<'a, H::File>,
+    content: &C,
+) -> Result<Option<H::File>, Failure<'a>>
+where
+    H::File: Lock,
+    ensures file { is_none held.now.place ≡ false → IfErr result (IsUnsaved held.now.target.path) }
+    ensures output { is_none held.now.place ≡ true → IfErr result IsUnanswered }
+{
+    let Some(place) = &held.place else {
+        write_content(&mut io::writer(rt), content)?;
+        return Ok(None);
+    };
+    match save_at(rt, held.target.path, place, content) {
+        Ok(file) => Ok(Some(file)),
+        Err(unsaved) => Err(Failure::unsaved(held.target.path, unsaved)),
+    }
+}
+
+// Writes a content to standard output.
+fn write_content<W: Write, C: Content>(writer: &mut W, content: &C) -> Result<(), ScriptError>
+    ensures ok { OnOk result (Appends (W.contents writer.old) (W.contents writer.new) (C.bytes content.now)) }
+    ensures kind { IfErr result (λ e. (e ≡ ScriptError.Write) ⊎ (e ≡ ScriptError.Memory)) }
+{
+    match content.write_to(writer) {
+        Ok(()) => Ok(()),
+        Err(error) if error.kind() == ErrorKind::OutOfMemory => Err(ScriptError::Memory),
+        Err(_) => Err(ScriptError::Write),
     }
 }
