@@ -5,7 +5,8 @@ use Rattle.nv_region.specs.Region.{Region, region_of}
 use Rattle.nv_super.specs.declared.superblock.SuperFault.{SuperFault}
 use Rattle.nv_super.specs.Super.{IsRefused}
 use Rattle.nv_report.specs.nv_outcome.Outcome.{Outcome, IsOutcome}
-use Rattle.nv_text.specs.Answers.{refused_line}
+use Rattle.nv_json.specs.Json.{TellsReport}
+use Rattle.nv_text.specs.Answers.{line, refused_line}
 use Rattle.nv_super.specs.FaultText.{super_fault_name}
 use Rattle.nv_stream.specs.declared.fault.ScriptError.{ScriptError}
 use Rattle.nv_stream.specs.declared.fault.ScriptError.TheVariants.{Read, Write, Memory}
@@ -17,7 +18,7 @@ use Rattle.nv_checking.specs.Workers.{is_worker_count}
 use Rattle.nv_report.specs.Summary.{summary_line}
 use Rattle.nv_text.specs.Faults.{faults_text}
 use Rattle.nv_checking.specs.declared.output.Output.{Output}
-use Rattle.nv_checking.specs.declared.output.Output.TheVariants.{Report, Summary, OnlyFaults}
+use Rattle.nv_checking.specs.declared.output.Output.TheVariants.{Report, Summary, OnlyFaults, Json}
 
 -- the command was refused by this name
 abbrev pub IsRefusal : List ℕ → List ℕ → ℕ → Type 0
@@ -27,11 +28,12 @@ IsRefusal name text status = (text ≡ refused_line name) × (status ≡ 2)
 abbrev pub IsSuperRefusal : Region → List ℕ → ℕ → Type 0
 IsSuperRefusal R text status = (fault : SuperFault) × IsRefused R fault × IsRefusal (super_fault_name fault) text status
 
--- what a check writes of a region that isn't refused: the whole report, one line of sums, or the faults alone
+-- what a check writes of a region that isn't refused: the whole report, one line of sums, the faults alone, or a JSON object
 abbrev pub IsOutputText : Output → Outcome → List ℕ → Type 0
 IsOutputText Report o text = IsReportText o text
 IsOutputText Summary o text = text ≡ summary_line o
 IsOutputText OnlyFaults o text = text ≡ faults_text o.faults
+IsOutputText Json o text = (json : List ℕ) × TellsReport o json × (text ≡ line json)
 
 -- such an output of the region's outcome; the status says whether there are faults
 abbrev pub IsOutput : Output → Region → List ℕ → ℕ → Type 0

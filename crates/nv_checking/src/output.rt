@@ -4,8 +4,10 @@ ghost use Rattle.std.specs.Prelude.{IfOk, string_bytes};
 ghost use Rattle.nv_super.specs.Layout.{HasAreas};
 ghost use Rattle.nv_report.specs.nv_outcome.Answer.{outcome_of};
 ghost use Rattle.nv_checking.specs.Checking.{IsOutputText};
+ghost use Rattle.nv_checking.specs.declared.output.Output.TheVariants as outputs;
 
-use nv_report::{Part, Recovered, part_text, summary_text};
+use nv_json::report_json;
+use nv_report::{Part, Recovered, Shown, part_text, summary_text};
 use std::alloc::{AllocError, Global};
 
 /// What a check writes.
@@ -17,6 +19,8 @@ pub enum Output {
     Summary,
     /// The faults alone.
     OnlyFaults,
+    /// The whole report as one JSON object.
+    Json,
 }
 
 /// The text of a recovery for such an output.
@@ -32,5 +36,15 @@ pub fn output_text(
         Output::Report => part_text(alloc, recovered, Part::Report),
         Output::Summary => summary_text(alloc, recovered),
         Output::OnlyFaults => part_text(alloc, recovered, Part::Faults),
+        Output::Json => json_text(alloc, recovered),
     }
+}
+
+// The report as a JSON object on a line.
+fn json_text(alloc: Global, recovered: &Recovered) -> Result<String, AllocError>
+    ensures { IfOk result (λ text. IsOutputText outputs.Json (outcome_of recovered.now) (string_bytes text)) }
+{
+    let mut text = report_json(alloc, &Shown::of(recovered))?;
+    text.push_str("\n")?;
+    Ok(text)
 }

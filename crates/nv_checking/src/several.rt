@@ -56,6 +56,7 @@ fn in_lines(output: Output) -> Output {
     match output {
         Output::Report | Output::Summary => Output::Summary,
         Output::OnlyFaults => Output::OnlyFaults,
+        Output::Json => Output::Json,
     }
 }
 
