@@ -30,7 +30,9 @@ FIELD = re.compile(r"((?: *///.*\n)*) *pub(?:\(crate\))? (\w+): ([^,{]+),")
 EXPORT = re.compile(r'((?:///.*\n)+)#\[unsafe\(no_mangle\)\]\npub extern "C" fn (\w+)\(([^)]*)\) -> u32')
 CONSTANT = re.compile(r"^(?:pub\(crate\) )?const (\w+): u32 = (\d+);", re.M)
 VARIANT = re.compile(r"^ *(\w+)::(\w+)(?:\(_\))? => (\w+),", re.M)
-BY_CONSTANT = re.compile(r"(\w+)::(\w+)(?:\(_\))? => ([A-Z_]+),")
+# What an export and a status look like at least: so many of them have to be found.
+ANY_EXPORT = re.compile(r"^#\[unsafe\(no_mangle\)\]", re.M)
+ANY_STATUS = re.compile(r"=> (\d+),|: u32 = (\d+);")
 
 
 def snake(name):
@@ -92,6 +94,9 @@ def statuses(text):
         if enum in PREFIXES and (value.isdigit() or value in named):
             number = int(value) if value.isdigit() else named[value]
             said.setdefault(number, PREFIXES[enum] + snake(variant).upper())
+    lacking = {int(one or other) for one, other in ANY_STATUS.findall(text)} - said.keys()
+    if lacking:
+        sys.exit(f"header.py: no name is found for {sorted(lacking)}")
     return "".join(f"    NOVA_{name} = {number},\n" for number, name in sorted(said.items()))
 
 
@@ -110,6 +115,9 @@ def header():
     texts = {path.stem: path.read_text() for path in SOURCES.glob("*.rt")}
     structs = {found[1]: struct(found) for text in texts.values() for found in STRUCT.findall(text)}
     calls = {stem: "\n".join(export(found) for found in EXPORT.findall(text)) for stem, text in texts.items()}
+    unread = [stem for stem, text in texts.items() if len(EXPORT.findall(text)) != len(ANY_EXPORT.findall(text))]
+    if unread:
+        sys.exit(f"header.py: an export isn't read of {', '.join(unread)}")
     lacking = [name for name in structs if name not in STRUCTS] + [stem for stem, said in calls.items() if said and stem not in FILES]
     if lacking:
         sys.exit(f"header.py: add {', '.join(lacking)} to its lists")

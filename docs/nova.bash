@@ -14,7 +14,7 @@ _nova() {
             ls) words="--help" ;;
             stat) words="--help" ;;
             cat) words="--help" ;;
-            explain) words="J1 J2 I1 I2 I3 L1 L2 L3 L4 E1 E2 E3 E4 C1 C2 C3 C4 C5 B1 S1 S2 S3 S4 S5 S6 S7 --help" ;;
+            explain) words="J1 J2 H1 H2 I1 I2 I3 L1 L2 L3 L4 E1 E2 E3 E4 C1 C2 C3 C4 C5 B1 S1 S2 S3 S4 S5 S6 S7 --help" ;;
             map) words="--svg --force --help" ;;
             help) words="run shell check mkfs clean ls stat cat explain map" ;;
         esac

@@ -12,87 +12,179 @@
 #include <sys/stat.h>
 #include <unistd.h>
 
+#include "changes.h"
+
 struct image image;
 
-/* ---- saving */
+/* The file beside the image that takes its place when it is saved. What was the image is the spare then, and lacks only what was
+ * stored since. */
+static struct {
+    char *path;
+    int file; /* -1 where there is none */
+} spare = {.file = -1};
 
-static bool write_all(int file, const uint8_t *bytes, size_t length)
+/* ---- the spare */
+
+/* The folder's entries are durable too. */
+static bool sync_folder(void)
 {
-    while (length > 0) {
-        ssize_t count = write(file, bytes, length);
+    char *folder = strdup(image.path);
+    char *slash = folder ? strrchr(folder, '/') : NULL;
+    if (slash)
+        slash[slash == folder] = 0;
+    int at = slash ? open(folder, O_RDONLY | O_DIRECTORY | O_CLOEXEC) : -1;
+    bool is_synced = at >= 0 && !fsync(at);
+    int error = errno;
+    if (at >= 0)
+        close(at);
+    free(folder);
+    errno = error;
+    return is_synced;
+}
+
+static void drop_spare(void)
+{
+    int error = errno;
+    if (spare.file >= 0) {
+        unlink(spare.path);
+        close(spare.file);
+    }
+    spare.file = -1;
+    errno = error;
+}
+
+/* Gives the spare the owner of the image, where this program may, and its permissions. */
+static bool is_owned_alike(void)
+{
+    struct stat st;
+    return !fstat(image.file, &st) && (!fchown(spare.file, st.st_uid, st.st_gid) || errno == EPERM) &&
+           !fchmod(spare.file, st.st_mode & 07777);
+}
+
+/* Copies the image as it was saved. Where the file system can, the two share their blocks. */
+static bool copy_saved(void)
+{
+    off_t from = 0, to = 0;
+    while ((size_t)to < image.length) {
+        ssize_t count = copy_file_range(image.file, &from, spare.file, &to, image.length - (size_t)to, 0);
         if (count < 0 && errno == EINTR)
             continue;
-        if (count <= 0)
+        if (count <= 0) {
+            errno = count ? errno : EIO;
             return false;
+        }
+    }
+    return true;
+}
+
+/* Makes a spare, where there is none: a copy of the image as it was saved. It is locked before it gets the image's name. */
+static bool have_spare(void)
+{
+    if (spare.file >= 0)
+        return true;
+    if (!spare.path && asprintf(&spare.path, "%s.novafuse", image.path) < 0) {
+        spare.path = NULL;
+        errno = ENOMEM;
+        return false;
+    }
+    spare.file = open(spare.path, O_RDWR | O_CREAT | O_TRUNC | O_NOFOLLOW | O_CLOEXEC, 0600);
+    return spare.file >= 0 && !flock(spare.file, LOCK_EX | LOCK_NB) && is_owned_alike() && copy_saved();
+}
+
+static bool write_all(int file, const uint8_t *bytes, size_t length, off_t at)
+{
+    while (length > 0) {
+        ssize_t count = pwrite(file, bytes, length, at);
+        if (count < 0 && errno == EINTR)
+            continue;
+        if (count <= 0) {
+            errno = count ? errno : EIO;
+            return false;
+        }
         bytes += count;
+        at += count;
         length -= (size_t)count;
     }
     return true;
 }
 
-/* The folder's entry is durable too, once the file has its name. */
-static bool sync_folder(const char *path)
+/* Writes what the spare lacks. */
+static bool fill_spare(void)
 {
-    char *folder = strdup(path);
-    char *slash = folder ? strrchr(folder, '/') : NULL;
-    if (slash)
-        slash[slash == folder] = 0;
-    int at = slash ? open(folder, O_RDONLY | O_DIRECTORY) : -1;
-    bool is_synced = at >= 0 && !fsync(at);
-    if (at >= 0)
-        close(at);
-    free(folder);
-    return is_synced;
+    size_t length;
+    for (size_t at = 0; (length = spare_lacks(&at)); at += length)
+        if (!write_all(spare.file, image.pages + at, length, (off_t)at))
+            return false;
+    return !fsync(spare.file);
 }
 
-/* Gives a file the owner of another, where the caller may. */
-static bool same_owner(int file, const struct stat *other)
+/* Whether the image's file has its name still. */
+static bool is_named(void)
 {
-    return !fchown(file, other->st_uid, other->st_gid) || errno == EPERM;
+    struct stat opened, named;
+    return !fstat(image.file, &opened) && !stat(image.path, &named) && opened.st_ino == named.st_ino &&
+           opened.st_dev == named.st_dev;
 }
 
-/* Writes the region beside the image, and puts it in its place. The new file is locked before it gets the name. */
-static bool put_image(nova_fs *fs, const char *beside)
+/* Puts the spare in the image's place, and the image in the spare's; or in no place, where the file system can't exchange two. */
+static bool put_spare(void)
 {
-    uint8_t *bytes = malloc(image.length);
-    struct stat old;
-    int file = open(beside, O_RDWR | O_CREAT | O_TRUNC, 0600);
-    bool is_put = bytes && file >= 0 && !flock(file, LOCK_EX | LOCK_NB) && !fstat(image.file, &old) &&
-                  same_owner(file, &old) && !fchmod(file, old.st_mode & 07777) && !nova_save(fs, bytes, image.length) &&
-                  write_all(file, bytes, image.length) && !fsync(file) && !rename(beside, image.path) &&
-                  sync_folder(image.path);
-    int error = errno;
-    free(bytes);
-    if (file >= 0) {
-        /* The lock goes with the file that was there. */
-        if (is_put)
-            dup2(file, image.file);
-        else
-            unlink(beside);
-        close(file);
+    if (renameat2(AT_FDCWD, spare.path, AT_FDCWD, image.path, RENAME_EXCHANGE)) {
+        if ((errno != EINVAL && errno != ENOSYS) || rename(spare.path, image.path))
+            return false;
+        close(image.file);
+        image.file = spare.file;
+        spare.file = -1;
+    } else {
+        int file = image.file;
+        image.file = spare.file;
+        spare.file = file;
     }
-    errno = error;
-    return is_put;
+    spare_is_image();
+    return true;
 }
 
-int save_image(nova_fs *fs)
+/* ---- saving */
+
+static bool save_pages(void)
+{
+    if (!have_spare() || !fill_spare()) {
+        drop_spare();
+        return false;
+    }
+    if (!is_named()) {
+        fprintf(stderr, "novafuse: %s isn't the file that is mounted; what was written is in %s\n", image.path, spare.path);
+        errno = ESTALE;
+        return false;
+    }
+    if (!put_spare())
+        return false;
+    /* Until the exchange is durable, the old image may be the one that a power cut leaves. */
+    if (!sync_folder()) {
+        drop_spare();
+        return false;
+    }
+    return true;
+}
+
+int save_image(void)
 {
     if (!image.is_changed)
         return 0;
-    if (image.is_shared) {
-        if (msync(image.pages, image.length, MS_SYNC))
-            return -errno;
-    } else {
-        char *beside;
-        if (asprintf(&beside, "%s.novafuse", image.path) < 0)
-            return -ENOMEM;
-        bool is_put = put_image(fs, beside);
-        free(beside);
-        if (!is_put)
-            return errno ? -errno : -EIO;
-    }
+    bool is_saved = image.is_shared ? !msync(image.pages, image.length, MS_SYNC) : save_pages();
+    if (!is_saved)
+        return errno ? -errno : -EIO;
     image.is_changed = false;
     return 0;
+}
+
+void close_image(void)
+{
+    /* What couldn't be put in the image's place is kept beside it. */
+    if (!image.is_changed)
+        drop_spare();
+    free(spare.path);
+    spare.path = NULL;
 }
 
 /* ---- opening */
@@ -105,62 +197,52 @@ bool says(const char *what)
 
 bool lock_image(const char *path)
 {
-    struct stat opened, named;
+    struct stat st;
     image.path = path;
     image.file = open(image.path, O_RDWR | O_CLOEXEC);
     if (image.file < 0)
         return says(strerror(errno));
     if (flock(image.file, LOCK_EX | LOCK_NB))
         return says(errno == EWOULDBLOCK ? "it is mounted already" : strerror(errno));
-    if (fstat(image.file, &opened) || stat(image.path, &named))
-        return says(strerror(errno));
     /* Another mount may have put a new file there before the old one's lock was taken. */
-    if (opened.st_ino != named.st_ino || opened.st_dev != named.st_dev)
+    if (!is_named())
         return says("it is mounted already");
-    image.length = (size_t)opened.st_size;
+    if (fstat(image.file, &st))
+        return says(strerror(errno));
+    image.length = (size_t)st.st_size;
     return image.length > 0 || says("it is empty");
 }
 
-static uint8_t *pages(int kind)
+/* Maps the file's pages, or private copies of them. */
+static bool map_pages(int kind)
 {
     void *at = mmap(NULL, image.length, PROT_READ | PROT_WRITE, kind, image.file, 0);
-    return at == MAP_FAILED ? NULL : at;
+    image.pages = at == MAP_FAILED ? NULL : at;
+    image.is_shared = kind == MAP_SHARED;
+    return image.pages;
 }
 
-/* Puts a mount over the file's pages, or a copy of them, into the handle: its status. */
-static uint32_t map(nova_fs *fs, int kind)
+static uint32_t open_pages(nova_fs *fs)
 {
-    image.pages = pages(kind);
-    if (!image.pages)
-        return NOVA_MEMORY;
-    image.is_shared = kind == MAP_SHARED;
     return nova_map(fs, (nova_image){(uint64_t *)(void *)image.pages, image.length / 8});
 }
 
-/* Recovers the image where its pages are. It is tried on a copy first, so that one with faults stays as it is. */
-static uint32_t open_mapped(nova_fs *fs)
+/* The library takes whole words, and a superblock whole blocks. An image is recovered where its pages are only if it has no
+ * faults, so that one with faults stays as it is. */
+uint32_t open_image(nova_fs *fs, bool is_mapped)
 {
-    /* The library takes whole words, and a superblock whole blocks. */
+    nova_space space;
     if (image.length % IMAGE_BLOCK)
         return NOVA_SUPER_LENGTH;
-    nova_space space;
-    uint32_t status = map(fs, MAP_PRIVATE);
-    if (status || nova_space_of(fs, &space) || space.faults > 0)
+    if (!map_pages(MAP_PRIVATE) || !(is_mapped || watch_changes(image.pages, image.length)))
+        return NOVA_MEMORY;
+    uint32_t status = open_pages(fs);
+    if (!is_mapped || status || nova_space_of(fs, &space) || space.faults > 0)
         return status;
     nova_close(fs);
     munmap(image.pages, image.length);
-    return map(fs, MAP_SHARED);
+    /* A store to a hole of the file would end the program where the disk is full. */
+    if (fallocate(image.file, 0, 0, (off_t)image.length) && errno != EOPNOTSUPP)
+        return NOVA_NO_SPACE;
+    return map_pages(MAP_SHARED) ? open_pages(fs) : NOVA_MEMORY;
 }
-
-/* Recovers a copy of the image. */
-static uint32_t open_copied(nova_fs *fs)
-{
-    uint8_t *bytes = pages(MAP_PRIVATE);
-    if (!bytes)
-        return NOVA_MEMORY;
-    uint32_t status = nova_open(fs, bytes, image.length);
-    munmap(bytes, image.length);
-    return status;
-}
-
-uint32_t open_image(nova_fs *fs, bool is_mapped) { return is_mapped ? open_mapped(fs) : open_copied(fs); }

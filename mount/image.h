@@ -26,11 +26,15 @@ bool says(const char *what);
 /* Opens the image's file, whose path is whole, and locks it, so that no other mount has it. It says what was wrong. */
 bool lock_image(const char *path);
 
-/* Recovers the image into a closed handle: over the file's pages, or over a copy. One with faults is never changed. Answers a
- * status of nova_open. */
+/* Recovers the image into a closed handle: over the file's pages, or over private copies of them. One with faults is never
+ * changed. Answers a status of nova_open, or NOVA_NO_SPACE where the disk is full. */
 uint32_t open_image(nova_fs *fs, bool is_mapped);
 
-/* Makes what was written durable: 0, or the negative of an errno. A copy is written beside the image, and put in its place. */
-int save_image(nova_fs *fs);
+/* Makes what was written durable: 0, or the negative of an errno. Private pages are written to a spare file beside the image,
+ * which then takes its place: so the image always is one that was saved. */
+int save_image(void);
+
+/* Takes the spare file away. */
+void close_image(void);
 
 #endif

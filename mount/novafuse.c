@@ -2,8 +2,9 @@
  *
  *     novafuse IMAGE FOLDER [--mapped] [FUSE's options, as -f or -o allow_other]
  *
- * The image is recovered first. Without --mapped it is kept in memory: it is written beside its place and put there by fsync, and
- * when it is unmounted. With --mapped the words of the region are the file's pages, so that each store goes to the file at once.
+ * The image is recovered first. With --mapped the words of the region are the file's pages, so that each store goes to the file at
+ * once. Without, they are private copies of them: fsync and the unmount write what was stored to a spare file beside the image,
+ * and put that in its place.
  *
  * An image with faults is mounted to be read alone, and stays as it is. It ends with 2 if nothing was mounted, and with 1 if what
  * was written couldn't be saved.
@@ -27,7 +28,7 @@
 #include "image.h"
 #include "nova.h"
 
-enum { INODES_IN_BLOCK = 32, LONGEST_NAME = 255, NANOSECONDS = 1000000000 };
+enum { INODES_IN_BLOCK = 32, LONGEST_NAME = 255, NANOSECONDS = 1000000000, MOST_CLEANED = 512 };
 
 static nova_fs fs;
 static nova_space space;
@@ -97,7 +98,8 @@ static void tell(struct stat *out, const nova_numbers *n)
     memset(out, 0, sizeof *out);
     out->st_ino = n->inode;
     out->st_mode = n->mode | (n->is_directory ? S_IFDIR : S_IFREG);
-    out->st_nlink = n->is_directory ? 2 : n->links;
+    /* A directory's link count doesn't say how many directories are in it, and 1 says so. */
+    out->st_nlink = n->links;
     out->st_uid = n->owner;
     out->st_gid = n->group;
     out->st_size = (off_t)n->size;
@@ -188,6 +190,38 @@ static int op_statfs(const char *path, struct statvfs *out)
     return 0;
 }
 
+/* ---- where there are few blocks */
+
+/* Frees pages that the log of an inode can do without, as many as a call may need: whether there were any. Each of them costs a
+ * reading of the log. */
+static bool clean(const char *path, size_t length)
+{
+    nova_cleaned cleaned;
+    for (int count = 0; count < MOST_CLEANED; count++) {
+        if (nova_clean(&fs, (const uint8_t *)path, length, &cleaned) || !cleaned.has_freed)
+            return count > 0;
+        image.is_changed = true;
+    }
+    return true;
+}
+
+/* Cleans the logs that a call on a path makes longer, where it found too few blocks free: whether it may be made again. */
+static bool has_room_now(uint32_t status, const char *path)
+{
+    if (status != NOVA_NO_SPACE)
+        return false;
+    size_t directory = (size_t)(strrchr(path, '/') - path);
+    bool has_freed = clean(path, strlen(path));
+    return clean(path, directory ? directory : 1) || has_freed;
+}
+
+/* The status of a call on a path. It is made twice where it finds too few blocks free, and cleaning frees some. */
+#define WITH_ROOM(path, call)                                                                                                    \
+    ({                                                                                                                           \
+        uint32_t status_ = (call);                                                                                               \
+        has_room_now(status_, path) ? (call) : status_;                                                                          \
+    })
+
 /* ---- calls that write */
 
 static int owned_by_caller(const char *path, mode_t mode)
@@ -195,33 +229,36 @@ static int owned_by_caller(const char *path, mode_t mode)
     struct fuse_context *caller = fuse_get_context();
     if (!caller->uid && !caller->gid)
         return 0;
-    return error_of(nova_set_attr(&fs, cpu(), PATH(path), mode & 07777, caller->uid, caller->gid, now()));
+    return error_of(WITH_ROOM(path, nova_set_attr(&fs, cpu(), PATH(path), mode & 07777, caller->uid, caller->gid, now())));
 }
 
 typedef uint32_t making(nova_fs *, uint64_t, const uint8_t *, size_t, uint32_t, uint64_t);
+typedef uint32_t removing(nova_fs *, uint64_t, const uint8_t *, size_t, uint64_t);
 
-/* Makes an inode in the table of a CPU that has room. */
-static int make(const char *path, mode_t mode, making *call)
+/* Makes an inode in the table of a CPU that has room. It goes again where it can't be given to the caller. */
+static int make(const char *path, mode_t mode, making *call, removing *undo)
 {
     uint32_t status = NOVA_NO_INODES;
     for (uint64_t tries = 0; status == NOVA_NO_INODES && tries < space.cpus; tries++)
-        status = call(&fs, cpu(), PATH(path), mode & 07777, now());
+        status = WITH_ROOM(path, call(&fs, cpu(), PATH(path), mode & 07777, now()));
     int error = written(status);
-    return error ? error : owned_by_caller(path, mode);
+    if (!error && (error = owned_by_caller(path, mode)))
+        undo(&fs, cpu(), PATH(path), now());
+    return error;
 }
 
-static int op_mkdir(const char *path, mode_t mode) { return make(path, mode, nova_mkdir); }
+static int op_mkdir(const char *path, mode_t mode) { return make(path, mode, nova_mkdir, nova_rmdir); }
 
 static int op_create(const char *path, mode_t mode, struct fuse_file_info *file)
 {
     (void)file;
-    return make(path, mode, nova_create);
+    return make(path, mode, nova_create, nova_unlink);
 }
 
 static int op_mknod(const char *path, mode_t mode, dev_t device)
 {
     (void)device;
-    return S_ISREG(mode) ? make(path, mode, nova_create) : -EOPNOTSUPP;
+    return S_ISREG(mode) ? make(path, mode, nova_create, nova_unlink) : -EOPNOTSUPP;
 }
 
 static int op_symlink(const char *to, const char *path)
@@ -230,26 +267,10 @@ static int op_symlink(const char *to, const char *path)
     return -EOPNOTSUPP;
 }
 
-/* Frees the pages that the log of an inode can do without: whether there were any. */
-static bool clean(const char *path)
-{
-    nova_cleaned cleaned = {.has_freed = 1};
-    bool has_freed = false;
-    while (!nova_clean(&fs, PATH(path), &cleaned) && cleaned.has_freed)
-        has_freed = true;
-    return has_freed;
-}
-
-static uint32_t set_size(const char *path, uint64_t size)
-{
-    uint32_t status = nova_set_size(&fs, cpu(), PATH(path), size, now());
-    return status == NOVA_NO_SPACE && clean(path) ? nova_set_size(&fs, cpu(), PATH(path), size, now()) : status;
-}
-
 static int op_truncate(const char *path, off_t size, struct fuse_file_info *file)
 {
     (void)file;
-    return written(set_size(path, (uint64_t)size));
+    return written(WITH_ROOM(path, nova_set_size(&fs, cpu(), PATH(path), (uint64_t)size, now())));
 }
 
 static int op_open(const char *path, struct fuse_file_info *file)
@@ -258,31 +279,37 @@ static int op_open(const char *path, struct fuse_file_info *file)
     uint32_t status = nova_stat(&fs, PATH(path), &n);
     if (status || !(file->flags & O_TRUNC) || n.size == 0)
         return error_of(status);
-    return written(set_size(path, 0));
-}
-
-static uint32_t write_at(const char *path, const char *bytes, size_t count, off_t offset)
-{
-    return nova_write(&fs, cpu(), PATH(path), (uint64_t)offset, (const uint8_t *)bytes, count, now());
+    return op_truncate(path, 0, file);
 }
 
 static int op_write(const char *path, const char *bytes, size_t count, off_t offset, struct fuse_file_info *file)
 {
     (void)file;
-    uint32_t status = write_at(path, bytes, count, offset);
-    if (status == NOVA_NO_SPACE && clean(path))
-        status = write_at(path, bytes, count, offset);
-    int error = written(status);
+    const uint8_t *from = (const uint8_t *)bytes;
+    int error = written(WITH_ROOM(path, nova_write(&fs, cpu(), PATH(path), (uint64_t)offset, from, count, now())));
     return error ? error : (int)count;
 }
 
-static int op_unlink(const char *path) { return written(nova_unlink(&fs, cpu(), PATH(path), now())); }
+static int op_unlink(const char *path) { return written(WITH_ROOM(path, nova_unlink(&fs, cpu(), PATH(path), now()))); }
 
-static int op_rmdir(const char *path) { return written(nova_rmdir(&fs, cpu(), PATH(path), now())); }
+static int op_rmdir(const char *path) { return written(WITH_ROOM(path, nova_rmdir(&fs, cpu(), PATH(path), now()))); }
 
 static int op_link(const char *path, const char *other)
 {
-    return written(nova_link(&fs, cpu(), PATH(path), PATH(other), now()));
+    return written(WITH_ROOM(other, nova_link(&fs, cpu(), PATH(path), PATH(other), now())));
+}
+
+static uint32_t move(const char *path, const char *other)
+{
+    uint32_t status = WITH_ROOM(path, nova_rename(&fs, cpu(), PATH(path), PATH(other), now()));
+    return has_room_now(status, other) ? nova_rename(&fs, cpu(), PATH(path), PATH(other), now()) : status;
+}
+
+/* Whether enough blocks are free for a name that goes and one that moves to its place: for both, a log page of two inodes. */
+static bool can_replace(void)
+{
+    nova_space s;
+    return !nova_space_of(&fs, &s) && s.free_blocks >= 4;
 }
 
 /* Takes away what stands at a name that another inode is to get: 0, or an error. */
@@ -293,27 +320,33 @@ static int make_way(const nova_numbers *from, const nova_numbers *to, const char
     return to->is_directory ? op_rmdir(other) : op_unlink(other);
 }
 
-/* The library's rename takes no name that stands. What stands is taken away first, by a call of its own: a stop between the two
- * leaves the old name alone. */
-static int op_rename(const char *path, const char *other, unsigned flags)
+/* Moves a name to one that stands, by two calls, of which neither is begun where the second may lack blocks. */
+static int replace(const char *path, const char *other)
 {
-    if (flags & ~(unsigned)RENAME_NOREPLACE)
-        return -EOPNOTSUPP;
-    uint32_t status = nova_rename(&fs, cpu(), PATH(path), PATH(other), now());
-    if (status != NOVA_EXISTS || flags & RENAME_NOREPLACE)
-        return written(status);
     nova_numbers from, to;
+    uint32_t status;
     if ((status = nova_stat(&fs, PATH(path), &from)) || (status = nova_stat(&fs, PATH(other), &to)))
         return error_of(status);
     if (from.inode == to.inode)
         return 0;
+    if (!can_replace() && !(has_room_now(NOVA_NO_SPACE, other) && can_replace()))
+        return -ENOSPC;
     int error = make_way(&from, &to, other);
-    return error ? error : written(nova_rename(&fs, cpu(), PATH(path), PATH(other), now()));
+    return error ? error : written(move(path, other));
+}
+
+/* The library's rename takes no name that stands. */
+static int op_rename(const char *path, const char *other, unsigned flags)
+{
+    if (flags & ~(unsigned)RENAME_NOREPLACE)
+        return -EOPNOTSUPP;
+    uint32_t status = move(path, other);
+    return status == NOVA_EXISTS && !(flags & RENAME_NOREPLACE) ? replace(path, other) : written(status);
 }
 
 static int set_attr(const char *path, const nova_numbers *n)
 {
-    return written(nova_set_attr(&fs, cpu(), PATH(path), n->mode, n->owner, n->group, n->time));
+    return written(WITH_ROOM(path, nova_set_attr(&fs, cpu(), PATH(path), n->mode, n->owner, n->group, n->time)));
 }
 
 static int op_chmod(const char *path, mode_t mode, struct fuse_file_info *file)
@@ -356,14 +389,15 @@ static int op_utimens(const char *path, const struct timespec times[2], struct f
 static int op_fsync(const char *path, int only_data, struct fuse_file_info *file)
 {
     (void)path, (void)only_data, (void)file;
-    return save_image(&fs);
+    return save_image();
 }
 
 /* ---- the mount */
 
 static void *op_init(struct fuse_conn_info *connection, struct fuse_config *config)
 {
-    (void)connection;
+    /* Requests are read as they are, and not through a pipe: most are short. */
+    connection->want &= ~(unsigned)FUSE_CAP_SPLICE_READ;
     config->use_ino = 1;
     /* Nothing but this mount changes the image, so what the kernel keeps of files stays true. */
     config->kernel_cache = 1;
@@ -374,7 +408,8 @@ static void *op_init(struct fuse_conn_info *connection, struct fuse_config *conf
 static void op_destroy(void *data)
 {
     (void)data;
-    int error = save_image(&fs);
+    int error = save_image();
+    close_image();
     if (error) {
         is_lost = true;
         fprintf(stderr, "novafuse: %s was not saved: %s\n", image.path, strerror(-error));
@@ -402,7 +437,7 @@ static bool recover(bool is_mapped)
         return false;
     }
     if (status || (status = nova_space_of(&fs, &space)))
-        return says(status == NOVA_MEMORY ? strerror(ENOMEM) : "the library refused it");
+        return says(strerror(-error_of(status)));
     fprintf(stderr, "novafuse: recovered inodes %ju free %ju faults %ju in %.1f ms\n", (uintmax_t)space.inodes,
             (uintmax_t)space.free_blocks, (uintmax_t)space.faults, (double)(now() - begun) / 1e6);
     if (space.faults > 0)
@@ -447,5 +482,6 @@ int main(int count, char **words)
     if (space.faults > 0)
         kept[number++] = "-oro";
     int status = fuse_main(number, kept, &operations, NULL);
+    free(kept);
     return status ? 2 : is_lost;
 }

@@ -1,17 +1,19 @@
 #!/usr/bin/env bash
 # Measures recovery beside a native program that does the same and proves nothing, and prints a table with the ratios.
 #
-# usage: tests/beside-peer.sh PEER [ROUNDS]
+# usage: tests/beside-peer.sh PEER [ROUNDS [BLOCKS]]
 #
 # PEER is the folder of the native program's sources, a crate `nova_ref` whose `bench` writes an image and times its own
 # recovery. In each round (5 where none are given) the native program and `bench` run one after the other, three
-# recoveries each, and the best of all rounds counts. The images have 65,536 blocks: small files, one big file, one
-# directory of many names, and files of many overwrites. Both keep the memory that they free, so that a recovery doesn't
+# recoveries each, and the best of all rounds counts. The images have 65,536 blocks, or BLOCKS: small files, one big file,
+# one directory of many names, and files of many overwrites. Both keep the memory that they free, so that a recovery doesn't
 # wait for the system to clear it again, and both have huge pages. Nothing else should run meanwhile.
 set -eu
 source "$(dirname "${BASH_SOURCE[0]}")/parts.sh" || exit 2
 [ $# -ge 1 ] && [ -f "$1/Cargo.toml" ] || usage
-rounds=${2:-5}
+rounds=${2:-5} blocks=${3:-65536}
+# As many small files to a block, and tables with room for them.
+files=$((blocks * 31000 / 65536)) cpus=$((blocks > 65536 ? 64 : 16))
 # 32 MiB is the most that the C library takes as the second.
 export MALLOC_TRIM_THRESHOLD_=1073741824 MALLOC_MMAP_THRESHOLD_=33554432
 export GLIBC_TUNABLES=glibc.malloc.hugetlb=1
@@ -22,8 +24,8 @@ ours=$here/crates/bench/out/bench
 
 shape() {
     case $1 in
-        small) echo --cpus 16 --blocks 65536 --tables 64 --files 31000 --dirs 200 --size 4096 ;;
-        *) echo --shape "$1" --blocks 65536 ;;
+        small) echo --cpus "$cpus" --blocks "$blocks" --tables 64 --files "$files" --dirs 200 --size 4096 ;;
+        *) echo --shape "$1" --blocks "$blocks" ;;
     esac
 }
 

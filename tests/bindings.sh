@@ -25,6 +25,8 @@ cd "$folder" || exit 2
 
 says=$("$bindings/header.py" --check 2>&1)
 holds "nova.h is what the exports are${says:+: $says}" $?
+same "nova.h has what the library has" "$(nm -g --defined-only "$library" | sed -n 's/^.* T \(nova_.*\)/\1/p' | sort)" \
+    "$(grep -o '^uint32_t nova_[a-z_]*' "$bindings/c/nova.h" | sed 's/.* //' | sort)"
 
 compile() {
     "${CC:-cc}" -O1 -Wall -Wextra -Werror -I"$bindings/c" "$@"
@@ -47,6 +49,8 @@ holds "Python" $?
 tail -n 1 python.said | grep -qx OK || cat python.said
 calls=$(grep -o '^uint32_t nova_[a-z_]*' "$bindings/c/nova.h" | sed 's/.* nova_//' | grep -vx map | sort)
 same "nova.py has each call but nova_map" "$calls" "$(sed -nE '/^_CALLS = /,/^}/s/^    "([a-z_]*)":.*/\1/p' "$bindings/python/nova.py" | sort)"
+same "nova.py says each status" "$(sed -nE 's/^    NOVA_[A-Z_]* = ([0-9]+),/\1/p' "$bindings/c/nova.h" | grep -vE '^(0|2[0-8])$' | xargs)" \
+    "$(sed -nE '/^STATUSES = /,/^}/s/^    ([0-9]+):.*/\1/p' "$bindings/python/nova.py" | xargs)"
 same "and the Rust crate" "$calls" "$(grep -o 'pub fn nova_[a-z_]*' "$bindings/rust/src/calls.rs" | sed 's/.* nova_//' | sort)"
 
 # Rust

@@ -1,17 +1,19 @@
 #!/usr/bin/env bash
 # Measures `nova check` of whole images beside a native program that proves nothing and beside e2fsck, and prints a table.
 #
-# usage: tests/check-beside.sh PEER [ROUNDS]
+# usage: tests/check-beside.sh PEER [ROUNDS [BLOCKS]]
 #
-# PEER is the folder of the native program's sources, a crate `nova_ref`. It writes the images, of 65,536 blocks: small files, one
-# directory of many names, files of many overwrites, and one big file. For e2fsck an ext4 image is made with as many files, names
-# or bytes, by mke2fs. In each round (9 where none are given) the three run one after the other, on 4 workers where they have
-# workers, and the best of all rounds counts. Images are in the cache. For nova the table has the peak of its memory and the
-# bytes that it read too. Nothing else should run meanwhile.
+# PEER is the folder of the native program's sources, a crate `nova_ref`. It writes the images, of 65,536 blocks or BLOCKS: small
+# files, one directory of many names, files of many overwrites, and one big file. Without BLOCKS an ext4 image for e2fsck is made
+# with as many files, names or bytes, by mke2fs. In each round (9 where none are given) the three run one after the other, on 4
+# workers where they have workers, and the best of all rounds counts. Images are in the cache. For nova the table has the peak of
+# its memory and the bytes that it read too. Nothing else should run meanwhile.
 set -eu
 source "$(dirname "${BASH_SOURCE[0]}")/parts.sh" || exit 2
 [ $# -ge 1 ] && [ -f "$1/Cargo.toml" ] || usage
-rounds=${2:-9}
+rounds=${2:-9} blocks=${3:-65536}
+# As many small files to a block, and tables with room for them.
+files=$((blocks * 31000 / 65536)) cpus=$((blocks > 65536 ? 64 : 16))
 needs_native "$1"
 peer=$NOVA_NATIVE
 needs_program "$built"
@@ -19,8 +21,8 @@ export GLIBC_TUNABLES=glibc.malloc.hugetlb=1
 
 shape() {
     case $1 in
-        small) echo --cpus 16 --blocks 65536 --tables 64 --files 31000 --dirs 200 --size 4096 ;;
-        *) echo --shape "$1" --blocks 65536 ;;
+        small) echo --cpus "$cpus" --blocks "$blocks" --tables 64 --files "$files" --dirs 200 --size 4096 ;;
+        *) echo --shape "$1" --blocks "$blocks" ;;
     esac
 }
 
@@ -70,7 +72,7 @@ for name in small names frag big; do
     # shellcheck disable=SC2046
     "$peer" bench $(shape "$name") --runs 1 --out "$folder/image" >"$folder/said"
     cat "$folder/image" >/dev/null
-    if [ "$name" != frag ] && command -v mke2fs >/dev/null; then
+    if [ "$blocks" = 65536 ] && [ "$name" != frag ] && command -v mke2fs >/dev/null; then
         tree "$name" "$folder/tree"
         mke2fs -q -t ext4 -d "$folder/tree" -N 60000 "$folder/ext4" 300M >"$folder/said" 2>&1
         rm -rf "$folder/tree"

@@ -27,8 +27,8 @@ expect() {
 : >"$folder/empty"
 head -c 100 /dev/zero >"$folder/short"
 mkdir "$folder/folder"
-truncate -s 268435456 "$folder/longest"
-truncate -s 268435457 "$folder/longer"
+truncate -s 1073741824 "$folder/longest"
+truncate -s 1073741825 "$folder/longer"
 lengths="a region has a multiple of 4096, from 32768 to 1073741824"
 words="with one space between two words, and numbers in decimal up to 18446744073709551615"
 long_way=$(printf './%.0s' {1..300})
@@ -46,10 +46,10 @@ expect "100 bytes" 2 "refused S1" "it has 100 bytes; $lengths" "$program" check 
 expect "100 bytes, 64 workers" 2 "refused S1" "it has 100 bytes; $lengths" "$program" check "$folder/short" --workers 64
 magic="that of a region is 3544417913829478222, the text NOVAPM01"
 expect "a file of zeros as long as the longest region" 2 "refused S2" "its first word is 0; $magic" "$program" check "$folder/longest"
-expect "a file longer than a region can be" 2 "refused S1" "it has 268435457 bytes; $lengths" "$program" check "$folder/longer"
+expect "a file longer than a region can be" 2 "refused S1" "it has 1073741825 bytes; $lengths" "$program" check "$folder/longer"
 expect "a path of more than 600 bytes" 2 "refused S1" "it has 100 bytes; $lengths" "$program" check "$folder/${long_way}short"
-expect "a pipe that is longer than a region can be" 2 "refused S1" "it has more than 268435456 bytes; $lengths" \
-    bash -c 'head -c 268435457 /dev/zero | "$1" check /dev/stdin' bash "$program"
+expect "a pipe that is longer than a region can be" 2 "refused S1" "it has more than 1073741824 bytes; $lengths" \
+    bash -c 'head -c 1073741825 /dev/zero | "$1" check /dev/stdin' bash "$program"
 expect "a missing file" 2 "" "cannot read $folder/missing${newline}no such file" "$program" check "$folder/missing"
 expect "a folder" 2 "" "cannot read $folder/folder${newline}it is a directory" "$program" check "$folder/folder"
 expect "a file in the place of a folder" 2 "" "cannot read $folder/short/a${newline}Not a directory (os error 20)" \
@@ -224,5 +224,13 @@ expect_script "no command" 2 "bad line 1" \
     "line 1: expected time, format, recover, replay, poke, cut, list, stat, read, create, mkdir, write, size, attr, link, unlink, rmdir, rename, clean, tree, free, faults, report, peek or stop" 'move 0 /a /b\n'
 expect_script "a carriage return" 2 "bad line 1" \
     "line 1: it ends with a carriage return, byte 13; byte 10 alone ends a line" 'recover 1\r\n'
+expect_script "a byte order mark" 2 "bad line 1" \
+    "line 1: it begins with a byte order mark, the bytes 239, 187 and 191; a script has none" '\xef\xbb\xbftime 7\n'
+expect_script "a byte of 256" 2 "bad line 1" "line 1: word 6 is above 255, the most that may stand there" 'write 0 /a 0 1 256\n'
+expect_script "a count above a gibibyte" 2 "bad line 1" "line 1: word 5 is above 1073741824, the most that may stand there" 'write 0 /a 0 1073741825 7\n'
+expect_script "an owner of 33 bits" 2 "bad line 1" "line 1: word 5 is above 4294967295, the most that may stand there" 'attr 0 /a 420 4294967296 0\n'
+expect_script "a number of 65 bits" 2 "bad line 1" "line 1: word 2 is above 18446744073709551615, the most that may stand there" 'time 18446744073709551616\n'
+expect_script "a number of 65 bits as a name" 0 "refused NotMounted" "" 'list 18446744073709551616\n'
+expect_script "a large number and a word too many" 2 "bad line 1" "line 1: expected time T, $words" 'time 18446744073709551616 7\n'
 expect_script "a line of 4097 bytes" 2 "bad line 1" "line 1: it has more than 4096 bytes" '#%4096d\n'
 close

@@ -2,10 +2,10 @@
 """Writes images that a checker could be stalled with, checks each, and compares its time with what is allowed: a second
 for a million entries, and never less than a second.
 
-usage: tests/hostile-images.py PROGRAM [NAME..]
+usage: tests/hostile-images.py PROGRAM [--blocks N] [NAME..]
 
-Each image has 65,536 blocks, and is written to a temporary folder (268,435,456 bytes, one at a time). The format is told in
-docs/LAYOUT.md. With names, only the images of those names are checked. The most memory that the checker took beside
+Each image has 65,536 blocks, or as many as are asked for, and is written to a temporary folder, one at a time. The format is
+told in docs/LAYOUT.md. With names, only the images of those names are checked. The most memory that the checker took beside
 the image is shown too.
 """
 
@@ -18,7 +18,7 @@ import tempfile
 import time
 
 BLOCK = 4096
-BLOCKS = 65536
+BLOCKS = int(sys.argv[3]) if sys.argv[2:3] == ["--blocks"] and len(sys.argv) > 3 else 65536
 ENTRIES_END = 4064
 SLOT = 128
 FILE, DIRECTORY = 1, 2
@@ -256,7 +256,7 @@ def check(program, path, limit):
 def main():
     if len(sys.argv) < 2 or sys.argv[1].startswith("-"):
         sys.exit(__doc__)
-    program, names = os.path.abspath(sys.argv[1]), sys.argv[2:]
+    program, names = os.path.abspath(sys.argv[1]), sys.argv[4 if sys.argv[2:3] == ["--blocks"] else 2 :]
     slow = 0
     for make in IMAGES:
         if names and make.__name__ not in names:

@@ -38,6 +38,14 @@ compile -fsanitize=address "$here/mount/tests/tries.c" "$libraries/libnova_c.a" 
 status=$?
 holds "damaged images and refused allocations: $(tail -n 1 tries.said)" $status
 
+# ---- saving by itself
+
+compile "$here"/mount/tests/saves.c "$here"/mount/{image,changes}.c -I"$here/mount" -o saves
+touch saves.img
+./saves saves.img 64 "$kills" 1 >saves.said 2>&1
+status=$?
+holds "saving is killed in the midst: $(tail -n 1 saves.said)" $status
+
 # ---- mounts
 
 if [ ! -w /dev/fuse ] || ! command -v fusermount3 >/dev/null; then
@@ -83,7 +91,7 @@ unmounted() {
 
 # sound NAME IMAGE: the image is unmounted, and has no faults.
 sound() {
-    unmounted
+    ! mountpoint -q "$at" || unmounted
     holds "$1: it is unmounted" $?
     "$built" check "$2" --summary >checked 2>&1
     local status=$?
@@ -119,7 +127,7 @@ git_works() {
 
 # sqlite_works MODE: transactions in a journal mode, and the database is whole.
 sqlite_works() {
-    sqlite3 "$at/$1.db" "pragma journal_mode=$1; create table t(a integer primary key, b blob);" >/dev/null &&
+    [ "$(sqlite3 "$at/$1.db" "pragma journal_mode=$1; create table t(a integer primary key, b blob);")" = "$1" ] &&
         for k in 1 2 3 4 5 6 7 8 9 10; do
             echo "begin; insert into t(b) select randomblob(700) from (select 1 union select 2 union select 3); delete from t where a % 7 = 3; commit;"
             echo "update t set b = randomblob(900) where a % 3 = 1;"
@@ -138,7 +146,7 @@ fi
 if has sqlite3; then
     make sqlite.img 16384
     mounted sqlite.img --mapped
-    for mode in delete truncate persist memory off; do
+    for mode in delete truncate persist memory wal off; do
         sqlite_works $mode
         holds "sqlite3, journal_mode=$mode" $?
     done
@@ -151,6 +159,25 @@ if has fio; then
     holds "fio" $?
     sound fio fio.img
 fi
+
+# ---- under the address sanitizer
+
+# shellcheck disable=SC2046
+compile -g -fsanitize=address,undefined "$here"/mount/{novafuse,image,changes}.c "$libraries/libnova_c.a" "$libraries/liblibc_c.a" \
+    $(pkg-config --cflags --libs fuse3) -o novafuse.checked
+for options in "" --mapped; do
+    make checked.img 4096
+    # shellcheck disable=SC2086
+    ./novafuse.checked checked.img "$at" -f $options 2>checked.said &
+    until mountpoint -q "$at"; do sleep 0.1; done
+    cp -r "$here/docs" "$at/" && sync "$at/docs" && ln "$at/docs/MAP.md" "$at/map" && mv "$at/docs/MAP.md" "$at/docs/TRUST.md" &&
+        diff "$here/docs/MAP.md" "$at/map" && diff "$here/docs/MAP.md" "$at/docs/TRUST.md" && sync "$at/map" && rm -r "$at/docs"
+    holds "calls under the address sanitizer $options" $?
+    fusermount3 -u "$at"
+    wait $! && ! grep 'ERROR: \|runtime error: ' checked.said
+    holds "nothing is wrong with its memory $options" $?
+    sound "checked $options" checked.img
+done
 
 # ---- one file beside a copy
 
@@ -170,11 +197,83 @@ same "one time" "1000000000 1000000000" "$(stat -c '%Y %X' "$at/file")"
 ln -s to "$at/symbolic" 2>/dev/null
 holds "a symbolic link is refused" $((!$?))
 same "a second mount is refused" "novafuse: $folder/said.img: it is mounted already status 2" "$(refused said.img | xargs)"
-# fsync puts the image in its place.
-sync "$at/file"
-"$built" cat said.img /file >synced 2>&1
-same "fsync is durable" "text" "$(cat synced)"
+same "find goes into directories" 4 "$(mkdir -p "$at/a/b/c" && find "$at" -type d | wc -l)"
+"$built" run "$here/examples/hello.nova" --save said.img --force >run.said 2>&1
+holds "a command that writes the image is refused" $((!$?))
 sound "said" said.img
+
+# ---- owners
+
+as_nobody() {
+    setpriv --reuid 65534 --regid 65534 --clear-groups "$@"
+}
+
+if [ "$(id -u)" = 0 ]; then
+    make owned.img 256
+    chmod 711 "$folder"
+    mounted owned.img -o allow_other,default_permissions && chmod 1777 "$at" && echo text >"$at/other" &&
+        as_nobody mkdir "$at/d" && as_nobody touch "$at/d/file"
+    same "who makes a file owns it" "65534 65534 65534 65534" "$(stat -c '%u %g' "$at/d" "$at/d/file" | xargs)"
+    as_nobody sh -c "echo more >>'$at/other'" 2>/dev/null
+    holds "another's file is refused" $((!$?))
+    sound "owned" owned.img
+fi
+
+# ---- fsync without --mapped: what was written is in the image, and only that is written
+
+# synced FILE WANTED: what the image has after an fsync.
+synced() {
+    sync "$at/$1" && [ "$("$built" cat synced.img "/$1" 2>&1)" = "$2" ]
+    holds "fsync is durable: $1" $?
+}
+
+# written_bytes: what the mount's program has written to files.
+written_bytes() {
+    sed -n 's/^wchar: //p' "/proc/$(pgrep -f "^$novafuse synced.img")/io"
+}
+
+make synced.img 65536
+mounted synced.img
+for k in 1 2 3 4; do
+    echo "text $k" >"$at/file$k"
+    before=$(written_bytes)
+    synced "file$k" "text $k"
+    after=$(written_bytes)
+done
+[ $((after - before)) -lt 1000000 ]
+holds "fsync costs what was written: $((after - before)) bytes" $?
+head -c 3000000 /dev/urandom >big && cp big "$at/big" && sync "$at/big" && "$built" cat synced.img /big | cmp - big
+holds "fsync of more" $?
+echo end >"$at/end"
+sound "synced" synced.img
+same "the unmount saves" end "$("$built" cat synced.img /end)"
+same "and leaves nothing beside the image" synced.img "$(echo synced.img*)"
+mounted synced.img && echo other >"$at/other" && cp synced.img moved.img && mv moved.img synced.img
+sync "$at/other" 2>/dev/null
+holds "an image that was replaced meanwhile is left alone" $((!$?))
+fusermount3 -u "$at"
+while pgrep -f "^$novafuse synced.img" >/dev/null; do sleep 0.1; done
+same "what was written is beside it" other "$("$built" cat synced.img.novafuse /other)"
+rm synced.img synced.img.novafuse
+
+# ---- the largest image
+
+# ten_times WORD..: runs a command with 0 to 9 behind it.
+ten_times() {
+    for k in 0 1 2 3 4 5 6 7 8 9; do
+        "${@:1:$#-1}" "${!#}$k" || return 1
+    done
+}
+
+make large.img 262144 64
+head -c 70000000 /dev/urandom >part
+mounted large.img --mapped && ten_times cp part "$at/part"
+holds "700 MB in an image of 1 GiB" $?
+sound "large" large.img
+mounted large.img --mapped && ten_times cmp part "$at/part"
+holds "they are there after another mount" $?
+unmounted
+rm large.img part
 
 # ---- an image that is full
 
@@ -213,8 +312,11 @@ same "no image" "novafuse: none.img: No such file or directory status 2" "$(refu
 
 # ---- kills
 
-python3 "$here/mount/tests/killed.py" "$novafuse" "$built" "$kills" 1 "$folder" >killed.said 2>&1
-status=$?
-holds "$kills kills: $(tail -n 1 killed.said)" $status
-[ $status -eq 0 ] || cat killed.said
+for options in --mapped ""; do
+    # shellcheck disable=SC2086
+    python3 "$here/mount/tests/killed.py" "$novafuse" "$built" "$kills" 1 "$folder" $options >killed.said 2>&1
+    status=$?
+    holds "$kills kills $options: $(tail -n 1 killed.said)" $status
+    [ $status -eq 0 ] || cat killed.said
+done
 close

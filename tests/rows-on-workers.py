@@ -21,7 +21,7 @@ COMMANDS = (
     " create mkdir write size attr link unlink rmdir rename clean"
 ).split()
 BLOCK = 4096
-MOST_BLOCKS = 65536
+MOST_BLOCKS = 262144
 
 
 def is_known(script):

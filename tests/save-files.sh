@@ -349,6 +349,22 @@ same "a shell on no region" "2 refused S1, it has 4 bytes; a region has a multip
 same "a shell on no file" "2  cannot read $room/none
 no such file" "$? $(cat "$folder/out") $(cat "$folder/err")"
 
+# A shell holds its image behind a save too.
+begin
+rm -f "$folder/pipe" "$folder/first"
+mkfifo "$folder/pipe"
+"$program" shell "$room/image" <"$folder/pipe" >"$folder/first" 2>"$folder/first-err" &
+first=$!
+exec 9>"$folder/pipe"
+printf 'mkdir 0 /d\nsave\n' >&9
+while [ "$(grep -cx ok "$folder/first")" != 2 ] && kill -0 "$first" 2>/dev/null; do sleep 0.01; done
+told "an image in use behind a save" 2 "" "cannot write $room/image: in use by another run, which is to replace it" mkfs "$room/image" --force --blocks 8 --cpus 1 --tables 1
+printf 'mkdir 0 /e\nsave\n' >&9
+go_on
+same "an image in use behind a save: status of the shell" 0 $?
+same "an image in use behind a save: errors of the shell" "" "$(cat "$folder/first-err")"
+same "an image in use behind a save: what is there" "d 3 e 4 hello 2" "$("$program" ls "$room/image" | xargs)"
+
 # Of two runs that are to replace one image the second is refused, by whatever name.
 begin
 ln -s image "$room/link"

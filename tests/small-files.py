@@ -1,17 +1,19 @@
 #!/usr/bin/env python3
-"""Writes an image of 65,536 blocks with as many small files as fit, all named in the root directory.
+"""Writes an image of 65,536 blocks, or of as many as are asked for, with as many small files as fit, all named in the root
+directory.
 
-usage: tests/small-files.py PATH
+usage: tests/small-files.py PATH [--blocks N]
 
-Each file has one log page and one block of data. The format is told in docs/LAYOUT.md.
+Each file has one log page and one block of data. The image has 16 CPUs, and 64 where it has more than 65,536 blocks, so that
+its tables have room for the files. The format is told in docs/LAYOUT.md.
 """
 
 import struct
 import sys
 
 BLOCK = 4096
-BLOCKS = 65536
-CPUS = 16
+BLOCKS = int(sys.argv[3]) if sys.argv[2:3] == ["--blocks"] and len(sys.argv) == 4 else 65536
+CPUS = 16 if BLOCKS <= 65536 else 64
 TABLE_BLOCKS = 64
 FIRST_DATA = 1 + CPUS + CPUS * TABLE_BLOCKS
 ENTRIES_END = 4064
@@ -77,7 +79,7 @@ def put_file(image, inode, block):
 
 
 def main():
-    if len(sys.argv) != 2 or sys.argv[1].startswith("-"):
+    if len(sys.argv) not in (2, 4) or sys.argv[1].startswith("-") or sys.argv[2:3] not in ([], ["--blocks"]):
         sys.exit(__doc__)
     image = bytearray(BLOCK * BLOCKS)
     files = files_that_fit()

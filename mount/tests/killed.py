@@ -1,12 +1,15 @@
 #!/usr/bin/env python3
 """Kills novafuse in the middle of calls, and compares what is found then with a model of the calls that were answered.
 
-    killed.py NOVAFUSE NOVA KILLS SEED FOLDER
+    killed.py NOVAFUSE NOVA KILLS SEED FOLDER [--mapped]
 
-It mounts an image of FOLDER with --mapped and makes calls at random until the program is killed. Then `nova check` may find no
-fault, and the mount shows the tree behind the last call that was answered, or behind the one that was under way. The kernel may
-hand a write over in parts, which end at pages: then some of the first parts may be there. It closes with 'N passed, M failed', and
-ends with 1 on a failure.
+It mounts an image of FOLDER and makes calls at random until the program is killed. Then `nova check` may find no fault.
+
+With --mapped the mount shows the tree behind the last call that was answered, or behind the one that was under way. The kernel may
+hand a write over in parts, which end at pages: then some of the first parts may be there. Without, it shows the tree of the last
+fsync that was answered, or of the one that was under way.
+
+It closes with 'N passed, M failed', and ends with 1 on a failure.
 """
 
 import copy
@@ -23,6 +26,8 @@ BLOCKS = 16384
 PAGE = 4096
 MANY_NAMES, MOST_NAMES, MOST_DEPTH = 600, 1000, 4
 SIZES = (1, 100, 4096, 5000, 20000, 110000)
+# One of so many calls is an fsync.
+SYNCS = 1 / 12
 
 
 class Tree:
@@ -85,7 +90,9 @@ class Tree:
 
 
 def choose(tree, number, chance):
-    """A call that the tree allows, with new names of this number."""
+    """A call that the tree allows, with new names of this number, or now and then an fsync."""
+    if chance.random() < SYNCS:
+        return ("sync", "")
     kind = chance.choice("create create mkdir write write write cut link unlink rmdir rename rename".split())
     if len(tree.at) > MANY_NAMES:
         kind = "unlink" if len(tree.at) > MOST_NAMES else chance.choice(["unlink", "unlink", "rmdir", "write", "rename"])
@@ -138,6 +145,12 @@ def make(folder, call):
         os.rmdir(path)
     elif kind == "rename":
         os.rename(path, folder + words[0])
+    elif kind == "sync":
+        at = os.open(path, os.O_RDONLY | os.O_DIRECTORY)
+        try:
+            os.fsync(at)
+        finally:
+            os.close(at)
 
 
 def walk(folder):
@@ -154,9 +167,9 @@ def walk(folder):
 class Mount:
     """A mount that can be killed."""
 
-    def __init__(self, program, image, folder):
+    def __init__(self, program, image, folder, options):
         self.folder = folder
-        words = [program, image, folder, "--mapped", "-f"]
+        words = [program, image, folder, "-f", *options]
         self.process = subprocess.Popen(words, stdout=subprocess.DEVNULL, stderr=subprocess.PIPE)
         while not os.path.ismount(folder):
             if self.process.poll() is not None:
@@ -180,18 +193,20 @@ class Mount:
 
 
 def calls_until_killed(mount, tree, number, chance):
-    """Makes calls, and applies those that are answered: how many, and the one that was under way."""
-    made = 0
+    """Makes calls, and applies those that are answered: how many, the one that was under way, and the tree of the last fsync."""
+    made, saved = 0, copy.deepcopy(tree)
     while True:
         call = choose(tree, f"{number}_{made}", chance)
         try:
             make(mount.folder, call)
         except OSError as error:
             if mount.is_over():
-                return made, call
+                return made, call, saved
             mount.process.kill()
             raise SystemExit(f"refused: {call[:2]}: {error}")
         tree.apply(call)
+        if call[0] == "sync":
+            saved = copy.deepcopy(tree)
         made += 1
 
 
@@ -203,31 +218,32 @@ def difference(found, wanted):
 
 
 def main():
-    program, nova, kills, seed, room = sys.argv[1:]
+    program, nova, kills, seed, room, *options = sys.argv[1:]
     chance = random.Random(int(seed))
     image, folder = f"{room}/killed.img", f"{room}/killed"
     os.makedirs(folder, exist_ok=True)
     subprocess.run([nova, "mkfs", image, "--blocks", str(BLOCKS), "--cpus", "4", "--tables", "16"], check=True)
     tree, calls, under_way, failed = Tree(), 0, 0, 0
     for number in range(int(kills)):
-        mount = Mount(program, image, folder)
+        mount = Mount(program, image, folder, options)
         mount.kill_after(chance.uniform(0.02, 0.4))
-        made, call = calls_until_killed(mount, tree, number, chance)
+        made, call, saved = calls_until_killed(mount, tree, number, chance)
         calls += made
         mount.end()
         checked = subprocess.run([nova, "check", image, "--summary"], capture_output=True, text=True)
-        mount = Mount(program, image, folder)
+        mount = Mount(program, image, folder, options)
         found = walk(folder)
         mount.end()
-        left = next((it for it in tree.may_become(call) if found == it.seen()), None)
+        may_be = tree.may_become(call) if options else [saved, tree] if call[0] == "sync" else [saved]
+        left = next((it for it in may_be if found == it.seen()), None)
         if checked.returncode or left is None:
             failed += 1
             print(f"WRONG: kill {number}, within {call[:2]}: {checked.stdout.strip()}")
             print(f"found, and wanted: {difference(found, tree.seen())}; or {difference(found, tree.after(call).seen())}")
             break
-        under_way += left is not tree
+        under_way += left is not (tree if options else saved)
         tree = left
-    print(f"{calls} calls were answered; {under_way} times the call under way was done too, or a part of it")
+    print(f"{calls} calls were answered; {under_way} times the one under way was done too, or a part of it")
     print(f"{int(kills) - failed} passed, {failed} failed")
     sys.exit(failed > 0)
 

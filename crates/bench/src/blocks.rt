@@ -9,18 +9,21 @@ ghost use Rattle.nv_super.specs.Layout.{IsLayout};
 use crate::hold::{give_all, take_all};
 use crate::times::print_each;
 use nv_alloc::Allocators;
-use nv_super::Super;
+use nv_super::{MOST_BLOCKS, Super};
 use rand::seq::SliceRandom;
 use rand_pcg::Pcg32;
 use std::io;
 use std::rt::Clock;
 use std::time::Instant;
 
+// The words of a set of as many blocks as a region can have, each of which has 64 of them.
+const WORDS: usize = (MOST_BLOCKS / 64) as usize;
+
 /// The superblock of a region with one table block for each CPU, if it can be as small or large.
 fn layout(blocks: u64, cpus: u64) -> Option<Super>
-    ensures { IfSome result (λ s. IsLayout s × (s.blocks ≤ 65536)) }
+    ensures { IfSome result (λ s. IsLayout s × (s.blocks ≤ 262144)) }
 {
-    if blocks < 200 || blocks > 65_536 || cpus < 1 || cpus > 64 {
+    if blocks < 200 || blocks > MOST_BLOCKS || cpus < 1 || cpus > 64 {
         return None;
     }
     Some(Super {
@@ -102,9 +105,9 @@ fn measure_rounds<R: AllocGlobal + Print + Eprint + Clock>(
 
 fn measure<R: AllocGlobal + Print + Eprint + Clock>(rt: &R, sup: &Super) -> io::Result<()>
     requires layout { IsLayout sup.now }
-    requires blocks { sup.now.blocks ≤ 65536 }
+    requires blocks { sup.now.blocks ≤ 262144 }
 {
-    let mut free = Allocators::from_words(rt.alloc(), &[0; 1024], sup)?;
+    let mut free = Allocators::from_words(rt.alloc(), &[0; WORDS], sup)?;
     measure_rounds(rt, &mut free, sup.cpus)
 }
 
@@ -115,6 +118,6 @@ pub(crate) fn measure_blocks<R: AllocGlobal + Print + Eprint + Clock>(
 ) -> io::Result<()> {
     match layout(blocks, cpus) {
         Some(sup) => measure(rt, &sup),
-        None => eprintln!(rt; "a region has 200 to 65536 blocks and 1 to 64 CPUs"),
+        None => eprintln!(rt; "a region has 200 to {MOST_BLOCKS} blocks and 1 to 64 CPUs"),
     }
 }

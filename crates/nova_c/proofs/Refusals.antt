@@ -2,8 +2,7 @@
 use Rattle.std.proofs.Common.{◌≡◌, inl, inr, ◌<◌, ◌^◌, ℕ, List, [], length, Option, Some, None, refl, arith}
 use Rattle.nv_region.specs.Region.{Region, region_of, size}
 use Rattle.nv_region.proofs.Bytes.{size_of_bytes}
-use Rattle.nv_super.specs.Super.{Applies, IsRefused, rank}
-use Rattle.nv_super.specs.declared.superblock.SuperFault.{SuperFault}
+use Rattle.nv_super.proofs.Lengths.{longer_is_refused}
 use Rattle.nv_super.specs.declared.superblock.SuperFault.TheVariants as faults
 use Rattle.nv_recover.specs.Errors.{Fails, IsBadCount}
 use Rattle.nv_recover.specs.declared.errors.RecoverError.{RecoverError}
@@ -27,25 +26,12 @@ refuses_mount R S errors.Stopped fails runs = absurd (runs refl)
 refuses_mount R S errors.Workers fails runs = absurd (one_is_right fails.0)
 refuses_mount R S (errors.Schedule place) fails runs = absurd (let never : ◌≡◌ {A = Option ℕ} None (Some place) = fails.0 in cc)
 
-none_lower : (fault : SuperFault) → rank fault < 1 → ⊥
-none_lower faults.Length low = omega (arith, low)
-none_lower faults.Magic low = omega (arith, low)
-none_lower faults.Version low = omega (arith, low)
-none_lower faults.Cpus low = omega (arith, low)
-none_lower faults.Blocks low = omega (arith, low)
-none_lower faults.Tables low = omega (arith, low)
-none_lower faults.State low = omega (arith, low)
-
--- no fault comes before that of the length
-pub length_is_first : (R : Region) → Applies R faults.Length → IsRefused R faults.Length
-length_is_first R applies = record { applies = applies; first = λ other low applies. none_lower other low }
-
 -- more words than a region can have are refused for its length
 pub words_refusal : (words : List ℕ) (e : RegionRefusal) (status : ℕ) → (e ≡ lengths.Length → 2 ^ 27 < length words) → (e ≡ lengths.Memory → ⊥)
     → (e ≡ lengths.Length → status ≡ 20) → RefusesMount (region_over words) status
 words_refusal words lengths.Length status many never is =
     let long : 2 ^ 27 < length words = many refl in
-    inr (faults.Length, is refl, length_is_first (region_over words) (inr (inr (omega (arith, long)))))
+    inr (faults.Length, is refl, longer_is_refused (region_over words) (omega (arith, long)))
 words_refusal words lengths.Memory status many never is = absurd (never refl)
 
 -- more bytes too, and want of memory is said as that
@@ -54,7 +40,7 @@ pub bytes_refusal : (bytes : List ℕ) (e : RegionRefusal) (status : ℕ) → (e
 bytes_refusal bytes lengths.Length status many is memory =
     let long : 2 ^ 30 < length bytes = many refl in
     let whole : size (region_of bytes) ≡ length bytes = size_of_bytes bytes in
-    inr (faults.Length, is refl, length_is_first (region_of bytes) (inr (inr (omega (arith, long, whole)))))
+    inr (faults.Length, is refl, longer_is_refused (region_of bytes) (omega (arith, long, whole)))
 bytes_refusal bytes lengths.Memory status many is memory = inl (memory refl)
 
 -- what was formatted isn't refused for its superblock

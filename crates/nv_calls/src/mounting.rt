@@ -3,12 +3,13 @@
 ghost use Rattle.std.specs.Prelude.{◌≡◌, ◌≢◌, ◌*◌, [], IfOk, IfErr, IsTrue, false};
 ghost use Rattle.nv_region.specs.Fuses.{KeepsFuse};
 ghost use Rattle.nv_region.specs.Stops.{LeavesOnly, NothingPending};
+ghost use Rattle.nv_region.specs.Stored.{StoresOnly};
 ghost use Rattle.nv_super.specs.Layout.{system_blocks};
 ghost use Rattle.nv_super.specs.Super.{IsSuper};
 ghost use Rattle.nv_super.specs.declared.superblock.Super.{Super as SuperValue};
 ghost use Rattle.nv_journal.specs.Undo.{undone};
 ghost use Rattle.nv_journal.specs.Undone.{AllQuiet};
-ghost use Rattle.nv_recover.specs.Behind.{BehindSystem};
+ghost use Rattle.nv_recover.specs.Behind.{BehindSystem, RecoveryStores};
 ghost use Rattle.nv_recover.specs.Errors.{Fails, IsBadCount, UndoesAsBefore, comes_first};
 ghost use Rattle.nv_recover.specs.declared.errors.RecoverError.TheVariants as errors;
 ghost use Rattle.nv_calls.specs.Mount.{has_faults};
@@ -26,7 +27,8 @@ impl<P: Pmem + Drop> Fs<P> {
     /// and opens it. The mount is read-only where faults were found.
     ///
     /// Nothing may be pending in the memory: a new region, one of bytes, a formatted one, one that a stop has left, and one
-    /// after any call but a stopped one are so; of others a `fence` settles what was stored.
+    /// after any call but a stopped one are so; of others a `fence` settles what was stored. A mount stores what rolling the
+    /// journals back stores, and nothing else.
     ///
     /// Errors: those of `recover_one`, with the memory.
     pub fn mount(alloc: Global, mut memory: P) -> Result<Fs<P>, (P, RecoverError)>
@@ -42,6 +44,8 @@ impl<P: Pmem + Drop> Fs<P> {
         ensures err { IfErr result (λ e. Fails 1 [] e.1 (P.region memory) (P.region e.0)) }
         ensures stopped { IfErr result (λ e. e.1 ≡ errors.Stopped → IsTrue (P.fuse e.0).has_burnt) }
         ensures keeps_fuse { KeepsFuse (BehindSystem (P.region memory)) (P.fuse memory) (P.fuse (memory_back result)) }
+        // At most what rolling the journals back stores is stored: nothing to a journal that has nothing to roll back.
+        ensures wrote { StoresOnly (RecoveryStores (P.region memory)) (P.region memory) (P.region (memory_back result)) (P.may_hold memory) (P.may_hold (memory_back result)) }
         // A memory that takes stores up to the first data block isn't stopped.
         ensures unstopped { (s : SuperValue) → IsSuper (P.region memory) s → IsTrue ((P.fuse memory).is_open (4096 * system_blocks s)) → IfErr result (λ e. e.1 ≢ errors.Stopped) }
         // Whatever a stop leaves has the same undone region.
@@ -81,6 +85,8 @@ impl<P: Pmem + Sync + Drop> Fs<P> {
         ensures err { IfErr result (λ e. Fails workers [] e.1 (P.region memory) (P.region e.0)) }
         ensures stopped { IfErr result (λ e. e.1 ≡ errors.Stopped → IsTrue (P.fuse e.0).has_burnt) }
         ensures keeps_fuse { KeepsFuse (BehindSystem (P.region memory)) (P.fuse memory) (P.fuse (memory_back result)) }
+        // At most what rolling the journals back stores is stored: nothing to a journal that has nothing to roll back.
+        ensures wrote { StoresOnly (RecoveryStores (P.region memory)) (P.region memory) (P.region (memory_back result)) (P.may_hold memory) (P.may_hold (memory_back result)) }
         // A memory that takes stores up to the first data block isn't stopped.
         ensures unstopped { (s : SuperValue) → IsSuper (P.region memory) s → IsTrue ((P.fuse memory).is_open (4096 * system_blocks s)) → IfErr result (λ e. e.1 ≢ errors.Stopped) }
         // Whatever a stop leaves has the same undone region.

@@ -22,12 +22,12 @@ use rayon::prelude::*;
 use std::alloc::{AllocError, Global};
 use std::thread::Threads;
 
-// More rows than a region has blocks. So no sound region has as many, since each inode's log has a page of its own, and none
-// is slowed by the start of threads.
+// A region of 65,536 blocks has as many rows only if it is damaged, since each inode's log has a page of its own. One of
+// 262,144 blocks can have 131,071 and be sound. That threads pay from here on isn't measured.
 const MANY_ROWS: usize = 65_536;
 
-/// The faults between the rows of all inodes in use, as `cross_faults_one` gives them: from 65,536 rows on, which only a
-/// damaged region has, each row's names are looked up, and its names counted out, in threads.
+/// The faults between the rows of all inodes in use, as `cross_faults_one` gives them: from 65,536 rows on, each
+/// row's names are looked up, and its names counted out, in threads.
 ///
 /// Errors: `AllocError` where a growth was refused, or where 64 bits can't count the names of one inode. No memory holds
 /// so many names.

@@ -15,8 +15,8 @@ use Rattle.nv_inode.proofs.Places.{slot_from}
 use Rattle.nv_format.proofs.Tables.{slot_to, root_below}
 
 -- the words of a laid-out superblock and the magic are accepted
-accepted : (s : Super) (R : Region) → IsLayout s → HasBlocks R s.blocks → word R 0 ≡ magic → HasNumbers R s → IsSuper R s
-accepted s R layout blocks first numbers = record {
+accepted : (s : Super) (R : Region) → IsLayout s → s.version ≡ 1 → HasBlocks R s.blocks → word R 0 ≡ magic → HasNumbers R s → IsSuper R s
+accepted s R layout one blocks first numbers = record {
   sound = sound;
   version = sym numbers.version;
   cpus = sym numbers.cpus;
@@ -39,7 +39,7 @@ accepted s R layout blocks first numbers = record {
       | inr other ↦ elim other [ inl few ↦ omega (arith, e, few, from) | inr many ↦ omega (arith, e, many, to) ]
     ]
     sound Magic applies = applies first
-    sound Version applies = applies (numbers.version ∙ layout.version)
+    sound Version applies = applies (numbers.version ∙ one)
     sound Cpus applies = let cpus = numbers.cpus in let from = layout.cpus_from in let to = layout.areas.cpus_to in elim applies [ inl few ↦ omega (arith, few, cpus, from) | inr many ↦ omega (arith, many, cpus, to) ]
     sound Blocks applies = let e = long in let count = numbers.blocks in applies (omega (arith, e, count))
     sound Tables applies = let tables = numbers.table_blocks in let from = layout.tables_from in let to = layout.areas.tables_to in elim applies [
@@ -48,7 +48,7 @@ accepted s R layout blocks first numbers = record {
     ]
     sound State applies = let state = numbers.state in let to = layout.state in omega (arith, applies, state, to)
 
-module _ (s : Super) (time : ℕ) (layout : IsLayout s) (R Q : Region) where
+module _ (s : Super) (time : ℕ) (layout : IsLayout s) (one : s.version ≡ 1) (R Q : Region) where
   -- a word but the first stays when the magic is stored
   stays : (a : ℕ) → 8 ≤ a → word (put Q 0 magic) a ≡ word Q a
   stays a above = put_other Q 0 magic a (λ e. omega (arith, e, above))
@@ -84,7 +84,7 @@ module _ (s : Super) (time : ℕ) (layout : IsLayout s) (R Q : Region) where
   formatted blocks mixed laid = record {
     as_long = length-set Q.words 0 magic ∙ mixed.as_long ∙ length-set R.words 0 0;
     same_rest = mixed.same_rest;
-    super = accepted s (put Q 0 magic) layout (put_blocks Q 0 magic s.blocks blocks) (first_word blocks)
+    super = accepted s (put Q 0 magic) layout one (put_blocks Q 0 magic s.blocks blocks) (first_word blocks)
         (numbers_kept s Q (put Q 0 magic) (λ a whole above low. stays a above) laid.numbers);
     layout = layout;
     blocks = put_blocks Q 0 magic s.blocks blocks;

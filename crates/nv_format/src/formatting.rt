@@ -147,6 +147,7 @@ fn numbers<P: Pmem>(memory: &P, cpus: u64, table_blocks: u64) -> Result<Super, F
 /// Takes the magic away, lays all other words out, and stores the magic, with a fence behind each.
 fn write_region<P: Pmem>(memory: &mut P, sup: &Super, time: u64) -> Result<(), Stopped>
     requires layout { IsLayout sup.now }
+    requires version { sup.now.version ≡ 1 }
     requires blocks { HasBlocks (P.region memory.old) sup.now.blocks }
     ensures done { OnOk result (IsFormatted (P.region memory.old) (P.region memory.new) sup.now time) }
     ensures settled { OnOk result (NothingPending (P.region memory.new) (P.may_hold memory.new)) }

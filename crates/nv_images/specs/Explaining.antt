@@ -9,7 +9,7 @@ use Rattle.nv_images.specs.declared.failure.Failure.TheVariants.{NoClass, Answer
 -- the names of all classes
 unfoldable pub class_names : List (List ℕ)
 class_names =
-    codes "J1" ∷ codes "J2" ∷ codes "I1" ∷ codes "I2" ∷ codes "I3"
+    codes "J1" ∷ codes "J2" ∷ codes "H1" ∷ codes "H2" ∷ codes "I1" ∷ codes "I2" ∷ codes "I3"
     ∷ codes "L1" ∷ codes "L2" ∷ codes "L3" ∷ codes "L4"
     ∷ codes "E1" ∷ codes "E2" ∷ codes "E3" ∷ codes "E4"
     ∷ codes "C1" ∷ codes "C2" ∷ codes "C3" ∷ codes "C4" ∷ codes "C5" ∷ codes "B1"

@@ -22,7 +22,7 @@ struct Class {
 const REFUSED: &str =
     "The superblock isn't accepted, so nothing is read and nothing changes. Of several that apply the first is named.";
 
-const CLASSES: [Class; 26] = [
+const CLASSES: [Class; 28] = [
     Class {
         name: "J1",
         title: "a journal's pointer is wrong",
@@ -32,6 +32,16 @@ const CLASSES: [Class; 26] = [
         name: "J2",
         title: "a journal's record names a wrong word",
         meaning: "fault J2 cpu C record K. The pending record K names an address that no journal may name, so it was skipped; the other records were rolled back. Only the first recovery shows it: then no record is pending any more.",
+    },
+    Class {
+        name: "H1",
+        title: "a link of a table's chain leads to no data block",
+        meaning: "fault H1 cpu C at A. In the chain of CPU C the link at A is neither 0 nor the start of a data block, so the chain ends there. Only layout version 2 has chains, and it is refused as yet (S3).",
+    },
+    Class {
+        name: "H2",
+        title: "the chain of a table leads back into itself",
+        meaning: "fault H2 cpu C at A. In the chain of CPU C the link at A leads to a block that was read before, so the chain ends there. Only layout version 2 has chains, and it is refused as yet (S3).",
     },
     Class {
         name: "I1",

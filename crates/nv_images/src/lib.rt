@@ -26,7 +26,7 @@ pub use image::{
 };
 pub use nv_stream::{Lock, Stamp};
 pub use reason::Reason;
-pub use saving::{Held, Target, hold, save_file, see_ready};
+pub use saving::{Held, Target, hold, save_and_hold, save_file, see_ready};
 pub use shown::Shown;
 pub use telling::{ended, print_line, refuse_words, tell_explain, tell_failure, tell_faults};
 pub use words::{Words, words_of};

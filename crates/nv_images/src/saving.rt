@@ -1,11 +1,13 @@
 //! Writing files: images, and what is drawn of them.
 
-ghost use Rattle.std.specs.Prelude.{◌≡◌, IfErr, IfOk, true, false, is_none};
+ghost use Rattle.std.specs.Prelude.{◌≡◌, IfErr, IfOk, IfSome, true, false, is_none};
 ghost use Rattle.nv_images.specs.Images.{IsUnsaved, IsUnanswered};
 
 use crate::failure::Failure;
 use crate::telling::tell_left;
-use nv_stream::{Allowed, Lock, Place, Stamp, hold_place, save_at, try_beside, write_text};
+use nv_stream::{
+    Allowed, Lock, Place, Stamp, hold_place, hold_saved, save_at, try_beside, write_text,
+};
 use std::io;
 use std::rt::Files;
 
@@ -110,5 +112,47 @@ where
         write_text(&mut io::writer(rt), bytes)?;
         return Ok(());
     };
-    save_at(rt, path, place, bytes).map_err(|unsaved| Failure::unsaved(path, unsaved))
+    match save_at(rt, path, place, &bytes) {
+        Ok(_file) => Ok(()),
+        Err(unsaved) => Err(Failure::unsaved(path, unsaved)),
+    }
+}
+
+/// `save_file`, which goes on holding the place: the new file has its lock from before it is there. Answers nothing where the
+/// place can't be held any more, and for standard output.
+///
+/// Errors: those of `save_file`.
+pub fn save_and_hold<'a, H: Files + AllocGlobal + Print>(
+    rt: &H,
+    held: &Held<'a, H::File>,
+    bytes: &[u8],
+) -> Result<Option<Held<'a, H::File>>, Failure<'a>>
+where
+    H::File: Lock,
+    ensures target { IfOk result (λ after. IfSome after (λ new. new.target ≡ held.now.target)) }
+    ensures file { is_none held.now.place ≡ false → IfErr result (IsUnsaved held.now.target.path) }
+    ensures output { is_none held.now.place ≡ true → IfErr result IsUnanswered }
+{
+    let target = held.target;
+    let Some(place) = &held.place else {
+        write_text(&mut io::writer(rt), bytes)?;
+        return Ok(None);
+    };
+    match save_at(rt, target.path, place, &bytes) {
+        Ok(file) => Ok(held_again(rt, target, file)),
+        Err(unsaved) => Err(Failure::unsaved(target.path, unsaved)),
+    }
+}
+
+// The place of a file that was just written there.
+fn held_again<'a, H: Files>(rt: &H, target: Target<'a>, file: H::File) -> Option<Held<'a, H::File>>
+    ensures { IfSome result (λ held. held.target ≡ target.entry) }
+{
+    match hold_saved(rt, target.path, file) {
+        Ok(place) => Some(Held {
+            target,
+            place: Some(place),
+        }),
+        Err(_) => None,
+    }
 }

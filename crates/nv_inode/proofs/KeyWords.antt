@@ -94,7 +94,7 @@ module _ (C T m : ℕ) (some : 0 < C) (tables : 0 < T) (above : 0 < m) (below : 
       omega (arith, table, inode_place, split)
 
 -- the number of the 128 bytes in which an address of the tables lies
-place_of : (C T at : ℕ) → (1 + C) * 4096 + 128 ≤ at → at < (1 + C + C * T) * 4096
+pub place_of : (C T at : ℕ) → (1 + C) * 4096 + 128 ≤ at → at < (1 + C + C * T) * 4096
     → (m : ℕ) × (0 < m) × (m < C * (32 * T)) × (at ≡ (1 + C) * 4096 + 128 * m + at % 128)
 place_of C T at behind before = ((at - (1 + C) * 4096) / 128, omega arith, omega arith, omega arith)
 

@@ -1,3 +1,14 @@
 pub mod Slots
 pub mod KeyWords
 pub mod Places
+pub mod LayoutWords
+pub mod ReadChains
+pub mod FixedLayout
+pub mod BlocksOfSlots
+pub mod GrownChains
+pub mod LinkedBlocks
+pub mod LinkedChains
+pub mod GrownSlots
+pub mod UpgradedTables
+pub mod TicketBlocks
+pub mod TicketsOnce

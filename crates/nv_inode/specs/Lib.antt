@@ -1,4 +1,9 @@
 pub mod Slot
+pub mod Chains
+pub mod Tables
+pub mod SlotBlocks
+pub mod Growing
+pub mod Upgraded
 pub mod Permitted
 pub use Rattle.nv_super.specs.nv_region.Region
 pub use Rattle.nv_super.specs.nv_region.Stops

@@ -1,12 +1,27 @@
-//! Slots: what a region's tables hold of each inode, and the words of them that a journal may name.
+//! Slots: what a region's tables hold of each inode, and the words of them that a journal may name. Tables that grow by
+//! chains of blocks, as layout version 2 has them: they are read, and a block is linked to one.
 #![tactic(auto)]
 
+mod blocks;
+mod chains;
+mod growing;
+mod laws;
 mod permitted;
 mod slot;
 mod tables;
+mod upgrading;
 mod words;
 
+pub use blocks::SlotBlock;
+pub use chains::{EXTRA_SLOTS, Tables, read_tables};
+pub use growing::link_block;
+pub use laws::{
+    blocks_have_all_slots, chains_are_laid, chains_grow, linked_blocks_are_tables,
+    linked_slots_are_unused, no_link_is_permitted, one_chain, slots_are_in_one_block,
+    slots_of_blocks, upgraded_regions_are_the_same, version_1_has_fixed_tables,
+};
 pub use permitted::is_journal_word;
 pub use slot::{LINK, Slot, SlotState};
 pub use tables::{nth_slot, slot_start};
+pub use upgrading::upgrade_tables;
 pub use words::{put_slot, read_nth_slot, read_slot, set_word, store_slot};

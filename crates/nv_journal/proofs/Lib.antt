@@ -7,12 +7,14 @@ pub mod Partly
 pub mod Turns
 pub mod Listed
 pub mod Words
+pub mod Wrote
 pub mod Pointers
 pub mod SuperKept
 pub mod High
 pub mod Front
 pub mod Recording
 pub mod Begins
+pub mod LinksStay
 pub mod OneJournal
 pub mod Both
 pub mod InOrder

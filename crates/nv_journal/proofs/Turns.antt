@@ -9,7 +9,8 @@ use Rattle.nv_super.specs.Layout.{IsLayout}
 use Rattle.nv_super.specs.declared.superblock.Super.{Super}
 use Rattle.nv_inode.specs.Permitted.{is_permitted, LiesBehind}
 use Rattle.nv_journal.specs.declared.pending.Pending.{Pending}
-use Rattle.nv_journal.specs.Undo.{journal, count_of, dequeue, number_of, pending_of, pending_count, pending_from, pending_record, permitted, permitted_records, place_of, record_address, record_at, stores, with_record, ByRecord, IsNamed}
+use Rattle.nv_journal.specs.Undo.{journal, count_of, dequeue, is_sound, number_of, pending_of, pending_count, pending_from, pending_record, permitted, permitted_records, place_of, record_address, record_at, stores, with_record, ByRecord, IsNamed}
+use Rattle.nv_journal.specs.Undone.{OldValues}
 use Rattle.nv_journal.proofs.Stored.{word_before}
 use Rattle.nv_journal.proofs.Partly.{low_rule}
 use Rattle.nv_journal.proofs.Resumed.{named_in}
@@ -75,18 +76,30 @@ module _ (s : Super) (R now : Region) (p : Pending) (count done place : ℕ) (la
       ∙ (λ i. cond (permits (first_of i)) (put (so_far i) (first_of i) (second_of i)) (so_far i))
       ∙ sym (ap (λ (l : List (ℕ × ℕ)). stores (permitted permits l) R) (one_older R cpu count done more) ∙ named_step permits R (record_at R cpu number) records (permits (record_at R cpu number).0) refl)
 
-  -- the word that is stored is one that a record names
-  pub is_named : (i x : ℕ) → ByRecord permits now place i x → IsNamed (permitted_records permits R cpu) i x
-  is_named i x by =
+  -- what is stored is the old value of a pending record, in the word that this names
+  pub old_value : is_sound R cpu ≡ true → (i x : ℕ) → ByRecord permits now place i x → OldValues permits R cpu i x
+  old_value sound i x by =
       let is_count : count ≡ pending_count R cpu = all ∙ ap count_of read in
-      let j : ℕ = count - 1 - done in
       let named : permits (record_at R cpu number).0 ≡ true = ap permits (sym first_of) ∙ by.0 in
       let aligned : (record_at R cpu number).0 % 8 ≡ 0 = (rule (record_at R cpu number).0 named).1 in
       let first : i ≡ (record_at R cpu number).0 / 8 = by.1.0 ∙ ap (λ (a : ℕ). a / 8) first_of in
-      let zero_j : 0 + j ≡ j = omega arith in
-      let whole : (record_at R cpu number).0 ≡ 8 * i = omega (arith, first, aligned) in
-      named_in permits (pending_record R cpu) 0 (pending_count R cpu) j i (omega (arith, more, is_count))
-      (ap (λ (k : ℕ). permits (pending_record R cpu k).0) zero_j ∙ named) (ap (λ (k : ℕ). (pending_record R cpu k).0) zero_j ∙ whole)
+      let whole : (record_at R cpu number).0 ≡ 8 * i = omega (arith, first, aligned) in (
+        count - 1 - done,
+        record { sound = sound; pending = omega (arith, more, is_count); permitted = ap permits (sym whole) ∙ named; address = whole },
+        by.1.1 ∙ second_of,
+      )
+
+-- such a word is one that the records name
+pub values_named : (permits : ℕ → Bool) (R : Region) (cpu i x : ℕ) → OldValues permits R cpu i x → IsNamed (permitted_records permits R cpu) i x
+values_named permits R cpu i x it =
+    let j : ℕ = it.0 in
+    let zero_j : 0 + j ≡ j = omega arith in
+    let address : (pending_record R cpu j).0 ≡ 8 * i = it.1.address in
+    named_in permits (pending_record R cpu) 0 (pending_count R cpu) j i it.1.pending
+    (ap (λ (k : ℕ). permits (pending_record R cpu k).0) zero_j ∙ ap permits address ∙ it.1.permitted) (ap (λ (k : ℕ). (pending_record R cpu k).0) zero_j ∙ address)
+
+pub named_stores : (permits : ℕ → Bool) (R S : Region) (cpu : ℕ) (old new : Choices) → StoresOnly (OldValues permits R cpu) R S old new → StoresOnly (IsNamed (permitted_records permits R cpu)) R S old new
+named_stores permits R S cpu old new = stores_within (IsNamed (permitted_records permits R cpu)) (OldValues permits R cpu) R S old new (values_named permits R cpu)
 
 -- nothing is stored
 pub outside_same : (R : Region) (from n : ℕ) → SameOutside R from n R

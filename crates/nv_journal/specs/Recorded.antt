@@ -17,3 +17,12 @@ Two first first_value second second_value i x = ((i ≡ first / 8) × (x ≡ fir
 -- any word of this CPU's journal, or one of these values at its address
 abbrev pub Changes : ℕ → ℕ → ℕ → ℕ → ℕ → Choices
 Changes cpu first first_value second second_value i x = Within (journal cpu) 4096 i x ⊎ Two first first_value second second_value i x
+
+-- Any value in the numbers of a CPU's journal, or in its records. The words between them stay: one is the link to the first
+-- further block of the CPU's table.
+abbrev pub JournalWords : ℕ → Choices
+JournalWords cpu i x = Within (journal cpu) 16 i x ⊎ Within (journal cpu + 64) 4032 i x
+
+-- any of these, or one of these values at its address
+abbrev pub CommitWords : ℕ → ℕ → ℕ → ℕ → ℕ → Choices
+CommitWords cpu first first_value second second_value i x = JournalWords cpu i x ⊎ Two first first_value second second_value i x

@@ -11,7 +11,7 @@ ghost use Rattle.nv_region.specs.Fuses.{KeepsFuse};
 ghost use Rattle.nv_region.specs.Stored.{SameOutside, StoresOnly, Within};
 ghost use Rattle.nv_journal.specs.Undo.{journal, enqueue};
 ghost use Rattle.nv_journal.specs.Pending.{BeforeOrAfter, Begun, CanUndo, HasRecords, IsEmpty};
-ghost use Rattle.nv_journal.specs.Recorded.{Recorded, Changes, Two};
+ghost use Rattle.nv_journal.specs.Recorded.{Recorded, Changes, CommitWords, JournalWords, Two};
 ghost use Rattle.nv_journal.specs.InOrder.{FirstIsFirst};
 ghost use Rattle.nv_journal.specs.Faults.{NoJournalFault};
 
@@ -21,7 +21,7 @@ use nv_region::{Pmem, Stopped, commit_word};
 /// Makes records pending in the empty journal of a CPU. A caller gives, of each word that is about to change, its byte
 /// address, which should be a permitted one, and the value that it has now. A journal has room for 251.
 ///
-/// Only the journal's block may change. Where all stores before the call were fenced, a stop at any moment of it leaves
+/// Only the journal's numbers and records may change. Where all stores before the call were fenced, a stop at any moment of it leaves
 /// all of the records pending or none. It costs two fences and takes no memory.
 ///
 /// Errors: `Stopped` exactly where the fuse has burnt by the end of the call; all of the records are pending then or
@@ -34,6 +34,8 @@ pub fn begin<P: Pmem>(memory: &mut P, cpu: u64, records: &[(u64, u64)]) -> Resul
     // The region as it reads, also after a stop.
     ensures reads { Begun (P.region memory.old) cpu records.now (P.region memory.new) }
     ensures wrote { StoresOnly (Within (journal cpu) 4096) (P.region memory.old) (P.region memory.new) (P.may_hold memory.old) (P.may_hold memory.new) }
+    // Of the block its numbers and its records alone.
+    ensures keeps_link { StoresOnly (JournalWords cpu) (P.region memory.old) (P.region memory.new) (P.may_hold memory.old) (P.may_hold memory.new) }
     ensures stopped { is_err result ≡ (P.fuse memory.new).has_burnt }
     ensures keeps_fuse { KeepsFuse (λ limit. journal cpu + 4096 ≤ limit) (P.fuse memory.old) (P.fuse memory.new) }
     ensures settled { OnOk result (NothingPending (P.region memory.new) (P.may_hold memory.new)) }
@@ -131,6 +133,8 @@ pub fn change_two<P: Pmem>(
     ensures done { OnOk result (SameOutside (put (put (P.region memory.old) first first_value) second second_value) (journal cpu) 4096 (P.region memory.new)) }
     ensures empty { OnOk result (IsEmpty (P.region memory.new) cpu) }
     ensures wrote { StoresOnly (Changes cpu first first_value second second_value) (P.region memory.old) (P.region memory.new) (P.may_hold memory.old) (P.may_hold memory.new) }
+    // Of the journal's block its numbers and its records alone.
+    ensures keeps_link { StoresOnly (CommitWords cpu first first_value second second_value) (P.region memory.old) (P.region memory.new) (P.may_hold memory.old) (P.may_hold memory.new) }
     ensures stopped { is_err result ≡ (P.fuse memory.new).has_burnt }
     ensures keeps_fuse { KeepsFuse (λ limit. (journal cpu + 4096 ≤ limit) × (first + 8 ≤ limit) × (second + 8 ≤ limit)) (P.fuse memory.old) (P.fuse memory.new) }
     ensures settled { OnOk result (NothingPending (P.region memory.new) (P.may_hold memory.new)) }

@@ -15,7 +15,7 @@ mod undoing;
 
 pub use committing::{begin, change_two, commit};
 pub use laws::{
-    one_region_is_undone, the_superblock_stays, undo_again_changes_nothing,
-    undone_regions_are_quiet,
+    commits_keep_the_links, one_region_is_undone, quiet_journals_stay, the_superblock_stays,
+    undo_again_changes_nothing, undone_regions_are_quiet,
 };
 pub use undoing::{UndoError, undo};

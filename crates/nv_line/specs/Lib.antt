@@ -6,3 +6,4 @@ pub mod View
 pub mod Lines
 pub mod Reading
 pub mod Reasons
+pub mod Excess

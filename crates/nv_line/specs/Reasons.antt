@@ -1,8 +1,12 @@
 -- Why a line is bad, and the text that says so.
-use Rattle.std.specs.Prelude.{◌==◌, ℕ, List, [], ◌∷◌, ◌++◌, length, nat_lt, if◌then◌else◌, Option, Some, None, bytes_eq, codes}
-use Rattle.std.specs.List.{slice_split, ends_with}
+use Rattle.std.specs.Prelude.{◌==◌, ℕ, List, [], ◌∷◌, ◌++◌, length, nat_lt, if◌then◌else◌, Option, Some, None, bytes_eq, codes, decimal}
+use Rattle.std.specs.List.{slice_split, starts_with, ends_with}
 use Rattle.nv_stream.specs.Lines.{line_limit}
 use Rattle.nv_line.specs.Table.{Row, rows}
+use Rattle.nv_line.specs.Request.{Request}
+use Rattle.nv_line.specs.Excess.{first_large, shrunk}
+use Rattle.nv_line.specs.Reading.{request_as}
+use Rattle.nv_line.specs.declared.reasons.Excess.{Excess}
 use Rattle.nv_line.specs.declared.reasons.Form.{Form}
 use Rattle.nv_line.specs.declared.reasons.Form.TheVariants as forms
 use Rattle.nv_line.specs.declared.reasons.Reason.{Reason}
@@ -41,25 +45,43 @@ unfoldable pub form_in : List Row → List ℕ → Option Form
 form_in [] name = None
 form_in (row ∷ rows) name = if bytes_eq name row.name then Some row.form else form_in rows name
 
--- the line isn't spelled as the command of this form, if it has one
-abbrev pub by_form : Option Form → Reason
-by_form (Some form) = reasons.Form form
-by_form None = reasons.NoCommand
+-- a word that is too large a number, where the words are a command with zeros for all such words
+abbrev pub by_excess : Form → Option Excess → Option Request → Reason
+by_excess form (Some excess) (Some request) = reasons.TooLarge excess
+by_excess form (Some excess) None = reasons.Form form
+by_excess form None request = reasons.Form form
 
--- the reason that the first of a line's words gives
+-- the line isn't spelled as the command of this form: only since numbers are too large, or otherwise
+abbrev pub reason_of_form : Form → List (List ℕ) → Reason
+reason_of_form form words = by_excess form (first_large form 2 words) (request_as form (shrunk form 2 words))
+
+-- the line isn't spelled as the command of this form, if it has one
+abbrev pub by_form : Option Form → List (List ℕ) → Reason
+by_form (Some form) words = reason_of_form form words
+by_form None words = reasons.NoCommand
+
+-- the reason that a line's words give
 unfoldable pub reason_of_words : List (List ℕ) → Reason
 reason_of_words [] = reasons.NoCommand
-reason_of_words (name ∷ words) = by_form (form_in rows name)
+reason_of_words (name ∷ words) = by_form (form_in rows name) words
 
--- why a bad line is bad: it is too long, or ends with a carriage return, or else its words are no command
+-- Why a bad line is bad: it is too long, ends with a carriage return, or begins with a byte order mark, or else its words are no
+-- command.
 unfoldable pub reason_of : List ℕ → Reason
 reason_of line = if nat_lt line_limit (length line) then reasons.TooLong
     else if ends_with (λ a b. a == b) line (codes "\r") then reasons.CarriageReturn
+    else if starts_with (λ a b. a == b) line (239 ∷ 187 ∷ 191 ∷ []) then reasons.ByteOrderMark
     else reason_of_words (slice_split (λ b. b == 32) line)
+
+-- which word is too large a number, and the most that may stand there
+abbrev pub excess_text : Excess → List ℕ
+excess_text excess = codes "word " ++ decimal excess.word ++ codes " is above " ++ decimal excess.most ++ codes ", the most that may stand there"
 
 -- what the user reads of it
 abbrev pub reason_text : Reason → List ℕ
 reason_text reasons.TooLong = codes "it has more than 4096 bytes"
 reason_text reasons.CarriageReturn = codes "it ends with a carriage return, byte 13; byte 10 alone ends a line"
 reason_text reasons.NoCommand = codes "expected time, format, recover, replay, poke, cut, list, stat, read, create, mkdir, write, size, attr, link, unlink, rmdir, rename, clean, tree, free, faults, report, peek or stop"
+reason_text reasons.ByteOrderMark = codes "it begins with a byte order mark, the bytes 239, 187 and 191; a script has none"
+reason_text (reasons.TooLarge excess) = excess_text excess
 reason_text (reasons.Form form) = codes "expected " ++ form_text form ++ codes ", with one space between two words, and numbers in decimal up to 18446744073709551615"

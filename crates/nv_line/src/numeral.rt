@@ -15,7 +15,7 @@ fn has_digits_only(word: &[u8]) -> bool
 }
 
 #[tactic(auto, unfolding(crate::specs::Reading::is_numeral))]
-fn is_numeral(word: &[u8]) -> bool
+pub(crate) fn is_numeral(word: &[u8]) -> bool
     ensures { result ≡ is_numeral word.now }
 {
     has_digits_only(word) && (word.len() == 1 || (word.len() > 1 && word[0] != b'0'))

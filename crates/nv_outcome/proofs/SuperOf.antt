@@ -46,10 +46,15 @@ at_least a b h = elim (cases_lt a b) [ inl less ↦ absurd (h less) | inr more �
 pub blocks_of_super : (R : Region) (s : Super) → IsSuper R s → s.blocks ≡ size R / 4096
 blocks_of_super R s is = is.blocks ∙ is_equal (word R 24) (size R / 4096) (is.sound Blocks)
 
+-- its version is 1
+pub version_of_super : (R : Region) (s : Super) → IsSuper R s → s.version ≡ 1
+version_of_super R s is = is.version ∙ is_equal (word R 8) 1 (is.sound Version)
+
 -- its numbers are those of a layout
 pub layout_of_super : (R : Region) (s : Super) → IsSuper R s → IsLayout s
 layout_of_super R s is = record {
-  version = is.version ∙ is_equal (word R 8) 1 (is.sound Version);
+  version_from = (let e = version_of_super R s is in omega (arith, e));
+  version_to = (let e = version_of_super R s is in omega (arith, e));
   cpus_from = (let low = at_least (word R 16) 1 (λ h. is.sound Cpus (inl h)) in let e = is.cpus in omega (arith, low, e));
   blocks_from = (let low = at_least (size R / 4096) 8 (λ h. is.sound Length (inr (inl h))) in omega (arith, low, blocks));
   blocks_to = (let high = at_least most_blocks (size R / 4096) (λ h. is.sound Length (inr (inr h))) in omega (arith, high, blocks));

@@ -12,6 +12,7 @@ use Rattle.nv_super.specs.declared.superblock.Super.{Super}
 use Rattle.nv_super.specs.Layout.{IsLayout, fixed_layout, inode_limit, slot_of, slot_address, extra_slot, chain_of}
 use Rattle.nv_super.specs.Order.{Rises}
 use Rattle.nv_super.proofs.Ranges.{one_more}
+use Rattle.nv_super.proofs.Slots.{none_behind}
 use Rattle.nv_super.proofs.Rising.{Contains-cons, Contains-head, Contains-tail, below_first}
 use Rattle.nv_super.proofs.Members.{none_in, into_map, from_map}
 use Rattle.nv_check.specs.nv_claimcore.Claims.{times, below}
@@ -27,7 +28,7 @@ use Rattle.nv_outcome.proofs.Reordered.{flat_map_permutation}
 -- ---- inodes that have slots
 
 past_tables : (s : Super) (i a : ℕ) → extra_slot ((i / s.cpus - 32 * s.table_blocks) % 31) (slice_get (chain_of (fixed_layout s) (i % s.cpus)) ((i / s.cpus - 32 * s.table_blocks) / 31)) ≡ Some a → ⊥
-past_tables s i a e = cc
+past_tables s i a e = let past = none_behind s (i % s.cpus) ((i / s.cpus - 32 * s.table_blocks) / 31) ((i / s.cpus - 32 * s.table_blocks) % 31) in cc
 
 -- in the fixed tables the inodes from 1 on below the limit have slots, and no others
 pub slot_number : (s : Super) (i a : ℕ) → IsLayout s → slot_of (fixed_layout s) i ≡ Some a → (0 < i) × (i < inode_limit s)

@@ -14,4 +14,5 @@ pub mod Fronted
 pub mod Alternate
 pub mod Alternating
 pub mod Cuts
+pub mod Added
 pub mod RecentStores

@@ -6,6 +6,7 @@
 
 mod image;
 mod memory;
+mod pieces;
 mod pmem;
 mod recent;
 mod stored;
@@ -13,5 +14,6 @@ mod words;
 
 pub use image::ImageRegion;
 pub use memory::{Fuse, Keep, MOST_BLOCKS, MemRegion, RegionRefusal};
+pub use pieces::RegionBytes;
 pub use pmem::{Pmem, Stopped};
 pub use words::{commit_word, store_word};

@@ -145,6 +145,21 @@ impl MemRegion {
             return Err(RegionRefusal::Length);
         }
         let (words, rest) = read_words(alloc, bytes)?;
+        Ok(MemRegion::of_words(alloc, words, rest)?)
+    }
+
+    // The region of these words, and of the bytes behind them.
+    pub(crate) fn of_words(
+        alloc: Global,
+        words: Vec<u64>,
+        rest: Vec<u8>,
+    ) -> Result<MemRegion, AllocError>
+        requires short { length rest.items < 8 }
+        requires small { length words.items ≤ 2 ^ 27 }
+        ensures region { IfOk result (λ m. m.region ≡ record { words = words.items; rest = rest.items }) }
+        ensures settled { IfOk result (λ m. NothingPending m.region (fenced_or_last m)) }
+        ensures fuse { IfOk result (λ m. (m.fuse ≡ Fuse.Off) × (m.burnt ≡ false)) }
+    {
         let stored = StoredLines::new(alloc, words.len())?;
         Ok(MemRegion {
             alloc,
@@ -155,6 +170,15 @@ impl MemRegion {
             fuse: Fuse::Off,
             burnt: false,
         })
+    }
+
+    // What gives it memory, its words, and the bytes behind them.
+    pub(crate) fn parts(&self) -> (Global, &[u64], &[u8])
+        ensures words { result.1.now ≡ self.now.region.words }
+        ensures rest { result.2.now ≡ self.now.region.rest }
+        ensures short { length result.2.now < 8 }
+    {
+        (self.alloc, &self.words, &self.rest)
     }
 
     /// The bytes of the region as it reads. Errors: `AllocError` where a growth was refused.

@@ -37,7 +37,7 @@ used_blocks o = o.sup.blocks - system_blocks o.sup - all_blocks o.free
 
 -- the classes in their order
 abbrev pub classes : List (List ℕ)
-classes = codes "J1" ∷ codes "J2" ∷ codes "I1" ∷ codes "I2" ∷ codes "I3" ∷ codes "L1" ∷ codes "L2" ∷ codes "L3" ∷ codes "L4" ∷ codes "E1" ∷ codes "E2" ∷ codes "E3" ∷ codes "E4" ∷ codes "C1" ∷ codes "C2" ∷ codes "C3" ∷ codes "C4" ∷ codes "C5" ∷ codes "B1" ∷ []
+classes = codes "J1" ∷ codes "J2" ∷ codes "H1" ∷ codes "H2" ∷ codes "I1" ∷ codes "I2" ∷ codes "I3" ∷ codes "L1" ∷ codes "L2" ∷ codes "L3" ∷ codes "L4" ∷ codes "E1" ∷ codes "E2" ∷ codes "E3" ∷ codes "E4" ∷ codes "C1" ∷ codes "C2" ∷ codes "C3" ∷ codes "C4" ∷ codes "C5" ∷ codes "B1" ∷ []
 
 -- the class of a fault, with which its text begins
 abbrev pub class_of : Fault → List ℕ

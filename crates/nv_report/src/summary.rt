@@ -11,7 +11,7 @@ use std::alloc::{AllocError, Global};
 use std::fmt::Write;
 
 /// How many fault classes there are.
-const CLASSES: usize = 19;
+const CLASSES: usize = 21;
 
 // How many inodes are in use, how many of them are directories and files, and how many names those have.
 #[derive(Clone, Copy)]
@@ -183,28 +183,30 @@ fn push_sum(out: &mut String, sum: &ClassSum) -> Result<(), AllocError>
 
 // The classes in their order.
 fn class_name(number: usize) -> &'static str
-    requires { number < 19 }
+    requires { number < 21 }
     ensures { result.now ≡ get_or classes number [] }
 {
     match number {
         0 => "J1",
         1 => "J2",
-        2 => "I1",
-        3 => "I2",
-        4 => "I3",
-        5 => "L1",
-        6 => "L2",
-        7 => "L3",
-        8 => "L4",
-        9 => "E1",
-        10 => "E2",
-        11 => "E3",
-        12 => "E4",
-        13 => "C1",
-        14 => "C2",
-        15 => "C3",
-        16 => "C4",
-        17 => "C5",
+        2 => "H1",
+        3 => "H2",
+        4 => "I1",
+        5 => "I2",
+        6 => "I3",
+        7 => "L1",
+        8 => "L2",
+        9 => "L3",
+        10 => "L4",
+        11 => "E1",
+        12 => "E2",
+        13 => "E3",
+        14 => "E4",
+        15 => "C1",
+        16 => "C2",
+        17 => "C3",
+        18 => "C4",
+        19 => "C5",
         _ => "B1",
     }
 }
@@ -215,6 +217,8 @@ fn class_of(fault: &Fault) -> &'static str
     match fault {
         Fault::J1 { .. } => "J1",
         Fault::J2 { .. } => "J2",
+        Fault::H1 { .. } => "H1",
+        Fault::H2 { .. } => "H2",
         Fault::I1 { .. } => "I1",
         Fault::I2 { .. } => "I2",
         Fault::I3 { .. } => "I3",

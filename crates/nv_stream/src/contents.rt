@@ -1,12 +1,12 @@
 //! The bytes of a file, where it isn't longer than a limit.
 
 ghost use Rattle.std.specs.Prelude.{◌≡◌, ◌<◌, ◌≤◌, ◌^◌, IfOk, IfSome};
-ghost use Rattle.nv_stream.specs.Contents.{AreRead, KeepsLimit, system_path};
+ghost use Rattle.nv_stream.specs.Contents.{AreRead, AreCopied, CopiesWithin, KeepsLimit, system_path};
 
 use crate::place::Stamp;
 use std::alloc::{AllocError, Global};
 use std::fs::OpenFile;
-use std::io::{ErrorKind, Read};
+use std::io::{ErrorKind, Read, Write};
 use std::rt::Files;
 use std::{fs, io};
 use thiserror::Error;
@@ -80,6 +80,24 @@ pub fn read_whole<R: Read + Drop>(
     } else {
         Ok(Contents::Longer(None))
     }
+}
+
+/// Copies the bytes that a reader gives up to its end to a writer, in pieces, where there are no more than `limit`. Answers
+/// whether that is so. Of longer input one byte more than the limit is copied.
+///
+/// Errors: `Unreadable` where the reader or the writer fails, and `Memory` where one of them is refused it.
+pub fn copy_whole<R: Read + Drop, W: Write>(
+    reader: R,
+    limit: usize,
+    writer: &mut W,
+) -> Result<bool, Unread>
+    requires small { limit < 2 ^ 62 }
+    ensures bytes { IfOk result (λ whole. IfSome (R.remaining reader) (λ bytes. AreCopied limit bytes whole (W.contents writer.old) (W.contents writer.new))) }
+    ensures within { IfOk result (λ whole. CopiesWithin limit whole (W.contents writer.old) (W.contents writer.new)) }
+{
+    let mut front = reader.take(limit as u64 + 1);
+    let count = io::copy(&mut front, writer)?;
+    Ok(count <= limit as u64)
 }
 
 /// A file that is open, and not read yet.

@@ -15,9 +15,9 @@ mod saving;
 mod writing;
 
 pub use beside::Beside;
-pub use contents::{Contents, Opened, Unread, contents_of, open_at, read_whole};
+pub use contents::{Contents, Opened, Unread, contents_of, copy_whole, open_at, read_whole};
 pub use fault::ScriptError;
-pub use place::{Allowed, Lock, Place, Stamp, hold_place};
+pub use place::{Allowed, Lock, Place, Stamp, hold_place, hold_saved};
 pub use reading::{LINE_LIMIT, Next, read_line};
-pub use saving::{Unsaved, save_at, try_beside};
+pub use saving::{Content, Unsaved, save_at, try_beside};
 pub use writing::write_text;

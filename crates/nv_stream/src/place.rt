@@ -170,6 +170,17 @@ where
     })
 }
 
+/// The place of a file that was written there a moment ago, and has its lock since before. Errors: the system's.
+pub fn hold_saved<H: Files>(rt: &H, path: &str, file: H::File) -> Result<Place<H::File>, Error> {
+    let found = file.metadata()?;
+    Ok(Place {
+        named: named_at(rt, path)?,
+        file: Some(Stamp::of(&found)),
+        mode: Some(found.mode()),
+        _locked: Some(file),
+    })
+}
+
 /// Whether at the path is what was there when its place was held, unchanged. Errors: the system's.
 pub(crate) fn is_as_held<H: Files>(
     rt: &H,

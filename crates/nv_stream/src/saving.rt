@@ -3,7 +3,7 @@
 //! A stop at any time leaves what was there before or the whole new file, and at most the new one beside it, which a later
 //! run tells of. Only tested: no contract can say what a file holds.
 
-ghost use Rattle.std.specs.Prelude.{◌≡◌, OnOk};
+ghost use Rattle.std.specs.Prelude.{◌≡◌, ℕ, List, OnOk};
 ghost use Rattle.std.specs.Io.KnownBytes.{Appends};
 ghost use Rattle.nv_stream.specs.declared.saving.Unsaved.TheVariants.{Unwritable, Memory};
 
@@ -73,6 +73,23 @@ impl<T: Drop> From<AllocFailed<T>> for Unsaved {
     }
 }
 
+/// What a file is to hold.
+pub trait Content {
+    ghost bytes: { Self → List ℕ };
+
+    /// Writes its bytes. Errors: the writer's, and want of memory.
+    fn write_to<W: Write>(&self, writer: &mut W) -> Result<(), io::Error>
+        ensures { OnOk result (Appends (W.contents writer.old) (W.contents writer.new) (bytes self.now)) };
+}
+
+impl Content for &[u8] {
+    ghost bytes = { λ bytes. bytes.now };
+
+    fn write_to<W: Write>(&self, writer: &mut W) -> Result<(), io::Error> {
+        writer.write_all(self)
+    }
+}
+
 // A new file beside a place.
 #[derive(Drop)]
 struct New<F: Drop> {
@@ -94,22 +111,23 @@ where
     Ok(left)
 }
 
-/// Writes a file of these bytes at a place that is held: where nothing was, or over what was there, whose permissions it gets.
+/// Writes a file of this content at a place that is held: where nothing was, or over what was there, whose permissions it gets.
+/// Answers the new file, which has its lock for as long as it is open.
 ///
 /// Errors: `Changed` where that isn't there any more as it was, and the new file stays beside it; `NoName`, the system's error
 /// and want of memory.
-pub fn save_at<H: Files + AllocGlobal>(
+pub fn save_at<H: Files + AllocGlobal, C: Content>(
     rt: &H,
     path: &str,
     place: &Place<H::File>,
-    bytes: &[u8],
-) -> Result<(), Unsaved>
+    content: &C,
+) -> Result<H::File, Unsaved>
 where
     H::File: Lock,
 {
     let (mut new, _left) = open_beside(rt, path)?;
-    match fill_and_put(rt, path, place, bytes, &mut new) {
-        Ok(()) => Ok(()),
+    match fill_and_put(rt, path, place, content, &mut new) {
+        Ok(()) => Ok(new.file),
         Err(Unsaved::Changed(number)) => Err(Unsaved::Changed(number)),
         Err(unsaved) => {
             let _ = fs::remove_file(rt, new.name.as_str());
@@ -119,14 +137,14 @@ where
 }
 
 // Fills a new file, and moves it to its place.
-fn fill_and_put<H: Files>(
+fn fill_and_put<H: Files, C: Content>(
     rt: &H,
     path: &str,
     place: &Place<H::File>,
-    bytes: &[u8],
+    content: &C,
     new: &mut New<H::File>,
 ) -> Result<(), Unsaved> {
-    fill(&mut new.file, bytes, place.mode)?;
+    fill(&mut new.file, content, place.mode).map_err(unfilled)?;
     if !is_as_held(rt, path, place.named, place.file)? {
         return Err(Unsaved::Changed(new.number));
     }
@@ -201,11 +219,23 @@ fn has_bytes<F: OpenFile>(file: &F) -> bool {
     }
 }
 
-// Writes all bytes into a file, gives it these permissions, and waits until they are kept.
-fn fill<F: Write + OpenFile>(file: &mut F, bytes: &[u8], mode: Option<u32>) -> Result<(), io::Error>
-    ensures { OnOk result (Appends (F.contents file.old) (F.contents file.new) bytes.now) }
+// Why a file wasn't filled: want of memory for a piece of it, or the system's error.
+fn unfilled(error: io::Error) -> Unsaved {
+    match error.kind() {
+        ErrorKind::OutOfMemory => Unsaved::Memory,
+        _ => Unsaved::Unwritable(error),
+    }
+}
+
+// Writes all bytes of its content into a file, gives it these permissions, and waits until they are kept.
+fn fill<F: Write + OpenFile, C: Content>(
+    file: &mut F,
+    content: &C,
+    mode: Option<u32>,
+) -> Result<(), io::Error>
+    ensures { OnOk result (Appends (F.contents file.old) (F.contents file.new) (C.bytes content.now)) }
 {
-    file.write_all(bytes)?;
+    content.write_to(file)?;
     if let Some(mode) = mode {
         file.set_permissions(Permissions::from_mode(mode))?;
     }

@@ -10,5 +10,6 @@ pub mod Sorted
 pub mod Pools
 pub mod Slots
 pub mod Accepted
+pub mod Lengths
 pub mod First
 pub use Rattle.nv_region.proofs as nv_region

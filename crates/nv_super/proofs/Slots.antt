@@ -1,10 +1,24 @@
 -- Slots in the fixed tables are whole, lie between the journals and the data blocks, and stand apart.
-use Rattle.std.proofs.Common.{◌≡◌, ◌≢◌, ◌⊎◌, inl, inr, ℕ, suc, ◌+◌, ◌-◌, ◌*◌, ◌/◌, ◌%◌, ◌<◌, ◌≤◌, ◌==◌, nat_lt, Bool, true, false, if◌then◌else◌, Some, None, refl, ap, sym, arith}
-use Rattle.std.specs.Prelude.{slice_get}
+use Rattle.std.proofs.Common.{◌≡◌, ◌≢◌, ◌⊎◌, inl, inr, ℕ, zero, suc, ◌+◌, ◌-◌, ◌*◌, ◌/◌, ◌%◌, ◌<◌, ◌≤◌, ◌==◌, nat_lt, Bool, true, false, if◌then◌else◌, List, [], Some, None, refl, ap, sym, arith}
+use Rattle.std.specs.Prelude.{slice_get, unwrap_or, replicate}
 use Rattle.std.proofs.Math.Nat.{mul-le-mul_right}
 use Rattle.std.proofs.lemmas.Bool.{cases_order, ltb-true}
 use Rattle.nv_super.specs.Layout.{system_blocks, slot_address, slot_of, fixed_layout, extra_slot, chain_of, IsLayout, SlotsApart}
 use Rattle.nv_super.specs.declared.superblock.Super.{Super}
+
+-- each of so many empty chains is empty
+empty_chain : (n c : ℕ) → unwrap_or (slice_get (replicate {A = List ℕ} n []) c) [] ≡ []
+empty_chain zero c = refl
+empty_chain (suc n) zero = refl
+empty_chain (suc n) (suc c) = empty_chain n c
+
+-- no CPU has a chain in the layout of fixed tables
+pub no_chain : (s : Super) (c : ℕ) → chain_of (fixed_layout s) c ≡ []
+no_chain s c = empty_chain s.cpus c
+
+-- so no slot stands behind the fixed tables
+pub none_behind : (s : Super) (c k j : ℕ) → extra_slot j (slice_get (chain_of (fixed_layout s) c) k) ≡ None
+none_behind s c k j = ap (λ (blocks : List ℕ). extra_slot j (slice_get blocks k)) (no_chain s c)
 
 -- the slot of an inode in a fixed table
 pub record IsSlot (s : Super) (i a : ℕ) : Type 0 where
@@ -19,7 +33,7 @@ slot_is s i a = at (i == 0) where
   further true low e = record { low = ltb-true _ _ low; is = (let is : slot_address s i ≡ a = cc in sym is) }
   further false low e = absurd (none e) where
     none : extra_slot ((i / s.cpus - 32 * s.table_blocks) % 31) (slice_get (chain_of (fixed_layout s) (i % s.cpus)) ((i / s.cpus - 32 * s.table_blocks) / 31)) ≡ Some a → ⊥
-    none e = cc
+    none e = let past = none_behind s (i % s.cpus) ((i / s.cpus - 32 * s.table_blocks) / 31) ((i / s.cpus - 32 * s.table_blocks) % 31) in cc
 
   at : (b : Bool)
       → (if b then None else (if nat_lt (i / s.cpus) (32 * s.table_blocks) then Some (slot_address s i) else extra_slot ((i / s.cpus - 32 * s.table_blocks) % 31) (slice_get (chain_of (fixed_layout s) (i % s.cpus)) ((i / s.cpus - 32 * s.table_blocks) / 31)))) ≡ Some a → IsSlot s i a

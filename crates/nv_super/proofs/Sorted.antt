@@ -12,7 +12,7 @@ use Rattle.nv_super.specs.Order.{owner_key, fault_key, claim_key, Rises, SortedO
 use Rattle.nv_super.specs.declared.owners.Owner.{Owner}
 use Rattle.nv_super.specs.declared.owners.Owner.TheVariants.{Log, Data}
 use Rattle.nv_super.specs.declared.faults.Fault.{Fault}
-use Rattle.nv_super.specs.declared.faults.Fault.TheVariants.{J1, J2, I1, I2, I3, L1, L2, L3, L4, E1, E2, E3, E4, C1, C2, C3, C4, C5, B1}
+use Rattle.nv_super.specs.declared.faults.Fault.TheVariants.{J1, J2, H1, H2, I1, I2, I3, L1, L2, L3, L4, E1, E2, E3, E4, C1, C2, C3, C4, C5, B1}
 
 owner_at : ℕ → ℕ → ℕ → Owner
 owner_at i role k = cond (nat_eq role 0) (Log i k) (Data i k)
@@ -34,13 +34,15 @@ pick (x ∷ xs) c = cond (nat_eq c x.0) x.1 (pick xs c)
 
 abbrev fault_of : List ℕ → Fault
 fault_of (c ∷ x ∷ y ∷ z ∷ w ∷ []) =
-    pick ((0, J1 x) ∷ (1, J2 x y) ∷ (2, I1 x) ∷ (3, I2 x) ∷ (4, I3 x) ∷ (5, L1 x y) ∷ (6, L2 x y) ∷ (7, L3 x y) ∷ (8, L4 x y)
-    ∷ (9, E1 x y) ∷ (10, E2 x y) ∷ (11, E3 x y) ∷ (12, E4 x y) ∷ (13, C1 x y) ∷ (14, C2 x) ∷ (15, C3 x) ∷ (16, C4 x) ∷ (17, C5) ∷ (18, B1 x (owner_of (y ∷ z ∷ w ∷ []))) ∷ []) c
+    pick ((0, J1 x) ∷ (1, J2 x y) ∷ (2, H1 x y) ∷ (3, H2 x y) ∷ (4, I1 x) ∷ (5, I2 x) ∷ (6, I3 x) ∷ (7, L1 x y) ∷ (8, L2 x y) ∷ (9, L3 x y) ∷ (10, L4 x y)
+    ∷ (11, E1 x y) ∷ (12, E2 x y) ∷ (13, E3 x y) ∷ (14, E4 x y) ∷ (15, C1 x y) ∷ (16, C2 x) ∷ (17, C3 x) ∷ (18, C4 x) ∷ (19, C5) ∷ (20, B1 x (owner_of (y ∷ z ∷ w ∷ []))) ∷ []) c
 fault_of _ = C5
 
 fault_back : (f : Fault) → fault_of (fault_key f) ≡ f
 fault_back (J1 x) = refl
 fault_back (J2 x y) = refl
+fault_back (H1 x y) = refl
+fault_back (H2 x y) = refl
 fault_back (I1 x) = refl
 fault_back (I2 x) = refl
 fault_back (I3 x) = refl

@@ -5,7 +5,7 @@ use Rattle.nv_super.specs.declared.owners.Owner.TheVariants.{Log, Data}
 use Rattle.nv_super.specs.declared.superblock.SuperFault.{SuperFault}
 use Rattle.nv_super.specs.declared.superblock.SuperFault.TheVariants as super_faults
 use Rattle.nv_super.specs.declared.faults.Fault.{Fault}
-use Rattle.nv_super.specs.declared.faults.Fault.TheVariants.{J1, J2, I1, I2, I3, L1, L2, L3, L4, E1, E2, E3, E4, C1, C2, C3, C4, C5, B1}
+use Rattle.nv_super.specs.declared.faults.Fault.TheVariants.{J1, J2, H1, H2, I1, I2, I3, L1, L2, L3, L4, E1, E2, E3, E4, C1, C2, C3, C4, C5, B1}
 
 -- why an inode holds a block: as a page of its log, or of its file
 abbrev pub owner_text : Owner → List ℕ
@@ -16,6 +16,8 @@ owner_text (Data i p) = codes "data " ++ decimal i ++ codes " " ++ decimal p
 abbrev pub fault_text : Fault → List ℕ
 fault_text (J1 c) = codes "J1 cpu " ++ decimal c
 fault_text (J2 c k) = codes "J2 cpu " ++ decimal c ++ codes " record " ++ decimal k
+fault_text (H1 c a) = codes "H1 cpu " ++ decimal c ++ codes " at " ++ decimal a
+fault_text (H2 c a) = codes "H2 cpu " ++ decimal c ++ codes " at " ++ decimal a
 fault_text (I1 i) = codes "I1 inode " ++ decimal i
 fault_text (I2 i) = codes "I2 inode " ++ decimal i
 fault_text (I3 i) = codes "I3 inode " ++ decimal i

@@ -1,5 +1,5 @@
 -- Where the areas of a region lie, by the numbers of its superblock.
-use Rattle.std.specs.Prelude.{◌≡◌, ◌≢◌, ◌⊎◌, ◌≤◌, ◌<◌, ◌+◌, ◌-◌, ◌*◌, ◌/◌, ◌%◌, ℕ, Bool, nat_le, nat_lt, ◌&&◌, ◌==◌, if◌then◌else◌, List, [], Option, Some, None, slice_get, unwrap_or}
+use Rattle.std.specs.Prelude.{◌≡◌, ◌≢◌, ◌⊎◌, ◌≤◌, ◌<◌, ◌+◌, ◌-◌, ◌*◌, ◌/◌, ◌%◌, ℕ, Bool, nat_le, nat_lt, ◌&&◌, ◌==◌, if◌then◌else◌, List, [], replicate, Option, Some, None, slice_get, unwrap_or}
 use Rattle.nv_super.specs.declared.superblock.Super.{Super}
 
 -- the first data block
@@ -43,7 +43,8 @@ pub record HasAreas (s : Super) : Type 0 where
 
 -- numbers that a sound superblock can have
 pub record IsLayout (s : Super) : Type 0 where
-  pub version : s.version ≡ 1
+  pub version_from : 1 ≤ s.version
+  pub version_to : s.version ≤ 2
   pub cpus_from : 1 ≤ s.cpus
   pub blocks_from : 8 ≤ s.blocks
   pub blocks_to : s.blocks ≤ most_blocks
@@ -74,9 +75,9 @@ slot_of l i =
     else if nat_lt slot fixed then Some (slot_address l.sup i)
     else extra_slot ((slot - fixed) % 31) (slice_get (chain_of l (i % l.sup.cpus)) ((slot - fixed) / 31))
 
--- the layout of fixed tables alone
+-- the layout of fixed tables alone: the chain of each CPU is empty
 abbrev pub fixed_layout : Super → Layout
-fixed_layout s = record { sup = s; chains = [] }
+fixed_layout s = record { sup = s; chains = replicate s.cpus [] }
 
 -- Slots are whole, stand behind the journals and before the data blocks, and no two overlap.
 pub record SlotsApart (l : Layout) : Type 0 where

@@ -16,6 +16,10 @@ pub enum Fault {
     J1 { cpu: u64 },
     /// The address of a pending record isn't permitted.
     J2 { cpu: u64, record: u64 },
+    /// A link of a table's chain doesn't lead to a data block.
+    H1 { cpu: u64, at: u64 },
+    /// A link of a table's chain leads to a block that was read before in this chain.
+    H2 { cpu: u64, at: u64 },
     /// The valid word is neither 0 nor 1.
     I1 { inode: u64 },
     /// Valid, but of no kind.
@@ -64,26 +68,28 @@ impl Fault {
         match self {
             Fault::J1 { cpu } => short_key(0, *cpu, 0),
             Fault::J2 { cpu, record } => short_key(1, *cpu, *record),
-            Fault::I1 { inode } => short_key(2, *inode, 0),
-            Fault::I2 { inode } => short_key(3, *inode, 0),
-            Fault::I3 { inode } => short_key(4, *inode, 0),
-            Fault::L1 { inode, at } => short_key(5, *inode, *at),
-            Fault::L2 { inode, at } => short_key(6, *inode, *at),
-            Fault::L3 { inode, at } => short_key(7, *inode, *at),
-            Fault::L4 { inode, at } => short_key(8, *inode, *at),
-            Fault::E1 { inode, at } => short_key(9, *inode, *at),
-            Fault::E2 { inode, at } => short_key(10, *inode, *at),
-            Fault::E3 { inode, at } => short_key(11, *inode, *at),
-            Fault::E4 { inode, at } => short_key(12, *inode, *at),
-            Fault::C1 { directory, at } => short_key(13, *directory, *at),
-            Fault::C2 { inode } => short_key(14, *inode, 0),
-            Fault::C3 { inode } => short_key(15, *inode, 0),
-            Fault::C4 { inode } => short_key(16, *inode, 0),
-            Fault::C5 => short_key(17, 0, 0),
+            Fault::H1 { cpu, at } => short_key(2, *cpu, *at),
+            Fault::H2 { cpu, at } => short_key(3, *cpu, *at),
+            Fault::I1 { inode } => short_key(4, *inode, 0),
+            Fault::I2 { inode } => short_key(5, *inode, 0),
+            Fault::I3 { inode } => short_key(6, *inode, 0),
+            Fault::L1 { inode, at } => short_key(7, *inode, *at),
+            Fault::L2 { inode, at } => short_key(8, *inode, *at),
+            Fault::L3 { inode, at } => short_key(9, *inode, *at),
+            Fault::L4 { inode, at } => short_key(10, *inode, *at),
+            Fault::E1 { inode, at } => short_key(11, *inode, *at),
+            Fault::E2 { inode, at } => short_key(12, *inode, *at),
+            Fault::E3 { inode, at } => short_key(13, *inode, *at),
+            Fault::E4 { inode, at } => short_key(14, *inode, *at),
+            Fault::C1 { directory, at } => short_key(15, *directory, *at),
+            Fault::C2 { inode } => short_key(16, *inode, 0),
+            Fault::C3 { inode } => short_key(17, *inode, 0),
+            Fault::C4 { inode } => short_key(18, *inode, 0),
+            Fault::C5 => short_key(19, 0, 0),
             Fault::B1 { block, owner } => {
                 let key = owner.key();
                 FaultKey {
-                    class: 18,
+                    class: 20,
                     first: *block,
                     second: key.inode,
                     third: key.role,
@@ -130,6 +136,8 @@ impl Fault {
         match self {
             Fault::J1 { .. } => "J1",
             Fault::J2 { .. } => "J2",
+            Fault::H1 { .. } => "H1",
+            Fault::H2 { .. } => "H2",
             Fault::I1 { .. } => "I1",
             Fault::I2 { .. } => "I2",
             Fault::I3 { .. } => "I3",
@@ -161,6 +169,7 @@ impl Fault {
         match self {
             Fault::J1 { .. } => write!(f, " cpu {first}"),
             Fault::J2 { .. } => write!(f, " cpu {first} record {second}"),
+            Fault::H1 { .. } | Fault::H2 { .. } => write!(f, " cpu {first} at {second}"),
             Fault::I1 { .. }
             | Fault::I2 { .. }
             | Fault::I3 { .. }

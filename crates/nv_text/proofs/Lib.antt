@@ -2,3 +2,4 @@ pub mod FreeLines
 pub mod Spellings
 pub mod RefusalNames
 pub mod ListLines
+pub mod DigitPlaces

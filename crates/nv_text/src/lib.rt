@@ -6,6 +6,7 @@
 #![tactic(auto)]
 
 mod answers;
+mod digits;
 mod escapes;
 mod faults;
 mod free;
@@ -18,11 +19,12 @@ mod region;
 pub use answers::{
     push_bad_line, push_cleaned, push_ok, push_recovered, push_refused, push_stopped, push_word,
 };
+pub use digits::put_digits;
 pub use escapes::{one_name, unescaped};
 pub use faults::{push_fault_line, push_faults};
 pub use free::{push_free_line, push_free_lines};
 pub use inodes::{Attributes, push_inode_line, push_log_line, push_page_line, push_stat_line};
-pub use names::{push_data_line, push_list_line, push_name_line};
+pub use names::{push_data_line, push_escaped, push_list_line, push_name_line};
 pub use refusal_lines::{is_refusal_line, no_list_is_refused};
 pub use refusals::Refusal;
 pub use region::push_region_line;

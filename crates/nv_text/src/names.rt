@@ -56,8 +56,8 @@ fn plain_text(name: &[u8]) -> Option<&str>
     std::str::from_utf8(name).ok()
 }
 
-// Most names need no escape, and then go out at once.
-fn push_escaped(out: &mut String, name: &[u8]) -> Result<(), AllocError>
+/// A name with its escapes. Most names need none, and then go out at once.
+pub fn push_escaped(out: &mut String, name: &[u8]) -> Result<(), AllocError>
     ensures { OnOk result (string_bytes out.new ≡ string_bytes out.old ++ escaped name.now) }
 {
     match plain_text(name) {

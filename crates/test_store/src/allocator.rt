@@ -292,6 +292,14 @@ fn a_run_joins_the_two_that_it_touches(rt: HostRuntime) {
 
 #[test]
 fn a_refusal_has_its_name(rt: HostRuntime) {
-    check(&rt, AllocRefusal::NoSpace.name() == "NoSpace", "the name of no space");
-    check(&rt, AllocRefusal::Memory.name() == "Memory", "the name of no memory");
+    check(
+        &rt,
+        AllocRefusal::NoSpace.name() == "NoSpace",
+        "the name of no space",
+    );
+    check(
+        &rt,
+        AllocRefusal::Memory.name() == "Memory",
+        "the name of no memory",
+    );
 }

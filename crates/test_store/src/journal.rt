@@ -10,8 +10,8 @@ ghost use Rattle.nv_super.specs.Layout.{IsLayout};
 use crate::checks::{check, check_at};
 use crate::small::{SMALL, Word, assert_words, small_region};
 use nv_journal::{
-    UndoError, one_region_is_undone, the_superblock_stays, undo, undo_again_changes_nothing,
-    undone_regions_are_quiet,
+    UndoError, one_region_is_undone, quiet_journals_stay, the_superblock_stays, undo,
+    undo_again_changes_nothing, undone_regions_are_quiet,
 };
 use nv_region::{Fuse, MemRegion};
 use nv_super::{Fault, Super};
@@ -237,5 +237,6 @@ fn an_undo_that_was_stopped_is_finished_by_another(rt: HostRuntime) {
     one_region_is_undone();
     undo_again_changes_nothing();
     undone_regions_are_quiet();
+    quiet_journals_stay();
     the_superblock_stays();
 }

@@ -6,6 +6,8 @@
 #[cfg(test)]
 mod allocator;
 #[cfg(test)]
+mod chains;
+#[cfg(test)]
 mod checks;
 #[cfg(test)]
 mod chunks;

@@ -9,7 +9,7 @@ use std::process::Abort;
 use std::test::Fail;
 use std::thread::Threads;
 
-// Regions of one and of more CPUs, the largest one, and one without a free block.
+// Regions of one and of more CPUs, a large one, and one without a free block.
 const FIRST_PATH: [(&str, &str, u8); 7] = [
     (
         "format 64 130 1\nrecover 1\nfree\n",
@@ -155,9 +155,9 @@ const REFUSALS: [(&str, &str, u8); 16] = [
         0,
     ),
     (
-        "format 0 0 0\nformat 0 7 0\nformat 1 65537 1\nformat 1 262145 1\n\
+        "format 0 0 0\nformat 0 7 0\nformat 1 262145 1\n\
              format 1 18446744073709551615 1\n",
-        "refused Length\nrefused Length\nrefused Length\nrefused Length\nrefused Length\n",
+        "refused Length\nrefused Length\nrefused Length\nrefused Length\n",
         0,
     ),
     (

@@ -136,7 +136,7 @@ fn push_pools(alloc: Global, out: &mut String) -> Result<(), AllocError> {
     push_free_line(out, 7, &ONE_RUN)
 }
 
-const FAULTS: [(Fault, &str); 20] = [
+const FAULTS: [(Fault, &str); 22] = [
     (Fault::J1 { cpu: 1 }, "fault J1 cpu 1\n"),
     (
         Fault::J2 {
@@ -144,6 +144,11 @@ const FAULTS: [(Fault, &str); 20] = [
             record: 251,
         },
         "fault J2 cpu 0 record 251\n",
+    ),
+    (Fault::H1 { cpu: 0, at: 4112 }, "fault H1 cpu 0 at 4112\n"),
+    (
+        Fault::H2 { cpu: 63, at: 40960 },
+        "fault H2 cpu 63 at 40960\n",
     ),
     (Fault::I1 { inode: 15 }, "fault I1 inode 15\n"),
     (Fault::I2 { inode: 10 }, "fault I2 inode 10\n"),

@@ -94,6 +94,7 @@ fn noted(rt: &impl Abort, alloc: Global, words: &[Word]) -> NotedRegion
 /// How many faults an undo tells.
 fn undo_noted(alloc: Global, region: &mut NotedRegion) -> Result<usize, UndoError>
     requires { HasBlocks region.old.memory.region 16 }
+    ensures { HasBlocks region.new.memory.region 16 }
 {
     Ok(undo(alloc, region, &TWO)?.len())
 }
@@ -123,6 +124,30 @@ fn stores_for_the_pending_one(rt: &impl Abort, alloc: Global, region: &mut Noted
 fn an_empty_journal_causes_no_store_beside_a_pending_one(rt: HostRuntime) {
     let mut region = noted(&rt, rt.alloc(), &ONE_PENDING);
     stores_for_the_pending_one(&rt, rt.alloc(), &mut region);
+}
+
+const BOTH_UNDONE: [u64; 8] = [12432, 4096, 12416, 12440, 8192, 0, 0, 0];
+
+// A journal that was emptied isn't stored to again: neither while the next one is rolled back, nor by the next undo.
+fn stores_for_both(rt: &impl Abort, alloc: Global, region: &mut NotedRegion)
+    requires { HasBlocks region.old.memory.region 16 }
+{
+    check(rt, undo_noted(alloc, region) == Ok(0), "no fault is told");
+    assert_noted(rt, region, 5, &BOTH_UNDONE, 4);
+    check(
+        rt,
+        undo_noted(alloc, region) == Ok(0),
+        "nor by the next one",
+    );
+    assert_noted(rt, region, 5, &BOTH_UNDONE, 4);
+}
+
+#[test]
+fn a_journal_is_emptied_by_one_store(rt: HostRuntime) {
+    let mut words = ONE_PENDING;
+    words[0] = (4096, 7);
+    let mut region = noted(&rt, rt.alloc(), &words);
+    stores_for_both(&rt, rt.alloc(), &mut region);
 }
 
 /// Changes the head and the tail of slot 1, where the first journal is empty.

@@ -1,4 +1,4 @@
-use Rattle.std.proofs.Common.{inl, subst, ◌≡◌, ◌≢◌, ◌+◌, ◌≤◌, ℕ, refl, arith}
+use Rattle.std.proofs.Common.{inl, ap, subst, ◌≡◌, ◌≢◌, ◌+◌, ◌≤◌, ℕ, refl, arith}
 use Rattle.nv_region.proofs.Stops.{settled_left}
 use Rattle.nv_super.specs.declared.superblock.Super.{Super}
 use Rattle.nv_format.specs.Format.{FormatLeaves, IsFormatRefusal, IsFormatted, root_page}
@@ -33,6 +33,9 @@ returns-in_err-sup-clause-size g c = refl
 
 pub write_region-requires-clause-layout : goal.write_region-requires-clause-layout
 write_region-requires-clause-layout g c = c.in_ok-sup.ensures.layout.0
+
+pub write_region-requires-clause-version : goal.write_region-requires-clause-version
+write_region-requires-clause-version g c = ap (λ (s : Super). s.version) c.in_ok-sup.ensures.fresh
 
 pub write_region-requires-clause-blocks : goal.write_region-requires-clause-blocks
 write_region-requires-clause-blocks g c = c.in_ok-sup.ensures.layout.1

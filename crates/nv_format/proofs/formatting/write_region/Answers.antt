@@ -79,7 +79,7 @@ returns-clause-done g c =
     let old = g.P.Pmem.region c.args.memory.now in
     let laid = g.P.Pmem.region c.lay_out.new.memory in
     let mixed = subst (λ (r : Region). IsMixed r (AnyAt (λ (a : ℕ). IsSystemWord s a ⊎ IsRootWord s a)) laid) c.in_ok-commit_word.ensures.done c.lay_out.ensures.wrote.mixed in
-    let whole = formatted s c.args.time c.requires.layout old laid c.lay_out.ensures.blocks mixed c.in_ok-lay_out.ensures.done in
+    let whole = formatted s c.args.time c.requires.layout c.requires.version old laid c.lay_out.ensures.blocks mixed c.in_ok-lay_out.ensures.done in
     on_ok_weaker c.commit_word-2.result
     (λ is. subst (λ (r : Region). IsFormatted old r s c.args.time) (sym (is ∙ ap (λ (r : Region). put r 0 magic) c.in_ok-fence.ensures.same)) whole)
     c.commit_word-2.ensures.done
@@ -103,7 +103,7 @@ returns-clause-any_stop g c settled left may =
     let old = g.P.Pmem.region c.args.memory.now in
     let laid = g.P.Pmem.region c.lay_out.new.memory in
     let mixed = subst (λ (r : Region). IsMixed r (AnyAt (λ (a : ℕ). IsSystemWord s a ⊎ IsRootWord s a)) laid) c.in_ok-commit_word.ensures.done c.lay_out.ensures.wrote.mixed in
-    let whole = formatted s c.args.time c.requires.layout old laid c.lay_out.ensures.blocks mixed c.in_ok-lay_out.ensures.done in
+    let whole = formatted s c.args.time c.requires.layout c.requires.version old laid c.lay_out.ensures.blocks mixed c.in_ok-lay_out.ensures.done in
     magic_leaves s c.args.time c.requires.layout old c.requires.blocks _ laid (g.P.Pmem.region c.fence.new.self) left c.in_ok-commit_word.ensures.done c.lay_out.ensures.wrote.mixed c.in_ok-fence.ensures.same whole
     (c.commit_word-2.ensures.any_stop c.in_ok-fence.ensures.fenced left may)
 

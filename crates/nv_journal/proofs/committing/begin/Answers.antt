@@ -5,7 +5,7 @@ use Rattle.nv_region.proofs.Fuses.{keeps_more, keeps_within}
 use Rattle.nv_region.proofs.Stops.{refused_leaves}
 use Rattle.nv_region.proofs.Wordwise.{fenced_stores, stores_more}
 use Rattle.nv_journal.specs.Pending.{Begun}
-use Rattle.nv_journal.proofs.Begins.{begun_either, begun_left, begun_mixed, has_then, wrote_records, number_word}
+use Rattle.nv_journal.proofs.Begins.{begun_either, begun_left, begun_mixed, has_then, wrote_records, number_word, number_alone, records_alone}
 use Rattle.nv_journal.proofs.committing.begin.Goals as goal
 
 pub write_records-requires : goal.write_records-requires
@@ -48,6 +48,16 @@ returns-in_err-fence-clause-wrote g c = fenced_stores c.fence.result _ _ _ _ _ _
 pub returns-clause-wrote : goal.returns-clause-wrote
 returns-clause-wrote g c = stores_more _ _ _ _ _ _ _ _ (number_word c.args.cpu c.enqueue_word.result _ c.enqueue_word.ensures)
     (fenced_stores c.fence.result _ _ _ _ _ _ _ (wrote_records c.read-pending.result c.args.cpu _ _ _ _ c.read-pending.ensures.is c.write_records.ensures.wrote) c.fence.ensures.same c.fence.ensures.fenced c.fence.ensures.refused_keep (g.met.P.Pmem.holds_now _)) c.commit_word.ensures.wrote
+
+pub returns-in_err-write_records-clause-keeps_link : goal.returns-in_err-write_records-clause-keeps_link
+returns-in_err-write_records-clause-keeps_link g c = records_alone c.read-pending.result c.args.cpu _ _ _ _ c.read-pending.ensures.is c.write_records.ensures.wrote
+
+pub returns-in_err-fence-clause-keeps_link : goal.returns-in_err-fence-clause-keeps_link
+returns-in_err-fence-clause-keeps_link g c = fenced_stores c.fence.result _ _ _ _ _ _ _ (records_alone c.read-pending.result c.args.cpu _ _ _ _ c.read-pending.ensures.is c.write_records.ensures.wrote) c.fence.ensures.same c.fence.ensures.fenced c.fence.ensures.refused_keep (g.met.P.Pmem.holds_now _)
+
+pub returns-clause-keeps_link : goal.returns-clause-keeps_link
+returns-clause-keeps_link g c = stores_more _ _ _ _ _ _ _ _ (number_alone c.args.cpu c.enqueue_word.result _ c.enqueue_word.ensures)
+    (fenced_stores c.fence.result _ _ _ _ _ _ _ (records_alone c.read-pending.result c.args.cpu _ _ _ _ c.read-pending.ensures.is c.write_records.ensures.wrote) c.fence.ensures.same c.fence.ensures.fenced c.fence.ensures.refused_keep (g.met.P.Pmem.holds_now _)) c.commit_word.ensures.wrote
 
 pub returns-in_err-write_records-clause-keeps_fuse : goal.returns-in_err-write_records-clause-keeps_fuse
 returns-in_err-write_records-clause-keeps_fuse g c = let here = ap (λ (p : _). p.cpu) c.read-pending.ensures.is in keeps_within (λ limit past. omega (arith, here)) c.write_records.ensures.keeps_fuse

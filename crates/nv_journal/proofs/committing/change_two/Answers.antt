@@ -7,7 +7,7 @@ use Rattle.nv_region.specs.Stored.{Within}
 use Rattle.nv_region.proofs.Stops.{mixed_left}
 use Rattle.nv_region.proofs.Wordwise.{stores_more, stores_within, within_one}
 use Rattle.nv_journal.specs.Undo.{journal, enqueue}
-use Rattle.nv_journal.specs.Recorded.{Changes, Two}
+use Rattle.nv_journal.specs.Recorded.{Changes, CommitWords, JournalWords, Two}
 use Rattle.nv_journal.proofs.Both.{while_begun, while_pending, once_stored, still_small, changed}
 use Rattle.nv_journal.proofs.InOrder.{behind_journal, first_later, first_since}
 use Rattle.nv_journal.proofs.Faultless.{begun_faultless, pending_faultless, emptied_faultless}
@@ -57,6 +57,20 @@ pub returns-clause-wrote : goal.returns-clause-wrote
 returns-clause-wrote g c =
     let these = Changes c.args.cpu c.args.first c.args.first_value c.args.second c.args.second_value in
     stores_more these (One (journal c.args.cpu) (enqueue (g.P.Pmem.region c.store_both.new.memory) c.args.cpu)) _ _ _ _ _ _ (λ i x one. inl (within_one (journal c.args.cpu) 4096 (journal c.args.cpu) _ (omega arith) (omega arith) (omega arith) i x one)) (stores_more these (Two c.args.first c.args.first_value c.args.second c.args.second_value) _ _ _ _ _ _ (λ i x here. inr here) (stores_within these (Within (journal c.args.cpu) 4096) _ _ _ _ (λ i x here. inl here) c.begin.ensures.wrote) c.store_both.ensures.wrote)
+    c.commit.ensures.wrote
+
+pub returns-in_err-begin-clause-keeps_link : goal.returns-in_err-begin-clause-keeps_link
+returns-in_err-begin-clause-keeps_link g c = stores_within (CommitWords c.args.cpu c.args.first c.args.first_value c.args.second c.args.second_value) (JournalWords c.args.cpu) _ _ _ _ (λ i x here. inl here) c.begin.ensures.keeps_link
+
+pub returns-in_err-store_both-clause-keeps_link : goal.returns-in_err-store_both-clause-keeps_link
+returns-in_err-store_both-clause-keeps_link g c =
+    let these = CommitWords c.args.cpu c.args.first c.args.first_value c.args.second c.args.second_value in
+    stores_more these (Two c.args.first c.args.first_value c.args.second c.args.second_value) _ _ _ _ _ _ (λ i x here. inr here) (stores_within these (JournalWords c.args.cpu) _ _ _ _ (λ i x here. inl here) c.begin.ensures.keeps_link) c.store_both.ensures.wrote
+
+pub returns-clause-keeps_link : goal.returns-clause-keeps_link
+returns-clause-keeps_link g c =
+    let these = CommitWords c.args.cpu c.args.first c.args.first_value c.args.second c.args.second_value in
+    stores_more these (One (journal c.args.cpu) (enqueue (g.P.Pmem.region c.store_both.new.memory) c.args.cpu)) _ _ _ _ _ _ (λ i x one. inl (inl (within_one (journal c.args.cpu) 16 (journal c.args.cpu) _ (omega arith) (omega arith) (omega arith) i x one))) (stores_more these (Two c.args.first c.args.first_value c.args.second c.args.second_value) _ _ _ _ _ _ (λ i x here. inr here) (stores_within these (JournalWords c.args.cpu) _ _ _ _ (λ i x here. inl here) c.begin.ensures.keeps_link) c.store_both.ensures.wrote)
     c.commit.ensures.wrote
 
 pub returns-clause-done : goal.returns-clause-done

@@ -8,7 +8,8 @@ use Rattle.nv_region.proofs.Wordwise.{fenced_stores, outside_more, stores_more}
 use Rattle.nv_super.specs.Layout.{system_blocks}
 use Rattle.nv_inode.specs.Permitted.{is_permitted}
 use Rattle.nv_journal.specs.Undo.{count_of, pending_count, pending_from, permitted, stores}
-use Rattle.nv_journal.proofs.Turns.{is_named, one_turn}
+use Rattle.nv_journal.proofs.Partly.{read_sound}
+use Rattle.nv_journal.proofs.Turns.{old_value, one_turn}
 use Rattle.nv_journal.proofs.rollback.put_all_back.Goals as goal
 
 pub put_back-requires : goal.put_back-requires
@@ -20,7 +21,7 @@ put_back-requires g c = record {
 }
 
 pub returns-in_err-put_back-clause-wrote : goal.returns-in_err-put_back-clause-wrote
-returns-in_err-put_back-clause-wrote g c = stores_more _ _ _ _ _ _ _ _ (is_named c.args.sup.now _ _ c.args.pending.now c.count-count.result c.loop-done.done c.place.result c.requires.layout c.requires.cpu c.requires.read c.count-count.ensures c.loop-done-test.true c.loop-done.invariant.so_far c.place.ensures) c.loop-done.invariant.wrote c.put_back.ensures.wrote
+returns-in_err-put_back-clause-wrote g c = stores_more _ _ _ _ _ _ _ _ (old_value c.args.sup.now _ _ c.args.pending.now c.count-count.result c.loop-done.done c.place.result c.requires.layout c.requires.cpu c.requires.read c.count-count.ensures c.loop-done-test.true c.loop-done.invariant.so_far c.place.ensures (read_sound (g.P.Pmem.region c.args.memory.now) c.args.pending.now c.requires.read c.requires.sound)) c.loop-done.invariant.wrote c.put_back.ensures.wrote
 
 pub returns-in_err-put_back-clause-outside : goal.returns-in_err-put_back-clause-outside
 returns-in_err-put_back-clause-outside g c = outside_more _ _ _ _ _ c.loop-done.invariant.outside c.put_back.ensures.outside
@@ -30,8 +31,9 @@ loop-done-preserved g c = record {
   so_far = one_turn c.args.sup.now _ _ c.args.pending.now c.count-count.result c.loop-done.done c.place.result
       c.requires.layout c.requires.cpu c.requires.read c.count-count.ensures c.loop-done-test.true c.loop-done.invariant.so_far c.place.ensures _ c.in_ok-put_back.ensures.done;
   wrote = stores_more _ _ _ _ _ _ _ _
-      (is_named c.args.sup.now _ _ c.args.pending.now c.count-count.result c.loop-done.done c.place.result
-      c.requires.layout c.requires.cpu c.requires.read c.count-count.ensures c.loop-done-test.true c.loop-done.invariant.so_far c.place.ensures)
+      (old_value c.args.sup.now _ _ c.args.pending.now c.count-count.result c.loop-done.done c.place.result
+      c.requires.layout c.requires.cpu c.requires.read c.count-count.ensures c.loop-done-test.true c.loop-done.invariant.so_far c.place.ensures
+      (read_sound (g.P.Pmem.region c.args.memory.now) c.args.pending.now c.requires.read c.requires.sound))
       c.loop-done.invariant.wrote c.put_back.ensures.wrote;
   outside = outside_more _ _ _ _ _ c.loop-done.invariant.outside c.put_back.ensures.outside;
   keeps_fuse = keeps_more (λ limit past. past) c.loop-done.invariant.keeps_fuse c.put_back.ensures.keeps_fuse;

@@ -106,3 +106,15 @@ returns-clause-any_stop g c = c.start.ensures.any_stop
 
 pub returns-clause-settled : goal.returns-clause-settled
 returns-clause-settled g c = c.in_ok-started.ensures.settled
+
+pub returns-in_err-started-clause-wrote : goal.returns-in_err-started-clause-wrote
+returns-in_err-started-clause-wrote g c = c.start.ensures.wrote
+
+pub returns-in_err-scanned-clause-wrote : goal.returns-in_err-scanned-clause-wrote
+returns-in_err-scanned-clause-wrote g c = c.start.ensures.wrote
+
+pub returns-in_err-finish-clause-wrote : goal.returns-in_err-finish-clause-wrote
+returns-in_err-finish-clause-wrote g c = c.start.ensures.wrote
+
+pub returns-clause-wrote : goal.returns-clause-wrote
+returns-clause-wrote g c = c.start.ensures.wrote

@@ -4,6 +4,7 @@ use Rattle.nv_recover.specs.declared.errors.RecoverError.{RecoverError}
 use Rattle.nv_recover.specs.declared.errors.RecoverError.TheVariants.{Stopped, Workers, Schedule}
 use Rattle.nv_recover.proofs.Handed.{goes_on, handed, memory_fails, memory_goes_on, memory_not_burnt, memory_not_first}
 use Rattle.nv_recover.proofs.Stops.{stop_before}
+use Rattle.nv_region.proofs.Wordwise.{stores_none}
 use Rattle.nv_recover.proofs.replaying.recover_replay.Goals as goal
 
 pub finish-requires-clause-scanned : goal.finish-requires-clause-scanned
@@ -170,3 +171,21 @@ returns-in-Some-clause-keeps_fuse g c = record { burnt = λ was. was; steady = �
 
 pub returns-in-Some-clause-unstopped : goal.returns-in-Some-clause-unstopped
 returns-in-Some-clause-unstopped g c = λ s is free. goes_on (Schedule c.in-Some.place) tt
+
+pub returns-in_err-started-clause-wrote : goal.returns-in_err-started-clause-wrote
+returns-in_err-started-clause-wrote g c = c.start.ensures.wrote
+
+pub returns-in_err-scanned-clause-wrote : goal.returns-in_err-scanned-clause-wrote
+returns-in_err-scanned-clause-wrote g c = c.start.ensures.wrote
+
+pub returns-in_err-finish-clause-wrote : goal.returns-in_err-finish-clause-wrote
+returns-in_err-finish-clause-wrote g c = c.start.ensures.wrote
+
+pub returns-clause-wrote : goal.returns-clause-wrote
+returns-clause-wrote g c = c.start.ensures.wrote
+
+pub returns-then-not-is_worker_count-clause-wrote : goal.returns-then-not-is_worker_count-clause-wrote
+returns-then-not-is_worker_count-clause-wrote g c = stores_none _ _ _
+
+pub returns-in-Some-clause-wrote : goal.returns-in-Some-clause-wrote
+returns-in-Some-clause-wrote g c = stores_none _ _ _

@@ -9,7 +9,8 @@ use Rattle.nv_recover.specs.Errors.{Fails, comes_first, error_of_undo}
 use Rattle.nv_recover.specs.declared.errors.RecoverError.{RecoverError}
 use Rattle.nv_recover.specs.declared.errors.RecoverError.TheVariants.{Super as Refused, Stopped}
 use Rattle.nv_recover.proofs.Handed.{burnt_of, fails_of, goes_on, handed, no_stop_of}
-use Rattle.nv_recover.proofs.Stops.{stop_before, stop_undone}
+use Rattle.nv_recover.proofs.Stops.{recovery_stores, stop_before, stop_undone}
+use Rattle.nv_region.proofs.Wordwise.{stores_none}
 use Rattle.nv_recover.proofs.starting.start.Goals as goal
 
 pub returns-in_err-sup-clause-quiet : goal.returns-in_err-sup-clause-quiet
@@ -92,3 +93,12 @@ returns-clause-any_stop g c = λ s is none. stop_undone (g.P.Pmem.region c.args.
 
 pub returns-clause-settled : goal.returns-clause-settled
 returns-clause-settled g c = c.in_ok-journal.ensures.settled
+
+pub returns-in_err-sup-clause-wrote : goal.returns-in_err-sup-clause-wrote
+returns-in_err-sup-clause-wrote g c = stores_none _ _ _
+
+pub returns-in_err-journal-clause-wrote : goal.returns-in_err-journal-clause-wrote
+returns-in_err-journal-clause-wrote g c = recovery_stores _ _ _ _ c.in_ok-sup.sup c.in_ok-sup.ensures.accepted c.undo.ensures.wrote
+
+pub returns-clause-wrote : goal.returns-clause-wrote
+returns-clause-wrote g c = recovery_stores _ _ _ _ c.in_ok-sup.sup c.in_ok-sup.ensures.accepted c.undo.ensures.wrote

@@ -1,5 +1,7 @@
 use Rattle.std.proofs.Common.{◌∙◌, subst, sym}
 use Rattle.nv_region.specs.Stops.{LeavesOnly}
+use Rattle.nv_region.specs.Stored.{StoresOnly}
+use Rattle.nv_recover.specs.Behind.{RecoveryStores}
 use Rattle.nv_recover.specs.Errors.{UndoesAsBefore}
 use Rattle.nv_held.specs.nv_outcome.Answer.{outcome_of}
 use Rattle.nv_calls.proofs.Mounted.{opens, rolls_back_once, tells}
@@ -30,3 +32,10 @@ returns-in-Ok-clause-any_stop g c s is =
 
 pub returns-in-Err-clause-any_stop : goal.returns-in-Err-clause-any_stop
 returns-in-Err-clause-any_stop g c s is = c.in-Err.ensures.any_stop s is c.requires.settled
+
+pub returns-in-Ok-clause-wrote : goal.returns-in-Ok-clause-wrote
+returns-in-Ok-clause-wrote g c =
+    subst (λ (m : g.row.P.Denot). StoresOnly (RecoveryStores (g.P.Pmem.region c.args.memory)) (g.P.Pmem.region c.args.memory) (g.P.Pmem.region m) (g.P.Pmem.may_hold c.args.memory) (g.P.Pmem.may_hold m)) (sym c.open.ensures.memory) c.in-Ok.ensures.wrote
+
+pub returns-in-Err-clause-wrote : goal.returns-in-Err-clause-wrote
+returns-in-Err-clause-wrote g c = c.in-Err.ensures.wrote

@@ -1,0 +1,87 @@
+//! Laws of the tables' chains.
+
+ghost use Rattle.std.specs.Prelude.{◌≡◌, ◌≢◌, ◌⊎◌, length, ◌≤◌, ◌<◌, ◌+◌, ◌*◌, ◌++◌, ◌∷◌, ℕ, false, eqb, List, [], Some, slice_get};
+ghost use Rattle.std.specs.List.{Contains, list_any};
+ghost use Rattle.nv_super.specs.nv_region.Region.{Region, word};
+ghost use Rattle.nv_super.specs.declared.superblock.Super.{Super};
+ghost use Rattle.nv_super.specs.Layout.{IsLayout, Layout, chain_of, fixed_layout, slot_of, system_blocks};
+ghost use Rattle.nv_super.specs.nv_region.Stops.{IsMixed};
+ghost use Rattle.nv_super.specs.nv_region.Stored.{Within};
+ghost use Rattle.nv_inode.specs.Growing.{CanLink, IsLinked, with_block};
+ghost use Rattle.nv_super.specs.Super.{IsRefused, IsSuper};
+ghost use Rattle.nv_super.specs.declared.superblock.SuperFault.TheVariants.{Version};
+ghost use Rattle.nv_inode.specs.Upgraded.{IsSuperButVersion, IsUpgraded, NoLinks, upgraded};
+ghost use Rattle.nv_inode.specs.Permitted.{is_permitted, is_permitted_by};
+ghost use Rattle.nv_inode.specs.SlotBlocks.{IsIn, slot_blocks};
+ghost use Rattle.nv_inode.specs.declared.blocks.SlotBlock.{SlotBlock as SlotBlockValue};
+ghost use Rattle.nv_inode.specs.Chains.{IsChain, IsLaid, IsLink, SameLinks, chain_faults, chain_in, first_link, layout_of, link_behind};
+
+/// A CPU's chain has the blocks to which its links lead, and these alone.
+pub fn one_chain()
+    ensures is { (s : Super) (R : Region) (cpu : ℕ) → s.version ≡ 2 → IsChain R s [] (first_link cpu) (chain_in s R cpu) }
+    ensures only { (s : Super) (R : Region) (cpu : ℕ) (blocks : List ℕ) → s.version ≡ 2 → IsChain R s [] (first_link cpu) blocks → blocks ≡ chain_in s R cpu }
+{}
+
+/// The chains of any region lay out slots: they have data blocks alone, and version 1 has none.
+pub fn chains_are_laid()
+    ensures { (s : Super) (R : Region) → IsLayout s → IsLaid (layout_of s R) }
+{}
+
+/// Each slot of a block of slots is that of the inode with its number, but for number 0.
+pub fn slots_of_blocks()
+    ensures { (l : Layout) (x : SlotBlockValue) (j i : ℕ) → IsLaid l → Contains (slot_blocks l) x → IsIn l x j i → i ≢ 0 → slot_of l i ≡ Some (x.start + 128 * j) }
+{}
+
+/// And each number that has a slot has it in such a block.
+pub fn blocks_have_all_slots()
+    ensures { (l : Layout) (i a : ℕ) → IsLaid l → slot_of l i ≡ Some a → (x : SlotBlockValue) × (j : ℕ) × Contains (slot_blocks l) x × IsIn l x j i × (a ≡ x.start + 128 * j) }
+{}
+
+/// No number has slots in two of them.
+pub fn slots_are_in_one_block()
+    ensures { (l : Layout) (t u j k i : ℕ) (x y : SlotBlockValue) → IsLaid l → slice_get (slot_blocks l) t ≡ Some x → slice_get (slot_blocks l) u ≡ Some y → IsIn l x j i → IsIn l y k i → t ≡ u }
+{}
+
+/// A chain to whose last link a data block was put that isn't among its blocks, and whose own link is 0, has it
+/// behind them.
+pub fn chains_grow()
+    ensures { (s : Super) (R Q : Region) (cpu b : ℕ) → s.version ≡ 2 → SameLinks R Q (first_link cpu) (chain_in s R cpu) → word Q (link_behind (first_link cpu) (chain_in s R cpu)) ≡ 4096 * b → word Q (4096 * b) ≡ 0
+        → system_blocks s ≤ b → b < s.blocks → list_any (eqb b) (chain_in s R cpu) ≡ false → chain_in s Q cpu ≡ chain_in s R cpu ++ b ∷ [] }
+{}
+
+/// Where a block was linked to the end of a CPU's chain, the layout has it there and is the same else. Before the
+/// link, while words of the block alone have changed, it is the same.
+pub fn linked_blocks_are_tables()
+    ensures linked { (s : Super) (R Q : Region) (cpu block : ℕ) → CanLink s R cpu block → IsLinked R (link_behind (first_link cpu) (chain_in s R cpu)) block Q → layout_of s Q ≡ with_block (layout_of s R) cpu block }
+    ensures before { (s : Super) (R left : Region) (cpu block : ℕ) → CanLink s R cpu block → IsMixed R (Within (4096 * block) 4096) left → layout_of s left ≡ layout_of s R }
+{}
+
+/// The slots stay where they are when a block is linked, and no new one is in use.
+pub fn linked_slots_are_unused()
+    ensures stay { (l : Layout) (c b i a : ℕ) → c < length l.chains → slot_of l i ≡ Some a → slot_of (with_block l c b) i ≡ Some a }
+    ensures unused { (l : Layout) (R Q : Region) (link c b i a : ℕ) → c < length l.chains → IsLinked R link b Q → slot_of (with_block l c b) i ≡ Some a → (slot_of l i ≡ Some a) ⊎ (word Q a ≡ 0) }
+{}
+
+/// In version 1 a region has the layout of fixed tables, whatever its words say: no chain and no fault of one, and a
+/// journal may name the same words. That layout is one that a region can have.
+pub fn version_1_has_fixed_tables()
+    ensures layout { (s : Super) (R : Region) → s.version ≡ 1 → layout_of s R ≡ fixed_layout s }
+    ensures faults { (s : Super) (R : Region) → s.version ≡ 1 → chain_faults s R ≡ [] }
+    ensures laid { (s : Super) → IsLayout s → IsLaid (fixed_layout s) }
+    ensures permitted { (s : Super) (at : ℕ) → is_permitted_by (fixed_layout s) at ≡ is_permitted s at }
+{}
+
+/// No word in which a link can stand is one that a journal may name.
+pub fn no_link_is_permitted()
+    ensures { (l : Layout) (at : ℕ) → IsLink l.sup at → is_permitted_by l at ≡ false }
+{}
+
+/// A region that was upgraded has version 2, empty chains, and all slots where they were. Before that it is one of
+/// version 1. Behind it the superblock is refused for its version, and for nothing else.
+pub fn upgraded_regions_are_the_same()
+    ensures before { (s : Super) (R left : Region) → IsSuper R s → IsMixed R (NoLinks s.cpus) left → IsSuper left s }
+    ensures superblock { (s : Super) (R Q : Region) → IsSuper R s → IsUpgraded R s.cpus Q → IsSuperButVersion Q (upgraded s) }
+    ensures refused { (s : Super) (R Q : Region) → IsSuper R s → IsUpgraded R s.cpus Q → IsRefused Q Version }
+    ensures chains { (s : Super) (R Q : Region) (c : ℕ) → IsUpgraded R s.cpus Q → chain_of (layout_of (upgraded s) Q) c ≡ [] }
+    ensures slots { (s : Super) (R Q : Region) (i : ℕ) → IsLayout s → s.version ≡ 1 → IsUpgraded R s.cpus Q → slot_of (layout_of (upgraded s) Q) i ≡ slot_of (layout_of s R) i }
+{}
