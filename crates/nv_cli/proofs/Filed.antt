@@ -94,7 +94,7 @@ module _ (R S : Region) (rows : List Row) (shown : AreShownAs R S rows) where
       by x (Some b) is = shown.same row (x / 4096) b x there is
 
 module _ (S : Region) (row : Row) (t : Tree) (names : List (List ℕ)) (file : IsFileOf S row t names) where
-  pub sized : IsSized t names row.numbers.size
+  abbrev pub sized : IsSized t names row.numbers.size
   sized = record { inode = file.inode; node = file.node; leads = file.leads; is = sym file.size }
 
   pub read_of : (at count : ℕ) (piece : List ℕ) → at + count ≤ row.numbers.size → piece ≡ map (file_byte S row.index) (range_with_len at count) → IsRead t names at count piece
@@ -132,13 +132,13 @@ there R (gatherings.Metadata s held) are m is =
 there R (gatherings.Refused fault) are m is = absurd is
 
 module _ (bytes path : List ℕ) (g : Gathered) (are : AreGathered (region_of bytes) g) (m : Mount MetadataState) (is : IsOpenedOf g (opened.Mounted m)) (old new : Written) where
-  R : Region
+  abbrev R : Region
   R = region_of bytes
 
   shows : (o : Outcome) × IsOutcome R o × (m.rows ≡ o.rows) × (m.faults ≡ o.faults)
   shows = there R g are m is
 
-  U : Region
+  abbrev U : Region
   U = undone shows.0.sup R
 
   shown : AreShownAs U R m.rows

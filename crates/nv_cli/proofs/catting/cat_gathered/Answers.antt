@@ -31,9 +31,10 @@ returns-in_err-status-in-Mounted-clause-err g c bytes known are =
     let is = subst (IsOpenedOf c.args.gathered) c.in-Mounted.is c.in_ok-opened.ensures in
     let old = written (g.W.Write.contents c.args.writer.now) (g.E.Write.contents c.args.errors.now) in
     let new = written (g.W.Write.contents c.cat_file.new.writer) (g.E.Write.contents c.cat_file.new.errors) in
+    let e = c.in_err-status-in-Mounted.field-0.0 in
     let q = err_from_is_err_and c.from_residual-in_err-status-in-Mounted.result c.from_residual-in_err-status-in-Mounted.ensures.1 in
-    rw (q.1, q.2) (cat_opened_fails bytes c.args.path.now c.args.gathered are c.in-Mounted.mount is old new _
-    (λ Q shown p says. subst (λ (rows : List Row). FailsBlocksCall (tree_of Q rows) p _ old new) c.rows.ensures
+    rw (q.1, q.2) (cat_opened_fails bytes c.args.path.now c.args.gathered are c.in-Mounted.mount is old new e
+    (λ Q shown p says. subst (λ (rows : List Row). FailsBlocksCall (tree_of Q rows) p e old new) c.rows.ensures
     (c.in_err-status-in-Mounted.ensures.err bytes known Q (subst (λ (rows : List Row). AreShownAs Q (region_of bytes) rows) (sym c.rows.ensures) shown) p says)))
 
 pub returns-in_ok-write_text-in-Refused-clause-ok : goal.returns-in_ok-write_text-in-Refused-clause-ok

@@ -23,6 +23,12 @@ pub returns-clause-ok : goal.returns-clause-ok
 returns-clause-ok g c = λ image known t names file.
     ends_file t names c.args.row.now.numbers.size (sized (region_of image) c.args.row.now t names file) _ _ c.loop-at.at c.loop-at.invariant.within (c.loop-at.invariant.so_far image known t names file) c.loop-at-test.false
 
+pub returns-in_err-piece-clause-err : goal.returns-in_err-piece-clause-err
+returns-in_err-piece-clause-err g c = λ image known t names file.
+    let s = sized (region_of image) c.args.row.now t names file in
+    let p = err_from_is_err_and c.from_residual.result c.from_residual.ensures.1 in
+    rw (p.1, p.2, c.in_err-piece.ensures.known image known file.inside) (fails_between t names c.args.row.now.numbers.size s _ _ c.loop-at.at c.loop-at.invariant.within (c.loop-at.invariant.so_far image known t names file))
+
 pub returns-in_err-write_text-clause-err : goal.returns-in_err-write_text-clause-err
 returns-in_err-write_text-clause-err g c = λ image known t names file.
     let S = region_of image in
