@@ -152,6 +152,57 @@ expect "a clean image from input to output" 0 "same" "cleaned pages 0" \
     bash -c '"$1" clean - <"$2" | cmp - "$2" && echo same' bash "$program" "$folder/region"
 expect "cleaning another state" 2 "" "refused S7${newline}its state is 2; 0 and 1 are taken" "$program" clean "$folder/changed"
 
+# Of a plain file the metadata alone are read, and the blocks of a file that is shown; a pipe is read whole. Both say the same.
+{
+    printf 'format 4 16384 4\nrecover 1\nmkdir 0 /d\ncreate 1 /d/a\ncreate 2 /d/b\nwrite 3 /d/a 1234567 2000001 65\nwrite 0 /d/a 0 5000 66\n'
+    printf 'write 1 /d/b 0 1 67\nwrite 2 /d/b 8191 2 68\nsize 0 /d/b 20000\n'
+} >"$folder/files.nova"
+"$program" run "$folder/files.nova" --save "$folder/files" >/dev/null
+# A sparse file is as long, and takes what its words take.
+cp --sparse=always "$folder/files" "$folder/sparse"
+for image in "$folder/files" "$folder/sparse" "$here/examples/ring.img"; do
+    for words in "ls /" "ls /d" "stat /d/a" "stat /none" "cat /d/a" "cat /d/b" "cat /d" "cat /d/none" "map" "check"; do
+        # shellcheck disable=SC2086
+        set -- $words
+        "$program" "$1" "$image" ${2+"$2"} >"$folder/by_file" 2>"$folder/by_file_error"
+        status=$?
+        # shellcheck disable=SC2016
+        cat "$image" | "$program" "$1" /dev/stdin ${2+"$2"} >"$folder/by_pipe" 2>"$folder/by_pipe_error"
+        [ "$status" = "${PIPESTATUS[1]}" ] && cmp -s "$folder/by_file" "$folder/by_pipe" &&
+            [ "$(cat "$folder/by_file_error")" = "$(sed "s|/dev/stdin|$image|" "$folder/by_pipe_error")" ]
+        holds "$words of $image by a pipe and by its file" $?
+    done
+done
+
+# An image of which a read ends early, or fails, is never answered about. `strace` makes one read of the system do so.
+if command -v strace >/dev/null && strace -o "$folder/trace" true 2>/dev/null; then
+    reads=$(strace -f -e trace=pread64 -o /dev/stdout "$program" cat "$folder/files" /d/a 2>/dev/null | grep -ac 'pread64(')
+    for words in "check" "ls /d" "stat /d/a" "map" "cat /d/a"; do
+        # shellcheck disable=SC2086
+        set -- $words
+        expect "$words of an image that ends early" 2 "" "cannot read $folder/files${newline}failed to fill whole buffer" \
+            strace -f -qq -o "$folder/trace" -e inject=pread64:retval=0:when=2 "$program" "$1" "$folder/files" ${2+"$2"}
+        expect "$words of an image that can't be read in the middle" 2 "" "cannot read $folder/files${newline}Input/output error (os error 5)" \
+            strace -f -qq -o "$folder/trace" -e inject=pread64:error=EIO:when=3 "$program" "$1" "$folder/files" ${2+"$2"}
+    done
+    strace -f -qq -o "$folder/trace" -e inject=pread64:error=EIO:when="$reads" "$program" cat "$folder/files" /d/a >/dev/null 2>"$folder/error"
+    [ $? = 2 ] && [ "$(head -n 1 "$folder/error")" = "cannot read $folder/files" ]
+    holds "a file whose last block can't be read" $?
+    # The second read waits until the file was cut.
+    for words in "ls /d" "stat /d/a" "map" "cat /d/a"; do
+        # shellcheck disable=SC2086
+        set -- $words
+        cp "$folder/files" "$folder/cut"
+        (sleep 0.3; truncate -s 4096 "$folder/cut") &
+        strace -f -qq -o "$folder/trace" -e inject=pread64:delay_enter=900000:when=2 "$program" "$1" "$folder/cut" ${2+"$2"} >"$folder/said" 2>"$folder/error"
+        [ $? = 2 ] && [ "$(head -n 1 "$folder/error")" = "cannot read $folder/cut" ] && [ ! -s "$folder/said" ]
+        holds "$words of an image that is cut while it is read" $?
+        wait
+    done
+else
+    echo "left out: images that end early; there is no strace, or it may not trace"
+fi
+
 # The program is copied, since others may not reach the folder that it stands in.
 cp "$program" "$folder/nova"
 as_other=(setpriv --reuid 65534 --regid 65534 --clear-groups)

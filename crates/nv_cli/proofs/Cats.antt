@@ -42,7 +42,7 @@ module _ (t : Tree) (path : List ℕ) (p : Path) (says : Says path p) (old new o
     abbrev after : Written
     after = written new other
 
-    file_called : (status : ℕ) → ((names : List (List ℕ)) → IsPath path names → WritesFile t names old new) → status ≡ 0 → WritesCall t p before after status
+    pub file_called : (status : ℕ) → ((names : List (List ℕ)) → IsPath path names → WritesFile t names old new) → status ≡ 0 → WritesCall t p before after status
     file_called status writes ends = by p refl says where
       by : (q : Path) → p ≡ q → Says path q → WritesCall t p before after status
       by None is says = absurd (let bad : first_refusal (read_tests t None) ≡ None = rw is at allowed in cc)
@@ -51,7 +51,7 @@ module _ (t : Tree) (path : List ℕ) (p : Path) (says : Says path p) (old new o
     sends : (text : List ℕ) → AppendsFront old new text → SendsFront (call_status (first_refusal (read_tests t p))) before after text
     sends text added = inl (ap call_status allowed, added, Keeps-refl other)
 
-    file_failed : (e : ScriptError) → ((names : List (List ℕ)) → IsPath path names → FailsFile t names e old new) → FailsCall t p e before after
+    pub file_failed : (e : ScriptError) → ((names : List (List ℕ)) → IsPath path names → FailsFile t names e old new) → FailsCall t p e before after
     file_failed e fails = by p refl says where
       with_names : (names : List (List ℕ)) → p ≡ Some names → (e : ScriptError) → FailsFile t names e old new → FailsCall t p e before after
       with_names names is Read f = f

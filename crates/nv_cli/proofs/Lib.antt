@@ -11,6 +11,9 @@ pub mod Pieces
 pub mod Looks
 pub mod Opens
 pub mod Cats
+pub mod Bare
+pub mod Opened
+pub mod Filed
 pub mod FreedPages
 pub mod Cleanings
 pub mod CleanedImage

@@ -5,6 +5,8 @@ pub mod Shell
 pub mod Replies
 pub mod Sent
 pub mod Looking
+pub mod Gathered
+pub mod Catting
 pub mod Formatting
 pub mod Cleaning
 pub use Rattle.nv_region.specs.Region

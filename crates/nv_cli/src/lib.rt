@@ -2,21 +2,26 @@
 //!
 //! `script` runs the lines one after another, and gives hints of what their answers leave out (`hinting`). `shell` runs those
 //! that are typed by hand. `looking` makes calls that read of a region that is recovered over its bytes, and `cleaning` shortens
-//! its logs. `files` makes a region of a file's bytes, and `formatting` a new one. Checks and maps are handed on.
+//! its logs. `gathered` makes the same calls of the metadata alone, and `catting` writes the bytes of a file whose blocks are read
+//! by and by. `files` makes a region of a file's bytes, and `formatting` a new one. Checks and maps are handed on.
 #![tactic(auto)]
 
+mod catting;
 mod cleaning;
 mod files;
 mod formatting;
+mod gathered;
 mod hinting;
 mod laws;
 mod looking;
 mod script;
 mod shell;
 
+pub use catting::{cat_blocks, cat_gathered};
 pub use cleaning::{Cleaned, clean_image};
 pub use files::region_of_file;
 pub use formatting::{Formatted, format_image, format_limits};
+pub use gathered::{list_blocks, list_gathered, stat_blocks, stat_gathered};
 pub use hinting::{Hint, Hints, LENGTH_REFUSED};
 pub use laws::{one_transcript, strict_shows_first_lines};
 pub use looking::{cat_image, list_image, stat_image};
