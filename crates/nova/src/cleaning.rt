@@ -1,11 +1,10 @@
 //! Cleaning the logs of the image in a file.
 
 use crate::names::path_of;
-use crate::saving::{region_of, save_region};
 use nv_cli::{Cleaned, clean_image};
 use nv_images::{
-    Failure, Held, Image, Lock, Target, hold, image_at, refuse_length, see_ready, tell_length,
-    tell_unaccepted, why_refused,
+    Failure, Held, Loaded, Lock, Target, hold, refuse_length, region_at, save_region, see_ready,
+    tell_length, tell_unaccepted, why_region_refused,
 };
 use nv_stream::write_text;
 use std::io;
@@ -34,16 +33,15 @@ where
         None => None,
     };
     let held = hold(rt, target)?;
-    match image_at(rt, image)? {
-        Image::Bytes(bytes) => {
-            let why = why_refused(rt.alloc(), &bytes);
-            let region = region_of(rt.alloc(), bytes)?;
+    match region_at(rt, image)? {
+        Loaded::Region(region) => {
+            let why = why_region_refused(rt.alloc(), &region)?;
             let cleaned = clean_image(rt.alloc(), region, path.as_deref())?;
             end_cleaning(rt, errors, &held, &cleaned)?;
             tell_unaccepted(rt, why);
             Ok(cleaned.status())
         }
-        Image::TooLong(length) => {
+        Loaded::TooLong(length) => {
             let status = refuse_length(errors)?;
             tell_length(rt, length);
             Ok(status)

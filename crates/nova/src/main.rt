@@ -1,7 +1,7 @@
 //! The program `nova`: it makes, checks, cleans and shows images of the NOVA file system, and runs scripts on them.
 //!
 //! `run` runs a script, on the region of an image or on none, and saves the region that it leaves. `shell` runs the commands that
-//! are typed. `show` shows what is in an image, `cleaning` shortens its logs, `names` reads paths in it, and `saving` writes one.
+//! are typed. `show` shows what is in an image, `cleaning` shortens its logs, `names` reads paths in it, and `saving` makes one.
 //! Checks and maps of images are those of `nova_check`.
 //!
 //! Behind a bad line, and a region that is refused for its length, a line on standard error says more.

@@ -1,13 +1,12 @@
 //! Running a script, on the region of an image or on none, and saving the region that it leaves.
 
 use crate::hints::ErrorOutput;
-use crate::saving::{region_of, save_region};
 use nv_cli::{
     Ended, MemRegion, ScriptError, run_script_on, run_script_strictly, run_script_to_end,
 };
 use nv_images::{
-    Failure, Held, Image, ImageFile, Lock, Reason, Stamp, Target, hold, open_image, read_image,
-    see_ready,
+    Failure, Held, ImageFile, Loaded, Lock, Reason, Stamp, Target, hold, load_image, open_image,
+    save_region, see_ready,
 };
 use nv_stream::{Opened, open_at};
 use std::io::{Read, Write};
@@ -159,8 +158,8 @@ fn region_in<'a, H: AllocGlobal, F: Read + Drop>(
     file: ImageFile<'a, F>,
 ) -> Result<MemRegion, Failure<'a>> {
     let path = file.path;
-    match read_image(rt.alloc(), file)? {
-        Image::Bytes(bytes) => Ok(region_of(rt.alloc(), bytes)?),
-        Image::TooLong(length) => Err(Failure::CannotRead(path, Reason::Length(length))),
+    match load_image(rt.alloc(), file)? {
+        Loaded::Region(region) => Ok(region),
+        Loaded::TooLong(length) => Err(Failure::CannotRead(path, Reason::Length(length))),
     }
 }

@@ -1,10 +1,7 @@
-//! Images as regions, and writing them to files.
+//! Making images.
 
-use nv_cli::{
-    Formatted, MemRegion, RegionRefusal, ScriptError, format_image, format_limits, region_of_file,
-};
-use nv_images::{Failure, Held, Lock, Target, hold, save_file, see_ready};
-use std::alloc::Global;
+use nv_cli::{Formatted, format_image, format_limits};
+use nv_images::{Failure, Lock, Target, hold, save_region, see_ready};
 use std::rt::Files;
 
 // The status of a region that is refused.
@@ -39,26 +36,4 @@ where
             Ok(REFUSED_STATUS)
         }
     }
-}
-
-/// The region of an image's bytes.
-pub(crate) fn region_of(alloc: Global, bytes: Vec<u8>) -> Result<MemRegion, ScriptError> {
-    match region_of_file(alloc, bytes) {
-        Ok(region) => Ok(region),
-        // No image that was read is as long as that.
-        Err(RegionRefusal::Length) | Err(RegionRefusal::Memory) => Err(ScriptError::Memory),
-    }
-}
-
-/// Writes the bytes of a region to a file, whose place is held.
-pub(crate) fn save_region<'a, H: Files + AllocGlobal + Print>(
-    rt: &H,
-    held: &Held<'a, H::File>,
-    region: &MemRegion,
-) -> Result<(), Failure<'a>>
-where
-    H::File: Lock,
-{
-    let bytes = region.to_bytes()?;
-    save_file(rt, held, &bytes)
 }

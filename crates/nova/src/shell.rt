@@ -1,10 +1,9 @@
 //! The shell on the image in a file: the commands that are typed run on its region, which is saved where one asks for that.
 
-use crate::saving::{region_of, save_region};
 use nv_cli::{Hint, Host, MemRegion, run_shell};
 use nv_images::{
-    Failure, Held, Image, Lock, Reason, Stamp, Target, hold, image_at, see_ready, tell_failure,
-    tell_unaccepted, why_refused,
+    Failure, Held, Loaded, Lock, Reason, Stamp, Target, hold, region_at, save_region, see_ready,
+    tell_failure, tell_unaccepted, why_region_refused,
 };
 use nv_stream::Unsaved;
 use std::io::{IsTerminal, Read};
@@ -30,15 +29,13 @@ where
     H::File: Lock,
 {
     let held = hold(rt, back_to(image))?;
-    let region = match image_at(rt, image)? {
-        Image::Bytes(bytes) => {
-            tell_unaccepted(rt, why_refused(rt.alloc(), &bytes));
-            region_of(rt.alloc(), bytes)?
-        }
-        Image::TooLong(length) => {
+    let region = match region_at(rt, image)? {
+        Loaded::Region(region) => region,
+        Loaded::TooLong(length) => {
             return Err(Failure::CannotRead(image, Reason::Length(length)));
         }
     };
+    tell_unaccepted(rt, why_region_refused(rt.alloc(), &region)?);
     let is_asked = input.is_terminal();
     let mut host = FileHost {
         rt,
