@@ -1,2 +1,4 @@
 pub mod Adding
 pub mod Line
+pub mod Sizing
+pub mod Spelling

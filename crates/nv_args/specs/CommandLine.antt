@@ -22,9 +22,9 @@ several_rule name = record (needed_rule name) { action = Some Append }
 abbrev pub option_rule : Text → Rule
 option_rule name = record (new_rule name) { long = Some name }
 
--- an option that has to be written, with a number below 2^64
+-- an option with a number below 2^64
 abbrev pub number_rule : Text → Rule
-number_rule name = record (option_rule name) { required = true; parser = Some (parsers.Unsigned 0 (2 ^ 64 - 1)) }
+number_rule name = record (option_rule name) { parser = Some (parsers.Unsigned 0 (2 ^ 64 - 1)) }
 
 -- an option with no value
 abbrev pub flag_rule : Text → Rule
@@ -55,15 +55,16 @@ shell_app = command (codes "shell") (needed_rule (codes "image") ∷ flag_rule (
 abbrev pub check_app : App
 check_app = command (codes "check") (several_rule (codes "path") ∷ workers_rule ∷ flag_rule (codes "summary") ∷ flag_rule (codes "only-faults") ∷ [])
 
--- `mkfs`: an image's file, the numbers of a new region, and whether the file may be there
+-- `mkfs`: an image's file, the numbers of a new region, its size in place of its blocks, and whether the file may be there
 abbrev pub mkfs_app : App
-mkfs_app = command (codes "mkfs") (needed_rule (codes "image") ∷ number_rule (codes "blocks") ∷ number_rule (codes "cpus") ∷ number_rule (codes "tables") ∷ flag_rule (codes "force") ∷ [])
+mkfs_app = command (codes "mkfs") (needed_rule (codes "image") ∷ number_rule (codes "blocks") ∷ number_rule (codes "cpus") ∷ number_rule (codes "tables")
+    ∷ option_rule (codes "size") ∷ flag_rule (codes "force") ∷ [])
 
--- a command on what one path of an image leads to, which can be left out: `clean` and `ls`
+-- a command on one inode of an image, which can be left out: `clean` and `ls`
 abbrev pub may_path_app : Text → App
 may_path_app name = command name (needed_rule (codes "image") ∷ place_rule (codes "path") ∷ [])
 
--- a command on what one path of an image leads to: `stat` and `cat`
+-- a command on one inode of an image: `stat` and `cat`
 abbrev pub path_app : Text → App
 path_app name = command name (needed_rule (codes "image") ∷ needed_rule (codes "path") ∷ [])
 

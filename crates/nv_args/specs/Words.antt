@@ -1,5 +1,5 @@
 -- What the words of a command line ask for.
-use Rattle.std.specs.Prelude.{◌≡◌, ◌⊎◌, ◌^◌, ℕ, ◌≤◌, ◌<◌, ◌↔◌, List, [], ◌∷◌, Option, Some, None, IsTrue, codes, option_map, map, unwrap_or}
+use Rattle.std.specs.Prelude.{◌≡◌, ◌⊎◌, ◌*◌, ◌^◌, ℕ, ◌≤◌, ◌<◌, ◌↔◌, List, [], ◌∷◌, ◌++◌, Option, Some, None, IsTrue, codes, option_map, map, unwrap_or}
 use Rattle.std.specs.Borrow.{Bor}
 use Rattle.std.specs.Str.Parse.{IsNumeral, digits_value, without_leading_plus}
 use Rattle.clap.specs.Walk.{Row, Text, first_of, all_of}
@@ -10,6 +10,8 @@ use Rattle.nv_args.specs.declared.todo.CheckOutput.{CheckOutput}
 use Rattle.nv_args.specs.declared.todo.CheckOutput.TheVariants.{Report, Summary, OnlyFaults}
 use Rattle.nv_args.specs.declared.todo.Todo.{Todo}
 use Rattle.nv_args.specs.declared.todo.Todo.TheVariants.{Version, Run, Shell, Check, Mkfs, Clean, Ls, Stat, Cat, Explain, Map}
+use Rattle.nv_args.specs.declared.todo.Which.{Which}
+use Rattle.nv_args.specs.declared.todo.Which.TheVariants.{Path, Number}
 use Rattle.nv_args.specs.UsageValue.{UsageTold}
 
 -- the written text is a decimal number below 2^64, which may have a plus sign and leading zeros
@@ -17,6 +19,51 @@ abbrev pub IsNumber : Option Text → ℕ → Type 0
 IsNumber None number = ⊥
 IsNumber (Some text) number = IsNumeral 10 (without_leading_plus text)
     × (number ≡ digits_value 10 (without_leading_plus text)) × (number < 2 ^ 64)
+
+-- the number is the one that is written, or there is none and none is written
+abbrev pub MayBeNumber : Option Text → Option ℕ → Type 0
+MayBeNumber written None = written ≡ None
+MayBeNumber written (Some number) = IsNumber written number
+
+-- the letter behind a size stands for so many bytes, and no letter for one
+abbrev pub IsUnit : Text → ℕ → Type 0
+IsUnit letter bytes = ((letter ≡ []) × (bytes ≡ 1)) ⊎ ((letter ≡ codes "K") × (bytes ≡ 2 ^ 10))
+    ⊎ ((letter ≡ codes "M") × (bytes ≡ 2 ^ 20)) ⊎ ((letter ≡ codes "G") × (bytes ≡ 2 ^ 30))
+
+-- The text is a size of so many blocks of 4096 bytes: a number and a letter, which stands for so many bytes.
+pub record SizeOf (text : Text) (blocks : ℕ) : Type 0 where
+  pub digits : Text
+  pub letter : Text
+  pub number : ℕ
+  pub unit : ℕ
+  pub parts : text ≡ digits ++ letter
+  pub is_number : IsNumber (Some digits) number
+  pub is_unit : IsUnit letter unit
+  pub whole : number * unit ≡ blocks * 4096
+  pub fits : number * unit < 2 ^ 64
+
+-- a size of so many blocks is written
+abbrev pub IsSize : Option Text → ℕ → Type 0
+IsSize None blocks = ⊥
+IsSize (Some text) blocks = SizeOf text blocks
+
+-- the word is this text between `<` and `>`
+abbrev pub IsBetween : Text → Text → Type 0
+IsBetween word inside = word ≡ 60 ∷ inside ++ 62 ∷ []
+
+-- the word is this number, by itself or between `<` and `>`
+abbrev pub SpellsNumber : Text → ℕ → Type 0
+SpellsNumber word number = IsNumber (Some word) number ⊎ ((inside : Text) × IsBetween word inside × IsNumber (Some inside) number)
+
+-- a word names an inode by its number, or else by a path, which is the word
+abbrev pub Names : Text → Which → Type 0
+Names word (Path path) = (path.now ≡ word) × ((number : ℕ) → ¬ SpellsNumber word number)
+Names word (Number number) = SpellsNumber word number
+
+-- an inode is named by the word that is written
+abbrev pub IsNamed : Option Text → Which → Type 0
+IsNamed None which = ⊥
+IsNamed (Some word) which = Names word which
 
 -- the number of workers is 1 where none is written, and else the decimal number that is, from 1 to 64
 abbrev pub AreWorkers : Option Text → ℕ → Type 0
@@ -34,6 +81,14 @@ IsOutput values Report = (¬ IsGiven (codes "summary") values) × (¬ IsGiven (c
 IsOutput values Summary = IsGiven (codes "summary") values × (¬ IsGiven (codes "only-faults") values)
 IsOutput values OnlyFaults = (¬ IsGiven (codes "summary") values) × IsGiven (codes "only-faults") values
 
+-- the numbers of a new region are written: its blocks and the others, or its size, and of the others those that are written
+abbrev pub AreNumbers : List Row → ℕ → Option ℕ → Option ℕ → Type 0
+AreNumbers values blocks cpus tables = ((first_of (codes "size") values ≡ None) × IsNumber (first_of (codes "blocks") values) blocks
+    × ((c : ℕ) × (cpus ≡ Some c) × IsNumber (first_of (codes "cpus") values) c)
+    × ((t : ℕ) × (tables ≡ Some t) × IsNumber (first_of (codes "tables") values) t))
+    ⊎ ((first_of (codes "blocks") values ≡ None) × IsSize (first_of (codes "size") values) blocks
+    × MayBeNumber (first_of (codes "cpus") values) cpus × MayBeNumber (first_of (codes "tables") values) tables)
+
 -- the name of the command that is to be done
 abbrev pub command_of : Todo → Text
 command_of Version = []
@@ -42,9 +97,9 @@ command_of (Shell image force) = codes "shell"
 command_of (Check paths workers output) = codes "check"
 command_of (Mkfs image blocks cpus tables force) = codes "mkfs"
 command_of (Clean image path) = codes "clean"
-command_of (Ls image path) = codes "ls"
-command_of (Stat image path) = codes "stat"
-command_of (Cat image path) = codes "cat"
+command_of (Ls image which) = codes "ls"
+command_of (Stat image which) = codes "stat"
+command_of (Cat image which) = codes "cat"
 command_of (Explain class) = codes "explain"
 command_of (Map image svg force) = codes "map"
 
@@ -70,14 +125,13 @@ HasValues values (Shell image force) = (first_of (codes "image") values ≡ Some
 HasValues values (Check paths workers output) = (all_of (codes "path") values ≡ Some (map (λ path. path.now) paths.items))
     × AreWorkers (first_of (codes "workers") values) workers × IsOutput values output
 HasValues values (Mkfs image blocks cpus tables force) = (first_of (codes "image") values ≡ Some image.now)
-    × IsNumber (first_of (codes "blocks") values) blocks × IsNumber (first_of (codes "cpus") values) cpus
-    × IsNumber (first_of (codes "tables") values) tables × (IsTrue force ↔ IsGiven (codes "force") values)
+    × AreNumbers values blocks cpus tables × (IsTrue force ↔ IsGiven (codes "force") values)
 HasValues values (Clean image path) = (first_of (codes "image") values ≡ Some image.now) × (first_of (codes "path") values ≡ option_map (λ text. text.now) path)
--- the root, where no path is written
-HasValues values (Ls image path) = (first_of (codes "image") values ≡ Some image.now)
-    × (path.now ≡ unwrap_or (first_of (codes "path") values) (codes "/"))
-HasValues values (Stat image path) = (first_of (codes "image") values ≡ Some image.now) × (first_of (codes "path") values ≡ Some path.now)
-HasValues values (Cat image path) = (first_of (codes "image") values ≡ Some image.now) × (first_of (codes "path") values ≡ Some path.now)
+-- the root, where none is written
+HasValues values (Ls image which) = (first_of (codes "image") values ≡ Some image.now)
+    × Names (unwrap_or (first_of (codes "path") values) (codes "/")) which
+HasValues values (Stat image which) = (first_of (codes "image") values ≡ Some image.now) × IsNamed (first_of (codes "path") values) which
+HasValues values (Cat image which) = (first_of (codes "image") values ≡ Some image.now) × IsNamed (first_of (codes "path") values) which
 HasValues values (Explain class) = first_of (codes "class") values ≡ Some class.now
 HasValues values (Map image svg force) = (first_of (codes "image") values ≡ Some image.now)
     × (first_of (codes "svg") values ≡ option_map (λ text. text.now) svg) × (IsTrue force ↔ IsGiven (codes "force") values)

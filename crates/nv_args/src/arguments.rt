@@ -22,7 +22,7 @@ pub(crate) enum Written {
     Option,
     /// `--NAME`.
     Flag,
-    /// `--NAME N`, which has to be written.
+    /// `--NAME N`.
     Number,
     /// `--NAME N`, where N is a number of threads.
     Workers,
@@ -98,14 +98,13 @@ fn flag<'a>(alloc: Global, name: &'a str, help: &'a str) -> Arg<'a>
         .action(ArgAction::SetTrue)
 }
 
-/// `--NAME N`, which has to be written.
+/// `--NAME N`.
 fn number<'a>(alloc: Global, name: &'a str, help: &'a str) -> Arg<'a>
     ensures rule { rule_of result ≡ number_rule name.entry.now }
     ensures local { result.global ≡ false }
 {
     Arg::new(alloc, name)
         .long(name)
-        .required(true)
         .help(help)
         .value_parser(number_parser())
 }

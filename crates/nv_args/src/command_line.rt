@@ -150,12 +150,17 @@ const COMMANDS: [CommandForm<'static>; 10] = [
             Argument {
                 written: Written::Number,
                 name: "cpus",
-                help: "The number of CPUs, from 1 to 64",
+                help: "The number of CPUs, from 1 to 64; with --size it can be left out",
             },
             Argument {
                 written: Written::Number,
                 name: "tables",
-                help: "The number of table blocks of each CPU, from 1 to 64",
+                help: "The number of table blocks of each CPU, from 1 to 64; with --size it can be left out",
+            },
+            Argument {
+                written: Written::Option,
+                name: "size",
+                help: "The size in place of --blocks: bytes, or a number with K, M or G, such as 64M",
             },
             Argument {
                 written: Written::Flag,
@@ -194,7 +199,7 @@ const COMMANDS: [CommandForm<'static>; 10] = [
             Argument {
                 written: Written::ByPlace,
                 name: "path",
-                help: "The path of the directory; / if left out",
+                help: "The path or the number of the directory; / if left out",
             },
         ],
     },
@@ -211,7 +216,7 @@ const COMMANDS: [CommandForm<'static>; 10] = [
             Argument {
                 written: Written::Needed,
                 name: "path",
-                help: "The path in the image",
+                help: "The path in the image, or a number of an inode: 12 or <12>",
             },
         ],
     },
@@ -228,7 +233,7 @@ const COMMANDS: [CommandForm<'static>; 10] = [
             Argument {
                 written: Written::Needed,
                 name: "path",
-                help: "The path in the image",
+                help: "The path in the image, or a number of an inode: 12 or <12>",
             },
         ],
     },

@@ -1,17 +1,19 @@
 //! The words of the command line: the command that they name, with the values of its arguments.
 //!
 //! `command_line` builds the command line for `clap` out of kinds of `arguments`, with the help that a user reads.
-//! `reading` makes of the words what the program is to do (`todo`), or a text for the user (`usage`). `version` has the version.
+//! `reading` makes of the words what the program is to do (`todo`), with `sizes` as a user writes them, or a text for the user
+//! (`usage`). `version` has the version.
 #![tactic(auto)]
 
 mod arguments;
 mod command_line;
 mod reading;
+mod sizes;
 mod todo;
 mod usage;
 mod version;
 
 pub use reading::read_words;
-pub use todo::{CheckOutput, Todo};
+pub use todo::{CheckOutput, Todo, Which};
 pub use usage::Usage;
 pub use version::VERSION;

@@ -1,13 +1,14 @@
 //! What the words of the command line ask for.
 
-ghost use Rattle.std.specs.Prelude.{◌≡◌, ◌≢◌, ◌⊎◌, ◌↔◌, ℕ, Ok, Some, None, IfOk, IfErr, IfSome, IsNone, IsTrue, option_map, map, codes};
+ghost use Rattle.std.specs.Prelude.{◌≡◌, ◌≢◌, ◌⊎◌, ◌↔◌, ℕ, Ok, Some, None, IfOk, IfErr, IfSome, IsNone, IsTrue, option_map, map, codes, List, Option};
 ghost use Rattle.clap.specs.Walk.{first_of, all_of, rows_of};
 ghost use Rattle.clap.specs.Simple.{subcommand_rows_of};
 ghost use Rattle.clap.specs.Matches.{found_of};
-ghost use Rattle.nv_args.specs.Words.{AreWorkers, AskVersion, Asks, CommandSays, IsGiven, IsNumber, IsOutput, IsVersion, Says, WordsSay, WantsMemory};
+ghost use Rattle.nv_args.specs.Words.{AreNumbers, AreWorkers, AskVersion, Asks, CommandSays, IsBetween, IsGiven, IsNumber, IsOutput, IsVersion, MayBeNumber, Names, Says, SizeOf, SpellsNumber, WordsSay, WantsMemory};
 
 use crate::command_line::nova;
-use crate::todo::{CheckOutput, Todo};
+use crate::sizes::size_of;
+use crate::todo::{CheckOutput, Todo, Which};
 use crate::usage::{Cause, Usage};
 use clap::ArgMatches;
 use std::alloc::{AllocError, Global};
@@ -51,11 +52,40 @@ fn copies<'a>(alloc: Global, texts: &[&'a str]) -> Result<Vec<&'a str>, AllocErr
 }
 
 // The number that the text writes, where it is one below 2^64.
-fn number_of(text: Option<&str>) -> Option<u64>
+pub(crate) fn number_of(text: Option<&str>) -> Option<u64>
     ensures some { IfSome result (λ number. IsNumber (option_map (λ text. text.now) text.entry) number) }
     ensures none { IsNone result → (number : ℕ) → ¬ IsNumber (option_map (λ text. text.now) text.entry) number }
 {
     text?.parse().ok()
+}
+
+// The inode that a word names.
+fn which_of<'a>(word: &'a str) -> Which<'a>
+    ensures { Names word.entry.now result }
+{
+    match number_in(word) {
+        Some(number) => Which::Number(number),
+        None => Which::Path(word),
+    }
+}
+
+// The number that a word spells, by itself or between `<` and `>`.
+fn number_in(word: &str) -> Option<u64>
+    ensures some { IfSome result (SpellsNumber word.now) }
+    ensures none { IsNone result → (number : ℕ) → ¬ SpellsNumber word.now number }
+{
+    match number_of(Some(word)) {
+        Some(number) => Some(number),
+        None => number_of(between(word)),
+    }
+}
+
+// The text between `<` and `>`.
+fn between(word: &str) -> Option<&str>
+    ensures some { IfSome result (λ inside. IsBetween word.now inside.now) }
+    ensures none { IsNone result → (inside : List ℕ) → ¬ IsBetween word.now inside }
+{
+    word.strip_prefix('<')?.strip_suffix('>')
 }
 
 // The number of workers that the text writes, where it is one from 1 to 64.
@@ -127,9 +157,11 @@ fn mkfs_of<'a>(values: &ArgMatches<'a>) -> Option<Todo<'a>>
     ensures none { IsNone result → (todo : Todo) → ¬ Asks (codes "mkfs") (rows_of (found_of values.now)) todo }
 {
     let image = text_of(values, "image")?;
-    let blocks = number_of(text_of(values, "blocks"))?;
-    let cpus = number_of(text_of(values, "cpus"))?;
-    let tables = number_of(text_of(values, "tables"))?;
+    let Numbers {
+        blocks,
+        cpus,
+        tables,
+    } = numbers_of(values)?;
     let force = is_given(values, "force");
     Some(Todo::Mkfs {
         image,
@@ -138,6 +170,66 @@ fn mkfs_of<'a>(values: &ArgMatches<'a>) -> Option<Todo<'a>>
         tables,
         force,
     })
+}
+
+// The numbers of a new region; what is left out suits the number of blocks.
+struct Numbers {
+    blocks: u64,
+    cpus: Option<u64>,
+    tables: Option<u64>,
+}
+
+// The numbers that are written: all three, or a size in place of the blocks.
+fn numbers_of(values: &ArgMatches<'_>) -> Option<Numbers>
+    ensures some { IfSome result (λ found. AreNumbers (rows_of (found_of values.now)) found.blocks found.cpus found.tables) }
+    ensures none { IsNone result → (blocks : ℕ) (cpus tables : Option ℕ) → ¬ AreNumbers (rows_of (found_of values.now)) blocks cpus tables }
+{
+    match (text_of(values, "blocks"), text_of(values, "size")) {
+        (Some(blocks), None) => all_numbers(values, blocks),
+        (None, Some(size)) => numbers_by_size(values, size),
+        _ => None,
+    }
+}
+
+// Those beside so many blocks.
+fn all_numbers(values: &ArgMatches<'_>, blocks: &str) -> Option<Numbers>
+    ensures some { IfSome result (λ found. IsNumber (Some blocks.now) found.blocks × ((c : ℕ) × (found.cpus ≡ Some c) × IsNumber (first_of (codes "cpus") (rows_of (found_of values.now))) c) × ((t : ℕ) × (found.tables ≡ Some t) × IsNumber (first_of (codes "tables") (rows_of (found_of values.now))) t)) }
+    ensures none { IsNone result → (number c t : ℕ) → IsNumber (Some blocks.now) number → IsNumber (first_of (codes "cpus") (rows_of (found_of values.now))) c → ¬ IsNumber (first_of (codes "tables") (rows_of (found_of values.now))) t }
+{
+    let blocks = number_of(Some(blocks))?;
+    let cpus = number_of(text_of(values, "cpus"))?;
+    let tables = number_of(text_of(values, "tables"))?;
+    Some(Numbers {
+        blocks,
+        cpus: Some(cpus),
+        tables: Some(tables),
+    })
+}
+
+// Those beside a size.
+fn numbers_by_size(values: &ArgMatches<'_>, size: &str) -> Option<Numbers>
+    ensures some { IfSome result (λ found. SizeOf size.now found.blocks × MayBeNumber (first_of (codes "cpus") (rows_of (found_of values.now))) found.cpus × MayBeNumber (first_of (codes "tables") (rows_of (found_of values.now))) found.tables) }
+    ensures none { IsNone result → (blocks : ℕ) (cpus tables : Option ℕ) → SizeOf size.now blocks → MayBeNumber (first_of (codes "cpus") (rows_of (found_of values.now))) cpus → ¬ MayBeNumber (first_of (codes "tables") (rows_of (found_of values.now))) tables }
+{
+    let blocks = size_of(size)?;
+    let cpus = may_be_number(text_of(values, "cpus"))?;
+    let tables = may_be_number(text_of(values, "tables"))?;
+    Some(Numbers {
+        blocks,
+        cpus,
+        tables,
+    })
+}
+
+// The number that is written, where one is; nothing where what is written is none.
+fn may_be_number(text: Option<&str>) -> Option<Option<u64>>
+    ensures some { IfSome result (MayBeNumber (option_map (λ text. text.now) text.entry)) }
+    ensures none { IsNone result → (number : Option ℕ) → ¬ MayBeNumber (option_map (λ text. text.now) text.entry) number }
+{
+    match text {
+        Some(text) => Some(Some(number_of(Some(text))?)),
+        None => Some(None),
+    }
 }
 
 fn clean_of<'a>(values: &ArgMatches<'a>) -> Option<Todo<'a>>
@@ -154,8 +246,8 @@ fn ls_of<'a>(values: &ArgMatches<'a>) -> Option<Todo<'a>>
     ensures none { IsNone result → (todo : Todo) → ¬ Asks (codes "ls") (rows_of (found_of values.now)) todo }
 {
     let image = text_of(values, "image")?;
-    let path = text_of(values, "path").unwrap_or("/");
-    Some(Todo::Ls { image, path })
+    let which = which_of(text_of(values, "path").unwrap_or("/"));
+    Some(Todo::Ls { image, which })
 }
 
 fn stat_of<'a>(values: &ArgMatches<'a>) -> Option<Todo<'a>>
@@ -163,8 +255,8 @@ fn stat_of<'a>(values: &ArgMatches<'a>) -> Option<Todo<'a>>
     ensures none { IsNone result → (todo : Todo) → ¬ Asks (codes "stat") (rows_of (found_of values.now)) todo }
 {
     let image = text_of(values, "image")?;
-    let path = text_of(values, "path")?;
-    Some(Todo::Stat { image, path })
+    let which = which_of(text_of(values, "path")?);
+    Some(Todo::Stat { image, which })
 }
 
 fn cat_of<'a>(values: &ArgMatches<'a>) -> Option<Todo<'a>>
@@ -172,8 +264,8 @@ fn cat_of<'a>(values: &ArgMatches<'a>) -> Option<Todo<'a>>
     ensures none { IsNone result → (todo : Todo) → ¬ Asks (codes "cat") (rows_of (found_of values.now)) todo }
 {
     let image = text_of(values, "image")?;
-    let path = text_of(values, "path")?;
-    Some(Todo::Cat { image, path })
+    let which = which_of(text_of(values, "path")?);
+    Some(Todo::Cat { image, which })
 }
 
 fn explain_of<'a>(values: &ArgMatches<'a>) -> Option<Todo<'a>>
@@ -268,20 +360,26 @@ fn read_command<'a>(alloc: Global, words: &'a [&'a str]) -> Result<Todo<'a>, Usa
         });
     };
     match command.try_get_matches_from(words) {
-        Ok(matches) => asked(todo_of(alloc, &matches)),
+        Ok(matches) => asked(todo_of(alloc, &matches), asks_for_image(&matches)),
         Err(error) => Err(Usage {
             cause: Cause::Words(error),
         }),
     }
 }
 
-// What words that pass ask for. Of these only a check that is to print two things asks for nothing.
-fn asked(found: Result<Option<Todo<'_>>, AllocError>) -> Result<Todo<'_>, Usage>
+// Whether the words are those of a new image.
+fn asks_for_image(matches: &ArgMatches<'_>) -> bool {
+    matches!(matches.subcommand(), Some(("mkfs", _)))
+}
+
+// What words that pass ask for. Of these only a check that is to print two things, and a new image of no size, ask for nothing.
+fn asked(found: Result<Option<Todo<'_>>, AllocError>, is_image: bool) -> Result<Todo<'_>, Usage>
     ensures ok { IfOk result (λ todo. found.entry ≡ Ok (Some todo)) }
     ensures err { IfErr result (λ usage. (found.entry ≡ Ok None) ⊎ WantsMemory usage) }
 {
     let cause = match found {
         Ok(Some(todo)) => return Ok(todo),
+        Ok(None) if is_image => Cause::NoSize,
         Ok(None) => Cause::TwoOutputs,
         Err(_) => Cause::NoMemory,
     };

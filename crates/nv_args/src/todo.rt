@@ -28,12 +28,13 @@ pub enum Todo<'a> {
         workers: u32,
         output: CheckOutput,
     },
-    /// Write an image of a formatted region, over a file that is there only by force.
+    /// Write an image of a formatted region, over a file that is there only by force. What is left out suits the number of
+    /// blocks.
     Mkfs {
         image: &'a str,
         blocks: u64,
-        cpus: u64,
-        tables: u64,
+        cpus: Option<u64>,
+        tables: Option<u64>,
         force: bool,
     },
     /// Take the pages out of the logs of an image that they can do without: of the inode that a path leads to, or of all.
@@ -44,17 +45,17 @@ pub enum Todo<'a> {
     /// List a directory of an image.
     Ls {
         image: &'a str,
-        path: &'a str,
+        which: Which<'a>,
     },
-    /// Tell what a path of an image leads to.
+    /// Tell the attributes of an inode of an image.
     Stat {
         image: &'a str,
-        path: &'a str,
+        which: Which<'a>,
     },
     /// Print the bytes of a file of an image.
     Cat {
         image: &'a str,
-        path: &'a str,
+        which: Which<'a>,
     },
     /// Tell what a class of faults means.
     Explain {
@@ -84,6 +85,15 @@ impl<'a> Todo<'a> {
             _ => None,
         }
     }
+}
+
+/// An inode of an image, as a word names it.
+#[derive(Clone, Copy, Debug, PartialEq, Eq)]
+pub enum Which<'a> {
+    /// The one that a path leads to: a word that is no number.
+    Path(&'a str),
+    /// The one of this number: `12` or `<12>`.
+    Number(u64),
 }
 
 /// What a check prints.

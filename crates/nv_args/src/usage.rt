@@ -15,6 +15,14 @@ Usage: nova check [OPTIONS] <path>
 For more information, try '--help'.
 ";
 
+const NO_SIZE: &str = "\
+error: either '--blocks <blocks>', '--cpus <cpus>' and '--tables <tables>' are needed, or '--size <size>', a multiple of 4096 such as 64M
+
+Usage: nova mkfs [OPTIONS] <image>
+
+For more information, try '--help'.
+";
+
 /// Why the words ask for nothing.
 #[derive(Debug, Drop)]
 pub(crate) enum Cause {
@@ -22,6 +30,8 @@ pub(crate) enum Cause {
     Words(Error),
     /// A check is to print two things.
     TwoOutputs,
+    /// An image is to be made of no size, of two, or of one that can't be read.
+    NoSize,
     /// Memory was refused before there was a text.
     NoMemory,
 }
@@ -47,7 +57,7 @@ impl Usage {
     {
         match &self.cause {
             Cause::Words(error) => error.kind() == ErrorKind::OutOfMemory,
-            Cause::TwoOutputs => false,
+            Cause::TwoOutputs | Cause::NoSize => false,
             Cause::NoMemory => true,
         }
     }
@@ -58,6 +68,7 @@ impl fmt::Display for Usage {
         match &self.cause {
             Cause::Words(error) => write!(f, "{error}"),
             Cause::TwoOutputs => f.write_str(TWO_OUTPUTS),
+            Cause::NoSize => f.write_str(NO_SIZE),
             Cause::NoMemory => writeln!(f, "out of memory"),
         }
     }

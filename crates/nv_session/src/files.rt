@@ -79,7 +79,7 @@ pub fn read_text(
     }
 }
 
-fn answered(text: String) -> CallText
+pub(crate) fn answered(text: String) -> CallText
     ensures { result ≡ record { text = text; is_refused = false } }
 {
     CallText {
@@ -88,7 +88,7 @@ fn answered(text: String) -> CallText
     }
 }
 
-fn refused(alloc: Global, refusal: Refusal) -> Result<CallText, AllocError>
+pub(crate) fn refused(alloc: Global, refusal: Refusal) -> Result<CallText, AllocError>
     ensures { IfOk result (λ told. (refusal ≢ refusals.Memory) × (string_bytes told.text ≡ refused_line (refusal_word refusal)) × (told.is_refused ≡ true)) }
 {
     Ok(CallText {
@@ -119,7 +119,7 @@ fn data_text(alloc: Global, bytes: &[u8]) -> Result<String, AllocError>
     Ok(text)
 }
 
-fn lines_text(alloc: Global, listed: &[Named<'_>]) -> Result<String, AllocError>
+pub(crate) fn lines_text(alloc: Global, listed: &[Named<'_>]) -> Result<String, AllocError>
     ensures { IfOk result (λ text. string_bytes text ≡ list_lines (map name_and_inode listed.now)) }
 {
     let mut text = String::new(alloc);
@@ -136,7 +136,7 @@ fn push_lines(out: &mut String, listed: &[Named<'_>]) -> Result<(), AllocError>
     Ok(())
 }
 
-fn numbers_text(alloc: Global, stat: Stat) -> Result<String, AllocError>
+pub(crate) fn numbers_text(alloc: Global, stat: Stat) -> Result<String, AllocError>
     ensures { IfOk result (λ text. string_bytes text ≡ stat_line (attributes_of stat)) }
 {
     let attributes = Attributes {

@@ -2,9 +2,11 @@
 //!
 //! `session` has a method for each command, which answers the text that the command prints; those of the file calls that write
 //! stand in `calls`. `making` makes a region, `store` keeps it, alone or mounted, and `stop` is a stop that is set for the next
-//! command. `files` has what the file calls that read print, and `texts` the answers that tell of no recovery.
+//! command. `files` has what the file calls that read print, `by_number` the same of an inode that its number names, and `texts`
+//! the answers that tell of no recovery.
 #![tactic(auto)]
 
+mod by_number;
 mod calls;
 mod files;
 mod laws;
@@ -14,6 +16,7 @@ mod stop;
 mod store;
 mod texts;
 
+pub use by_number::{list_inode_text, stat_inode_text};
 pub use files::{CallText, list_text, refused_call_text, stat_text};
 pub use laws::{alike_states_answer_alike, one_step};
 pub use making::{Made, new_region};

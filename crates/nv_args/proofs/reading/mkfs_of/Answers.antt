@@ -1,14 +1,11 @@
 use Rattle.std.proofs.Common.{refl}
+use Rattle.clap.specs.Walk.{rows_of}
+use Rattle.clap.specs.Matches.{found_of}
+use Rattle.nv_args.proofs.Sizing.{no_image}
 use Rattle.nv_args.proofs.reading.mkfs_of.Goals as goal
 
+pub returns-in_err-blocks-clause-none : goal.returns-in_err-blocks-clause-none
+returns-in_err-blocks-clause-none c none = no_image (rows_of (found_of c.args.values.now)) (c.in_err-blocks.ensures.none refl)
+
 pub returns-clause-some : goal.returns-clause-some
-returns-clause-some c = (
-  refl,
-  (
-    rw c.in_ok-image.was at c.text_of.ensures,
-    rw c.text_of-2.ensures c.in_ok-blocks.ensures.some,
-    rw c.text_of-3.ensures c.in_ok-cpus.ensures.some,
-    rw c.text_of-4.ensures c.in_ok-tables.ensures.some,
-    c.is_given-force.ensures,
-  ),
-)
+returns-clause-some c = (refl, (rw c.in_ok-image.was at c.text_of.ensures, c.in_ok-blocks.ensures.some, c.is_given-force.ensures))
