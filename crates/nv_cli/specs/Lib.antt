@@ -5,7 +5,9 @@ pub mod Shell
 pub mod Replies
 pub mod Sent
 pub mod Looking
+pub mod LookingByNumber
 pub mod Formatting
+pub mod Suiting
 pub mod Cleaning
 pub use Rattle.nv_region.specs.Region
 pub use Rattle.nv_region.specs.RegionState

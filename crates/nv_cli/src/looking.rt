@@ -23,18 +23,18 @@ use std::alloc::{AllocError, Global};
 use std::io::Write;
 
 /// How many bytes of a file are read at a time.
-const PIECE: u64 = 1 << 20;
+pub(crate) const PIECE: u64 = 1 << 20;
 
 // What is printed, and what came of it.
 #[derive(Drop)]
-struct Look {
-    text: String,
-    answered: Answered,
+pub(crate) struct Look {
+    pub(crate) text: String,
+    pub(crate) answered: Answered,
 }
 
 // A region over bytes, mounted with what was found in it, or why it isn't.
 #[derive(Drop)]
-enum Opened<'a> {
+pub(crate) enum Opened<'a> {
     Mounted(Fs<ImageRegion<'a>>),
     Refused(Refusal),
 }
@@ -109,7 +109,7 @@ pub fn cat_image<W: Write, E: Write>(
 }
 
 // Writes what is told of a look: a refusal to the errors, and all else to the writer.
-fn write_look<W: Write, E: Write>(
+pub(crate) fn write_look<W: Write, E: Write>(
     look: &Look,
     writer: &mut W,
     errors: &mut E,
@@ -152,7 +152,7 @@ fn look_at_numbers(alloc: Global, bytes: &[u8], path: &[u8]) -> Result<Look, All
 }
 
 // Recovers the region of these bytes on this thread, and mounts it.
-fn open_image(alloc: Global, bytes: &[u8]) -> Result<Opened<'_>, AllocError>
+pub(crate) fn open_image(alloc: Global, bytes: &[u8]) -> Result<Opened<'_>, AllocError>
     ensures { IfOk result (IsOpened (region_of bytes.now)) }
 {
     let image = recover_image(alloc, bytes)?;
@@ -164,7 +164,7 @@ fn open_image(alloc: Global, bytes: &[u8]) -> Result<Opened<'_>, AllocError>
     }
 }
 
-fn refused_look(alloc: Global, refusal: Refusal) -> Result<Look, AllocError>
+pub(crate) fn refused_look(alloc: Global, refusal: Refusal) -> Result<Look, AllocError>
     ensures { IfOk result (λ look. IsRefusal (refusal_name refusal) (string_bytes look.text) look.answered.status × (look.answered.faults ≡ 0)) }
 {
     Ok(Look {
@@ -176,7 +176,7 @@ fn refused_look(alloc: Global, refusal: Refusal) -> Result<Look, AllocError>
     })
 }
 
-fn told_look(told: CallText, faults: usize) -> Look
+pub(crate) fn told_look(told: CallText, faults: usize) -> Look
     ensures text { string_bytes result.text ≡ string_bytes told.text }
     ensures status { result.answered.status ≡ (if told.is_refused then 2 else 0) }
     ensures faults { result.answered.faults ≡ faults }
@@ -189,7 +189,7 @@ fn told_look(told: CallText, faults: usize) -> Look
 }
 
 // The exit status of a call that was refused or not.
-fn status_of(is_refused: bool) -> u8
+pub(crate) fn status_of(is_refused: bool) -> u8
     ensures { result ≡ (if is_refused then 2 else 0) }
 {
     if is_refused {
@@ -219,7 +219,7 @@ fn cat_file<P: Pmem + Drop, W: Write, E: Write>(
 }
 
 // Writes why a call is refused. Answers the exit status.
-fn write_refusal<W: Write>(
+pub(crate) fn write_refusal<W: Write>(
     alloc: Global,
     refusal: CallRefusal,
     writer: &mut W,
