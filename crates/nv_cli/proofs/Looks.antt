@@ -15,6 +15,7 @@ use Rattle.nv_tree.specs.declared.refusal.Refusal.{Refusal}
 use Rattle.nv_tree.proofs.Texts.{text_says}
 use Rattle.nv_checking.specs.Checking.{IsRefusal}
 use Rattle.nv_cli.specs.Looking.{Call, ByPath, IsLook, IsOpened, call_status}
+use Rattle.nv_cli.specs.LookingByNumber.{ByNumber}
 use Rattle.nv_checking.specs.declared.answered.Answered.{Answered}
 use Rattle.nv_cli.specs.declared.looking.Opened.TheVariants as opened
 
@@ -42,3 +43,9 @@ pub call_by_path : (Tells : Tree → Path → List ℕ → Type 0) (tests : Tree
 call_by_path Tells tests path t text is_refused status tells refused ends =
     let p = text_says path in
     (p.0, p.1, tells p.0 p.1, ends ∙ ap (λ (b : Bool). if b then 2 else 0) (refused p.0 p.1) ∙ sym (call_is (first_refusal (tests t p.0))))
+
+-- the same by an inode's number
+pub call_by_number : (Tells : Tree → ℕ → List ℕ → Type 0) (tests : Tree → ℕ → Tests) (i : ℕ) (t : Tree) (text : List ℕ) (is_refused : Bool) (status : ℕ)
+    → Tells t i text → is_refused ≡ is_some (first_refusal (tests t i)) → status ≡ (if is_refused then 2 else 0) → ByNumber Tells tests i t text status
+call_by_number Tells tests i t text is_refused status tells refused ends =
+    (tells, ends ∙ ap (λ (b : Bool). if b then 2 else 0) refused ∙ sym (call_is (first_refusal (tests t i))))

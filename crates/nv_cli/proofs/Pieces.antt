@@ -14,7 +14,7 @@ use Rattle.nv_stream.proofs.StreamLemmas.{appends_none, appends_both, appends_fr
 use Rattle.nv_cli.specs.Looking.{IsSized, IsWholeFile, WritesFile, FailsFile}
 use Rattle.nv_stream.specs.declared.fault.ScriptError.TheVariants as errors
 
-joins : (f : ℕ → ℕ) (at count : ℕ) → map f (range_with_len 0 (at + count)) ≡ map f (range_with_len 0 at) ++ map f (range_with_len at count)
+pub joins : (f : ℕ → ℕ) (at count : ℕ) → map f (range_with_len 0 (at + count)) ≡ map f (range_with_len 0 at) ++ map f (range_with_len at count)
 joins f at count =
     let from : map f (range_with_len 0 at) ++ map f (range_with_len (0 + at) count) ≡ map f (range_with_len 0 (at + count)) = range_more f 0 at count in
     let same : 0 + at ≡ at = omega arith in
@@ -24,11 +24,22 @@ joins f at count =
 abbrev pub first_bytes : Node → ℕ → List ℕ
 first_bytes node count = map node.bytes (range_with_len 0 count)
 
-all_bytes : (node : Node) → bytes_read 0 node.size node ≡ first_bytes node node.size
+pub all_bytes : (node : Node) → bytes_read 0 node.size node ≡ first_bytes node node.size
 all_bytes node = ap (λ n. map node.bytes (range_with_len 0 n)) (let same : min node.size (node.size - 0) ≡ node.size = omega arith in same)
 
-a_piece : (node : Node) (at count : ℕ) → at + count ≤ node.size → bytes_read at count node ≡ map node.bytes (range_with_len at count)
+pub a_piece : (node : Node) (at count : ℕ) → at + count ≤ node.size → bytes_read at count node ≡ map node.bytes (range_with_len at count)
 a_piece node at count within = ap (λ n. map node.bytes (range_with_len at n)) (let same : min count (node.size - at) ≡ count = omega arith in same)
+
+-- the first bytes of a node are a front of all
+pub front_of_node : (node : Node) (size : ℕ) → size ≡ node.size → (old now : Option (List ℕ)) (at : ℕ) → at ≤ size → AppendsFront old now (first_bytes node at)
+    → AppendsFront old now (bytes_read 0 node.size node)
+front_of_node node size is old now at within (n, added) =
+    let long : length (first_bytes node at) ≡ at = length-map-range_with_len node.bytes 0 at in
+    let cut : take n (first_bytes node at) ≡ first_bytes node (min n at) =
+    sym (take_min n (first_bytes node at)) ∙ ap (λ k. take (min n k) (first_bytes node at)) long ∙ take-map-range_with_len node.bytes 0 at (min n at) (omega arith) in
+    let all : take (min n at) (bytes_read 0 node.size node) ≡ first_bytes node (min n at) =
+    ap (take (min n at)) (all_bytes node) ∙ take-map-range_with_len node.bytes 0 node.size (min n at) (omega (arith, is)) in
+    (min n at, subst (λ xs. Appends old now xs) (cut ∙ sym all) added)
 
 -- a path leads to one inode
 one_node : (t : Tree) (names : List (List ℕ)) (i j : ℕ) (a b : Node) → LeadsTo t names i a → LeadsTo t names j b → a ≡ b
@@ -50,13 +61,7 @@ module _ (t : Tree) (names : List (List ℕ)) (size : ℕ) (s : IsSized t names 
 
   -- the first bytes are a front of all
   front_of_file : (old now : Option (List ℕ)) (at : ℕ) → at ≤ size → AppendsFront old now (first_bytes s.node at) → AppendsFront old now (bytes_read 0 s.node.size s.node)
-  front_of_file old now at within (n, added) =
-      let long : length (first_bytes s.node at) ≡ at = length-map-range_with_len s.node.bytes 0 at in
-      let cut : take n (first_bytes s.node at) ≡ first_bytes s.node (min n at) =
-      sym (take_min n (first_bytes s.node at)) ∙ ap (λ k. take (min n k) (first_bytes s.node at)) long ∙ take-map-range_with_len s.node.bytes 0 at (min n at) (omega arith) in
-      let all : take (min n at) (bytes_read 0 s.node.size s.node) ≡ first_bytes s.node (min n at) =
-      ap (take (min n at)) (all_bytes s.node) ∙ take-map-range_with_len s.node.bytes 0 s.node.size (min n at) (let is = s.is in omega arith) in
-      (min n at, subst (λ xs. Appends old now xs) (cut ∙ sym all) added)
+  front_of_file old now at within added = front_of_node s.node size s.is old now at within added
 
   -- nothing yet
   pub none_yet : (old : Option (List ℕ)) → Appends old old (first_bytes s.node 0)

@@ -7,7 +7,9 @@ pub mod Sent
 pub mod Looking
 pub mod Gathered
 pub mod Catting
+pub mod LookingByNumber
 pub mod Formatting
+pub mod Suiting
 pub mod Cleaning
 pub use Rattle.nv_region.specs.Region
 pub use Rattle.nv_region.specs.RegionState

@@ -23,18 +23,18 @@ use std::alloc::{AllocError, Global};
 use std::io::Write;
 
 /// How many bytes of a file are read at a time.
-const PIECE: u64 = 1 << 20;
+pub(crate) const PIECE: u64 = 1 << 20;
 
 // What is printed, and what came of it.
 #[derive(Drop)]
 pub(crate) struct Look {
-    pub text: String,
-    pub answered: Answered,
+    pub(crate) text: String,
+    pub(crate) answered: Answered,
 }
 
 // A region over bytes, mounted with what was found in it, or why it isn't.
 #[derive(Drop)]
-enum Opened<'a> {
+pub(crate) enum Opened<'a> {
     Mounted(Fs<ImageRegion<'a>>),
     Refused(Refusal),
 }
@@ -152,7 +152,7 @@ fn look_at_numbers(alloc: Global, bytes: &[u8], path: &[u8]) -> Result<Look, All
 }
 
 // Recovers the region of these bytes on this thread, and mounts it.
-fn open_image(alloc: Global, bytes: &[u8]) -> Result<Opened<'_>, AllocError>
+pub(crate) fn open_image(alloc: Global, bytes: &[u8]) -> Result<Opened<'_>, AllocError>
     ensures { IfOk result (IsOpened (region_of bytes.now)) }
 {
     let image = recover_image(alloc, bytes)?;
