@@ -8,8 +8,8 @@ _nova() {
         case ${COMP_WORDS[1]} in
             run) words="--image --save --force --strict --help" ;;
             shell) words="--force --help" ;;
-            check) words="--workers --summary --only-faults --help" ;;
-            mkfs) words="--blocks --cpus --tables --force --help" ;;
+            check) words="--workers --summary --only-faults --json --help" ;;
+            mkfs) words="--blocks --cpus --tables --size --force --help" ;;
             clean) words="--help" ;;
             ls) words="--help" ;;
             stat) words="--help" ;;

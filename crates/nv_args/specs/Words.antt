@@ -7,7 +7,7 @@ use Rattle.clap.specs.Simple.{subcommand_of}
 use Rattle.clap.specs.Faults.{fault_of}
 use Rattle.nv_args.specs.CommandLine.{nova_app}
 use Rattle.nv_args.specs.declared.todo.CheckOutput.{CheckOutput}
-use Rattle.nv_args.specs.declared.todo.CheckOutput.TheVariants.{Report, Summary, OnlyFaults}
+use Rattle.nv_args.specs.declared.todo.CheckOutput.TheVariants.{Report, Summary, OnlyFaults, Json}
 use Rattle.nv_args.specs.declared.todo.Todo.{Todo}
 use Rattle.nv_args.specs.declared.todo.Todo.TheVariants.{Version, Run, Shell, Check, Mkfs, Clean, Ls, Stat, Cat, Explain, Map}
 use Rattle.nv_args.specs.declared.todo.Which.{Which}
@@ -75,11 +75,12 @@ AreWorkers (Some text) workers = IsNumeral 10 (without_leading_plus text)
 abbrev pub IsGiven : Text → List Row → Type 0
 IsGiven name values = first_of name values ≡ Some (codes "true")
 
--- a check prints the report, unless one of two options asks for something else
+-- a check prints the report, unless one of three options asks for something else
 abbrev pub IsOutput : List Row → CheckOutput → Type 0
-IsOutput values Report = (¬ IsGiven (codes "summary") values) × (¬ IsGiven (codes "only-faults") values)
-IsOutput values Summary = IsGiven (codes "summary") values × (¬ IsGiven (codes "only-faults") values)
-IsOutput values OnlyFaults = (¬ IsGiven (codes "summary") values) × IsGiven (codes "only-faults") values
+IsOutput values Report = (¬ IsGiven (codes "summary") values) × (¬ IsGiven (codes "only-faults") values) × (¬ IsGiven (codes "json") values)
+IsOutput values Summary = IsGiven (codes "summary") values × (¬ IsGiven (codes "only-faults") values) × (¬ IsGiven (codes "json") values)
+IsOutput values OnlyFaults = (¬ IsGiven (codes "summary") values) × IsGiven (codes "only-faults") values × (¬ IsGiven (codes "json") values)
+IsOutput values Json = (¬ IsGiven (codes "summary") values) × (¬ IsGiven (codes "only-faults") values) × IsGiven (codes "json") values
 
 -- the numbers of a new region are written: its blocks and the others, or its size, and of the others those that are written
 abbrev pub AreNumbers : List Row → ℕ → Option ℕ → Option ℕ → Type 0

@@ -130,6 +130,11 @@ const COMMANDS: [CommandForm<'static>; 10] = [
                 name: "only-faults",
                 help: "Print the faults alone in place of the report",
             },
+            Argument {
+                written: Written::Flag,
+                name: "json",
+                help: "Print the report as JSON",
+            },
         ],
     },
     CommandForm {

@@ -98,16 +98,20 @@ fn worker_count(text: Option<&str>) -> Option<u32>
     (1..=64).contains(&workers).then_some(workers)
 }
 
-// What a check is to print, unless that are two things.
+// What a check is to print, unless that are several things.
 fn output_of(values: &ArgMatches<'_>) -> Option<CheckOutput>
     ensures some { IfSome result (λ output. IsOutput (rows_of (found_of values.now)) output) }
     ensures none { IsNone result → (output : CheckOutput) → ¬ IsOutput (rows_of (found_of values.now)) output }
 {
-    match (is_given(values, "summary"), is_given(values, "only-faults")) {
-        (false, false) => Some(CheckOutput::Report),
-        (true, false) => Some(CheckOutput::Summary),
-        (false, true) => Some(CheckOutput::OnlyFaults),
-        (true, true) => None,
+    let summary = is_given(values, "summary");
+    let only_faults = is_given(values, "only-faults");
+    let json = is_given(values, "json");
+    match (summary, only_faults, json) {
+        (false, false, false) => Some(CheckOutput::Report),
+        (true, false, false) => Some(CheckOutput::Summary),
+        (false, true, false) => Some(CheckOutput::OnlyFaults),
+        (false, false, true) => Some(CheckOutput::Json),
+        _ => None,
     }
 }
 
@@ -372,7 +376,8 @@ fn asks_for_image(matches: &ArgMatches<'_>) -> bool {
     matches!(matches.subcommand(), Some(("mkfs", _)))
 }
 
-// What words that pass ask for. Of these only a check that is to print two things, and a new image of no size, ask for nothing.
+// What words that pass ask for. Of these only a check that is to print several things, and a new image of no size, ask for
+// nothing.
 fn asked(found: Result<Option<Todo<'_>>, AllocError>, is_image: bool) -> Result<Todo<'_>, Usage>
     ensures ok { IfOk result (λ todo. found.entry ≡ Ok (Some todo)) }
     ensures err { IfErr result (λ usage. (found.entry ≡ Ok None) ⊎ WantsMemory usage) }

@@ -105,4 +105,6 @@ pub enum CheckOutput {
     Summary,
     /// The faults alone.
     OnlyFaults,
+    /// The report as JSON.
+    Json,
 }

@@ -8,7 +8,7 @@ use std::fmt;
 use std::marker::Model;
 
 const TWO_OUTPUTS: &str = "\
-error: the argument '--summary' cannot be used with '--only-faults'
+error: only one of the arguments '--summary', '--only-faults' and '--json' can be used
 
 Usage: nova check [OPTIONS] <path>
 
@@ -28,7 +28,7 @@ For more information, try '--help'.
 pub(crate) enum Cause {
     /// They are no words of the command line, or they ask for help.
     Words(Error),
-    /// A check is to print two things.
+    /// A check is to print several things.
     TwoOutputs,
     /// An image is to be made of no size, of two, or of one that can't be read.
     NoSize,

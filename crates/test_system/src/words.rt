@@ -3,13 +3,14 @@
 use nv_args::{CheckOutput, Todo, read_words};
 use std::alloc::Global;
 
-const REFUSED: [&[&str]; 16] = [
+const REFUSED: [&[&str]; 17] = [
     &["--version", "-V"],
     &["version"],
     &["check", "a", "--workers", "65"],
     &["check", "a", "--workers", "0"],
     &["check", "a", "--summary", "--only-faults"],
     &["check"],
+    &["check", "a", "--json", "--summary"],
     &[],
     &["run", "a", "b"],
     &["mkfs", "i", "--blocks", "16", "--cpus", "1"],
@@ -146,7 +147,7 @@ const ASKED: [(&[&str], Todo<'static>); 16] = [
 ];
 
 /// Words of checks, the paths and the number of workers that they ask for, and the output.
-const CHECKS: [(&[&str], &[&str], u32, CheckOutput); 5] = [
+const CHECKS: [(&[&str], &[&str], u32, CheckOutput); 6] = [
     (&["check", "a"], &["a"], 1, CheckOutput::Report),
     (
         &["check", "a", "--workers", "64"],
@@ -172,6 +173,7 @@ const CHECKS: [(&[&str], &[&str], u32, CheckOutput); 5] = [
         2,
         CheckOutput::Report,
     ),
+    (&["check", "a", "--json"], &["a"], 1, CheckOutput::Json),
 ];
 
 fn check_for(
