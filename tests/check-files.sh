@@ -64,7 +64,7 @@ expect "several images" 2 "$folder/region: $sums${newline}$folder/short: refused
     "$program" check "$folder/region" "$folder/missing" "$folder/short" "$folder/region"
 # Of each image a line says what is said of it alone; a plain file and a pipe are read in different ways.
 for image in "$here/examples/ring.img" "$folder/region" "$folder/short"; do
-    for option in --summary --only-faults; do
+    for option in --summary --only-faults --json; do
         alone=$("$program" check "$image" $option 2>/dev/null)
         status=$?
         expect "$image among several, $option" "$status" "$(sed "s|^|$image: |" <<<"$alone"; sed "s|^|/dev/stdin: |" <<<"$alone")" "" \
@@ -75,6 +75,21 @@ expect "several images on several threads" 0 "$folder/region: $sums${newline}$fo
 expect "the faults of several images" 1 "$here/examples/ring.img: $("$program" check "$here/examples/ring.img" --only-faults)${newline}$folder/region: no faults" \
     "nova explain CLASS says what a fault means, as nova explain L2 does for L2" \
     "$program" check --only-faults "$here/examples/ring.img" "$folder/region"
+# A report as JSON: how many inodes are in use, the first free run of CPU 0, and the faults.
+read_json='import json, sys
+report = json.load(sys.stdin)
+run = report["free"][0][0]
+faults = ["{class} of {inode} at {at}".format(**fault) for fault in report["faults"]]
+print(len(report["inodes"]), run["start"], run["count"], *faults)'
+# shellcheck disable=SC2016
+with_json='set -o pipefail; "$1" check "$2" --json | python3 -c "$3"'
+expect "a report with a fault as JSON" 1 "1 5 11 L2 of 1 at 20448" "nova explain CLASS says what a fault means, as nova explain L2 does for L2" \
+    bash -c "$with_json" bash "$program" "$here/examples/ring.img" "$read_json"
+expect "a sound report as JSON" 0 "1 4 12" "" bash -c "$with_json" bash "$program" "$folder/region" "$read_json"
+expect "a refused image as JSON" 2 "refused S1" "it has 100 bytes; $lengths" "$program" check "$folder/short" --json
+expect "two outputs at once" 2 "" \
+    "error: only one of the arguments '--summary', '--only-faults' and '--json' can be used${newline}${newline}Usage: nova check [OPTIONS] <path>${newline}${newline}For more information, try '--help'." \
+    "$program" check "$folder/region" --json --summary
 # word AT VALUE: the region, with this word of less than 256 there.
 word() {
     cp "$folder/region" "$folder/changed"

@@ -130,5 +130,6 @@ fn output_of(output: CheckOutput) -> Output {
         CheckOutput::Report => Output::Report,
         CheckOutput::Summary => Output::Summary,
         CheckOutput::OnlyFaults => Output::OnlyFaults,
+        CheckOutput::Json => Output::Json,
     }
 }
