@@ -3,15 +3,17 @@
 ghost use Rattle.nv_metadata.specs.Gathered.{IsOpen};
 
 use crate::names::path_of;
+use nv_args::Which;
 use nv_checking::{Blocks, BlocksError, Gathered, gather_plain, see_unchanged};
 use nv_cli::{
-    Answered, ScriptError, cat_gathered, cat_image, list_gathered, list_image, stat_gathered,
-    stat_image,
+    Answered, ScriptError, cat_gathered, cat_image, cat_inode_image, list_gathered, list_image,
+    list_inode_image, stat_gathered, stat_image, stat_inode_image,
 };
 use nv_images::{
     Failure, Image, ImageFile, Reason, open_image, read_image, refuse_length, tell_faults,
     tell_length, tell_refused,
 };
+use std::alloc::Global;
 use std::fs::OpenFile;
 use std::io;
 use std::io::Write;
@@ -20,38 +22,56 @@ use std::rt::Files;
 /// What is shown of an image.
 #[derive(Clone, Copy, Debug)]
 pub(crate) enum Shown {
-    /// The names of the directory at a path.
+    /// The names of a directory.
     Names,
-    /// The attributes of what is at a path.
+    /// The attributes of an inode.
     Attributes,
-    /// The bytes of the file at a path.
+    /// The bytes of a file.
     Bytes,
 }
 
-/// Recovers the image in a file in memory, and prints what is to be shown of what a path leads to there, or says among the errors
-/// why that can't be shown. Answers the exit status, 0 or 2. An image with faults is shown all the same, and a line says that it
-/// has some. Of a plain file whose superblock is accepted the metadata alone are read, and the blocks of a file whose bytes are
-/// shown; each other one is read whole.
+/// An inode of an image: at a path, whose escapes are read, or of a number.
+#[derive(Drop)]
+enum Inode {
+    Path(Vec<u8>),
+    Number(u64),
+}
+
+/// Recovers the image in a file in memory, and prints what is to be shown of an inode there, or says among the errors why that
+/// can't be shown. Answers the exit status, 0 or 2. An image with faults is shown all the same, and a line says that it has some.
+/// For a path in a plain file whose superblock is accepted the metadata alone are read, and the blocks of a file whose bytes are
+/// shown; else the image is read whole.
 pub(crate) fn show<'a, H: Files + AllocGlobal + Print + Eprint, E: Write>(
     rt: &H,
     errors: &mut E,
     image: &'a str,
-    path: &'a str,
+    which: Which<'a>,
     what: Shown,
 ) -> Result<u8, Failure<'a>>
 where
     H::File: Blocks,
 {
-    let path = path_of(rt.alloc(), path)?;
+    let inode = inode_of(rt.alloc(), which)?;
     let file = open_image(rt, image)?;
+    let path = match &inode {
+        Inode::Path(path) => path,
+        Inode::Number(_) => return show_whole(rt, errors, file, &inode, what),
+    };
     match gather_plain(rt.alloc(), &file)? {
         Some(gathered) => {
-            let answered = show_plain(rt, errors, &file, gathered, &path, what)?;
+            let answered = show_plain(rt, errors, &file, gathered, path, what)?;
             tell_faults(rt, image, answered.faults);
             Ok(answered.status)
         }
-        None => show_whole(rt, errors, file, &path, what),
+        None => show_whole(rt, errors, file, &inode, what),
     }
+}
+
+fn inode_of<'a>(alloc: Global, which: Which<'a>) -> Result<Inode, Failure<'a>> {
+    Ok(match which {
+        Which::Path(word) => Inode::Path(path_of(alloc, word)?),
+        Which::Number(number) => Inode::Number(number),
+    })
 }
 
 // Shows it in a plain file of which this was gathered.
@@ -91,13 +111,13 @@ fn show_whole<'a, H: Files + AllocGlobal + Print + Eprint, E: Write>(
     rt: &H,
     errors: &mut E,
     file: ImageFile<'a, H::File>,
-    path: &[u8],
+    inode: &Inode,
     what: Shown,
 ) -> Result<u8, Failure<'a>> {
     let place = file.path;
     match read_image(rt.alloc(), file)? {
         Image::Bytes(bytes) => {
-            let answered = show_bytes(rt, errors, &bytes, path, what)?;
+            let answered = show_bytes(rt, errors, &bytes, inode, what)?;
             tell_refused(rt, answered.status, &bytes);
             tell_faults(rt, place, answered.faults);
             Ok(answered.status)
@@ -114,14 +134,17 @@ fn show_bytes<H: AllocGlobal + Print, E: Write>(
     rt: &H,
     errors: &mut E,
     bytes: &[u8],
-    path: &[u8],
+    inode: &Inode,
     what: Shown,
 ) -> Result<Answered, ScriptError> {
     let alloc = rt.alloc();
-    let mut output = io::writer(rt);
-    match what {
-        Shown::Names => list_image(alloc, bytes, path, &mut output, errors),
-        Shown::Attributes => stat_image(alloc, bytes, path, &mut output, errors),
-        Shown::Bytes => cat_image(alloc, bytes, path, &mut output, errors),
+    let out = &mut io::writer(rt);
+    match (inode, what) {
+        (Inode::Path(path), Shown::Names) => list_image(alloc, bytes, path, out, errors),
+        (Inode::Path(path), Shown::Attributes) => stat_image(alloc, bytes, path, out, errors),
+        (Inode::Path(path), Shown::Bytes) => cat_image(alloc, bytes, path, out, errors),
+        (Inode::Number(n), Shown::Names) => list_inode_image(alloc, bytes, *n, out, errors),
+        (Inode::Number(n), Shown::Attributes) => stat_inode_image(alloc, bytes, *n, out, errors),
+        (Inode::Number(n), Shown::Bytes) => cat_inode_image(alloc, bytes, *n, out, errors),
     }
 }
