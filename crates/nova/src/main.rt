@@ -21,9 +21,10 @@ mod show;
 use cleaning::clean;
 use nv_args::{CheckOutput, Todo, VERSION, read_words};
 use nv_checking::{Blocks, Output, check_file, check_files, map_file};
+use nv_cli::suiting_areas;
 use nv_images::{Failure, Lock, Target, ended, explain, print_line, refuse_words, words_of};
 use run::{Images, run, script_at, script_on};
-use saving::{Numbers, mkfs};
+use saving::mkfs;
 use shell::shell;
 use show::{Shown, show};
 use std::alloc::AllocError;
@@ -107,17 +108,13 @@ where
             force,
         } => {
             let target = Target { path: image, force };
-            let numbers = Numbers {
-                blocks,
-                cpus,
-                tables,
-            };
-            mkfs(rt, target, numbers)
+            let areas = suiting_areas(blocks, cpus, tables);
+            mkfs(rt, target, blocks, areas)
         }
         Todo::Clean { image, path } => clean(rt, &mut errors, image, path),
-        Todo::Ls { image, path } => show(rt, &mut errors, image, path, Shown::Names),
-        Todo::Stat { image, path } => show(rt, &mut errors, image, path, Shown::Attributes),
-        Todo::Cat { image, path } => show(rt, &mut errors, image, path, Shown::Bytes),
+        Todo::Ls { image, which } => show(rt, &mut errors, image, which, Shown::Names),
+        Todo::Stat { image, which } => show(rt, &mut errors, image, which, Shown::Attributes),
+        Todo::Cat { image, which } => show(rt, &mut errors, image, which, Shown::Bytes),
         Todo::Map { image, svg, force } => {
             map_file(rt, image, svg.map(|path| Target { path, force }))
         }

@@ -1,7 +1,8 @@
 //! Images as regions, and writing them to files.
 
 use nv_cli::{
-    Formatted, MemRegion, RegionRefusal, ScriptError, format_image, format_limits, region_of_file,
+    Areas, Formatted, MemRegion, RegionRefusal, ScriptError, format_image, format_limits,
+    region_of_file,
 };
 use nv_images::{Failure, Held, Lock, Target, hold, save_file, see_ready};
 use std::alloc::Global;
@@ -10,26 +11,20 @@ use std::rt::Files;
 // The status of a region that is refused.
 const REFUSED_STATUS: u8 = 2;
 
-/// The numbers of an image that is to be made.
-#[derive(Clone, Copy, Debug)]
-pub(crate) struct Numbers {
-    pub blocks: u64,
-    pub cpus: u64,
-    pub tables: u64,
-}
-
-/// Writes the image of a formatted region to a file, or says `refused NAME` on standard error. Answers the exit status, 0 or 2.
+/// Writes the image of a region of so many blocks, formatted with these areas, to a file, or says `refused NAME` on standard
+/// error. Answers the exit status, 0 or 2.
 pub(crate) fn mkfs<'a, H: Files + AllocGlobal + Print + Eprint>(
     rt: &H,
     target: Target<'a>,
-    numbers: Numbers,
+    blocks: u64,
+    areas: Areas,
 ) -> Result<u8, Failure<'a>>
 where
     H::File: Lock,
 {
     let held = hold(rt, target)?;
     see_ready(rt, &held, None, None)?;
-    match format_image(rt.alloc(), numbers.cpus, numbers.blocks, numbers.tables)? {
+    match format_image(rt.alloc(), areas.cpus, blocks, areas.tables)? {
         Formatted::Region(region) => {
             save_region(rt, &held, &region)?;
             Ok(0)
