@@ -9,7 +9,7 @@ _nova() {
             run) words="--image --save --force --strict --help" ;;
             shell) words="--force --help" ;;
             check) words="--workers --summary --only-faults --help" ;;
-            mkfs) words="--blocks --cpus --tables --force --help" ;;
+            mkfs) words="--blocks --cpus --tables --size --force --help" ;;
             clean) words="--help" ;;
             ls) words="--help" ;;
             stat) words="--help" ;;
@@ -21,7 +21,7 @@ _nova() {
     fi
     # A number is written by hand, and everything else may be a file.
     case $before in
-        --blocks | --cpus | --tables | --workers) return ;;
+        --blocks | --cpus | --size | --tables | --workers) return ;;
     esac
     mapfile -t COMPREPLY < <(compgen -W "$words" -- "$word")
     if [ "$COMP_CWORD" -gt 1 ]; then
