@@ -21,7 +21,7 @@ _nova() {
     fi
     # A number is written by hand, and everything else may be a file.
     case $before in
-        --blocks | --cpus | --tables | --workers) return ;;
+        --blocks | --cpus | --size | --tables | --workers) return ;;
     esac
     mapfile -t COMPREPLY < <(compgen -W "$words" -- "$word")
     if [ "$COMP_CWORD" -gt 1 ]; then

@@ -134,6 +134,18 @@ for name in $("$program" ls "$folder/names" | cut -d' ' -f1); do
 done
 expect "a name with a backslash" 0 "A" "" "$program" cat "$folder/names" '/a\\b'
 expect "a name with an escape" 0 "A" "" "$program" cat "$folder/names" '/\x61\x5Cb'
+# An inode is found by its number too, which ls shows behind its name.
+number=$("$program" ls "$folder/names" | sed -n 's/^a.x5cb //p')
+expect "a file by its number" 0 "A" "" "$program" cat "$folder/names" "$number"
+expect "the same between brackets" 0 "A" "" "$program" cat "$folder/names" "<$number>"
+expect "the attributes by a number" 0 "$("$program" stat "$folder/names" '/a\\b')" "" "$program" stat "$folder/names" "<+0$number>"
+expect "the root by its number" 0 "$("$program" ls "$folder/names")" "" "$program" ls "$folder/names" 1
+expect "a number that no inode in use has" 2 "" "refused NotFound" "$program" stat "$folder/names" 9
+expect "the bytes of a directory by its number" 2 "" "refused IsDirectory" "$program" cat "$folder/names" 1
+expect "the names of a file by its number" 2 "" "refused NotDirectory" "$program" ls "$folder/names" "$number"
+for word in "<$number" "$number>" 18446744073709551616; do
+    expect "$word is neither a path nor a number" 2 "" "refused BadName" "$program" ls "$folder/names" "$word"
+done
 for name in '/a\' '/a\b' '/\x5' '/\xg0'; do
     expect "no escape in $name" 2 "" "in $name a backslash begins no escape; \\\\ stands for one, and \\x and two hexadecimal digits for a byte" \
         "$program" stat "$folder/names" "$name"
@@ -149,6 +161,33 @@ expect "65 CPUs" 2 "" "refused Cpus${newline}a region has 1 to 64 CPUs" "$progra
 expect "no room for the tables" 2 "" \
     "refused Tables${newline}a CPU has 1 to 64 table blocks, and a region more blocks than 1 + CPUs + CPUs * table blocks" \
     "$program" mkfs "$folder/new" --blocks 8 --cpus 1 --tables 6
+
+# A size in place of the numbers, which then suit it: those of the superblock, from its word 2 on.
+numbers_of() {
+    od -A n -t u8 -j 16 -N 24 "$1" | tr -s ' \n' ' ' | sed 's/^ //; s/ $//'
+}
+for row in "64M 4 16384 16" "32K 1 8 1" "1G 16 262144 64" "+65536 1 16 1" "16383K refused"; do
+    read -r size wanted <<<"$row"
+    if [ "$wanted" = refused ]; then
+        "$program" mkfs "$folder/sized" --force --size "$size" 2>/dev/null
+        same "a size of $size" 2 $?
+    else
+        expect "a size of $size" 0 "" "" "$program" mkfs "$folder/sized" --force --size "$size"
+        same "the numbers of a size of $size" "$wanted" "$(numbers_of "$folder/sized")"
+        expect "the region of a size of $size" 0 "no faults" "" "$program" check "$folder/sized" --only-faults
+    fi
+done
+expect "a size and CPUs" 0 "" "" "$program" mkfs "$folder/sized" --force --size 64M --cpus 2
+same "the numbers of a size and CPUs" "2 16384 32" "$(numbers_of "$folder/sized")"
+expect "a size and tables" 0 "" "" "$program" mkfs "$folder/sized" --force --size 64M --tables 3
+same "the numbers of a size and tables" "4 16384 3" "$(numbers_of "$folder/sized")"
+expect "a size that is too small" 2 "" "refused Length${newline}a region has 8 to 262144 blocks" "$program" mkfs "$folder/new" --size 28K
+for words in "" "--blocks 16" "--size 64M --blocks 16" "--size 65537" "--size 64MB"; do
+    # shellcheck disable=SC2086
+    "$program" mkfs "$folder/new" $words >"$folder/said" 2>"$folder/why"
+    same "mkfs $words" 2 $?
+    same "mkfs $words: why" 1 "$(grep -c "^error: either '--blocks <blocks>', '--cpus <cpus>' and '--tables <tables>' are needed, or '--size <size>'" "$folder/why")"
+done
 
 # Control characters are shown as escapes, and other letters as they are.
 expect "a path with control characters" 2 "" "cannot read $folder/\\x1b[31mred\\x0a\\x7f\\xc2\\x9bö${newline}no such file" \

@@ -1,9 +1,9 @@
 //! Rows of words, with what they ask for.
 
-use nv_args::{CheckOutput, Todo, read_words};
+use nv_args::{CheckOutput, Todo, Which, read_words};
 use std::alloc::Global;
 
-const REFUSED: [&[&str]; 17] = [
+const REFUSED: [&[&str]; 23] = [
     &["--version", "-V"],
     &["version"],
     &["check", "a", "--workers", "65"],
@@ -11,6 +11,12 @@ const REFUSED: [&[&str]; 17] = [
     &["check", "a", "--summary", "--only-faults"],
     &["check"],
     &["check", "a", "--json", "--summary"],
+    &["mkfs", "i"],
+    &["mkfs", "i", "--size", "64M", "--blocks", "16"],
+    &["mkfs", "i", "--size", "65537"],
+    &["mkfs", "i", "--size", "64MB"],
+    &["mkfs", "i", "--size", "M"],
+    &["mkfs", "i", "--size", "17179869184G"],
     &[],
     &["run", "a", "b"],
     &["mkfs", "i", "--blocks", "16", "--cpus", "1"],
@@ -33,7 +39,7 @@ const REFUSED: [&[&str]; 17] = [
 ];
 
 /// Words, and what they ask for.
-const ASKED: [(&[&str], Todo<'static>); 16] = [
+const ASKED: [(&[&str], Todo<'static>); 23] = [
     (&["--version"], Todo::Version),
     (&["-V"], Todo::Version),
     (
@@ -63,9 +69,39 @@ const ASKED: [(&[&str], Todo<'static>); 16] = [
         Todo::Mkfs {
             image: "i",
             blocks: 16,
-            cpus: 2,
-            tables: 3,
+            cpus: Some(2),
+            tables: Some(3),
             force: true,
+        },
+    ),
+    (
+        &["mkfs", "i", "--size", "64M"],
+        Todo::Mkfs {
+            image: "i",
+            blocks: 16_384,
+            cpus: None,
+            tables: None,
+            force: false,
+        },
+    ),
+    (
+        &["mkfs", "--size", "1G", "i", "--cpus", "4"],
+        Todo::Mkfs {
+            image: "i",
+            blocks: 262_144,
+            cpus: Some(4),
+            tables: None,
+            force: false,
+        },
+    ),
+    (
+        &["mkfs", "i", "--size=65536", "--tables", "2"],
+        Todo::Mkfs {
+            image: "i",
+            blocks: 16,
+            cpus: None,
+            tables: Some(2),
+            force: false,
         },
     ),
     (
@@ -86,21 +122,50 @@ const ASKED: [(&[&str], Todo<'static>); 16] = [
         &["ls", "i"],
         Todo::Ls {
             image: "i",
-            path: "/",
+            which: Which::Path("/"),
         },
     ),
     (
         &["stat", "i", "/a"],
         Todo::Stat {
             image: "i",
-            path: "/a",
+            which: Which::Path("/a"),
         },
     ),
     (
         &["cat", "i", "/a"],
         Todo::Cat {
             image: "i",
-            path: "/a",
+            which: Which::Path("/a"),
+        },
+    ),
+    (
+        &["ls", "i", "12"],
+        Todo::Ls {
+            image: "i",
+            which: Which::Number(12),
+        },
+    ),
+    (
+        &["stat", "i", "<12>"],
+        Todo::Stat {
+            image: "i",
+            which: Which::Number(12),
+        },
+    ),
+    // What is no number is a path, which the call refuses.
+    (
+        &["cat", "i", "<12"],
+        Todo::Cat {
+            image: "i",
+            which: Which::Path("<12"),
+        },
+    ),
+    (
+        &["cat", "i", "18446744073709551616"],
+        Todo::Cat {
+            image: "i",
+            which: Which::Path("18446744073709551616"),
         },
     ),
     (
