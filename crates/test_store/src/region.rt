@@ -2,13 +2,9 @@
 
 mod image;
 
-ghost use Rattle.std.specs.Prelude.{◌<◌};
-
 use crate::checks::{check, check_at};
 use crate::small::{Word, assert_words, is_place, new_region, region_of};
-use nv_region::{
-    Fuse, Keep, MemRegion, Pmem, RegionBytes, RegionRefusal, Stopped, commit_word, store_word,
-};
+use nv_region::{Fuse, Keep, MemRegion, Pmem, RegionRefusal, Stopped, commit_word, store_word};
 use std::alloc::Global;
 use std::process::Abort;
 
@@ -43,41 +39,6 @@ fn bytes_of_any_length_are_given_back(rt: HostRuntime) {
     for &count in [0, 1, 7, 8, 4095, 4096].iter() {
         gives_back(&rt, rt.alloc(), count);
     }
-}
-
-/// The region of bytes that come so many at a time.
-fn in_pieces(rt: &impl Abort, alloc: Global, bytes: &[u8], each: usize) -> MemRegion
-    requires { 0 < each }
-{
-    let mut gathered = RegionBytes::new(alloc, bytes.len()).expect(rt, "memory");
-    for piece in bytes.chunks(each) {
-        gathered.push(piece).expect(rt, "memory");
-    }
-    gathered.into_region().expect(rt, "a region")
-}
-
-fn is_made_of_pieces(rt: &impl Abort, alloc: Global, count: u64, each: usize)
-    requires { 0 < each }
-{
-    let bytes = counted(rt, alloc, count);
-    let region = in_pieces(rt, alloc, &bytes, each);
-    assert_held(rt, &region, &bytes, count);
-    let mut written = Vec::new(alloc);
-    region.write_to(&mut written).expect(rt, "memory");
-    check_at(
-        rt,
-        written.as_slice() == bytes.as_slice(),
-        "the bytes that are written",
-        count,
-    );
-}
-
-#[test]
-fn pieces_of_any_length_make_a_region(rt: HostRuntime) {
-    is_made_of_pieces(&rt, rt.alloc(), 0, 1);
-    is_made_of_pieces(&rt, rt.alloc(), 23, 3);
-    is_made_of_pieces(&rt, rt.alloc(), 4099, 8);
-    is_made_of_pieces(&rt, rt.alloc(), 140_003, 8192);
 }
 
 #[test]
