@@ -182,11 +182,11 @@ same "the numbers of a size and CPUs" "2 16384 32" "$(numbers_of "$folder/sized"
 expect "a size and tables" 0 "" "" "$program" mkfs "$folder/sized" --force --size 64M --tables 3
 same "the numbers of a size and tables" "4 16384 3" "$(numbers_of "$folder/sized")"
 expect "a size that is too small" 2 "" "refused Length${newline}a region has 8 to 262144 blocks" "$program" mkfs "$folder/new" --size 28K
-for words in "" "--blocks 16" "--size 64M --blocks 16" "--size 65537" "--size 64MB"; do
+for sizes in "" "--blocks 16" "--size 64M --blocks 16" "--size 65537" "--size 64MB"; do
     # shellcheck disable=SC2086
-    "$program" mkfs "$folder/new" $words >"$folder/said" 2>"$folder/why"
-    same "mkfs $words" 2 $?
-    same "mkfs $words: why" 1 "$(grep -c "^error: either '--blocks <blocks>', '--cpus <cpus>' and '--tables <tables>' are needed, or '--size <size>'" "$folder/why")"
+    "$program" mkfs "$folder/new" $sizes >"$folder/said" 2>"$folder/why"
+    same "mkfs $sizes" 2 $?
+    same "mkfs $sizes: why" 1 "$(grep -c "^error: either '--blocks <blocks>', '--cpus <cpus>' and '--tables <tables>' are needed, or '--size <size>'" "$folder/why")"
 done
 
 # Control characters are shown as escapes, and other letters as they are.
@@ -215,42 +215,44 @@ expect "cleaning another state" 2 "" "refused S7${newline}its state is 2; 0 and 
 # A sparse file is as long, and takes what its words take.
 cp --sparse=always "$folder/files" "$folder/sparse"
 for image in "$folder/files" "$folder/sparse" "$here/examples/ring.img"; do
-    for words in "ls /" "ls /d" "stat /d/a" "stat /none" "cat /d/a" "cat /d/b" "cat /d" "cat /d/none" "map" "check"; do
+    for asked in "ls /" "ls /d" "stat /d/a" "stat /none" "cat /d/a" "cat /d/b" "cat /d" "cat /d/none" "map" "check"; do
         # shellcheck disable=SC2086
-        set -- $words
+        set -- $asked
         "$program" "$1" "$image" ${2+"$2"} >"$folder/by_file" 2>"$folder/by_file_error"
         status=$?
         # shellcheck disable=SC2016
         cat "$image" | "$program" "$1" /dev/stdin ${2+"$2"} >"$folder/by_pipe" 2>"$folder/by_pipe_error"
         [ "$status" = "${PIPESTATUS[1]}" ] && cmp -s "$folder/by_file" "$folder/by_pipe" &&
             [ "$(cat "$folder/by_file_error")" = "$(sed "s|/dev/stdin|$image|" "$folder/by_pipe_error")" ]
-        holds "$words of $image by a pipe and by its file" $?
+        holds "$asked of $image by a pipe and by its file" $?
     done
 done
 
 # An image of which a read ends early, or fails, is never answered about. `strace` makes one read of the system do so.
 if command -v strace >/dev/null && strace -o "$folder/trace" true 2>/dev/null; then
     reads=$(strace -f -e trace=pread64 -o /dev/stdout "$program" cat "$folder/files" /d/a 2>/dev/null | grep -ac 'pread64(')
-    for words in "check" "ls /d" "stat /d/a" "map" "cat /d/a"; do
+    # The loader reads by the same call before the program does.
+    second=$(($(strace -f -e trace=pread64 -o /dev/stdout "$program" --version 2>/dev/null | grep -ac 'pread64(') + 2))
+    for asked in "check" "ls /d" "stat /d/a" "map" "cat /d/a"; do
         # shellcheck disable=SC2086
-        set -- $words
-        expect "$words of an image that ends early" 2 "" "cannot read $folder/files${newline}failed to fill whole buffer" \
-            strace -f -qq -o "$folder/trace" -e inject=pread64:retval=0:when=2 "$program" "$1" "$folder/files" ${2+"$2"}
-        expect "$words of an image that can't be read in the middle" 2 "" "cannot read $folder/files${newline}Input/output error (os error 5)" \
-            strace -f -qq -o "$folder/trace" -e inject=pread64:error=EIO:when=3 "$program" "$1" "$folder/files" ${2+"$2"}
+        set -- $asked
+        expect "$asked of an image that ends early" 2 "" "cannot read $folder/files${newline}failed to fill whole buffer" \
+            strace -f -qq -o "$folder/trace" -e inject=pread64:retval=0:when=$second "$program" "$1" "$folder/files" ${2+"$2"}
+        expect "$asked of an image that can't be read in the middle" 2 "" "cannot read $folder/files${newline}Input/output error (os error 5)" \
+            strace -f -qq -o "$folder/trace" -e inject=pread64:error=EIO:when=$second "$program" "$1" "$folder/files" ${2+"$2"}
     done
     strace -f -qq -o "$folder/trace" -e inject=pread64:error=EIO:when="$reads" "$program" cat "$folder/files" /d/a >/dev/null 2>"$folder/error"
     [ $? = 2 ] && [ "$(head -n 1 "$folder/error")" = "cannot read $folder/files" ]
     holds "a file whose last block can't be read" $?
     # The second read waits until the file was cut.
-    for words in "ls /d" "stat /d/a" "map" "cat /d/a"; do
+    for asked in "ls /d" "stat /d/a" "map" "cat /d/a"; do
         # shellcheck disable=SC2086
-        set -- $words
+        set -- $asked
         cp "$folder/files" "$folder/cut"
         (sleep 0.3; truncate -s 4096 "$folder/cut") &
-        strace -f -qq -o "$folder/trace" -e inject=pread64:delay_enter=900000:when=2 "$program" "$1" "$folder/cut" ${2+"$2"} >"$folder/said" 2>"$folder/error"
+        strace -f -qq -o "$folder/trace" -e inject=pread64:delay_enter=900000:when=$second "$program" "$1" "$folder/cut" ${2+"$2"} >"$folder/said" 2>"$folder/error"
         [ $? = 2 ] && [ "$(head -n 1 "$folder/error")" = "cannot read $folder/cut" ] && [ ! -s "$folder/said" ]
-        holds "$words of an image that is cut while it is read" $?
+        holds "$asked of an image that is cut while it is read" $?
         wait
     done
 else
