@@ -34,7 +34,7 @@
 pub mod laws;
 
 pub use nv_alloc::Allocators;
-pub use nv_calls::{Fs, Stat};
+pub use nv_calls::{Data, Fs, Stat};
 pub use nv_format::{FormatRefusal, format};
 pub use nv_names::Named;
 pub use nv_recover::{MOST_WORKERS, RecoverError};

@@ -4,11 +4,13 @@
 #![tactic(auto)]
 
 mod change;
+mod contents;
 mod filling;
 mod reading;
 mod storing;
 
 pub use change::NewBytes;
+pub use contents::Data;
 pub use filling::fill_bytes;
 pub use reading::read_bytes;
 pub use storing::{store_page, store_pages};

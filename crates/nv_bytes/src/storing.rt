@@ -12,6 +12,7 @@ ghost use Rattle.nv_alloc.specs.Taking.{HasBlock, blocks_in};
 ghost use Rattle.nv_held.specs.Bytes.{byte_in};
 ghost use Rattle.nv_bytes.specs.Bytes.{byte_after, byte_of_word, file_byte, LieInside};
 ghost use Rattle.nv_bytes.specs.Storing.{AreFresh, HoldPages, HoldsPage, InBlocks};
+ghost use Rattle.nv_bytes.specs.Data.{data_bytes};
 
 use crate::change::{LINE_SIZE, NewBytes};
 use crate::reading::word_at;
@@ -36,8 +37,8 @@ pub fn store_pages<P: Pmem>(
     requires mapped { LieInside (P.region memory.old) index.now }
     requires fresh { AreFresh (P.region memory.old) index.now runs.now }
     requires pages { first + blocks_in runs.now ≤ 2 ^ 32 }
-    requires small { change.now.offset + length change.now.bytes.now ≤ 2 ^ 62 }
-    ensures stored { OnOk result (HoldPages (P.region memory.new) (byte_after change.now.offset change.now.bytes.now change.now.size (file_byte (P.region memory.old) index.now)) first runs.now) }
+    requires small { change.now.offset + length (data_bytes change.now.content) ≤ 2 ^ 62 }
+    ensures stored { OnOk result (HoldPages (P.region memory.new) (byte_after change.now.offset (data_bytes change.now.content) change.now.size (file_byte (P.region memory.old) index.now)) first runs.now) }
     ensures wrote { StoresOnly (InBlocks (HasBlock runs.now)) (P.region memory.old) (P.region memory.new) (P.may_hold memory.old) (P.may_hold memory.new) }
     ensures stopped { (P.fuse memory.old).has_burnt ≡ false → is_err result ≡ (P.fuse memory.new).has_burnt }
     ensures keeps_fuse { KeepsFuse (λ limit. size (P.region memory.old) ≤ limit) (P.fuse memory.old) (P.fuse memory.new) }
@@ -62,8 +63,8 @@ fn store_run<P: Pmem>(
     requires inside { (b : ℕ) → InRun run b → b * 4096 + 4096 ≤ size (P.region memory.old) }
     requires apart { (p b : ℕ) → block_at index.now p ≡ Some b → InRun run b → ⊥ }
     requires pages { page + run.count ≤ 2 ^ 32 }
-    requires small { change.now.offset + length change.now.bytes.now ≤ 2 ^ 62 }
-    ensures stored { OnOk result ((k : ℕ) → k < run.count → HoldsPage (P.region memory.new) (byte_after change.now.offset change.now.bytes.now change.now.size (file_byte (P.region memory.old) index.now)) (run.start + k) (page + k)) }
+    requires small { change.now.offset + length (data_bytes change.now.content) ≤ 2 ^ 62 }
+    ensures stored { OnOk result ((k : ℕ) → k < run.count → HoldsPage (P.region memory.new) (byte_after change.now.offset (data_bytes change.now.content) change.now.size (file_byte (P.region memory.old) index.now)) (run.start + k) (page + k)) }
     ensures wrote { StoresOnly (InBlocks (InRun run)) (P.region memory.old) (P.region memory.new) (P.may_hold memory.old) (P.may_hold memory.new) }
     ensures stopped { (P.fuse memory.old).has_burnt ≡ false → is_err result ≡ (P.fuse memory.new).has_burnt }
     ensures keeps_fuse { KeepsFuse (λ limit. size (P.region memory.old) ≤ limit) (P.fuse memory.old) (P.fuse memory.new) }
@@ -90,8 +91,32 @@ pub fn store_page<P: Pmem>(
     requires apart { IfSome from (λ b. b ≢ to) }
     requires to { to * 4096 + 4096 ≤ size (P.region memory.old) }
     requires page { page < 2 ^ 32 }
-    requires small { change.now.offset + length change.now.bytes.now ≤ 2 ^ 62 }
-    ensures stored { OnOk result (HoldsPage (P.region memory.new) (byte_after change.now.offset change.now.bytes.now change.now.size (byte_in (P.region memory.old) from)) to page) }
+    requires small { change.now.offset + length (data_bytes change.now.content) ≤ 2 ^ 62 }
+    ensures stored { OnOk result (HoldsPage (P.region memory.new) (byte_after change.now.offset (data_bytes change.now.content) change.now.size (byte_in (P.region memory.old) from)) to page) }
+    ensures wrote { StoresOnly (InBlocks (λ b. b ≡ to)) (P.region memory.old) (P.region memory.new) (P.may_hold memory.old) (P.may_hold memory.new) }
+    ensures stopped { is_err result ≡ (P.fuse memory.new).has_burnt }
+    ensures keeps_fuse { KeepsFuse (λ limit. to * 4096 + 4096 ≤ limit) (P.fuse memory.old) (P.fuse memory.new) }
+{
+    let stored = store_any_page(memory, from, to, page, change);
+    // A stop can't come where no fuse is set, and a long row of pages would be kept for it.
+    memory.forget_if_steady();
+    stored
+}
+
+/// Stores a page, and goes on keeping what stood in the block.
+fn store_any_page<P: Pmem>(
+    memory: &mut P,
+    from: Option<u64>,
+    to: u64,
+    page: u64,
+    change: &NewBytes,
+) -> Result<(), Stopped>
+    requires from { IfSome from (λ b. b * 4096 + 4096 ≤ size (P.region memory.old)) }
+    requires apart { IfSome from (λ b. b ≢ to) }
+    requires to { to * 4096 + 4096 ≤ size (P.region memory.old) }
+    requires page { page < 2 ^ 32 }
+    requires small { change.now.offset + length (data_bytes change.now.content) ≤ 2 ^ 62 }
+    ensures stored { OnOk result (HoldsPage (P.region memory.new) (byte_after change.now.offset (data_bytes change.now.content) change.now.size (byte_in (P.region memory.old) from)) to page) }
     ensures wrote { StoresOnly (InBlocks (λ b. b ≡ to)) (P.region memory.old) (P.region memory.new) (P.may_hold memory.old) (P.may_hold memory.new) }
     ensures stopped { is_err result ≡ (P.fuse memory.new).has_burnt }
     ensures keeps_fuse { KeepsFuse (λ limit. to * 4096 + 4096 ≤ limit) (P.fuse memory.old) (P.fuse memory.new) }
@@ -113,8 +138,8 @@ fn store_new_page<P: Pmem>(
     requires to { to * 4096 + 4096 ≤ size (P.region memory.old) }
     requires page { page < 2 ^ 32 }
     requires from { change.now.offset ≤ page * 4096 }
-    requires covered { page * 4096 + 4096 ≤ change.now.offset + length change.now.bytes.now }
-    ensures stored { (old : ℕ → ℕ) → OnOk result (HoldsPage (P.region memory.new) (byte_after change.now.offset change.now.bytes.now change.now.size old) to page) }
+    requires covered { page * 4096 + 4096 ≤ change.now.offset + length (data_bytes change.now.content) }
+    ensures stored { (old : ℕ → ℕ) → OnOk result (HoldsPage (P.region memory.new) (byte_after change.now.offset (data_bytes change.now.content) change.now.size old) to page) }
     ensures wrote { StoresOnly (InBlocks (λ b. b ≡ to)) (P.region memory.old) (P.region memory.new) (P.may_hold memory.old) (P.may_hold memory.new) }
     ensures stopped { is_err result ≡ (P.fuse memory.new).has_burnt }
     ensures keeps_fuse { KeepsFuse (λ limit. to * 4096 + 4096 ≤ limit) (P.fuse memory.old) (P.fuse memory.new) }
@@ -137,8 +162,8 @@ fn store_mixed_page<P: Pmem>(
     requires apart { IfSome from (λ b. b ≢ to) }
     requires to { to * 4096 + 4096 ≤ size (P.region memory.old) }
     requires page { page < 2 ^ 32 }
-    requires small { change.now.offset + length change.now.bytes.now ≤ 2 ^ 62 }
-    ensures stored { OnOk result (HoldsPage (P.region memory.new) (byte_after change.now.offset change.now.bytes.now change.now.size (byte_in (P.region memory.old) from)) to page) }
+    requires small { change.now.offset + length (data_bytes change.now.content) ≤ 2 ^ 62 }
+    ensures stored { OnOk result (HoldsPage (P.region memory.new) (byte_after change.now.offset (data_bytes change.now.content) change.now.size (byte_in (P.region memory.old) from)) to page) }
     ensures wrote { StoresOnly (InBlocks (λ b. b ≡ to)) (P.region memory.old) (P.region memory.new) (P.may_hold memory.old) (P.may_hold memory.new) }
     ensures stopped { is_err result ≡ (P.fuse memory.new).has_burnt }
     ensures keeps_fuse { KeepsFuse (λ limit. to * 4096 + 4096 ≤ limit) (P.fuse memory.old) (P.fuse memory.new) }
@@ -156,8 +181,8 @@ fn next_line<P: Pmem>(memory: &P, block: Option<u64>, x: u64, change: &NewBytes)
     requires inside { IfSome block (λ b. b * 4096 + 4096 ≤ size (P.region memory.now)) }
     requires whole { x % 8 ≡ 0 }
     requires place { x + 64 ≤ 2 ^ 62 }
-    requires small { change.now.offset + length change.now.bytes.now ≤ 2 ^ 62 }
-    ensures { (j k : ℕ) → j < 8 → k < 8 → byte_of_word (get_or result j 0) k ≡ byte_after change.now.offset change.now.bytes.now change.now.size (byte_in (P.region memory.now) block) (x + 8 * j + k) }
+    requires small { change.now.offset + length (data_bytes change.now.content) ≤ 2 ^ 62 }
+    ensures { (j k : ℕ) → j < 8 → k < 8 → byte_of_word (get_or result j 0) k ≡ byte_after change.now.offset (data_bytes change.now.content) change.now.size (byte_in (P.region memory.now) block) (x + 8 * j + k) }
 {
     if change.covers(x, LINE_SIZE) {
         change.line(x)
@@ -171,8 +196,8 @@ fn mixed_line<P: Pmem>(memory: &P, block: Option<u64>, x: u64, change: &NewBytes
     requires inside { IfSome block (λ b. b * 4096 + 4096 ≤ size (P.region memory.now)) }
     requires whole { x % 8 ≡ 0 }
     requires place { x + 64 ≤ 2 ^ 62 }
-    requires small { change.now.offset + length change.now.bytes.now ≤ 2 ^ 62 }
-    ensures { (j k : ℕ) → j < 8 → k < 8 → byte_of_word (get_or result j 0) k ≡ byte_after change.now.offset change.now.bytes.now change.now.size (byte_in (P.region memory.now) block) (x + 8 * j + k) }
+    requires small { change.now.offset + length (data_bytes change.now.content) ≤ 2 ^ 62 }
+    ensures { (j k : ℕ) → j < 8 → k < 8 → byte_of_word (get_or result j 0) k ≡ byte_after change.now.offset (data_bytes change.now.content) change.now.size (byte_in (P.region memory.now) block) (x + 8 * j + k) }
 {
     let mut line = [0; 8];
     for j in 0..8 {
@@ -186,8 +211,8 @@ fn next_word<P: Pmem>(memory: &P, block: Option<u64>, x: u64, change: &NewBytes)
     requires inside { IfSome block (λ b. b * 4096 + 4096 ≤ size (P.region memory.now)) }
     requires whole { x % 8 ≡ 0 }
     requires place { x + 8 ≤ 2 ^ 62 }
-    requires small { change.now.offset + length change.now.bytes.now ≤ 2 ^ 62 }
-    ensures { (k : ℕ) → k < 8 → byte_of_word result k ≡ byte_after change.now.offset change.now.bytes.now change.now.size (byte_in (P.region memory.now) block) (x + k) }
+    requires small { change.now.offset + length (data_bytes change.now.content) ≤ 2 ^ 62 }
+    ensures { (k : ℕ) → k < 8 → byte_of_word result k ≡ byte_after change.now.offset (data_bytes change.now.content) change.now.size (byte_in (P.region memory.now) block) (x + k) }
 {
     if change.covers(x, 8) {
         return change.whole(x);

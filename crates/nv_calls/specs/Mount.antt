@@ -9,6 +9,8 @@ use Rattle.nv_alloc.specs.FreeValue.{FreeLists}
 use Rattle.nv_scan.specs.declared.piece.Row.{Row}
 use Rattle.nv_held.specs.nv_outcome.Outcome.{Outcome, IsOutcome}
 use Rattle.nv_held.specs.nv_outcome.Same.{lasting_outcome}
+use Rattle.nv_tree.specs.Tree.{Tree}
+use Rattle.nv_paths.specs.Seen.{tree_of}
 
 -- The memory, and what stands for its region: the superblock's numbers, the rows of the inodes in use, rising, the free
 -- lists and the faults. Whether nothing may be written, and whether the memory was stopped.
@@ -20,6 +22,10 @@ pub record Mount (P : Type 0) : Type 0 where
   pub faults : List Fault
   pub read_only : Bool
   pub stopped : Bool
+
+-- the tree that a mount shows, by the region of its memory
+abbrev pub shown : {P : Type 0} → (P → Region) → Mount P → Tree
+shown region m = tree_of (region m.memory) m.rows
 
 -- these parts as an outcome
 abbrev pub told : Super → List Row → FreeLists → List (ℕ × Owner) → List Fault → Outcome

@@ -4,9 +4,10 @@ ghost use Rattle.std.specs.Prelude.{◌≡◌, map, IsTrue, IfOk, IfErr, OnOk, O
 ghost use Rattle.std.specs.List.{Contains};
 ghost use Rattle.nv_tree.specs.Refusals.{first_refusal, IsReadRefusedBy};
 ghost use Rattle.nv_tree.specs.declared.refusal.Refusal.{Refusal};
-ghost use Rattle.nv_paths.specs.Seen.{node_of, tree_of};
+ghost use Rattle.nv_paths.specs.Seen.{node_of};
 ghost use Rattle.nv_calls.specs.ByNumber.{IsInodeRead, IsInodeStat, ListsInode, list_inode_tests, read_inode_tests, stat_inode_tests};
 ghost use Rattle.nv_calls.specs.Listing.{name_and_inode};
+ghost use Rattle.nv_calls.specs.Mount.{shown};
 
 use crate::Fs;
 use crate::stating::Stat;
@@ -22,9 +23,9 @@ impl<P: Pmem + Drop> Fs<P> {
     /// Errors, the first that applies: `Stopped` after a stop, `NotFound` where no inode in use has the number.
     pub fn stat_inode(&self, inode: u64) -> Result<Stat, Refusal>
         ensures stopped { IsTrue self.now.stopped → result ≡ Result.Err Refusal.Stopped }
-        ensures ok { IfOk result (IsInodeStat (tree_of (P.region self.now.memory) self.now.rows) inode) }
-        ensures allowed { OnOk result (first_refusal (stat_inode_tests (tree_of (P.region self.now.memory) self.now.rows) inode) ≡ Option.None) }
-        ensures refused { self.now.stopped ≡ false → IfErr result (λ e. first_refusal (stat_inode_tests (tree_of (P.region self.now.memory) self.now.rows) inode) ≡ Option.Some e) }
+        ensures ok { IfOk result (IsInodeStat (shown P.region self.now) inode) }
+        ensures allowed { OnOk result (first_refusal (stat_inode_tests (shown P.region self.now) inode) ≡ Option.None) }
+        ensures refused { self.now.stopped ≡ false → IfErr result (λ e. first_refusal (stat_inode_tests (shown P.region self.now) inode) ≡ Option.Some e) }
     {
         Ok(Stat::of(self.row_of(inode)?))
     }
@@ -35,9 +36,9 @@ impl<P: Pmem + Drop> Fs<P> {
     /// for a directory. `Memory` where a growth was refused.
     pub fn read_inode(&self, inode: u64, offset: u64, count: u64) -> Result<Vec<u8>, Refusal>
         ensures stopped { IsTrue self.now.stopped → result ≡ Result.Err Refusal.Stopped }
-        ensures ok { IfOk result (λ bytes. IsInodeRead (tree_of (P.region self.now.memory) self.now.rows) inode offset count bytes.items) }
-        ensures allowed { OnOk result (first_refusal (read_inode_tests (tree_of (P.region self.now.memory) self.now.rows) inode) ≡ Option.None) }
-        ensures refused { self.now.stopped ≡ false → IfErr result (IsReadRefusedBy (first_refusal (read_inode_tests (tree_of (P.region self.now.memory) self.now.rows) inode))) }
+        ensures ok { IfOk result (λ bytes. IsInodeRead (shown P.region self.now) inode offset count bytes.items) }
+        ensures allowed { OnOk result (first_refusal (read_inode_tests (shown P.region self.now) inode) ≡ Option.None) }
+        ensures refused { self.now.stopped ≡ false → IfErr result (IsReadRefusedBy (first_refusal (read_inode_tests (shown P.region self.now) inode))) }
     {
         let row = self.row_of(inode)?;
         if row.kind == Kind::Directory {
@@ -55,9 +56,9 @@ impl<P: Pmem + Drop> Fs<P> {
     /// for a file. `Memory` where a growth was refused.
     pub fn list_inode(&self, inode: u64) -> Result<Vec<Named<'_>>, Refusal>
         ensures stopped { IsTrue self.now.stopped → result ≡ Result.Err Refusal.Stopped }
-        ensures ok { IfOk result (λ listed. ListsInode (tree_of (P.region self.now.memory) self.now.rows) inode (map name_and_inode listed.items)) }
-        ensures allowed { OnOk result (first_refusal (list_inode_tests (tree_of (P.region self.now.memory) self.now.rows) inode) ≡ Option.None) }
-        ensures refused { self.now.stopped ≡ false → IfErr result (IsReadRefusedBy (first_refusal (list_inode_tests (tree_of (P.region self.now.memory) self.now.rows) inode))) }
+        ensures ok { IfOk result (λ listed. ListsInode (shown P.region self.now) inode (map name_and_inode listed.items)) }
+        ensures allowed { OnOk result (first_refusal (list_inode_tests (shown P.region self.now) inode) ≡ Option.None) }
+        ensures refused { self.now.stopped ≡ false → IfErr result (IsReadRefusedBy (first_refusal (list_inode_tests (shown P.region self.now) inode))) }
     {
         let row = self.row_of(inode)?;
         if row.kind == Kind::File {
@@ -73,10 +74,10 @@ impl<P: Pmem + Drop> Fs<P> {
     fn row_of(&self, inode: u64) -> Result<&Row, Refusal>
         ensures stopped { IsTrue self.now.stopped → result ≡ Result.Err Refusal.Stopped }
         ensures runs { OnOk result (self.now.stopped ≡ false) }
-        ensures row { IfOk result (λ r. tree_of (P.region self.now.memory) self.now.rows inode ≡ Option.Some (node_of (P.region self.now.memory) r.now)) }
+        ensures row { IfOk result (λ r. shown P.region self.now inode ≡ Option.Some (node_of (P.region self.now.memory) r.now)) }
         ensures number { IfOk result (λ r. r.now.inode ≡ inode) }
         ensures held { IfOk result (λ r. Contains self.now.rows r.now) }
-        ensures refused { self.now.stopped ≡ false → IfErr result (λ e. (e ≡ Refusal.NotFound) × (tree_of (P.region self.now.memory) self.now.rows inode ≡ Option.None)) }
+        ensures refused { self.now.stopped ≡ false → IfErr result (λ e. (e ≡ Refusal.NotFound) × (shown P.region self.now inode ≡ Option.None)) }
     {
         if self.stopped {
             return Err(Refusal::Stopped);

@@ -15,10 +15,10 @@ ghost use Rattle.nv_rows.specs.Rows.{IsInUse, row_of};
 ghost use Rattle.nv_scan.specs.InTurn.{AreDeadPages};
 ghost use Rattle.nv_calls.specs.CleanCall.{IsKnown, LosesPage, ShowsCleaned, clean_inode_tests};
 ghost use Rattle.nv_calls.specs.Effects.{logs_page_less, makes_no_change};
-ghost use Rattle.nv_calls.specs.Mount.{IsKept};
+ghost use Rattle.nv_calls.specs.Mount.{IsKept, shown};
 ghost use Rattle.nv_calls.specs.Same.{KeepsMount, SameMount};
 ghost use Rattle.nv_calls.specs.Stopped.{LeavesCall, StopLeaves};
-ghost use Rattle.nv_paths.specs.Seen.{LeadsTo, tree_of};
+ghost use Rattle.nv_paths.specs.Seen.{LeadsTo};
 ghost use Rattle.nv_calls.specs.World.{world_of};
 ghost use Rattle.nv_steps.specs.Stores.{StoresIn, one_page_less};
 
@@ -47,12 +47,12 @@ impl<P: Pmem + Drop> Fs<P> {
     /// everything as it was.
     pub fn clean(&mut self, path: &[u8]) -> Result<Option<u64>, Refusal>
         ensures stopped_before { IsTrue self.old.stopped → (result ≡ Result.Err RefusalValue.Stopped) × (self.new ≡ self.old) }
-        ensures allowed { (p : Path) → Says path.now p → OnOk result (first_refusal (clean_tests (world_of self.old) (tree_of (P.region self.old.memory) self.old.rows) p) ≡ Option.None) }
+        ensures allowed { (p : Path) → Says path.now p → OnOk result (first_refusal (clean_tests (world_of self.old) (shown P.region self.old) p) ≡ Option.None) }
         ensures refused { self.old.stopped ≡ false → (p : Path) → Says path.now p
-            → IfErr result (IsRefusedBy (first_refusal (clean_tests (world_of self.old) (tree_of (P.region self.old.memory) self.old.rows) p))) }
-        ensures same_tree { OnOk result (SameTree (tree_of (P.region self.new.memory) self.new.rows) (tree_of (P.region self.old.memory) self.old.rows)) }
+            → IfErr result (IsRefusedBy (first_refusal (clean_tests (world_of self.old) (shown P.region self.old) p))) }
+        ensures same_tree { OnOk result (SameTree (shown P.region self.new) (shown P.region self.old)) }
         // Which page went, by the log of the inode.
-        ensures log { (names : List (List ℕ)) (i : ℕ) (node : Node) (held : Store) (h : Held) → IsPath path.now names → LeadsTo (tree_of (P.region self.old.memory) self.old.rows) names i node
+        ensures log { (names : List (List ℕ)) (i : ℕ) (node : Node) (held : Store) (h : Held) → IsPath path.now names → LeadsTo (shown P.region self.old) names i node
             → ShowsSound (P.region self.old.memory) self.old.sup held → held i ≡ Option.Some h → IfOk result (ShowsCleaned (P.region self.old.memory) (P.region self.new.memory) self.old.sup held i h) }
         ensures unchanged { IfErr result (λ e. (e ≡ RefusalValue.Stopped → ⊥) → SameMount self.old self.new) }
         ensures stopped { self.old.stopped ≡ false → (IsTrue self.new.stopped → (result ≡ Result.Err RefusalValue.Stopped) × IsTrue (P.fuse self.new.memory).has_burnt) × (result ≡ Result.Err RefusalValue.Stopped → IsTrue self.new.stopped) }
@@ -65,7 +65,7 @@ impl<P: Pmem + Drop> Fs<P> {
         // What was mounted with faults stays as it was.
         ensures read_only { IsTrue self.old.read_only → SameMount self.old self.new }
         // Every word outside these places is as it was.
-        ensures wrote { (names : List (List ℕ)) (i : ℕ) (node : Node) (held : Store) (h : Held) (o : Option ℕ) → IsPath path.now names → LeadsTo (tree_of (P.region self.old.memory) self.old.rows) names i node
+        ensures wrote { (names : List (List ℕ)) (i : ℕ) (node : Node) (held : Store) (h : Held) (o : Option ℕ) → IsPath path.now names → LeadsTo (shown P.region self.old) names i node
             → ShowsSound (P.region self.old.memory) self.old.sup held → held i ≡ Option.Some h → IsFirstDead self.old.sup h.kind i h.created h.entries h.pages o
             → StoresIn self.old.sup held (one_page_less self.old.sup i h.pages o) (P.region self.old.memory) (P.region self.new.memory) }
         // Whatever a stop leaves, at any exit: recovery finds what was mounted, or it without the page, without faults.
@@ -88,10 +88,10 @@ impl<P: Pmem + Drop> Fs<P> {
     /// everything as it was.
     pub fn clean_inode(&mut self, inode: u64) -> Result<Option<u64>, Refusal>
         ensures stopped_before { IsTrue self.old.stopped → (result ≡ Result.Err RefusalValue.Stopped) × (self.new ≡ self.old) }
-        ensures allowed { OnOk result (first_refusal (clean_inode_tests (world_of self.old) (tree_of (P.region self.old.memory) self.old.rows) inode) ≡ Option.None) }
+        ensures allowed { OnOk result (first_refusal (clean_inode_tests (world_of self.old) (shown P.region self.old) inode) ≡ Option.None) }
         ensures refused { self.old.stopped ≡ false
-            → IfErr result (IsRefusedBy (first_refusal (clean_inode_tests (world_of self.old) (tree_of (P.region self.old.memory) self.old.rows) inode))) }
-        ensures same_tree { OnOk result (SameTree (tree_of (P.region self.new.memory) self.new.rows) (tree_of (P.region self.old.memory) self.old.rows)) }
+            → IfErr result (IsRefusedBy (first_refusal (clean_inode_tests (world_of self.old) (shown P.region self.old) inode))) }
+        ensures same_tree { OnOk result (SameTree (shown P.region self.new) (shown P.region self.old)) }
         // Which page went, by the log of the inode.
         ensures log { (held : Store) (h : Held) → ShowsSound (P.region self.old.memory) self.old.sup held → held inode ≡ Option.Some h → IfOk result (ShowsCleaned (P.region self.old.memory) (P.region self.new.memory) self.old.sup held inode h) }
         ensures unchanged { IfErr result (λ e. (e ≡ RefusalValue.Stopped → ⊥) → SameMount self.old self.new) }
@@ -107,7 +107,7 @@ impl<P: Pmem + Drop> Fs<P> {
             → StoresIn self.old.sup held (one_page_less self.old.sup inode h.pages o) (P.region self.old.memory) (P.region self.new.memory) }
         // Whatever a stop leaves, at any exit: recovery finds what was mounted, or it without the page, without faults.
         ensures any_stop { self.old.stopped ≡ false → self.old.read_only ≡ false
-            → LeavesOnly (P.region self.new.memory) (P.may_hold self.new.memory) (StopLeaves (P.region self.old.memory) self.old.sup self.old.rows self.old.free.pools (tree_of (P.region self.old.memory) self.old.rows) (LosesPage (P.region self.old.memory) self.old.sup inode)) }
+            → LeavesOnly (P.region self.new.memory) (P.may_hold self.new.memory) (StopLeaves (P.region self.old.memory) self.old.sup self.old.rows self.old.free.pools (shown P.region self.old) (LosesPage (P.region self.old.memory) self.old.sup inode)) }
     {
         self.clean_page(inode, None)
     }
@@ -125,10 +125,10 @@ impl<P: Pmem + Drop> Fs<P> {
     pub fn clean_page(&mut self, inode: u64, known: Option<usize>) -> Result<Option<u64>, Refusal>
         requires { IsKnown (P.region self.old.memory) self.old.sup inode known }
         ensures stopped_before { IsTrue self.old.stopped → (result ≡ Result.Err RefusalValue.Stopped) × (self.new ≡ self.old) }
-        ensures allowed { OnOk result (first_refusal (clean_inode_tests (world_of self.old) (tree_of (P.region self.old.memory) self.old.rows) inode) ≡ Option.None) }
+        ensures allowed { OnOk result (first_refusal (clean_inode_tests (world_of self.old) (shown P.region self.old) inode) ≡ Option.None) }
         ensures refused { self.old.stopped ≡ false
-            → IfErr result (IsRefusedBy (first_refusal (clean_inode_tests (world_of self.old) (tree_of (P.region self.old.memory) self.old.rows) inode))) }
-        ensures same_tree { OnOk result (SameTree (tree_of (P.region self.new.memory) self.new.rows) (tree_of (P.region self.old.memory) self.old.rows)) }
+            → IfErr result (IsRefusedBy (first_refusal (clean_inode_tests (world_of self.old) (shown P.region self.old) inode))) }
+        ensures same_tree { OnOk result (SameTree (shown P.region self.new) (shown P.region self.old)) }
         // Which page went, by the log of the inode.
         ensures log { (held : Store) (h : Held) → ShowsSound (P.region self.old.memory) self.old.sup held → held inode ≡ Option.Some h → IfOk result (ShowsCleaned (P.region self.old.memory) (P.region self.new.memory) self.old.sup held inode h) }
         ensures unchanged { IfErr result (λ e. (e ≡ RefusalValue.Stopped → ⊥) → SameMount self.old self.new) }
@@ -144,7 +144,7 @@ impl<P: Pmem + Drop> Fs<P> {
             → StoresIn self.old.sup held (one_page_less self.old.sup inode h.pages o) (P.region self.old.memory) (P.region self.new.memory) }
         // Whatever a stop leaves, at any exit: recovery finds what was mounted, or it without the page, without faults.
         ensures any_stop { self.old.stopped ≡ false → self.old.read_only ≡ false
-            → LeavesOnly (P.region self.new.memory) (P.may_hold self.new.memory) (StopLeaves (P.region self.old.memory) self.old.sup self.old.rows self.old.free.pools (tree_of (P.region self.old.memory) self.old.rows) (LosesPage (P.region self.old.memory) self.old.sup inode)) }
+            → LeavesOnly (P.region self.new.memory) (P.may_hold self.new.memory) (StopLeaves (P.region self.old.memory) self.old.sup self.old.rows self.old.free.pools (shown P.region self.old) (LosesPage (P.region self.old.memory) self.old.sup inode)) }
     {
         self.cleanable()?;
         self.in_use(inode)?;
@@ -180,9 +180,9 @@ impl<P: Pmem + Drop> Fs<P> {
     /// Besides these `Memory` where a growth was refused.
     pub fn dead_pages(&self, inode: u64) -> Result<Option<DeadPages>, Refusal>
         ensures stopped { IsTrue self.now.stopped → result ≡ Result.Err RefusalValue.Stopped }
-        ensures allowed { OnOk result (first_refusal (clean_inode_tests (world_of self.now) (tree_of (P.region self.now.memory) self.now.rows) inode) ≡ Option.None) }
+        ensures allowed { OnOk result (first_refusal (clean_inode_tests (world_of self.now) (shown P.region self.now) inode) ≡ Option.None) }
         ensures refused { self.now.stopped ≡ false
-            → IfErr result (λ e. (e ≡ RefusalValue.Memory) ⊎ (first_refusal (clean_inode_tests (world_of self.now) (tree_of (P.region self.now.memory) self.now.rows) inode) ≡ Option.Some e)) }
+            → IfErr result (λ e. (e ≡ RefusalValue.Memory) ⊎ (first_refusal (clean_inode_tests (world_of self.now) (shown P.region self.now) inode) ≡ Option.Some e)) }
         ensures dead { (held : Store) (h : Held) → ShowsSound (P.region self.now.memory) self.now.sup held → held inode ≡ Option.Some h → IfOk result (AreDeadPages self.now.sup h.kind inode h.created h.entries h.pages) }
     {
         self.cleanable()?;

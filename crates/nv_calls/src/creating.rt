@@ -30,7 +30,6 @@ ghost use Rattle.nv_calls.specs.Same.{KeepsMount, SameMount};
 ghost use Rattle.nv_calls.specs.Effects.{logs_inode, makes_inode};
 ghost use Rattle.nv_calls.specs.Stopped.{LeavesCall};
 ghost use Rattle.nv_steps.specs.Stopped.{Named};
-ghost use Rattle.nv_paths.specs.Seen.{tree_of};
 ghost use Rattle.nv_steps.specs.Steps.{RefusesStep, ShowsRow};
 ghost use Rattle.nv_steps.specs.InOrder.{tail_address};
 ghost use Rattle.nv_calls.specs.InOrder.{ShowsValidFirst};
@@ -38,6 +37,7 @@ ghost use Rattle.nv_steps.specs.Fronts.{SameFrontBut};
 ghost use Rattle.nv_rows.specs.Unused.{unused_number};
 ghost use Rattle.nv_calls.specs.World.{world_of};
 ghost use Rattle.nv_steps.specs.Stores.{StoresIn, one_more};
+ghost use Rattle.nv_calls.specs.Mount.{shown};
 
 use crate::Fs;
 use crate::writing::is_stop;
@@ -124,13 +124,13 @@ impl<P: Pmem + Drop> Fs<P> {
     pub fn create(&mut self, cpu: u64, path: &[u8], mode: u32, time: u64) -> Result<(), Refusal>
         ensures stopped_before { IsTrue self.old.stopped → (result ≡ Result.Err RefusalValue.Stopped) × (self.new ≡ self.old) }
         ensures allowed { (p : Path) → Says path.now p
-            → OnOk result (first_refusal (create_tests (world_of self.old) (tree_of (P.region self.old.memory) self.old.rows) cpu p (create_blocks self.old.rows (tree_of (P.region self.old.memory) self.old.rows) p)) ≡ Option.None) }
+            → OnOk result (first_refusal (create_tests (world_of self.old) (shown P.region self.old) cpu p (create_blocks self.old.rows (shown P.region self.old) p)) ≡ Option.None) }
         ensures refused { self.old.stopped ≡ false → (p : Path) → Says path.now p
-            → IfErr result (IsRefusedBy (first_refusal (create_tests (world_of self.old) (tree_of (P.region self.old.memory) self.old.rows) cpu p (create_blocks self.old.rows (tree_of (P.region self.old.memory) self.old.rows) p)))) }
+            → IfErr result (IsRefusedBy (first_refusal (create_tests (world_of self.old) (shown P.region self.old) cpu p (create_blocks self.old.rows (shown P.region self.old) p)))) }
         ensures changed { (names : List (List ℕ)) → IsPath path.now names
-            → OnOk result (SameTree (tree_of (P.region self.new.memory) self.new.rows) (created File (unused_number self.old.sup self.old.rows cpu) names mode time (tree_of (P.region self.old.memory) self.old.rows))) }
+            → OnOk result (SameTree (shown P.region self.new) (created File (unused_number self.old.sup self.old.rows cpu) names mode time (shown P.region self.old))) }
         // The log of the directory has one entry more, the new inode's log is one entry, and no other log has changed.
-        ensures log { (names : List (List ℕ)) (d j : ℕ) (held : Store) (h : Held) → IsPath path.now names → walk (tree_of (P.region self.old.memory) self.old.rows) 1 names ≡ Result.Ok d → unused_number self.old.sup self.old.rows cpu ≡ Option.Some j
+        ensures log { (names : List (List ℕ)) (d j : ℕ) (held : Store) (h : Held) → IsPath path.now names → walk (shown P.region self.old) 1 names ≡ Result.Ok d → unused_number self.old.sup self.old.rows cpu ≡ Option.Some j
             → ShowsSound (P.region self.old.memory) self.old.sup held → held d ≡ Option.Some h → OnOk result (ShowsCreated (P.region self.new.memory) self.old.sup self.old.free.pools cpu held File mode time j d h (last_name names)) }
         ensures unchanged { IfErr result (λ e. (e ≡ RefusalValue.Stopped → ⊥) → SameMount self.old self.new) }
         ensures stopped { self.old.stopped ≡ false → (IsTrue self.new.stopped → (result ≡ Result.Err RefusalValue.Stopped) × IsTrue (P.fuse self.new.memory).has_burnt) × (result ≡ Result.Err RefusalValue.Stopped → IsTrue self.new.stopped) }
@@ -145,10 +145,10 @@ impl<P: Pmem + Drop> Fs<P> {
         // What was mounted with faults stays as it was.
         ensures read_only { IsTrue self.old.read_only → SameMount self.old self.new }
         // Every word outside these places is as it was.
-        ensures wrote { (names : List (List ℕ)) (d j : ℕ) (held : Store) → IsPath path.now names → walk (tree_of (P.region self.old.memory) self.old.rows) 1 names ≡ Result.Ok d → unused_number self.old.sup self.old.rows cpu ≡ Option.Some j → ShowsSound (P.region self.old.memory) self.old.sup held
+        ensures wrote { (names : List (List ℕ)) (d j : ℕ) (held : Store) → IsPath path.now names → walk (shown P.region self.old) 1 names ≡ Result.Ok d → unused_number self.old.sup self.old.rows cpu ≡ Option.Some j → ShowsSound (P.region self.old.memory) self.old.sup held
             → StoresIn self.old.sup held (one_more self.old.sup cpu j d) (P.region self.old.memory) (P.region self.new.memory) }
         // The new inode's valid word is stored first.
-        ensures in_order { (names : List (List ℕ)) (d j : ℕ) → IsPath path.now names → walk (tree_of (P.region self.old.memory) self.old.rows) 1 names ≡ Result.Ok d → unused_number self.old.sup self.old.rows cpu ≡ Option.Some j
+        ensures in_order { (names : List (List ℕ)) (d j : ℕ) → IsPath path.now names → walk (shown P.region self.old) 1 names ≡ Result.Ok d → unused_number self.old.sup self.old.rows cpu ≡ Option.Some j
             → ShowsValidFirst (P.region self.old.memory) (P.region self.new.memory) self.old.sup j d }
         // Whatever a stop leaves, at any exit: recovery finds what was mounted, or what the call makes, without faults.
         ensures any_stop { (names : List (List ℕ)) → IsPath path.now names → self.old.stopped ≡ false → self.old.read_only ≡ false
@@ -161,13 +161,13 @@ impl<P: Pmem + Drop> Fs<P> {
     pub fn mkdir(&mut self, cpu: u64, path: &[u8], mode: u32, time: u64) -> Result<(), Refusal>
         ensures stopped_before { IsTrue self.old.stopped → (result ≡ Result.Err RefusalValue.Stopped) × (self.new ≡ self.old) }
         ensures allowed { (p : Path) → Says path.now p
-            → OnOk result (first_refusal (create_tests (world_of self.old) (tree_of (P.region self.old.memory) self.old.rows) cpu p (create_blocks self.old.rows (tree_of (P.region self.old.memory) self.old.rows) p)) ≡ Option.None) }
+            → OnOk result (first_refusal (create_tests (world_of self.old) (shown P.region self.old) cpu p (create_blocks self.old.rows (shown P.region self.old) p)) ≡ Option.None) }
         ensures refused { self.old.stopped ≡ false → (p : Path) → Says path.now p
-            → IfErr result (IsRefusedBy (first_refusal (create_tests (world_of self.old) (tree_of (P.region self.old.memory) self.old.rows) cpu p (create_blocks self.old.rows (tree_of (P.region self.old.memory) self.old.rows) p)))) }
+            → IfErr result (IsRefusedBy (first_refusal (create_tests (world_of self.old) (shown P.region self.old) cpu p (create_blocks self.old.rows (shown P.region self.old) p)))) }
         ensures changed { (names : List (List ℕ)) → IsPath path.now names
-            → OnOk result (SameTree (tree_of (P.region self.new.memory) self.new.rows) (created Directory (unused_number self.old.sup self.old.rows cpu) names mode time (tree_of (P.region self.old.memory) self.old.rows))) }
+            → OnOk result (SameTree (shown P.region self.new) (created Directory (unused_number self.old.sup self.old.rows cpu) names mode time (shown P.region self.old))) }
         // The log of the directory has one entry more, the new inode's log is one entry, and no other log has changed.
-        ensures log { (names : List (List ℕ)) (d j : ℕ) (held : Store) (h : Held) → IsPath path.now names → walk (tree_of (P.region self.old.memory) self.old.rows) 1 names ≡ Result.Ok d → unused_number self.old.sup self.old.rows cpu ≡ Option.Some j
+        ensures log { (names : List (List ℕ)) (d j : ℕ) (held : Store) (h : Held) → IsPath path.now names → walk (shown P.region self.old) 1 names ≡ Result.Ok d → unused_number self.old.sup self.old.rows cpu ≡ Option.Some j
             → ShowsSound (P.region self.old.memory) self.old.sup held → held d ≡ Option.Some h → OnOk result (ShowsCreated (P.region self.new.memory) self.old.sup self.old.free.pools cpu held Directory mode time j d h (last_name names)) }
         ensures unchanged { IfErr result (λ e. (e ≡ RefusalValue.Stopped → ⊥) → SameMount self.old self.new) }
         ensures stopped { self.old.stopped ≡ false → (IsTrue self.new.stopped → (result ≡ Result.Err RefusalValue.Stopped) × IsTrue (P.fuse self.new.memory).has_burnt) × (result ≡ Result.Err RefusalValue.Stopped → IsTrue self.new.stopped) }
@@ -182,10 +182,10 @@ impl<P: Pmem + Drop> Fs<P> {
         // What was mounted with faults stays as it was.
         ensures read_only { IsTrue self.old.read_only → SameMount self.old self.new }
         // Every word outside these places is as it was.
-        ensures wrote { (names : List (List ℕ)) (d j : ℕ) (held : Store) → IsPath path.now names → walk (tree_of (P.region self.old.memory) self.old.rows) 1 names ≡ Result.Ok d → unused_number self.old.sup self.old.rows cpu ≡ Option.Some j → ShowsSound (P.region self.old.memory) self.old.sup held
+        ensures wrote { (names : List (List ℕ)) (d j : ℕ) (held : Store) → IsPath path.now names → walk (shown P.region self.old) 1 names ≡ Result.Ok d → unused_number self.old.sup self.old.rows cpu ≡ Option.Some j → ShowsSound (P.region self.old.memory) self.old.sup held
             → StoresIn self.old.sup held (one_more self.old.sup cpu j d) (P.region self.old.memory) (P.region self.new.memory) }
         // The new inode's valid word is stored first.
-        ensures in_order { (names : List (List ℕ)) (d j : ℕ) → IsPath path.now names → walk (tree_of (P.region self.old.memory) self.old.rows) 1 names ≡ Result.Ok d → unused_number self.old.sup self.old.rows cpu ≡ Option.Some j
+        ensures in_order { (names : List (List ℕ)) (d j : ℕ) → IsPath path.now names → walk (shown P.region self.old) 1 names ≡ Result.Ok d → unused_number self.old.sup self.old.rows cpu ≡ Option.Some j
             → ShowsValidFirst (P.region self.old.memory) (P.region self.new.memory) self.old.sup j d }
         // Whatever a stop leaves, at any exit: recovery finds what was mounted, or what the call makes, without faults.
         ensures any_stop { (names : List (List ℕ)) → IsPath path.now names → self.old.stopped ≡ false → self.old.read_only ≡ false
@@ -205,13 +205,13 @@ impl<P: Pmem + Drop> Fs<P> {
     ) -> Result<(), Refusal>
         ensures stopped_before { IsTrue self.old.stopped → (result ≡ Result.Err RefusalValue.Stopped) × (self.new ≡ self.old) }
         ensures allowed { (p : Path) → Says path.now p
-            → OnOk result (first_refusal (create_tests (world_of self.old) (tree_of (P.region self.old.memory) self.old.rows) cpu p (create_blocks self.old.rows (tree_of (P.region self.old.memory) self.old.rows) p)) ≡ Option.None) }
+            → OnOk result (first_refusal (create_tests (world_of self.old) (shown P.region self.old) cpu p (create_blocks self.old.rows (shown P.region self.old) p)) ≡ Option.None) }
         ensures refused { self.old.stopped ≡ false → (p : Path) → Says path.now p
-            → IfErr result (IsRefusedBy (first_refusal (create_tests (world_of self.old) (tree_of (P.region self.old.memory) self.old.rows) cpu p (create_blocks self.old.rows (tree_of (P.region self.old.memory) self.old.rows) p)))) }
+            → IfErr result (IsRefusedBy (first_refusal (create_tests (world_of self.old) (shown P.region self.old) cpu p (create_blocks self.old.rows (shown P.region self.old) p)))) }
         ensures changed { (names : List (List ℕ)) → IsPath path.now names
-            → OnOk result (SameTree (tree_of (P.region self.new.memory) self.new.rows) (created kind (unused_number self.old.sup self.old.rows cpu) names mode time (tree_of (P.region self.old.memory) self.old.rows))) }
+            → OnOk result (SameTree (shown P.region self.new) (created kind (unused_number self.old.sup self.old.rows cpu) names mode time (shown P.region self.old))) }
         // The log of the directory has one entry more, the new inode's log is one entry, and no other log has changed.
-        ensures log { (names : List (List ℕ)) (d j : ℕ) (held : Store) (h : Held) → IsPath path.now names → walk (tree_of (P.region self.old.memory) self.old.rows) 1 names ≡ Result.Ok d → unused_number self.old.sup self.old.rows cpu ≡ Option.Some j
+        ensures log { (names : List (List ℕ)) (d j : ℕ) (held : Store) (h : Held) → IsPath path.now names → walk (shown P.region self.old) 1 names ≡ Result.Ok d → unused_number self.old.sup self.old.rows cpu ≡ Option.Some j
             → ShowsSound (P.region self.old.memory) self.old.sup held → held d ≡ Option.Some h → OnOk result (ShowsCreated (P.region self.new.memory) self.old.sup self.old.free.pools cpu held kind mode time j d h (last_name names)) }
         ensures unchanged { IfErr result (λ e. (e ≡ RefusalValue.Stopped → ⊥) → SameMount self.old self.new) }
         ensures stopped { self.old.stopped ≡ false → (IsTrue self.new.stopped → (result ≡ Result.Err RefusalValue.Stopped) × IsTrue (P.fuse self.new.memory).has_burnt) × (result ≡ Result.Err RefusalValue.Stopped → IsTrue self.new.stopped) }
@@ -226,10 +226,10 @@ impl<P: Pmem + Drop> Fs<P> {
         // What was mounted with faults stays as it was.
         ensures read_only { IsTrue self.old.read_only → SameMount self.old self.new }
         // Every word outside these places is as it was.
-        ensures wrote { (names : List (List ℕ)) (d j : ℕ) (held : Store) → IsPath path.now names → walk (tree_of (P.region self.old.memory) self.old.rows) 1 names ≡ Result.Ok d → unused_number self.old.sup self.old.rows cpu ≡ Option.Some j → ShowsSound (P.region self.old.memory) self.old.sup held
+        ensures wrote { (names : List (List ℕ)) (d j : ℕ) (held : Store) → IsPath path.now names → walk (shown P.region self.old) 1 names ≡ Result.Ok d → unused_number self.old.sup self.old.rows cpu ≡ Option.Some j → ShowsSound (P.region self.old.memory) self.old.sup held
             → StoresIn self.old.sup held (one_more self.old.sup cpu j d) (P.region self.old.memory) (P.region self.new.memory) }
         // The new inode's valid word is stored first.
-        ensures in_order { (names : List (List ℕ)) (d j : ℕ) → IsPath path.now names → walk (tree_of (P.region self.old.memory) self.old.rows) 1 names ≡ Result.Ok d → unused_number self.old.sup self.old.rows cpu ≡ Option.Some j
+        ensures in_order { (names : List (List ℕ)) (d j : ℕ) → IsPath path.now names → walk (shown P.region self.old) 1 names ≡ Result.Ok d → unused_number self.old.sup self.old.rows cpu ≡ Option.Some j
             → ShowsValidFirst (P.region self.old.memory) (P.region self.new.memory) self.old.sup j d }
         // Whatever a stop leaves, at any exit: recovery finds what was mounted, or what the call makes, without faults.
         ensures any_stop { (names : List (List ℕ)) → IsPath path.now names → self.old.stopped ≡ false → self.old.read_only ≡ false

@@ -11,8 +11,8 @@ ghost use Rattle.nv_held.specs.nv_outcome.Answer.{outcome_of};
 ghost use Rattle.nv_tree.specs.Path.{IsPath, Says};
 ghost use Rattle.nv_tree.specs.Refusals.{Path, first_refusal, stat_tests};
 ghost use Rattle.nv_tree.specs.declared.refusal.Refusal.{Refusal as RefusalValue};
-ghost use Rattle.nv_paths.specs.Seen.{node_of, tree_of, LeadsTo};
-ghost use Rattle.nv_calls.specs.Mount.{IsKept, has_faults};
+ghost use Rattle.nv_paths.specs.Seen.{node_of, LeadsTo};
+ghost use Rattle.nv_calls.specs.Mount.{IsKept, has_faults, shown};
 ghost use Rattle.nv_calls.specs.Stopped.{LeavesMounted};
 
 use nv_alloc::Allocators;
@@ -161,9 +161,9 @@ impl<P: Pmem + Drop> Fs<P> {
     /// The row of the inode in use that a path leads to, or the refusal that `stat` has.
     pub(crate) fn target(&self, path: &[u8]) -> Result<&Row, Refusal>
         ensures stopped { IsTrue self.now.stopped → result ≡ Result.Err RefusalValue.Stopped }
-        ensures row { (names : List (List ℕ)) → IsPath path.now names → IfOk result (λ r. LeadsTo (tree_of (P.region self.now.memory) self.now.rows) names r.now.inode (node_of (P.region self.now.memory) r.now)) }
+        ensures row { (names : List (List ℕ)) → IsPath path.now names → IfOk result (λ r. LeadsTo (shown P.region self.now) names r.now.inode (node_of (P.region self.now.memory) r.now)) }
         ensures held { IfOk result (λ r. Contains self.now.rows r.now) }
-        ensures refused { self.now.stopped ≡ false → (p : Path) → Says path.now p → first_refusal (stat_tests (tree_of (P.region self.now.memory) self.now.rows) p) ≡ result_err result }
+        ensures refused { self.now.stopped ≡ false → (p : Path) → Says path.now p → first_refusal (stat_tests (shown P.region self.now) p) ≡ result_err result }
     {
         if self.stopped {
             return Err(Refusal::Stopped);

@@ -23,6 +23,7 @@ mod writing;
 
 pub use fs::Fs;
 pub use laws::{alike_regions, calls_are_decided, calls_keep_regions_alike};
+pub use nv_bytes::Data;
 pub use nv_format::{FormatRefusal, format};
 pub use nv_recover::RecoverError;
 pub use stating::Stat;

@@ -29,13 +29,14 @@ ghost use Rattle.nv_calls.specs.Same.{KeepsMount, SameMount};
 ghost use Rattle.nv_calls.specs.Effects.{logs_link, makes_link};
 ghost use Rattle.nv_calls.specs.Stopped.{LeavesCall};
 ghost use Rattle.nv_steps.specs.Stopped.{Linked};
-ghost use Rattle.nv_paths.specs.Seen.{LeadsTo, tree_of};
+ghost use Rattle.nv_paths.specs.Seen.{LeadsTo};
 ghost use Rattle.nv_steps.specs.Steps.{RefusesStep, ShowsRow};
 ghost use Rattle.nv_steps.specs.InOrder.{TailIsFirst, tail_address};
 ghost use Rattle.nv_calls.specs.InOrder.{ShowsTailFirst};
 ghost use Rattle.nv_steps.specs.Fronts.{SameFrontBut};
 ghost use Rattle.nv_calls.specs.World.{world_of};
 ghost use Rattle.nv_steps.specs.Stores.{StoresIn, two_logs};
+ghost use Rattle.nv_calls.specs.Mount.{shown};
 
 use crate::Fs;
 use crate::writing::is_stop;
@@ -128,13 +129,13 @@ impl<P: Pmem + Drop> Fs<P> {
     pub fn link(&mut self, cpu: u64, old: &[u8], new: &[u8], time: u64) -> Result<(), Refusal>
         ensures stopped_before { IsTrue self.old.stopped → (result ≡ Result.Err RefusalValue.Stopped) × (self.new ≡ self.old) }
         ensures allowed { (p q : Path) → Says old.now p → Says new.now q
-            → OnOk result (first_refusal (link_tests (world_of self.old) (tree_of (P.region self.old.memory) self.old.rows) cpu p q (link_blocks self.old.rows (tree_of (P.region self.old.memory) self.old.rows) p q)) ≡ Option.None) }
+            → OnOk result (first_refusal (link_tests (world_of self.old) (shown P.region self.old) cpu p q (link_blocks self.old.rows (shown P.region self.old) p q)) ≡ Option.None) }
         ensures refused { self.old.stopped ≡ false → (p q : Path) → Says old.now p → Says new.now q
-            → IfErr result (IsRefusedBy (first_refusal (link_tests (world_of self.old) (tree_of (P.region self.old.memory) self.old.rows) cpu p q (link_blocks self.old.rows (tree_of (P.region self.old.memory) self.old.rows) p q)))) }
+            → IfErr result (IsRefusedBy (first_refusal (link_tests (world_of self.old) (shown P.region self.old) cpu p q (link_blocks self.old.rows (shown P.region self.old) p q)))) }
         ensures changed { (names others : List (List ℕ)) → IsPath old.now names → IsPath new.now others
-            → OnOk result (SameTree (tree_of (P.region self.new.memory) self.new.rows) (linked names others time (tree_of (P.region self.old.memory) self.old.rows))) }
+            → OnOk result (SameTree (shown P.region self.new) (linked names others time (shown P.region self.old))) }
         // The log of the file and that of the directory have one entry more, and no other log has changed.
-        ensures log { (names others : List (List ℕ)) (i d : ℕ) (node : Node) (held : Store) (f h : Held) → IsPath old.now names → IsPath new.now others → LeadsTo (tree_of (P.region self.old.memory) self.old.rows) names i node → walk (tree_of (P.region self.old.memory) self.old.rows) 1 others ≡ Result.Ok d
+        ensures log { (names others : List (List ℕ)) (i d : ℕ) (node : Node) (held : Store) (f h : Held) → IsPath old.now names → IsPath new.now others → LeadsTo (shown P.region self.old) names i node → walk (shown P.region self.old) 1 others ≡ Result.Ok d
             → ShowsSound (P.region self.old.memory) self.old.sup held → held i ≡ Option.Some f → held d ≡ Option.Some h
             → OnOk result (ShowsBothGrew (P.region self.new.memory) self.old.sup self.old.free.pools cpu held i f (links_entries (node.links + 1) time) d h (name_entries Add i (last_name others) time)) }
         ensures unchanged { IfErr result (λ e. (e ≡ RefusalValue.Stopped → ⊥) → SameMount self.old self.new) }
@@ -150,11 +151,11 @@ impl<P: Pmem + Drop> Fs<P> {
         // What was mounted with faults stays as it was.
         ensures read_only { IsTrue self.old.read_only → SameMount self.old self.new }
         // Every word outside these places is as it was.
-        ensures wrote { (names others : List (List ℕ)) (i d : ℕ) (node : Node) (held : Store) → IsPath old.now names → IsPath new.now others → LeadsTo (tree_of (P.region self.old.memory) self.old.rows) names i node → walk (tree_of (P.region self.old.memory) self.old.rows) 1 others ≡ Result.Ok d
+        ensures wrote { (names others : List (List ℕ)) (i d : ℕ) (node : Node) (held : Store) → IsPath old.now names → IsPath new.now others → LeadsTo (shown P.region self.old) names i node → walk (shown P.region self.old) 1 others ≡ Result.Ok d
             → ShowsSound (P.region self.old.memory) self.old.sup held
             → StoresIn self.old.sup held (two_logs self.old.sup cpu i d) (P.region self.old.memory) (P.region self.new.memory) }
         // The file's tail is stored first.
-        ensures in_order { (names others : List (List ℕ)) (i d : ℕ) (node : Node) (held : Store) (f : Held) → IsPath old.now names → IsPath new.now others → LeadsTo (tree_of (P.region self.old.memory) self.old.rows) names i node → walk (tree_of (P.region self.old.memory) self.old.rows) 1 others ≡ Result.Ok d
+        ensures in_order { (names others : List (List ℕ)) (i d : ℕ) (node : Node) (held : Store) (f : Held) → IsPath old.now names → IsPath new.now others → LeadsTo (shown P.region self.old) names i node → walk (shown P.region self.old) 1 others ≡ Result.Ok d
             → ShowsSound (P.region self.old.memory) self.old.sup held → held i ≡ Option.Some f → ShowsTailFirst (P.region self.old.memory) (P.region self.new.memory) self.old.sup self.old.free.pools cpu i f (links_entries (node.links + 1) time) (tail_address self.old.sup d) }
         // Whatever a stop leaves, at any exit: recovery finds what was mounted, or what the call makes, without faults.
         ensures any_stop { (names others : List (List ℕ)) → IsPath old.now names → IsPath new.now others → self.old.stopped ≡ false → self.old.read_only ≡ false

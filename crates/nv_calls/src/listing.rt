@@ -4,8 +4,8 @@ ghost use Rattle.std.specs.Prelude.{◌≡◌, ℕ, List, map, IsTrue, IfOk, IfE
 ghost use Rattle.nv_tree.specs.Path.{IsPath, Says};
 ghost use Rattle.nv_tree.specs.Refusals.{Path, first_refusal, list_tests, IsReadRefusedBy};
 ghost use Rattle.nv_tree.specs.declared.refusal.Refusal.{Refusal};
-ghost use Rattle.nv_paths.specs.Seen.{tree_of};
 ghost use Rattle.nv_calls.specs.Listing.{name_and_inode, ListsNamesIn};
+ghost use Rattle.nv_calls.specs.Mount.{shown};
 
 use crate::Fs;
 use nv_names::Named;
@@ -22,10 +22,10 @@ impl<P: Pmem + Drop> Fs<P> {
     pub fn list(&self, path: &[u8]) -> Result<Vec<Named<'_>>, Refusal>
         ensures stopped { IsTrue self.now.stopped → result ≡ Result.Err Refusal.Stopped }
         ensures ok { (names : List (List ℕ)) → IsPath path.now names
-            → IfOk result (λ listed. ListsNamesIn (tree_of (P.region self.now.memory) self.now.rows) names (map name_and_inode listed.items)) }
-        ensures allowed { (p : Path) → Says path.now p → OnOk result (first_refusal (list_tests (tree_of (P.region self.now.memory) self.now.rows) p) ≡ Option.None) }
+            → IfOk result (λ listed. ListsNamesIn (shown P.region self.now) names (map name_and_inode listed.items)) }
+        ensures allowed { (p : Path) → Says path.now p → OnOk result (first_refusal (list_tests (shown P.region self.now) p) ≡ Option.None) }
         ensures refused { self.now.stopped ≡ false → (p : Path) → Says path.now p
-            → IfErr result (IsReadRefusedBy (first_refusal (list_tests (tree_of (P.region self.now.memory) self.now.rows) p))) }
+            → IfErr result (IsReadRefusedBy (first_refusal (list_tests (shown P.region self.now) p))) }
     {
         let row = self.target(path)?;
         if row.kind == Kind::File {

@@ -6,8 +6,9 @@ ghost use Rattle.nv_tree.specs.Path.{IsPath, Says};
 ghost use Rattle.nv_tree.specs.Calls.{bytes_read};
 ghost use Rattle.nv_tree.specs.Refusals.{Path, first_refusal, read_tests, IsReadRefusedBy};
 ghost use Rattle.nv_tree.specs.declared.refusal.Refusal.{Refusal};
-ghost use Rattle.nv_paths.specs.Seen.{node_of, tree_of};
+ghost use Rattle.nv_paths.specs.Seen.{node_of};
 ghost use Rattle.nv_calls.specs.Reading.{IsRead, IsReadInto};
+ghost use Rattle.nv_calls.specs.Mount.{shown};
 
 use crate::Fs;
 use nv_bytes::{fill_bytes, read_bytes};
@@ -26,10 +27,10 @@ impl<P: Pmem + Drop> Fs<P> {
     pub fn read(&self, path: &[u8], offset: u64, count: u64) -> Result<Vec<u8>, Refusal>
         ensures stopped { IsTrue self.now.stopped → result ≡ Result.Err Refusal.Stopped }
         ensures ok { (names : List (List ℕ)) → IsPath path.now names
-            → IfOk result (λ bytes. IsRead (tree_of (P.region self.now.memory) self.now.rows) names offset count bytes.items) }
-        ensures allowed { (p : Path) → Says path.now p → OnOk result (first_refusal (read_tests (tree_of (P.region self.now.memory) self.now.rows) p) ≡ Option.None) }
+            → IfOk result (λ bytes. IsRead (shown P.region self.now) names offset count bytes.items) }
+        ensures allowed { (p : Path) → Says path.now p → OnOk result (first_refusal (read_tests (shown P.region self.now) p) ≡ Option.None) }
         ensures refused { self.now.stopped ≡ false → (p : Path) → Says path.now p
-            → IfErr result (IsReadRefusedBy (first_refusal (read_tests (tree_of (P.region self.now.memory) self.now.rows) p))) }
+            → IfErr result (IsReadRefusedBy (first_refusal (read_tests (shown P.region self.now) p))) }
     {
         let row = self.target(path)?;
         if row.kind == Kind::Directory {
@@ -50,10 +51,10 @@ impl<P: Pmem + Drop> Fs<P> {
     pub fn read_into(&self, path: &[u8], offset: u64, buffer: &mut [u8]) -> Result<usize, Refusal>
         ensures stopped { IsTrue self.now.stopped → result ≡ Result.Err Refusal.Stopped }
         ensures ok { (names : List (List ℕ)) → IsPath path.now names
-            → IfOk result (λ count. IsReadInto (tree_of (P.region self.now.memory) self.now.rows) names offset buffer.old count buffer.new) }
-        ensures allowed { (p : Path) → Says path.now p → OnOk result (first_refusal (read_tests (tree_of (P.region self.now.memory) self.now.rows) p) ≡ Option.None) }
+            → IfOk result (λ count. IsReadInto (shown P.region self.now) names offset buffer.old count buffer.new) }
+        ensures allowed { (p : Path) → Says path.now p → OnOk result (first_refusal (read_tests (shown P.region self.now) p) ≡ Option.None) }
         ensures refused { self.now.stopped ≡ false → (p : Path) → Says path.now p
-            → IfErr result (λ e. first_refusal (read_tests (tree_of (P.region self.now.memory) self.now.rows) p) ≡ Option.Some e) }
+            → IfErr result (λ e. first_refusal (read_tests (shown P.region self.now) p) ≡ Option.Some e) }
         ensures unchanged { OnErr result (buffer.new ≡ buffer.old) }
     {
         let row = self.target(path)?;

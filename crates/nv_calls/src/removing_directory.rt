@@ -21,9 +21,10 @@ ghost use Rattle.nv_calls.specs.RemoveCalls.{ShowsRemoved};
 ghost use Rattle.nv_calls.specs.Same.{KeepsMount, SameMount};
 ghost use Rattle.nv_calls.specs.Effects.{logs_removal, makes_removal};
 ghost use Rattle.nv_calls.specs.Stopped.{LeavesCall};
-ghost use Rattle.nv_paths.specs.Seen.{LeadsTo, tree_of};
+ghost use Rattle.nv_paths.specs.Seen.{LeadsTo};
 ghost use Rattle.nv_calls.specs.World.{world_of};
 ghost use Rattle.nv_steps.specs.Stores.{StoresIn, one_less};
+ghost use Rattle.nv_calls.specs.Mount.{shown};
 
 use crate::Fs;
 use crate::removing::remove_named;
@@ -51,13 +52,13 @@ impl<P: Pmem + Drop> Fs<P> {
     pub fn rmdir(&mut self, cpu: u64, path: &[u8], time: u64) -> Result<(), Refusal>
         ensures stopped_before { IsTrue self.old.stopped → (result ≡ Result.Err RefusalValue.Stopped) × (self.new ≡ self.old) }
         ensures allowed { (p : Path) → Says path.now p
-            → OnOk result (first_refusal (rmdir_tests (world_of self.old) (tree_of (P.region self.old.memory) self.old.rows) cpu p (name_blocks self.old.rows (tree_of (P.region self.old.memory) self.old.rows) p)) ≡ Option.None) }
+            → OnOk result (first_refusal (rmdir_tests (world_of self.old) (shown P.region self.old) cpu p (name_blocks self.old.rows (shown P.region self.old) p)) ≡ Option.None) }
         ensures refused { self.old.stopped ≡ false → (p : Path) → Says path.now p
-            → IfErr result (IsRefusedBy (first_refusal (rmdir_tests (world_of self.old) (tree_of (P.region self.old.memory) self.old.rows) cpu p (name_blocks self.old.rows (tree_of (P.region self.old.memory) self.old.rows) p)))) }
+            → IfErr result (IsRefusedBy (first_refusal (rmdir_tests (world_of self.old) (shown P.region self.old) cpu p (name_blocks self.old.rows (shown P.region self.old) p)))) }
         ensures changed { (names : List (List ℕ)) → IsPath path.now names
-            → OnOk result (SameTree (tree_of (P.region self.new.memory) self.new.rows) (removed names time (tree_of (P.region self.old.memory) self.old.rows))) }
+            → OnOk result (SameTree (shown P.region self.new) (removed names time (shown P.region self.old))) }
         // The log of the directory in which it stood has one entry more, and no other log has changed.
-        ensures log { (names : List (List ℕ)) (i d : ℕ) (node : Node) (held : Store) (h : Held) → IsPath path.now names → LeadsTo (tree_of (P.region self.old.memory) self.old.rows) names i node → walk (tree_of (P.region self.old.memory) self.old.rows) 1 names ≡ Result.Ok d
+        ensures log { (names : List (List ℕ)) (i d : ℕ) (node : Node) (held : Store) (h : Held) → IsPath path.now names → LeadsTo (shown P.region self.old) names i node → walk (shown P.region self.old) 1 names ≡ Result.Ok d
             → ShowsSound (P.region self.old.memory) self.old.sup held → held d ≡ Option.Some h
             → OnOk result (ShowsRemoved (P.region self.new.memory) self.old.sup self.old.free.pools cpu held d h (name_entries Remove i (last_name names) time) i) }
         ensures unchanged { IfErr result (λ e. (e ≡ RefusalValue.Stopped → ⊥) → SameMount self.old self.new) }
@@ -73,11 +74,11 @@ impl<P: Pmem + Drop> Fs<P> {
         // What was mounted with faults stays as it was.
         ensures read_only { IsTrue self.old.read_only → SameMount self.old self.new }
         // Every word outside these places is as it was.
-        ensures wrote { (names : List (List ℕ)) (i d : ℕ) (node : Node) (held : Store) → IsPath path.now names → LeadsTo (tree_of (P.region self.old.memory) self.old.rows) names i node → walk (tree_of (P.region self.old.memory) self.old.rows) 1 names ≡ Result.Ok d
+        ensures wrote { (names : List (List ℕ)) (i d : ℕ) (node : Node) (held : Store) → IsPath path.now names → LeadsTo (shown P.region self.old) names i node → walk (shown P.region self.old) 1 names ≡ Result.Ok d
             → ShowsSound (P.region self.old.memory) self.old.sup held
             → StoresIn self.old.sup held (one_less self.old.sup cpu d i) (P.region self.old.memory) (P.region self.new.memory) }
         // The tail of the directory above is stored first.
-        ensures in_order { (names : List (List ℕ)) (i d : ℕ) (node : Node) (held : Store) (h : Held) → IsPath path.now names → LeadsTo (tree_of (P.region self.old.memory) self.old.rows) names i node → walk (tree_of (P.region self.old.memory) self.old.rows) 1 names ≡ Result.Ok d
+        ensures in_order { (names : List (List ℕ)) (i d : ℕ) (node : Node) (held : Store) (h : Held) → IsPath path.now names → LeadsTo (shown P.region self.old) names i node → walk (shown P.region self.old) 1 names ≡ Result.Ok d
             → ShowsSound (P.region self.old.memory) self.old.sup held → held d ≡ Option.Some h → ShowsTailFirst (P.region self.old.memory) (P.region self.new.memory) self.old.sup self.old.free.pools cpu d h (name_entries Remove i (last_name names) time) (slot_address self.old.sup i) }
         // Whatever a stop leaves, at any exit: recovery finds what was mounted, or what the call makes, without faults.
         ensures any_stop { (names : List (List ℕ)) → IsPath path.now names → self.old.stopped ≡ false → self.old.read_only ≡ false

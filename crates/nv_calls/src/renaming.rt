@@ -31,13 +31,14 @@ ghost use Rattle.nv_calls.specs.Same.{KeepsMount, SameMount};
 ghost use Rattle.nv_calls.specs.Effects.{logs_rename, makes_rename};
 ghost use Rattle.nv_calls.specs.Stopped.{LeavesCall, Renamed};
 ghost use Rattle.nv_steps.specs.Stopped.{MovedOver};
-ghost use Rattle.nv_paths.specs.Seen.{LeadsTo, tree_of};
+ghost use Rattle.nv_paths.specs.Seen.{LeadsTo};
 ghost use Rattle.nv_steps.specs.Steps.{RefusesStep, ShowsRow};
 ghost use Rattle.nv_steps.specs.InOrder.{TailIsFirst, tail_address};
 ghost use Rattle.nv_calls.specs.InOrder.{ShowsTailFirst};
 ghost use Rattle.nv_steps.specs.Fronts.{SameFrontBut};
 ghost use Rattle.nv_calls.specs.World.{world_of};
 ghost use Rattle.nv_steps.specs.Stores.{StoresIn, one_log, two_logs};
+ghost use Rattle.nv_calls.specs.Mount.{shown};
 
 use crate::Fs;
 use crate::writing::is_stop;
@@ -196,17 +197,17 @@ impl<P: Pmem + Drop> Fs<P> {
     pub fn rename(&mut self, cpu: u64, old: &[u8], new: &[u8], time: u64) -> Result<(), Refusal>
         ensures stopped_before { IsTrue self.old.stopped → (result ≡ Result.Err RefusalValue.Stopped) × (self.new ≡ self.old) }
         ensures allowed { (p q : Path) → Says old.now p → Says new.now q
-            → OnOk result (first_refusal (rename_tests (world_of self.old) (tree_of (P.region self.old.memory) self.old.rows) cpu p q (rename_blocks self.old.rows (tree_of (P.region self.old.memory) self.old.rows) p q)) ≡ Option.None) }
+            → OnOk result (first_refusal (rename_tests (world_of self.old) (shown P.region self.old) cpu p q (rename_blocks self.old.rows (shown P.region self.old) p q)) ≡ Option.None) }
         ensures refused { self.old.stopped ≡ false → (p q : Path) → Says old.now p → Says new.now q
-            → IfErr result (IsRefusedBy (first_refusal (rename_tests (world_of self.old) (tree_of (P.region self.old.memory) self.old.rows) cpu p q (rename_blocks self.old.rows (tree_of (P.region self.old.memory) self.old.rows) p q)))) }
+            → IfErr result (IsRefusedBy (first_refusal (rename_tests (world_of self.old) (shown P.region self.old) cpu p q (rename_blocks self.old.rows (shown P.region self.old) p q)))) }
         ensures changed { (names others : List (List ℕ)) → IsPath old.now names → IsPath new.now others
-            → OnOk result (SameTree (tree_of (P.region self.new.memory) self.new.rows) (renamed names others time (tree_of (P.region self.old.memory) self.old.rows))) }
+            → OnOk result (SameTree (shown P.region self.new) (renamed names others time (shown P.region self.old))) }
         // The log of each of two directories has one entry more.
-        ensures log { (names others : List (List ℕ)) (i d e : ℕ) (node : Node) (held : Store) (h k : Held) → IsPath old.now names → IsPath new.now others → LeadsTo (tree_of (P.region self.old.memory) self.old.rows) names i node → walk (tree_of (P.region self.old.memory) self.old.rows) 1 names ≡ Result.Ok d → walk (tree_of (P.region self.old.memory) self.old.rows) 1 others ≡ Result.Ok e → d ≢ e
+        ensures log { (names others : List (List ℕ)) (i d e : ℕ) (node : Node) (held : Store) (h k : Held) → IsPath old.now names → IsPath new.now others → LeadsTo (shown P.region self.old) names i node → walk (shown P.region self.old) 1 names ≡ Result.Ok d → walk (shown P.region self.old) 1 others ≡ Result.Ok e → d ≢ e
             → ShowsSound (P.region self.old.memory) self.old.sup held → held d ≡ Option.Some h → held e ≡ Option.Some k
             → OnOk result (ShowsBothGrew (P.region self.new.memory) self.old.sup self.old.free.pools cpu held d h (name_entries Remove i (last_name names) time) e k (name_entries Add i (last_name others) time)) }
         // The log of the only directory has both entries. In both cases no other log has changed.
-        ensures within { (names others : List (List ℕ)) (i d : ℕ) (node : Node) (held : Store) (h : Held) → IsPath old.now names → IsPath new.now others → LeadsTo (tree_of (P.region self.old.memory) self.old.rows) names i node → walk (tree_of (P.region self.old.memory) self.old.rows) 1 names ≡ Result.Ok d → walk (tree_of (P.region self.old.memory) self.old.rows) 1 others ≡ Result.Ok d
+        ensures within { (names others : List (List ℕ)) (i d : ℕ) (node : Node) (held : Store) (h : Held) → IsPath old.now names → IsPath new.now others → LeadsTo (shown P.region self.old) names i node → walk (shown P.region self.old) 1 names ≡ Result.Ok d → walk (shown P.region self.old) 1 others ≡ Result.Ok d
             → ShowsSound (P.region self.old.memory) self.old.sup held → held d ≡ Option.Some h
             → OnOk result (ShowsGrownLog (P.region self.new.memory) self.old.sup self.old.free.pools cpu held d h (move_entries i (last_name names) (last_name others) time)) }
         ensures unchanged { IfErr result (λ e. (e ≡ RefusalValue.Stopped → ⊥) → SameMount self.old self.new) }
@@ -222,14 +223,14 @@ impl<P: Pmem + Drop> Fs<P> {
         // What was mounted with faults stays as it was.
         ensures read_only { IsTrue self.old.read_only → SameMount self.old self.new }
         // Every word outside these places is as it was.
-        ensures wrote { (names others : List (List ℕ)) (i d e : ℕ) (node : Node) (held : Store) → IsPath old.now names → IsPath new.now others → LeadsTo (tree_of (P.region self.old.memory) self.old.rows) names i node → walk (tree_of (P.region self.old.memory) self.old.rows) 1 names ≡ Result.Ok d → walk (tree_of (P.region self.old.memory) self.old.rows) 1 others ≡ Result.Ok e → d ≢ e
+        ensures wrote { (names others : List (List ℕ)) (i d e : ℕ) (node : Node) (held : Store) → IsPath old.now names → IsPath new.now others → LeadsTo (shown P.region self.old) names i node → walk (shown P.region self.old) 1 names ≡ Result.Ok d → walk (shown P.region self.old) 1 others ≡ Result.Ok e → d ≢ e
             → ShowsSound (P.region self.old.memory) self.old.sup held
             → StoresIn self.old.sup held (two_logs self.old.sup cpu d e) (P.region self.old.memory) (P.region self.new.memory) }
         // Within one directory these are the places of its log.
-        ensures within_wrote { (names others : List (List ℕ)) (d : ℕ) (held : Store) → IsPath old.now names → IsPath new.now others → walk (tree_of (P.region self.old.memory) self.old.rows) 1 names ≡ Result.Ok d → walk (tree_of (P.region self.old.memory) self.old.rows) 1 others ≡ Result.Ok d
+        ensures within_wrote { (names others : List (List ℕ)) (d : ℕ) (held : Store) → IsPath old.now names → IsPath new.now others → walk (shown P.region self.old) 1 names ≡ Result.Ok d → walk (shown P.region self.old) 1 others ≡ Result.Ok d
             → ShowsSound (P.region self.old.memory) self.old.sup held → StoresIn self.old.sup held (one_log self.old.sup d) (P.region self.old.memory) (P.region self.new.memory) }
         // Of two directories the old one's tail is stored first.
-        ensures in_order { (names others : List (List ℕ)) (i d e : ℕ) (node : Node) (held : Store) (h : Held) → IsPath old.now names → IsPath new.now others → LeadsTo (tree_of (P.region self.old.memory) self.old.rows) names i node → walk (tree_of (P.region self.old.memory) self.old.rows) 1 names ≡ Result.Ok d → walk (tree_of (P.region self.old.memory) self.old.rows) 1 others ≡ Result.Ok e → d ≢ e
+        ensures in_order { (names others : List (List ℕ)) (i d e : ℕ) (node : Node) (held : Store) (h : Held) → IsPath old.now names → IsPath new.now others → LeadsTo (shown P.region self.old) names i node → walk (shown P.region self.old) 1 names ≡ Result.Ok d → walk (shown P.region self.old) 1 others ≡ Result.Ok e → d ≢ e
             → ShowsSound (P.region self.old.memory) self.old.sup held → held d ≡ Option.Some h → ShowsTailFirst (P.region self.old.memory) (P.region self.new.memory) self.old.sup self.old.free.pools cpu d h (name_entries Remove i (last_name names) time) (tail_address self.old.sup e) }
         // Whatever a stop leaves, at any exit: recovery finds what was mounted, or what the call makes, without faults.
         ensures any_stop { (names others : List (List ℕ)) → IsPath old.now names → IsPath new.now others → self.old.stopped ≡ false → self.old.read_only ≡ false

@@ -22,6 +22,7 @@ ghost use Rattle.nv_paths.specs.Seen.{LeadsTo, node_of, tree_of};
 ghost use Rattle.nv_calls.specs.SizeCall.{ShowsResizedLog, resized_blocks};
 ghost use Rattle.nv_calls.specs.World.{world_of};
 ghost use Rattle.nv_steps.specs.Stores.{StoresIn, one_log};
+ghost use Rattle.nv_calls.specs.Mount.{shown};
 
 use crate::Fs;
 use crate::writing::is_stop;
@@ -31,11 +32,8 @@ use nv_region::Pmem;
 use nv_rows::Rows;
 use nv_scan::Row;
 use nv_steps::resize;
-use nv_super::Kind;
+use nv_super::{Kind, MOST_FILE_BYTES};
 use nv_tree::Refusal;
-
-/// The most bytes that a file can have.
-const MOST_BYTES: u64 = 1_073_741_824;
 
 impl<P: Pmem + Drop> Fs<P> {
     /// Sets the size and the time of the file that a path leads to: it is cut, or lengthened by zeros.
@@ -56,13 +54,13 @@ impl<P: Pmem + Drop> Fs<P> {
     pub fn set_size(&mut self, cpu: u64, path: &[u8], size: u64, time: u64) -> Result<(), Refusal>
         ensures stopped_before { IsTrue self.old.stopped → (result ≡ Result.Err RefusalValue.Stopped) × (self.new ≡ self.old) }
         ensures allowed { (p : Path) → Says path.now p
-            → OnOk result (first_refusal (set_size_tests (world_of self.old) (tree_of (P.region self.old.memory) self.old.rows) cpu p size (resized_blocks self.old.rows (tree_of (P.region self.old.memory) self.old.rows) p size)) ≡ Option.None) }
+            → OnOk result (first_refusal (set_size_tests (world_of self.old) (shown P.region self.old) cpu p size (resized_blocks self.old.rows (shown P.region self.old) p size)) ≡ Option.None) }
         ensures refused { self.old.stopped ≡ false → (p : Path) → Says path.now p
-            → IfErr result (IsRefusedBy (first_refusal (set_size_tests (world_of self.old) (tree_of (P.region self.old.memory) self.old.rows) cpu p size (resized_blocks self.old.rows (tree_of (P.region self.old.memory) self.old.rows) p size)))) }
+            → IfErr result (IsRefusedBy (first_refusal (set_size_tests (world_of self.old) (shown P.region self.old) cpu p size (resized_blocks self.old.rows (shown P.region self.old) p size)))) }
         ensures changed { (names : List (List ℕ)) → IsPath path.now names
-            → OnOk result (SameTree (tree_of (P.region self.new.memory) self.new.rows) (resized names size time (tree_of (P.region self.old.memory) self.old.rows))) }
+            → OnOk result (SameTree (shown P.region self.new) (resized names size time (shown P.region self.old))) }
         // The log of the file has the entries for its size, and no other log has changed.
-        ensures log { (names : List (List ℕ)) (i : ℕ) (node : Node) (held : Store) (h : Held) → IsPath path.now names → LeadsTo (tree_of (P.region self.old.memory) self.old.rows) names i node
+        ensures log { (names : List (List ℕ)) (i : ℕ) (node : Node) (held : Store) (h : Held) → IsPath path.now names → LeadsTo (shown P.region self.old) names i node
             → ShowsSound (P.region self.old.memory) self.old.sup held → held i ≡ Option.Some h → OnOk result (ShowsResizedLog (P.region self.new.memory) self.old.sup self.old.free.pools cpu held i h node size time) }
         ensures unchanged { IfErr result (λ e. (e ≡ RefusalValue.Stopped → ⊥) → SameMount self.old self.new) }
         ensures stopped { self.old.stopped ≡ false → (IsTrue self.new.stopped → (result ≡ Result.Err RefusalValue.Stopped) × IsTrue (P.fuse self.new.memory).has_burnt) × (result ≡ Result.Err RefusalValue.Stopped → IsTrue self.new.stopped) }
@@ -75,7 +73,7 @@ impl<P: Pmem + Drop> Fs<P> {
         // What was mounted with faults stays as it was.
         ensures read_only { IsTrue self.old.read_only → SameMount self.old self.new }
         // Every word outside these places is as it was.
-        ensures wrote { (names : List (List ℕ)) (i : ℕ) (node : Node) (held : Store) → IsPath path.now names → LeadsTo (tree_of (P.region self.old.memory) self.old.rows) names i node
+        ensures wrote { (names : List (List ℕ)) (i : ℕ) (node : Node) (held : Store) → IsPath path.now names → LeadsTo (shown P.region self.old) names i node
             → ShowsSound (P.region self.old.memory) self.old.sup held → StoresIn self.old.sup held (one_log self.old.sup i) (P.region self.old.memory) (P.region self.new.memory) }
         // Whatever a stop leaves, at any exit: recovery finds what was mounted, or what the call makes, without faults.
         ensures any_stop { (names : List (List ℕ)) → IsPath path.now names → self.old.stopped ≡ false → self.old.read_only ≡ false
@@ -132,7 +130,7 @@ fn can_have_size(row: &Row, size: u64) -> Result<(), Refusal>
     if row.kind == Kind::Directory {
         return Err(Refusal::IsDirectory);
     }
-    if size > MOST_BYTES {
+    if size > MOST_FILE_BYTES {
         return Err(Refusal::TooLarge);
     }
     Ok(())

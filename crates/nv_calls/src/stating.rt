@@ -5,8 +5,9 @@ ghost use Rattle.nv_region.specs.Region.{Region};
 ghost use Rattle.nv_tree.specs.Path.{IsPath, Says};
 ghost use Rattle.nv_tree.specs.Refusals.{Path, first_refusal, stat_tests};
 ghost use Rattle.nv_tree.specs.declared.refusal.Refusal.{Refusal};
-ghost use Rattle.nv_paths.specs.Seen.{node_of, tree_of};
+ghost use Rattle.nv_paths.specs.Seen.{node_of};
 ghost use Rattle.nv_calls.specs.Stat.{stat_of, IsStat};
+ghost use Rattle.nv_calls.specs.Mount.{shown};
 
 use crate::Fs;
 use nv_region::Pmem;
@@ -51,10 +52,10 @@ impl<P: Pmem + Drop> Fs<P> {
     /// `NotDirectory` for an inode on the way, `NotFound` for the last name.
     pub fn stat(&self, path: &[u8]) -> Result<Stat, Refusal>
         ensures stopped { IsTrue self.now.stopped → result ≡ Result.Err Refusal.Stopped }
-        ensures ok { (names : List (List ℕ)) → IsPath path.now names → IfOk result (λ s. IsStat (tree_of (P.region self.now.memory) self.now.rows) names s) }
-        ensures allowed { (p : Path) → Says path.now p → OnOk result (first_refusal (stat_tests (tree_of (P.region self.now.memory) self.now.rows) p) ≡ Option.None) }
+        ensures ok { (names : List (List ℕ)) → IsPath path.now names → IfOk result (λ s. IsStat (shown P.region self.now) names s) }
+        ensures allowed { (p : Path) → Says path.now p → OnOk result (first_refusal (stat_tests (shown P.region self.now) p) ≡ Option.None) }
         ensures refused { self.now.stopped ≡ false → (p : Path) → Says path.now p
-            → IfErr result (λ e. first_refusal (stat_tests (tree_of (P.region self.now.memory) self.now.rows) p) ≡ Option.Some e) }
+            → IfErr result (λ e. first_refusal (stat_tests (shown P.region self.now) p) ≡ Option.Some e) }
     {
         Ok(Stat::of(self.target(path)?))
     }

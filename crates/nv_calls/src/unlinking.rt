@@ -30,7 +30,7 @@ ghost use Rattle.nv_calls.specs.Same.{KeepsMount, SameMount};
 ghost use Rattle.nv_calls.specs.Effects.{LogsUnlink, makes_unlink};
 ghost use Rattle.nv_calls.specs.Stopped.{LeavesCall, Released};
 ghost use Rattle.nv_steps.specs.Stopped.{Unlinked};
-ghost use Rattle.nv_paths.specs.Seen.{LeadsTo, tree_of};
+ghost use Rattle.nv_paths.specs.Seen.{LeadsTo};
 ghost use Rattle.nv_steps.specs.Steps.{RefusesStep, ShowsRow};
 ghost use Rattle.nv_steps.specs.InOrder.{TailIsFirst, tail_address};
 ghost use Rattle.nv_calls.specs.InOrder.{ShowsTailFirst};
@@ -39,6 +39,7 @@ ghost use Rattle.nv_steps.specs.Unlinks.{UnlinksAt};
 ghost use Rattle.nv_steps.specs.Fronts.{SameFrontBut};
 ghost use Rattle.nv_calls.specs.World.{world_of};
 ghost use Rattle.nv_steps.specs.Stores.{StoresIn, one_less, two_logs};
+ghost use Rattle.nv_calls.specs.Mount.{shown};
 
 use crate::Fs;
 use crate::removing::remove_named;
@@ -189,17 +190,17 @@ impl<P: Pmem + Drop> Fs<P> {
     pub fn unlink(&mut self, cpu: u64, path: &[u8], time: u64) -> Result<(), Refusal>
         ensures stopped_before { IsTrue self.old.stopped → (result ≡ Result.Err RefusalValue.Stopped) × (self.new ≡ self.old) }
         ensures allowed { (p : Path) → Says path.now p
-            → OnOk result (first_refusal (unlink_tests (world_of self.old) (tree_of (P.region self.old.memory) self.old.rows) cpu p (unlink_blocks self.old.rows (tree_of (P.region self.old.memory) self.old.rows) p)) ≡ Option.None) }
+            → OnOk result (first_refusal (unlink_tests (world_of self.old) (shown P.region self.old) cpu p (unlink_blocks self.old.rows (shown P.region self.old) p)) ≡ Option.None) }
         ensures refused { self.old.stopped ≡ false → (p : Path) → Says path.now p
-            → IfErr result (IsRefusedBy (first_refusal (unlink_tests (world_of self.old) (tree_of (P.region self.old.memory) self.old.rows) cpu p (unlink_blocks self.old.rows (tree_of (P.region self.old.memory) self.old.rows) p)))) }
+            → IfErr result (IsRefusedBy (first_refusal (unlink_tests (world_of self.old) (shown P.region self.old) cpu p (unlink_blocks self.old.rows (shown P.region self.old) p)))) }
         ensures changed { (names : List (List ℕ)) → IsPath path.now names
-            → OnOk result (SameTree (tree_of (P.region self.new.memory) self.new.rows) (unlinked names time (tree_of (P.region self.old.memory) self.old.rows))) }
+            → OnOk result (SameTree (shown P.region self.new) (unlinked names time (shown P.region self.old))) }
         // Where there are more links, the log of the directory and that of the file have one entry more.
-        ensures log { (names : List (List ℕ)) (i d : ℕ) (node : Node) (held : Store) (h f : Held) → IsPath path.now names → LeadsTo (tree_of (P.region self.old.memory) self.old.rows) names i node → walk (tree_of (P.region self.old.memory) self.old.rows) 1 names ≡ Result.Ok d
+        ensures log { (names : List (List ℕ)) (i d : ℕ) (node : Node) (held : Store) (h f : Held) → IsPath path.now names → LeadsTo (shown P.region self.old) names i node → walk (shown P.region self.old) 1 names ≡ Result.Ok d
             → ShowsSound (P.region self.old.memory) self.old.sup held → held d ≡ Option.Some h → held i ≡ Option.Some f → 1 < node.links
             → OnOk result (ShowsBothGrew (P.region self.new.memory) self.old.sup self.old.free.pools cpu held d h (name_entries Remove i (last_name names) time) i f (links_entries (node.links - 1) time)) }
         // With its last name the file goes too. In both cases no other log has changed.
-        ensures last { (names : List (List ℕ)) (i d : ℕ) (node : Node) (held : Store) (h : Held) → IsPath path.now names → LeadsTo (tree_of (P.region self.old.memory) self.old.rows) names i node → walk (tree_of (P.region self.old.memory) self.old.rows) 1 names ≡ Result.Ok d
+        ensures last { (names : List (List ℕ)) (i d : ℕ) (node : Node) (held : Store) (h : Held) → IsPath path.now names → LeadsTo (shown P.region self.old) names i node → walk (shown P.region self.old) 1 names ≡ Result.Ok d
             → ShowsSound (P.region self.old.memory) self.old.sup held → held d ≡ Option.Some h → node.links ≤ 1
             → OnOk result (ShowsRemoved (P.region self.new.memory) self.old.sup self.old.free.pools cpu held d h (name_entries Remove i (last_name names) time) i) }
         ensures unchanged { IfErr result (λ e. (e ≡ RefusalValue.Stopped → ⊥) → SameMount self.old self.new) }
@@ -215,17 +216,17 @@ impl<P: Pmem + Drop> Fs<P> {
         // What was mounted with faults stays as it was.
         ensures read_only { IsTrue self.old.read_only → SameMount self.old self.new }
         // Every word outside these places is as it was.
-        ensures wrote { (names : List (List ℕ)) (i d : ℕ) (node : Node) (held : Store) → IsPath path.now names → LeadsTo (tree_of (P.region self.old.memory) self.old.rows) names i node → walk (tree_of (P.region self.old.memory) self.old.rows) 1 names ≡ Result.Ok d
+        ensures wrote { (names : List (List ℕ)) (i d : ℕ) (node : Node) (held : Store) → IsPath path.now names → LeadsTo (shown P.region self.old) names i node → walk (shown P.region self.old) 1 names ≡ Result.Ok d
             → ShowsSound (P.region self.old.memory) self.old.sup held → 1 < node.links
             → StoresIn self.old.sup held (two_logs self.old.sup cpu d i) (P.region self.old.memory) (P.region self.new.memory) }
-        ensures last_wrote { (names : List (List ℕ)) (i d : ℕ) (node : Node) (held : Store) → IsPath path.now names → LeadsTo (tree_of (P.region self.old.memory) self.old.rows) names i node → walk (tree_of (P.region self.old.memory) self.old.rows) 1 names ≡ Result.Ok d
+        ensures last_wrote { (names : List (List ℕ)) (i d : ℕ) (node : Node) (held : Store) → IsPath path.now names → LeadsTo (shown P.region self.old) names i node → walk (shown P.region self.old) 1 names ≡ Result.Ok d
             → ShowsSound (P.region self.old.memory) self.old.sup held → node.links ≤ 1
             → StoresIn self.old.sup held (one_less self.old.sup cpu d i) (P.region self.old.memory) (P.region self.new.memory) }
         // The directory's tail is stored first: then that of the file, or the valid word where the file goes.
-        ensures in_order { (names : List (List ℕ)) (i d : ℕ) (node : Node) (held : Store) (h : Held) → IsPath path.now names → LeadsTo (tree_of (P.region self.old.memory) self.old.rows) names i node → walk (tree_of (P.region self.old.memory) self.old.rows) 1 names ≡ Result.Ok d
+        ensures in_order { (names : List (List ℕ)) (i d : ℕ) (node : Node) (held : Store) (h : Held) → IsPath path.now names → LeadsTo (shown P.region self.old) names i node → walk (shown P.region self.old) 1 names ≡ Result.Ok d
             → ShowsSound (P.region self.old.memory) self.old.sup held → held d ≡ Option.Some h → 1 < node.links
             → ShowsTailFirst (P.region self.old.memory) (P.region self.new.memory) self.old.sup self.old.free.pools cpu d h (name_entries Remove i (last_name names) time) (tail_address self.old.sup i) }
-        ensures last_in_order { (names : List (List ℕ)) (i d : ℕ) (node : Node) (held : Store) (h : Held) → IsPath path.now names → LeadsTo (tree_of (P.region self.old.memory) self.old.rows) names i node → walk (tree_of (P.region self.old.memory) self.old.rows) 1 names ≡ Result.Ok d
+        ensures last_in_order { (names : List (List ℕ)) (i d : ℕ) (node : Node) (held : Store) (h : Held) → IsPath path.now names → LeadsTo (shown P.region self.old) names i node → walk (shown P.region self.old) 1 names ≡ Result.Ok d
             → ShowsSound (P.region self.old.memory) self.old.sup held → held d ≡ Option.Some h → node.links ≤ 1
             → ShowsTailFirst (P.region self.old.memory) (P.region self.new.memory) self.old.sup self.old.free.pools cpu d h (name_entries Remove i (last_name names) time) (slot_address self.old.sup i) }
         // Whatever a stop leaves, at any exit: recovery finds what was mounted, or what the call makes, without faults.

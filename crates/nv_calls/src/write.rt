@@ -17,15 +17,17 @@ ghost use Rattle.nv_steps.specs.Writes.{plan_of};
 ghost use Rattle.nv_calls.specs.Same.{KeepsMount, SameMount};
 ghost use Rattle.nv_calls.specs.Effects.{LogsBytes, makes_bytes};
 ghost use Rattle.nv_calls.specs.Stopped.{LeavesCall};
-ghost use Rattle.nv_paths.specs.Seen.{LeadsTo, tree_of};
+ghost use Rattle.nv_paths.specs.Seen.{LeadsTo};
 ghost use Rattle.nv_calls.specs.World.{world_of};
 ghost use Rattle.nv_steps.specs.Stores.{StoresIn, one_log};
 ghost use Rattle.nv_calls.specs.WriteCall.{ShowsLogWrite, WriteNeeds};
+ghost use Rattle.nv_bytes.specs.Data.{data_bytes};
+ghost use Rattle.nv_calls.specs.Mount.{shown};
 
 use crate::Fs;
 use crate::sizes::resizable_at;
 use crate::writing::is_stop;
-use nv_bytes::NewBytes;
+use nv_bytes::{Data, NewBytes};
 use nv_region::Pmem;
 use nv_steps::{Plan, change_bytes};
 use nv_tree::Refusal;
@@ -63,13 +65,13 @@ impl<P: Pmem + Drop> Fs<P> {
     ) -> Result<(), Refusal>
         ensures stopped_before { IsTrue self.old.stopped → (result ≡ Result.Err RefusalValue.Stopped) × (self.new ≡ self.old) }
         ensures allowed { (p : Path) (count : ℕ) → Says path.now p → WriteNeeds (P.region self.old.memory) self.old cpu p offset (length bytes.now) time count
-            → OnOk result (first_refusal (write_tests (world_of self.old) (tree_of (P.region self.old.memory) self.old.rows) cpu p (offset + length bytes.now) count) ≡ Option.None) }
+            → OnOk result (first_refusal (write_tests (world_of self.old) (shown P.region self.old) cpu p (offset + length bytes.now) count) ≡ Option.None) }
         ensures refused { self.old.stopped ≡ false → (p : Path) (count : ℕ) → Says path.now p → WriteNeeds (P.region self.old.memory) self.old cpu p offset (length bytes.now) time count
-            → IfErr result (IsRefusedBy (first_refusal (write_tests (world_of self.old) (tree_of (P.region self.old.memory) self.old.rows) cpu p (offset + length bytes.now) count))) }
+            → IfErr result (IsRefusedBy (first_refusal (write_tests (world_of self.old) (shown P.region self.old) cpu p (offset + length bytes.now) count))) }
         ensures changed { (names : List (List ℕ)) → IsPath path.now names
-            → OnOk result (SameTree (tree_of (P.region self.new.memory) self.new.rows) (written names offset bytes.now time (tree_of (P.region self.old.memory) self.old.rows))) }
+            → OnOk result (SameTree (shown P.region self.new) (written names offset bytes.now time (shown P.region self.old))) }
         // The log of the inode has the write's entries more, and no other log has changed.
-        ensures log { (names : List (List ℕ)) (i : ℕ) (node : Node) (held : Store) (h : Held) → IsPath path.now names → LeadsTo (tree_of (P.region self.old.memory) self.old.rows) names i node
+        ensures log { (names : List (List ℕ)) (i : ℕ) (node : Node) (held : Store) (h : Held) → IsPath path.now names → LeadsTo (shown P.region self.old) names i node
             → ShowsSound (P.region self.old.memory) self.old.sup held → held i ≡ Option.Some h → 0 < length bytes.now
             → OnOk result (ShowsLogWrite (P.region self.new.memory) self.old cpu held i h (plan_of (block_of (good_in (fixed_layout self.old.sup) h)) node.size offset (length bytes.now) time)) }
         ensures nothing { length bytes.now ≡ 0 → OnOk result (self.new ≡ self.old) }
@@ -84,14 +86,56 @@ impl<P: Pmem + Drop> Fs<P> {
         // What was mounted with faults stays as it was.
         ensures read_only { IsTrue self.old.read_only → SameMount self.old self.new }
         // Every word outside these places is as it was.
-        ensures wrote { (names : List (List ℕ)) (i : ℕ) (node : Node) (held : Store) → IsPath path.now names → LeadsTo (tree_of (P.region self.old.memory) self.old.rows) names i node
+        ensures wrote { (names : List (List ℕ)) (i : ℕ) (node : Node) (held : Store) → IsPath path.now names → LeadsTo (shown P.region self.old) names i node
             → ShowsSound (P.region self.old.memory) self.old.sup held → StoresIn self.old.sup held (one_log self.old.sup i) (P.region self.old.memory) (P.region self.new.memory) }
         // Whatever a stop leaves, at any exit: recovery finds what was mounted, or what the call makes, without faults.
         ensures any_stop { (names : List (List ℕ)) → IsPath path.now names → self.old.stopped ≡ false → self.old.read_only ≡ false
             → LeavesOnly (P.region self.new.memory) (P.may_hold self.new.memory) (LeavesCall (makes_bytes offset bytes.now time) (LogsBytes cpu offset (length bytes.now) time) (P.region self.old.memory) self.old names) }
     {
+        self.write_data(cpu, path, offset, Data::Given(bytes), time)
+    }
+
+    /// Writes data, bytes or one byte many times, into the file that a path leads to, from an offset on. It is `write` of the
+    /// bytes that they are, and takes no memory for them; where no fuse is set, it keeps no more than a page of what it stores.
+    pub fn write_data(
+        &mut self,
+        cpu: u64,
+        path: &[u8],
+        offset: u64,
+        content: Data<'_>,
+        time: u64,
+    ) -> Result<(), Refusal>
+        ensures stopped_before { IsTrue self.old.stopped → (result ≡ Result.Err RefusalValue.Stopped) × (self.new ≡ self.old) }
+        ensures allowed { (p : Path) (count : ℕ) → Says path.now p → WriteNeeds (P.region self.old.memory) self.old cpu p offset (length (data_bytes content)) time count
+            → OnOk result (first_refusal (write_tests (world_of self.old) (shown P.region self.old) cpu p (offset + length (data_bytes content)) count) ≡ Option.None) }
+        ensures refused { self.old.stopped ≡ false → (p : Path) (count : ℕ) → Says path.now p → WriteNeeds (P.region self.old.memory) self.old cpu p offset (length (data_bytes content)) time count
+            → IfErr result (IsRefusedBy (first_refusal (write_tests (world_of self.old) (shown P.region self.old) cpu p (offset + length (data_bytes content)) count))) }
+        ensures changed { (names : List (List ℕ)) → IsPath path.now names
+            → OnOk result (SameTree (shown P.region self.new) (written names offset (data_bytes content) time (shown P.region self.old))) }
+        // The log of the inode has the write's entries more, and no other log has changed.
+        ensures log { (names : List (List ℕ)) (i : ℕ) (node : Node) (held : Store) (h : Held) → IsPath path.now names → LeadsTo (shown P.region self.old) names i node
+            → ShowsSound (P.region self.old.memory) self.old.sup held → held i ≡ Option.Some h → 0 < length (data_bytes content)
+            → OnOk result (ShowsLogWrite (P.region self.new.memory) self.old cpu held i h (plan_of (block_of (good_in (fixed_layout self.old.sup) h)) node.size offset (length (data_bytes content)) time)) }
+        ensures nothing { length (data_bytes content) ≡ 0 → OnOk result (self.new ≡ self.old) }
+        ensures unchanged { IfErr result (λ e. (e ≡ RefusalValue.Stopped → ⊥) → SameMount self.old self.new) }
+        ensures stopped { self.old.stopped ≡ false → (IsTrue self.new.stopped → (result ≡ Result.Err RefusalValue.Stopped) × IsTrue (P.fuse self.new.memory).has_burnt) × (result ≡ Result.Err RefusalValue.Stopped → IsTrue self.new.stopped) }
+        ensures keeps { KeepsMount self.old self.new }
+        ensures settled { 0 < length (data_bytes content) → OnOk result (NothingPending (P.region self.new.memory) (P.may_hold self.new.memory)) }
+        ensures length { size (P.region self.new.memory) ≡ size (P.region self.old.memory) }
+        ensures keeps_fuse { KeepsFuse (λ limit. size (P.region self.old.memory) ≤ limit) (P.fuse self.old.memory) (P.fuse self.new.memory) }
+        // Where the text is no path, all stays as it was.
+        ensures bad_text { ((names : List (List ℕ)) → IsPath path.now names → ⊥) → SameMount self.old self.new }
+        // What was mounted with faults stays as it was.
+        ensures read_only { IsTrue self.old.read_only → SameMount self.old self.new }
+        // Every word outside these places is as it was.
+        ensures wrote { (names : List (List ℕ)) (i : ℕ) (node : Node) (held : Store) → IsPath path.now names → LeadsTo (shown P.region self.old) names i node
+            → ShowsSound (P.region self.old.memory) self.old.sup held → StoresIn self.old.sup held (one_log self.old.sup i) (P.region self.old.memory) (P.region self.new.memory) }
+        // Whatever a stop leaves, at any exit: recovery finds what was mounted, or what the call makes, without faults.
+        ensures any_stop { (names : List (List ℕ)) → IsPath path.now names → self.old.stopped ≡ false → self.old.read_only ≡ false
+            → LeavesOnly (P.region self.new.memory) (P.may_hold self.new.memory) (LeavesCall (makes_bytes offset (data_bytes content) time) (LogsBytes cpu offset (length (data_bytes content)) time) (P.region self.old.memory) self.old names) }
+    {
         self.writable(cpu)?;
-        let count = bytes.len() as u64;
+        let count = content.len();
         let inode = resizable_at(&self.rows, path, offset.saturating_add(count))?.inode;
         if count == 0 {
             return Ok(());
@@ -101,7 +145,7 @@ impl<P: Pmem + Drop> Fs<P> {
         let plan = Plan::new(&row.index, size, offset, count, time);
         let change = NewBytes {
             offset,
-            bytes,
+            content,
             size,
         };
         let changed = change_bytes(

@@ -7,11 +7,11 @@ ghost use Rattle.nv_region.specs.Region.{region_of};
 ghost use Rattle.nv_text.specs.Refusals.{refusal_name};
 ghost use Rattle.nv_tree.specs.Path.{IsPath, Says};
 ghost use Rattle.nv_tree.specs.Refusals.{Path};
-ghost use Rattle.nv_session.specs.nv_paths.Seen.{tree_of};
 ghost use Rattle.nv_session.specs.nv_calls.Reading.{IsRead};
 ghost use Rattle.nv_checking.specs.Checking.{IsRefusal};
 ghost use Rattle.nv_cli.specs.Sent.{Sends, SendsFront, written};
 ghost use Rattle.nv_cli.specs.Looking.{IsLook, IsOpened, IsSized, ListsNames, TellsNumbers, GivesBytes, WritesLook, FailsLook, FailsCat, WritesCall, FailsCall, WritesFile, FailsFile, WritesRefusal, FailsRefusal};
+ghost use Rattle.nv_calls.specs.Mount.{shown};
 
 use nv_checking::{Answered, Image, recover_image};
 use nv_region::{ImageRegion, Pmem};
@@ -208,8 +208,8 @@ fn cat_file<P: Pmem + Drop, W: Write, E: Write>(
     errors: &mut E,
 ) -> Result<u8, ScriptError>
     requires { mount.now.stopped ≡ false }
-    ensures ok { (p : Path) → Says path.now p → IfOk result (λ status. WritesCall (tree_of (P.region mount.now.memory) mount.now.rows) p (written (W.contents writer.old) (E.contents errors.old)) (written (W.contents writer.new) (E.contents errors.new)) status) }
-    ensures err { (p : Path) → Says path.now p → IfErr result (λ e. FailsCall (tree_of (P.region mount.now.memory) mount.now.rows) p e (written (W.contents writer.old) (E.contents errors.old)) (written (W.contents writer.new) (E.contents errors.new))) }
+    ensures ok { (p : Path) → Says path.now p → IfOk result (λ status. WritesCall (shown P.region mount.now) p (written (W.contents writer.old) (E.contents errors.old)) (written (W.contents writer.new) (E.contents errors.new)) status) }
+    ensures err { (p : Path) → Says path.now p → IfErr result (λ e. FailsCall (shown P.region mount.now) p e (written (W.contents writer.old) (E.contents errors.old)) (written (W.contents writer.new) (E.contents errors.new))) }
 {
     // No bytes: the same tests.
     match mount.read(path, 0, 0) {
@@ -239,8 +239,8 @@ fn write_file<P: Pmem + Drop, W: Write>(
     writer: &mut W,
 ) -> Result<u8, ScriptError>
     ensures status { IfOk result (λ status. status ≡ 0) }
-    ensures ok { (names : List (List ℕ)) → IsPath path.now names → OnOk result (WritesFile (tree_of (P.region mount.now.memory) mount.now.rows) names (W.contents writer.old) (W.contents writer.new)) }
-    ensures err { (names : List (List ℕ)) → IsPath path.now names → IfErr result (λ e. FailsFile (tree_of (P.region mount.now.memory) mount.now.rows) names e (W.contents writer.old) (W.contents writer.new)) }
+    ensures ok { (names : List (List ℕ)) → IsPath path.now names → OnOk result (WritesFile (shown P.region mount.now) names (W.contents writer.old) (W.contents writer.new)) }
+    ensures err { (names : List (List ℕ)) → IsPath path.now names → IfErr result (λ e. FailsFile (shown P.region mount.now) names e (W.contents writer.old) (W.contents writer.new)) }
 {
     let size = file_size(mount, path)?;
     let mut at = 0;
@@ -255,7 +255,7 @@ fn write_file<P: Pmem + Drop, W: Write>(
 
 // How many bytes the file has that a path leads to.
 fn file_size<P: Pmem + Drop>(mount: &Fs<P>, path: &[u8]) -> Result<u64, AllocError>
-    ensures { (names : List (List ℕ)) → IsPath path.now names → IfOk result (IsSized (tree_of (P.region mount.now.memory) mount.now.rows) names) }
+    ensures { (names : List (List ℕ)) → IsPath path.now names → IfOk result (IsSized (shown P.region mount.now) names) }
 {
     match mount.stat(path) {
         Ok(stat) => Ok(stat.size),
@@ -270,7 +270,7 @@ fn file_piece<P: Pmem + Drop>(
     offset: u64,
     count: u64,
 ) -> Result<Vec<u8>, AllocError>
-    ensures { (names : List (List ℕ)) → IsPath path.now names → IfOk result (λ bytes. IsRead (tree_of (P.region mount.now.memory) mount.now.rows) names offset count bytes.items) }
+    ensures { (names : List (List ℕ)) → IsPath path.now names → IfOk result (λ bytes. IsRead (shown P.region mount.now) names offset count bytes.items) }
 {
     match mount.read(path, offset, count) {
         Ok(bytes) => Ok(bytes),

@@ -2,11 +2,11 @@
 
 ghost use Rattle.std.specs.Prelude.{◌≡◌, false, IfOk, IfErr, OnOk, string_bytes};
 ghost use Rattle.nv_region.specs.Region.{region_of};
-ghost use Rattle.nv_session.specs.nv_paths.Seen.{tree_of};
 ghost use Rattle.nv_session.specs.nv_calls.ByNumber.{IsInodeRead};
 ghost use Rattle.nv_cli.specs.Sent.{written};
 ghost use Rattle.nv_cli.specs.Looking.{IsLook, WritesLook, FailsLook, FailsCat};
 ghost use Rattle.nv_cli.specs.LookingByNumber.{ListsInodeNames, TellsInodeNumbers, GivesInodeBytes, IsInodeSized, WritesInode, FailsInode, WritesInodeCall, FailsInodeCall};
+ghost use Rattle.nv_calls.specs.Mount.{shown};
 
 use crate::looking::{
     Look, Opened, PIECE, open_image, refused_look, status_of, told_look, write_look, write_refusal,
@@ -116,8 +116,8 @@ fn cat_inode<P: Pmem + Drop, W: Write, E: Write>(
     errors: &mut E,
 ) -> Result<u8, ScriptError>
     requires { mount.now.stopped ≡ false }
-    ensures ok { IfOk result (λ status. WritesInodeCall (tree_of (P.region mount.now.memory) mount.now.rows) inode (written (W.contents writer.old) (E.contents errors.old)) (written (W.contents writer.new) (E.contents errors.new)) status) }
-    ensures err { IfErr result (λ e. FailsInodeCall (tree_of (P.region mount.now.memory) mount.now.rows) inode e (written (W.contents writer.old) (E.contents errors.old)) (written (W.contents writer.new) (E.contents errors.new))) }
+    ensures ok { IfOk result (λ status. WritesInodeCall (shown P.region mount.now) inode (written (W.contents writer.old) (E.contents errors.old)) (written (W.contents writer.new) (E.contents errors.new)) status) }
+    ensures err { IfErr result (λ e. FailsInodeCall (shown P.region mount.now) inode e (written (W.contents writer.old) (E.contents errors.old)) (written (W.contents writer.new) (E.contents errors.new))) }
 {
     // No bytes: the same tests.
     match mount.read_inode(inode, 0, 0) {
@@ -133,8 +133,8 @@ fn write_inode<P: Pmem + Drop, W: Write>(
     writer: &mut W,
 ) -> Result<u8, ScriptError>
     ensures status { IfOk result (λ status. status ≡ 0) }
-    ensures ok { OnOk result (WritesInode (tree_of (P.region mount.now.memory) mount.now.rows) inode (W.contents writer.old) (W.contents writer.new)) }
-    ensures err { IfErr result (λ e. FailsInode (tree_of (P.region mount.now.memory) mount.now.rows) inode e (W.contents writer.old) (W.contents writer.new)) }
+    ensures ok { OnOk result (WritesInode (shown P.region mount.now) inode (W.contents writer.old) (W.contents writer.new)) }
+    ensures err { IfErr result (λ e. FailsInode (shown P.region mount.now) inode e (W.contents writer.old) (W.contents writer.new)) }
 {
     let size = inode_size(mount, inode)?;
     let mut at = 0;
@@ -149,7 +149,7 @@ fn write_inode<P: Pmem + Drop, W: Write>(
 
 // How many bytes the file has.
 fn inode_size<P: Pmem + Drop>(mount: &Fs<P>, inode: u64) -> Result<u64, AllocError>
-    ensures { IfOk result (IsInodeSized (tree_of (P.region mount.now.memory) mount.now.rows) inode) }
+    ensures { IfOk result (IsInodeSized (shown P.region mount.now) inode) }
 {
     match mount.stat_inode(inode) {
         Ok(stat) => Ok(stat.size),
@@ -164,7 +164,7 @@ fn inode_piece<P: Pmem + Drop>(
     offset: u64,
     count: u64,
 ) -> Result<Vec<u8>, AllocError>
-    ensures { IfOk result (λ bytes. IsInodeRead (tree_of (P.region mount.now.memory) mount.now.rows) inode offset count bytes.items) }
+    ensures { IfOk result (λ bytes. IsInodeRead (shown P.region mount.now) inode offset count bytes.items) }
 {
     match mount.read_inode(inode, offset, count) {
         Ok(bytes) => Ok(bytes),

@@ -11,11 +11,7 @@ ghost use Rattle.nv_entry.specs.Content.{is_wrong_kind, is_out_of_range, is_writ
 
 use crate::entry::{AttrEntry, Entry, LinksEntry, WriteEntry};
 use crate::light::{LightEntry, LightName};
-use nv_super::{BLOCK_SIZE, Kind, Super};
-
-const MOST_PAGES: u64 = 262_144;
-
-const MOST_SIZE: u64 = 1_073_741_824;
+use nv_super::{BLOCK_SIZE, Kind, MOST_FILE_BYTES, MOST_FILE_PAGES, Super};
 
 const MOST_MODE: u32 = 4095;
 
@@ -124,13 +120,13 @@ fn is_write_out_of_range(sup: &Super, e: &WriteEntry) -> bool
 {
     let count = e.count as u64;
     // Each sum is made where both its parts are small, so none wraps. A last page that begins below a size of at most
-    // `MOST_SIZE` is below `MOST_PAGES`, so that needs no test of its own.
+    // `MOST_FILE_BYTES` is below `MOST_FILE_PAGES`, so that needs no test of its own.
     count == 0
-        || e.offset > MOST_PAGES
+        || e.offset > MOST_FILE_PAGES
         || e.block < sup.system_blocks()
         || e.block > sup.blocks
         || e.block + count > sup.blocks
-        || e.size > MOST_SIZE
+        || e.size > MOST_FILE_BYTES
         || (e.offset + count - 1) * BLOCK_SIZE >= e.size
 }
 
@@ -139,7 +135,7 @@ fn is_attr_out_of_range(kind: Kind, e: &AttrEntry) -> bool
 {
     e.mode > MOST_MODE
         || match kind {
-            Kind::File => e.size > MOST_SIZE,
+            Kind::File => e.size > MOST_FILE_BYTES,
             Kind::Directory => e.size != 0,
         }
 }

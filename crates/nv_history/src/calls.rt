@@ -5,11 +5,11 @@ ghost use Rattle.nv_region.specs.Region.{size};
 ghost use Rattle.nv_region.specs.Stops.{LeavesOnly};
 ghost use Rattle.nv_region.specs.Fuses.{KeepsFuse};
 ghost use Rattle.nv_tree.specs.declared.refusal.Refusal.{Refusal as RefusalValue};
-ghost use Rattle.nv_paths.specs.Seen.{tree_of};
 ghost use Rattle.nv_calls.specs.Same.{KeepsMount, SameMount};
 ghost use Rattle.nv_history.specs.Making.{IsMadeBy};
 ghost use Rattle.nv_history.specs.Asking.{RefusesCall};
 ghost use Rattle.nv_history.specs.Stopping.{BeforeOrMade};
+ghost use Rattle.nv_calls.specs.Mount.{shown};
 
 use nv_calls::Fs;
 use nv_region::Pmem;
@@ -91,7 +91,7 @@ pub enum Call<'a> {
 /// Makes a call.
 pub(crate) fn make_call<P: Pmem + Drop>(mount: &mut Fs<P>, call: &Call<'_>) -> Result<(), Refusal>
     ensures stopped_before { IsTrue mount.old.stopped → (result ≡ Result.Err RefusalValue.Stopped) × (mount.new ≡ mount.old) }
-    ensures made { OnOk result (IsMadeBy mount.old.sup call.now (tree_of (P.region mount.old.memory) mount.old.rows) (tree_of (P.region mount.new.memory) mount.new.rows)) }
+    ensures made { OnOk result (IsMadeBy mount.old.sup call.now (shown P.region mount.old) (shown P.region mount.new)) }
     ensures refused { mount.old.stopped ≡ false → IfErr result (RefusesCall (P.region mount.old.memory) mount.old call.now) }
     ensures unchanged { IfErr result (λ e. (e ≡ RefusalValue.Stopped → ⊥) → SameMount mount.old mount.new) }
     ensures stopped { mount.old.stopped ≡ false → (IsTrue mount.new.stopped → (result ≡ Result.Err RefusalValue.Stopped) × IsTrue (P.fuse mount.new.memory).has_burnt) × (result ≡ Result.Err RefusalValue.Stopped → IsTrue mount.new.stopped) }
@@ -100,7 +100,7 @@ pub(crate) fn make_call<P: Pmem + Drop>(mount: &mut Fs<P>, call: &Call<'_>) -> R
     ensures keeps_fuse { KeepsFuse (λ limit. size (P.region mount.old.memory) ≤ limit) (P.fuse mount.old.memory) (P.fuse mount.new.memory) }
     // Whatever a stop leaves, at any exit: recovery finds what was mounted, or what the call makes, without faults.
     ensures any_stop { mount.old.stopped ≡ false → mount.old.read_only ≡ false
-        → LeavesOnly (P.region mount.new.memory) (P.may_hold mount.new.memory) (BeforeOrMade mount.old.sup call.now (tree_of (P.region mount.old.memory) mount.old.rows)) }
+        → LeavesOnly (P.region mount.new.memory) (P.may_hold mount.new.memory) (BeforeOrMade mount.old.sup call.now (shown P.region mount.old)) }
 {
     // What a stop leaves of a call that stores nothing.
     mount.recovers_as_mounted();

@@ -5,11 +5,11 @@ ghost use Rattle.nv_region.specs.Region.{size};
 ghost use Rattle.nv_region.specs.Stops.{LeavesOnly};
 ghost use Rattle.nv_region.specs.Fuses.{KeepsFuse};
 ghost use Rattle.nv_tree.specs.declared.refusal.Refusal.{Refusal as RefusalValue};
-ghost use Rattle.nv_paths.specs.Seen.{tree_of};
 ghost use Rattle.nv_calls.specs.Same.{KeepsMount, SameMount};
 ghost use Rattle.nv_history.specs.Making.{AreMade};
 ghost use Rattle.nv_history.specs.Halting.{HaltsAt};
 ghost use Rattle.nv_history.specs.Stopping.{RunLeaves};
+ghost use Rattle.nv_calls.specs.Mount.{shown};
 
 use crate::calls::{Call, make_call};
 use nv_calls::Fs;
@@ -40,10 +40,10 @@ impl fmt::Display for Halted {
 /// recovery finds what was made with that call or without it.
 pub fn make_calls<P: Pmem + Drop>(mount: &mut Fs<P>, calls: &[Call<'_>]) -> Result<(), Halted>
     // All were made, or one after those that were made is refused.
-    ensures made { OnOk result (AreMade mount.old.sup calls.now (tree_of (P.region mount.old.memory) mount.old.rows) (tree_of (P.region mount.new.memory) mount.new.rows)) }
+    ensures made { OnOk result (AreMade mount.old.sup calls.now (shown P.region mount.old) (shown P.region mount.new)) }
     ensures before { IfErr result (λ halted. halted.made < length calls.now) }
     ensures halted { IfErr result (λ halted. (halted.refusal ≡ RefusalValue.Stopped → ⊥)
-        → HaltsAt mount.old.sup (tree_of (P.region mount.old.memory) mount.old.rows) calls.now halted (P.region mount.new.memory) mount.new) }
+        → HaltsAt mount.old.sup (shown P.region mount.old) calls.now halted (P.region mount.new.memory) mount.new) }
     ensures unchanged { IfErr result (λ halted. (halted.refusal ≡ RefusalValue.Stopped → ⊥) → halted.made ≡ 0 → SameMount mount.old mount.new) }
 
     // A mount that was stopped before stays as it was, and no call is made.
@@ -59,7 +59,7 @@ pub fn make_calls<P: Pmem + Drop>(mount: &mut Fs<P>, calls: &[Call<'_>]) -> Resu
     // Whatever a power cut leaves, at any store of any of the calls: recovery finds what the calls that were made make, or
     // what they make with the one that was stopped, without faults, however often recoveries are stopped too.
     ensures any_stop { mount.old.stopped ≡ false → mount.old.read_only ≡ false
-        → LeavesOnly (P.region mount.new.memory) (P.may_hold mount.new.memory) (RunLeaves mount.old.sup calls.now (tree_of (P.region mount.old.memory) mount.old.rows) result) }
+        → LeavesOnly (P.region mount.new.memory) (P.may_hold mount.new.memory) (RunLeaves mount.old.sup calls.now (shown P.region mount.old) result) }
 {
     for (made, call) in calls.iter().enumerate() {
         // What a stop leaves where the call is refused.

@@ -8,13 +8,11 @@ ghost use Rattle.nv_region.specs.Stops.{NothingPending};
 ghost use Rattle.nv_lent.specs.WordsState.{as_it_reads, never_burns, region_over};
 
 use byteorder::{ByteOrder, LittleEndian};
-use nv_region::{MOST_BLOCKS, Pmem, RegionRefusal, Stopped};
+use nv_region::{MOST_BLOCKS, MOST_BYTES, Pmem, RegionRefusal, Stopped};
 use std::alloc::{AllocError, Global};
 use std::marker::Model;
 
-const MOST_WORDS: usize = 1 << 27;
-
-const MOST_BYTES: usize = 1 << 30;
+const MOST_WORDS: usize = MOST_BYTES / 8;
 
 const WORDS_IN_BLOCK: usize = 512;
 

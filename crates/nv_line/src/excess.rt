@@ -5,6 +5,7 @@ ghost use Rattle.nv_line.specs.Excess.{most_at, exceeds, large_at, first_large, 
 
 use crate::numeral::{is_numeral, read_number};
 use crate::reasons::{Excess, Form};
+use nv_super::MOST_FILE_BYTES;
 use std::alloc::{AllocError, Global};
 
 /// The most that a number may be that stands at this place among the words of a command, whose name is word 1. None where no
@@ -22,7 +23,7 @@ fn most_at(form: Form, place: u64) -> Option<u64>
         }
         Form::SetSize | Form::Write | Form::SetAttributes if place == 3 => None,
         Form::Stop if place != 3 => None,
-        Form::Write if place == 5 => Some(1_073_741_824),
+        Form::Write if place == 5 => Some(MOST_FILE_BYTES),
         Form::Write if place == 6 => Some(255),
         Form::SetAttributes if place > 3 => Some(4_294_967_295),
         _ => Some(u64::MAX),

@@ -11,6 +11,7 @@ use crate::shapes::{
     cpu_and_path, cpu_and_two_paths, fuse, keep, no_words, number_up_to, numbers, one_number,
     one_path, path, small_number,
 };
+use nv_super::MOST_FILE_BYTES;
 use std::alloc::{AllocError, Global};
 
 #[tactic(auto, unfolding(crate::specs::Reading::request_by))]
@@ -134,7 +135,7 @@ pub(crate) fn write<'a>(words: &[&'a [u8]]) -> Option<Command<'a>>
         cpu: read_number(cpu)?,
         path: path(name)?,
         offset: read_number(offset)?,
-        count: number_up_to(1073741824, count)?,
+        count: number_up_to(MOST_FILE_BYTES, count)?,
         byte: number_up_to(255, byte)? as u8,
     })
 }

@@ -12,15 +12,13 @@ ghost use Rattle.nv_region.specs.Stops.{NothingPending, NoneAdded, Adds, One};
 ghost use Rattle.nv_region.specs.Fuses.{KeepsFuse};
 ghost use Rattle.nv_region.specs.ImageState.{as_it_reads, is_open_to, fuse_state, open_not_burnt};
 
-use crate::memory::RegionRefusal;
+use crate::memory::{MOST_BYTES, RegionRefusal};
 use crate::{Pmem, Stopped};
 use byteorder::{ByteOrder, LittleEndian};
 use std::alloc::{AllocError, Global};
 use std::marker::Model;
 
 const WORDS_IN_BLOCK: u64 = 512;
-
-const MOST_BYTES: usize = 1 << 30;
 
 /// A region over borrowed bytes. Contracts see its words, the length of its front, and whether a store was refused.
 #[derive(Drop)]

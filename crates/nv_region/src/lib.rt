@@ -5,6 +5,7 @@
 #![tactic(auto)]
 
 mod image;
+mod keeping;
 mod memory;
 mod pieces;
 mod pmem;
@@ -13,7 +14,7 @@ mod stored;
 mod words;
 
 pub use image::ImageRegion;
-pub use memory::{Fuse, Keep, MOST_BLOCKS, MemRegion, RegionRefusal};
+pub use memory::{Fuse, Keep, MOST_BLOCKS, MOST_BYTES, MemRegion, RegionRefusal};
 pub use pieces::RegionBytes;
 pub use pmem::{Pmem, Stopped};
 pub use words::{commit_word, store_word};

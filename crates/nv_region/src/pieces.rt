@@ -12,14 +12,12 @@ ghost use Rattle.nv_region.specs.Region.{size, word, region_of, bytes_of, words_
 ghost use Rattle.nv_region.specs.Stops.{NothingPending};
 ghost use Rattle.nv_region.specs.RegionState.{fenced_or_last};
 
-use crate::memory::{Fuse, MemRegion, RegionRefusal};
+use crate::memory::{Fuse, MOST_BYTES, MemRegion, RegionRefusal};
 use byteorder::{ByteOrder, LittleEndian};
 use std::alloc::{AllocError, Global};
 use std::io;
 use std::io::{ErrorKind, Write};
 use std::marker::Model;
-
-const MOST_BYTES: usize = 1 << 30;
 
 // How many words of a region are written at a time: 128 KiB.
 const WORDS_IN_PIECE: usize = 16_384;

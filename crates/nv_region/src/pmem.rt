@@ -83,6 +83,14 @@ pub trait Pmem {
         ensures stopped { is_err result ≡ (fuse self.new).has_burnt }
         ensures keeps_fuse { KeepsFuse (λ limit. 0 ≤ limit) (fuse self.old) (fuse self.new) };
 
+    /// Lets go of what is kept for a stop, where no fuse is set: none can come then. So a long row of stores holds little
+    /// memory. No word changes, and a stop may leave no more than before. A memory that keeps nothing does nothing.
+    fn forget_if_steady(&mut self)
+        ensures same { region self.new ≡ region self.old }
+        ensures kept { NoneAdded (may_hold self.old) (may_hold self.new) }
+        ensures fuse { fuse self.new ≡ fuse self.old }
+    {}
+
     /// A memory without a fuse hasn't burnt.
     ghost unburnt: { (m : Self) → IsTrue (fuse m).is_steady → (fuse m).has_burnt ≡ false };
 

@@ -350,21 +350,6 @@ module _ (asks : ℕ → Asks) (makes : ℕ → Makes ⊤) (logs : ℕ → Logs 
       → SettlesCall (λ done. ok_line) n answer mid text new → Moves (CallsSo (not (is_off fuse))) old text new
   called_moves = telling_moves (λ (done : Unit {0}). ok_line) asks makes (λ time done. logs time) logs path
 
-  -- a call that no fuse could stop moves as one that a fuse could
-  pub calm_moves : (armed : Bool) (old new : Session) (text : List ℕ) → Moves (CallsSo false) old text new → Moves (CallsSo armed) old text new
-  calm_moves armed old new text moves = λ state stands. (let w = moves state stands in (w.0, calm state w.0 w.1, w.2)) where
-    calm : (state next : State) → CallsSo false state text next → CallsSo armed state text next
-    calm state next (inl done) = inl done
-    calm state next (inr ends) = absurd (let never = ends.0 in cc)
-
--- without a fuse nothing is stopped
-pub never_stops : (there m n : Mount RegionState) → m ≡ with_fuse fuses.Off there → (IsTrue (is_steady m.memory) → IsTrue (is_steady n.memory)) → (IsTrue n.stopped → IsTrue n.memory.burnt) → IsTrue n.stopped → ⊥
-never_stops there m n is steady burns stops =
-    let before : IsTrue (is_steady m.memory) = subst (λ (k : Mount RegionState). IsTrue (is_steady k.memory)) (sym is) refl in
-    let after : n.memory.burnt ≡ false = steady_unburnt n.memory (steady before) in
-    let burnt : n.memory.burnt ≡ true = burns stops in
-    (cc)
-
 -- A call by two paths, where it is one by the first for whatever the second says.
 pub two_moves : (asks : Path → Asks) (makes : ℕ → Path → Makes ⊤) (logs : ℕ → Path → Logs ⊤) (path other : List ℕ) (armed : Bool) (old new : Session) (text : List ℕ)
     → ((q : Path) → Says other q → Moves (λ state said next. Calls armed (asks q) (makes state.time q) (logs state.time q) path state said next) old text new)

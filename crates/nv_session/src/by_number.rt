@@ -2,9 +2,9 @@
 
 ghost use Rattle.std.specs.Prelude.{◌≡◌, false, is_some, IfOk, string_bytes};
 ghost use Rattle.nv_tree.specs.Refusals.{first_refusal};
-ghost use Rattle.nv_paths.specs.Seen.{tree_of};
 ghost use Rattle.nv_calls.specs.ByNumber.{list_inode_tests, stat_inode_tests};
 ghost use Rattle.nv_session.specs.ByNumber.{TellsInodeNames, TellsInodeStat};
+ghost use Rattle.nv_calls.specs.Mount.{shown};
 
 use crate::files::{CallText, answered, lines_text, numbers_text, refused};
 use nv_calls::Fs;
@@ -20,8 +20,8 @@ pub fn list_inode_text<P: Pmem + Drop>(
     mount: &Fs<P>,
     inode: u64,
 ) -> Result<CallText, AllocError>
-    ensures text { IfOk result (λ told. mount.now.stopped ≡ false → TellsInodeNames (tree_of (P.region mount.now.memory) mount.now.rows) inode (string_bytes told.text)) }
-    ensures refused { IfOk result (λ told. mount.now.stopped ≡ false → told.is_refused ≡ is_some (first_refusal (list_inode_tests (tree_of (P.region mount.now.memory) mount.now.rows) inode))) }
+    ensures text { IfOk result (λ told. mount.now.stopped ≡ false → TellsInodeNames (shown P.region mount.now) inode (string_bytes told.text)) }
+    ensures refused { IfOk result (λ told. mount.now.stopped ≡ false → told.is_refused ≡ is_some (first_refusal (list_inode_tests (shown P.region mount.now) inode))) }
 {
     match mount.list_inode(inode) {
         Ok(listed) => Ok(answered(lines_text(alloc, &listed)?)),
@@ -37,8 +37,8 @@ pub fn stat_inode_text<P: Pmem + Drop>(
     mount: &Fs<P>,
     inode: u64,
 ) -> Result<CallText, AllocError>
-    ensures text { IfOk result (λ told. mount.now.stopped ≡ false → TellsInodeStat (tree_of (P.region mount.now.memory) mount.now.rows) inode (string_bytes told.text)) }
-    ensures refused { IfOk result (λ told. mount.now.stopped ≡ false → told.is_refused ≡ is_some (first_refusal (stat_inode_tests (tree_of (P.region mount.now.memory) mount.now.rows) inode))) }
+    ensures text { IfOk result (λ told. mount.now.stopped ≡ false → TellsInodeStat (shown P.region mount.now) inode (string_bytes told.text)) }
+    ensures refused { IfOk result (λ told. mount.now.stopped ≡ false → told.is_refused ≡ is_some (first_refusal (stat_inode_tests (shown P.region mount.now) inode))) }
 {
     match mount.stat_inode(inode) {
         Ok(stat) => Ok(answered(numbers_text(alloc, stat)?)),

@@ -2,23 +2,15 @@
 //! call, and puts back the mount, or what a stop has left.
 
 ghost use Rattle.std.specs.Prelude.{◌≡◌, ◌+◌, ℕ, List, false, IsTrue, IfOk, IfErr, OnOk, Err};
-ghost use Rattle.nv_region.specs.Region.{size};
-ghost use Rattle.nv_region.specs.RegionState.{is_steady};
-ghost use Rattle.nv_tree.specs.Path.{IsPath, Says};
-ghost use Rattle.nv_tree.specs.Refusals.{IsRefusedBy, Path, first_refusal, write_tests};
 ghost use Rattle.nv_tree.specs.declared.refusal.Refusal.TheVariants as refusals;
 ghost use Rattle.nv_calls.specs.Mount.{IsKept};
-ghost use Rattle.nv_calls.specs.Same.{KeepsMount, SameMount};
-ghost use Rattle.nv_paths.specs.Seen.{tree_of};
-ghost use Rattle.nv_calls.specs.World.{world_of};
-ghost use Rattle.nv_calls.specs.WriteCall.{WriteNeeds};
 
 use crate::files::refused_call_text;
 use crate::session::Session;
 use crate::stop::Stop;
 use crate::store::Store;
 use crate::texts::{cleaned_text, ok_text, stopped_text};
-use nv_calls::Fs;
+use nv_calls::{Data, Fs};
 use nv_region::{Fuse, Keep, MemRegion};
 use nv_report::refused_text;
 use nv_text::Refusal;
@@ -81,19 +73,12 @@ impl Session {
     ) -> Result<String, AllocError>
         ensures { IfOk result (λ text. Moves (Writes (is_armed stop) cpu path.now offset count byte) self.old (string_bytes text) self.new) }
     {
-        // Without a fuse the test isn't stopped.
-        let Some(mut mount) = self.take_mount(Fuse::Off) else {
+        let Some(mut mount) = self.take_mount(stop.fuse) else {
             return refused_text(alloc, Refusal::NotMounted);
         };
-        match test_write(&mut mount, cpu, path, offset, count, self.time) {
-            Ok(()) => {
-                mount.set_fuse(stop.fuse);
-                let bytes = vec![in alloc; byte; count as usize]?;
-                let answer = mount.write(cpu, path, offset, &bytes, self.time);
-                self.settle_call(alloc, mount, answer, stop.keep)
-            }
-            Err(refusal) => self.settle_call(alloc, mount, Err(refusal), stop.keep),
-        }
+        let content = Data::Same { byte, count };
+        let answer = mount.write_data(cpu, path, offset, content, self.time);
+        self.settle_call(alloc, mount, answer, stop.keep)
     }
 
     pub(crate) fn set_size(
@@ -292,33 +277,4 @@ impl Session {
         mount.set_fuse(Fuse::Off);
         self.hold(Store::Mounted(mount));
     }
-}
-
-// Tests a write of so many bytes before they are made, and changes nothing. What passes is refused for the blocks of its log,
-// or for want of memory, or isn't.
-fn test_write(
-    mount: &mut Fs<MemRegion>,
-    cpu: u64,
-    path: &[u8],
-    offset: u64,
-    count: u64,
-    time: u64,
-) -> Result<(), CallRefusal>
-    ensures passed { OnOk result (mount.new ≡ mount.old) }
-    ensures refused { mount.old.stopped ≡ false → (p : Path) (blocks : ℕ) → Says path.now p → WriteNeeds mount.old.memory.region mount.old cpu p offset count time blocks
-        → IfErr result (IsRefusedBy (first_refusal (write_tests (world_of mount.old) (tree_of mount.old.memory.region mount.old.rows) cpu p (offset + count) blocks))) }
-    ensures unchanged { IfErr result (λ e. (e ≡ refusals.Stopped → ⊥) → SameMount mount.old mount.new) }
-    ensures stopped { mount.old.stopped ≡ false → (IsTrue mount.new.stopped → (result ≡ Err refusals.Stopped) × IsTrue mount.new.memory.burnt) × (result ≡ Err refusals.Stopped → IsTrue mount.new.stopped) }
-    ensures keeps { KeepsMount mount.old mount.new }
-    ensures read_only { IsTrue mount.old.read_only → SameMount mount.old mount.new }
-    ensures bad_text { ((names : List (List ℕ)) → IsPath path.now names → ⊥) → SameMount mount.old mount.new }
-    ensures length { size mount.new.memory.region ≡ size mount.old.memory.region }
-    ensures steady { IsTrue (is_steady mount.old.memory) → IsTrue (is_steady mount.new.memory) }
-{
-    // No bytes where these would end: the same tests but that for space.
-    mount.write(cpu, path, offset.saturating_add(count), &[], time)?;
-    if count / 4096 > mount.free().free_blocks() {
-        return Err(CallRefusal::NoSpace);
-    }
-    Ok(())
 }

@@ -10,6 +10,7 @@ ghost use Rattle.nv_tree.specs.declared.refusal.Refusal.TheVariants as refusals;
 ghost use Rattle.nv_paths.specs.Seen.{tree_of};
 ghost use Rattle.nv_calls.specs.Listing.{name_and_inode};
 ghost use Rattle.nv_session.specs.Machine.{attributes_of, list_lines, TellsNames, TellsStat, TellsBytes};
+ghost use Rattle.nv_calls.specs.Mount.{shown};
 
 use nv_calls::{Fs, Stat};
 use nv_names::Named;
@@ -35,8 +36,8 @@ pub fn list_text<P: Pmem + Drop>(
     mount: &Fs<P>,
     path: &[u8],
 ) -> Result<CallText, AllocError>
-    ensures text { IfOk result (λ told. mount.now.stopped ≡ false → (p : Path) → Says path.now p → TellsNames (tree_of (P.region mount.now.memory) mount.now.rows) p (string_bytes told.text)) }
-    ensures refused { IfOk result (λ told. mount.now.stopped ≡ false → (p : Path) → Says path.now p → told.is_refused ≡ is_some (first_refusal (list_tests (tree_of (P.region mount.now.memory) mount.now.rows) p))) }
+    ensures text { IfOk result (λ told. mount.now.stopped ≡ false → (p : Path) → Says path.now p → TellsNames (shown P.region mount.now) p (string_bytes told.text)) }
+    ensures refused { IfOk result (λ told. mount.now.stopped ≡ false → (p : Path) → Says path.now p → told.is_refused ≡ is_some (first_refusal (list_tests (shown P.region mount.now) p))) }
 {
     match mount.list(path) {
         Ok(listed) => Ok(answered(lines_text(alloc, &listed)?)),
@@ -53,8 +54,8 @@ pub fn stat_text<P: Pmem + Drop>(
     mount: &Fs<P>,
     path: &[u8],
 ) -> Result<CallText, AllocError>
-    ensures text { IfOk result (λ told. mount.now.stopped ≡ false → (p : Path) → Says path.now p → TellsStat (tree_of (P.region mount.now.memory) mount.now.rows) p (string_bytes told.text)) }
-    ensures refused { IfOk result (λ told. mount.now.stopped ≡ false → (p : Path) → Says path.now p → told.is_refused ≡ is_some (first_refusal (stat_tests (tree_of (P.region mount.now.memory) mount.now.rows) p))) }
+    ensures text { IfOk result (λ told. mount.now.stopped ≡ false → (p : Path) → Says path.now p → TellsStat (shown P.region mount.now) p (string_bytes told.text)) }
+    ensures refused { IfOk result (λ told. mount.now.stopped ≡ false → (p : Path) → Says path.now p → told.is_refused ≡ is_some (first_refusal (stat_tests (shown P.region mount.now) p))) }
 {
     match mount.stat(path) {
         Ok(stat) => Ok(answered(numbers_text(alloc, stat)?)),

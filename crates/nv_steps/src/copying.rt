@@ -30,7 +30,7 @@ use crate::blocks::take_blocks;
 use crate::giving::give_block;
 use crate::settling::{numbers_with, settle_log};
 use nv_alloc::{AllocRefusal, Allocators};
-use nv_bytes::{NewBytes, store_page};
+use nv_bytes::{Data, NewBytes, store_page};
 use nv_commit::{Extension, extend_log};
 use nv_entry::{AttrEntry, Entry, WriteEntry};
 use nv_logpage::pages_needed;
@@ -195,13 +195,13 @@ fn copy_page<P: Pmem>(memory: &mut P, from: u64, to: u64, bytes: u64) -> Result<
 {
     let copy = NewBytes {
         offset: 0,
-        bytes: &[],
+        content: Data::Given(&[]),
         size: bytes,
     };
     let stored = store_page(memory, Some(from), to, bytes / BLOCK_SIZE, &copy);
     let NewBytes {
         offset: _,
-        bytes: _,
+        content: _,
         size: _,
     } = copy;
     stored

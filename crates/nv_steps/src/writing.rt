@@ -17,6 +17,7 @@ ghost use Rattle.nv_steps.specs.Stopped.{Wrote};
 ghost use Rattle.nv_steps.specs.Stores.{StoresIn, one_log};
 ghost use Rattle.nv_steps.specs.Writes.{NeedsBlocks, plan_of};
 ghost use Rattle.nv_steps.specs.Written.{FileStands, RefusesWrite, WritesFile};
+ghost use Rattle.nv_bytes.specs.Data.{data_bytes};
 
 use crate::giving::give_all;
 use crate::planning::Plan;
@@ -50,11 +51,11 @@ pub fn change_bytes<P: Pmem>(
     requires stands { StandsRight (P.region memory.old) sup.now free.old row.old }
     requires kind { row.old.kind ≡ KindValue.File }
     requires file { FileStands (P.region memory.old) sup.now free.old row.old }
-    requires some { 0 < length change.now.bytes.now }
-    requires fits { change.now.offset + length change.now.bytes.now ≤ 1073741824 }
+    requires some { 0 < length (data_bytes change.now.content) }
+    requires fits { change.now.offset + length (data_bytes change.now.content) ≤ 1073741824 }
     requires size { change.now.size ≡ row.old.numbers.size }
-    requires plan { plan.now ≡ plan_of (block_at row.old.index) row.old.numbers.size change.now.offset (length change.now.bytes.now) plan.now.time }
-    ensures writes { OnOk result (WritesFile (P.region memory.old) (P.region memory.new) sup.now free.old free.new cpu plan.now change.now.offset change.now.bytes.now row.old row.new) }
+    requires plan { plan.now ≡ plan_of (block_at row.old.index) row.old.numbers.size change.now.offset (length (data_bytes change.now.content)) plan.now.time }
+    ensures writes { OnOk result (WritesFile (P.region memory.old) (P.region memory.new) sup.now free.old free.new cpu plan.now change.now.offset (data_bytes change.now.content) row.old row.new) }
     ensures enough { OnOk result ((count : ℕ) → NeedsBlocks free.old.pools cpu row.old.tail plan.now count → count ≤ all_blocks free.old.pools) }
     ensures settled { OnOk result (NothingPending (P.region memory.new) (P.may_hold memory.new)) }
     ensures refused { IfErr result (λ e. RefusesWrite e free.old cpu row.old.tail plan.now) }
@@ -69,7 +70,7 @@ pub fn change_bytes<P: Pmem>(
         → StoresIn sup.now held (one_log sup.now row.old.inode) (P.region memory.old) (P.region memory.new) }
     // What a stop leaves, at any exit.
     ensures any_stop { (held : Store) (h : Held) → ShowsRow (P.region memory.old) sup.now held h row.old free.old → NothingPending (P.region memory.old) (P.may_hold memory.old)
-        → LeavesOnly (P.region memory.new) (P.may_hold memory.new) (LeavesEither (P.region memory.old) (fixed_layout sup.now) held (Wrote (P.region memory.old) sup.now free.old cpu plan.now change.now.offset change.now.bytes.now row.old)) }
+        → LeavesOnly (P.region memory.new) (P.may_hold memory.new) (LeavesEither (P.region memory.old) (fixed_layout sup.now) held (Wrote (P.region memory.old) sup.now free.old cpu plan.now change.now.offset (data_bytes change.now.content) row.old)) }
 {
     let ready = match prepare_data(alloc, free, cpu, row, plan) {
         Ok(ready) => ready,

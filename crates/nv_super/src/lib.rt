@@ -17,6 +17,6 @@ pub use nv_region::{MOST_BLOCKS, Pmem, Stopped, store_word};
 pub use owners::{Owner, Run};
 pub use sorting::{sort_claims, sort_faults};
 pub use superblock::{
-    BLOCK_SIZE, LEAST_BLOCKS, MAGIC, MOST_CPUS, MOST_TABLE_BLOCKS, SLOT_SIZE, Super, SuperFault,
-    read_super, write_super,
+    BLOCK_SIZE, LEAST_BLOCKS, MAGIC, MOST_CPUS, MOST_FILE_BYTES, MOST_FILE_PAGES,
+    MOST_TABLE_BLOCKS, SLOT_SIZE, Super, SuperFault, read_super, write_super,
 };

@@ -32,6 +32,12 @@ pub const MOST_TABLE_BLOCKS: u64 = 64;
 /// The bytes of an inode's slot.
 pub const SLOT_SIZE: u64 = 128;
 
+/// The most pages of a file.
+pub const MOST_FILE_PAGES: u64 = 262_144;
+
+/// The most bytes of a file.
+pub const MOST_FILE_BYTES: u64 = MOST_FILE_PAGES * BLOCK_SIZE;
+
 /// The numbers of a superblock: the layout's version, CPUs, blocks of the region, table blocks for each CPU, and the
 /// state, which is shown and never used.
 #[derive(Clone, Copy, Debug, PartialEq, Eq)]

@@ -12,6 +12,7 @@ use Rattle.nv_bytes.specs.Storing.{InBlocks}
 use Rattle.nv_held.proofs.BytesKept.{byte_stays}
 use Rattle.nv_bytes.proofs.StoredPages.{at_some, words_more, words_hold, none_below}
 use Rattle.nv_bytes.proofs.storing.store_mixed_page.Goals as goal
+use Rattle.nv_bytes.specs.Data.{data_bytes}
 
 pub loop-k-preserved : goal.loop-k-preserved
 loop-k-preserved g c =
@@ -19,10 +20,10 @@ loop-k-preserved g c =
     let short : length (g.P.Pmem.region c.loop-k.memory).rest < 8 = omega (arith, c.len-length.ensures.short, ap length c.loop-k.invariant.wrote.mixed.same_rest) in
     record {
       made =
-          words_more (g.P.Pmem.region c.loop-k.memory) (g.P.Pmem.region c.store_words.new.self) (byte_after c.args.change.now.offset c.args.change.now.bytes.now c.args.change.now.size (byte_in (g.P.Pmem.region c.args.memory.now) c.args.from))
+          words_more (g.P.Pmem.region c.loop-k.memory) (g.P.Pmem.region c.store_words.new.self) (byte_after c.args.change.now.offset (data_bytes c.args.change.now.content) c.args.change.now.size (byte_in (g.P.Pmem.region c.args.memory.now) c.args.from))
           c.args.to c.args.page c.loop-k.k c.next_line-line.result c.loop-k.invariant.made (c.in_ok-store_words.ensures.stored ∙ ap (put_words (g.P.Pmem.region c.loop-k.memory) (c.args.to * 4096 + 64 * c.loop-k.k) c.next_line-line.result) eight) (omega (arith, c.requires.to, c.loop-k.invariant.len, c.loop-k-test.true)) short
           (λ j i low few. c.next_line-line.ensures j i low few
-          ∙ ap (λ (b : ℕ). byte_after c.args.change.now.offset c.args.change.now.bytes.now c.args.change.now.size (λ y. b) (c.args.page * 4096 + 64 * c.loop-k.k + 8 * j + i))
+          ∙ ap (λ (b : ℕ). byte_after c.args.change.now.offset (data_bytes c.args.change.now.content) c.args.change.now.size (λ y. b) (c.args.page * 4096 + 64 * c.loop-k.k + 8 * j + i))
           (byte_stays (g.P.Pmem.region c.args.memory.now) (g.P.Pmem.region c.loop-k.memory) (InBlocks (λ b. b ≡ c.args.to)) c.args.from (c.args.page * 4096 + 64 * c.loop-k.k + 8 * j + i) c.loop-k.invariant.wrote.mixed
           (λ b is n v w t. at_some (λ x. x ≢ c.args.to) c.args.from b c.requires.apart is (sym w ∙ t))));
       wrote = stores_more _ _ _ _ _ _ _ _ (λ i v t. omega (arith, t.0, t.1, c.loop-k-test.true, eight)) c.loop-k.invariant.wrote
@@ -40,7 +41,7 @@ returns-in_err-store_words-clause-wrote g c =
 
 pub returns-clause-stored : goal.returns-clause-stored
 returns-clause-stored g c =
-    words_hold (g.P.Pmem.region c.loop-k.memory) (byte_after c.args.change.now.offset c.args.change.now.bytes.now c.args.change.now.size (byte_in (g.P.Pmem.region c.args.memory.now) c.args.from)) c.args.to c.args.page
+    words_hold (g.P.Pmem.region c.loop-k.memory) (byte_after c.args.change.now.offset (data_bytes c.args.change.now.content) c.args.change.now.size (byte_in (g.P.Pmem.region c.args.memory.now) c.args.from)) c.args.to c.args.page
     (λ j i below few. c.loop-k.invariant.made j i (omega (arith, below, c.loop-k-test.false)) few)
 
 pub returns-in_err-store_words-clause-stopped : goal.returns-in_err-store_words-clause-stopped
@@ -62,7 +63,7 @@ next_line-line-requires-clause-small g c = c.requires.small
 
 pub loop-k-init : goal.loop-k-init
 loop-k-init g c = record {
-  made = λ j i low few. none_below (λ (j : ℕ). byte_of_word (word (g.P.Pmem.region c.args.memory.now) (c.args.to * 4096 + 8 * j)) i ≡ byte_after c.args.change.now.offset c.args.change.now.bytes.now c.args.change.now.size (byte_in (g.P.Pmem.region c.args.memory.now) c.args.from) (c.args.page * 4096 + 8 * j + i)) j low;
+  made = λ j i low few. none_below (λ (j : ℕ). byte_of_word (word (g.P.Pmem.region c.args.memory.now) (c.args.to * 4096 + 8 * j)) i ≡ byte_after c.args.change.now.offset (data_bytes c.args.change.now.content) c.args.change.now.size (byte_in (g.P.Pmem.region c.args.memory.now) c.args.from) (c.args.page * 4096 + 8 * j + i)) j low;
   wrote = stores_none (InBlocks (λ b. b ≡ c.args.to)) (g.P.Pmem.region c.args.memory.now) (g.P.Pmem.may_hold c.args.memory.now);
   len = refl;
   quiet = λ some. absurd (omega (arith, some));

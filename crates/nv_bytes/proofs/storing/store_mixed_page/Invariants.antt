@@ -7,10 +7,11 @@ use Rattle.nv_bytes.specs.Bytes.{byte_after}
 use Rattle.nv_bytes.specs.Storing.{InBlocks}
 use Rattle.nv_bytes.proofs.StoredPages.{HoldsWords}
 use Rattle.nv_bytes.proofs.storing.store_mixed_page.Given as goal
+use Rattle.nv_bytes.specs.Data.{data_bytes}
 
 abbrev pub invariant-loop-k : goal.invariant-loop-k
 invariant-loop-k g l = record {
-  made : HoldsWords (g.P.Pmem.region l.memory) (byte_after l.change.offset l.change.bytes.now l.change.size (byte_in (g.P.Pmem.region l.fn.memory) l.from)) l.to l.page (8 * l.k);
+  made : HoldsWords (g.P.Pmem.region l.memory) (byte_after l.change.offset (data_bytes l.change.content) l.change.size (byte_in (g.P.Pmem.region l.fn.memory) l.from)) l.to l.page (8 * l.k);
   wrote : StoresOnly (InBlocks (λ b. b ≡ l.to)) (g.P.Pmem.region l.fn.memory) (g.P.Pmem.region l.memory) (g.P.Pmem.may_hold l.fn.memory) (g.P.Pmem.may_hold l.memory);
   len : size (g.P.Pmem.region l.memory) ≡ size (g.P.Pmem.region l.fn.memory);
   quiet : 0 < l.k → (g.P.Pmem.fuse l.memory).has_burnt ≡ false;

@@ -5,10 +5,11 @@ use Rattle.nv_region.proofs.RowStores.{row_stores}
 use Rattle.nv_bytes.specs.Bytes.{byte_after}
 use Rattle.nv_bytes.proofs.StoredPages.{page_stored}
 use Rattle.nv_bytes.proofs.storing.store_new_page.Goals as goal
+use Rattle.nv_bytes.specs.Data.{data_bytes}
 
 pub returns-clause-stored : goal.returns-clause-stored
 returns-clause-stored g c old =
-    page_stored c.store_words.result (g.P.Pmem.region c.args.memory.now) _ (byte_after c.args.change.now.offset c.args.change.now.bytes.now c.args.change.now.size old) c.args.to c.args.page c.read.new.words (omega (arith, c.read.ensures.as_long)) c.requires.to
+    page_stored c.store_words.result (g.P.Pmem.region c.args.memory.now) _ (byte_after c.args.change.now.offset (data_bytes c.args.change.now.content) c.args.change.now.size old) c.args.to c.args.page c.read.new.words (omega (arith, c.read.ensures.as_long)) c.requires.to
     c.len-length.ensures.short (λ j i low few. c.read.ensures.read j i old low few) c.store_words.ensures.stored
 
 pub returns-clause-wrote : goal.returns-clause-wrote

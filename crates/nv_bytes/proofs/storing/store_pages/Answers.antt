@@ -10,6 +10,7 @@ use Rattle.nv_bytes.specs.Bytes.{byte_after, file_byte}
 use Rattle.nv_bytes.specs.Storing.{InBlocks}
 use Rattle.nv_bytes.proofs.StoredPages.{same_pages, Storing, storing_goes_on, runs_from, run_inside, pages_from, run_held, part_of, all_held}
 use Rattle.nv_bytes.proofs.storing.store_pages.Goals as goal
+use Rattle.nv_bytes.specs.Data.{data_bytes}
 
 abbrev none : Run
 none = record { start = 0; count = 0 }
@@ -52,7 +53,7 @@ pub returns-clause-stored : goal.returns-clause-stored
 returns-clause-stored g c =
     let S = g.P.Pmem.region c.loop-run.memory in
     let n = c.args.change.now in
-    let bytes : ℕ → ℕ = byte_after n.offset n.bytes.now n.size (file_byte (g.P.Pmem.region c.args.memory.now) c.args.index.now) in
+    let bytes : ℕ → ℕ = byte_after n.offset (data_bytes n.content) n.size (file_byte (g.P.Pmem.region c.args.memory.now) c.args.index.now) in
     c.loop-run.invariant.storing.told S (mixed_same S (InBlocks (HasBlock (drop c.loop-run.run-index c.args.runs.now)))) (all_held S bytes c.loop-run.page c.args.runs.now c.loop-run.run-index c.loop-run-test.false)
 
 pub returns-clause-wrote : goal.returns-clause-wrote
@@ -76,14 +77,14 @@ loop-run-preserved g c =
     let n = c.args.change.now in
     let runs = c.args.runs.now in
     let i = c.loop-run.run-index in
-    let bytes : ℕ → ℕ = byte_after n.offset n.bytes.now n.size (file_byte R0 c.args.index.now) in
+    let bytes : ℕ → ℕ = byte_after n.offset (data_bytes n.content) n.size (file_byte R0 c.args.index.now) in
     let large = mixed_size c.loop-run.invariant.wrote.mixed in
     record {
       storing =
           storing_goes_on R0 c.args.index.now bytes c.args.first runs R S c.loop-run.page (get_or runs i none) (drop (i + 1) runs)
           (subst (Storing R0 c.args.index.now bytes c.args.first runs R c.loop-run.page) (runs_from runs i none c.loop-run-test.true) c.loop-run.invariant.storing)
           c.store_run.ensures.wrote.mixed
-          (λ k low. same_pages R0 R S c.args.index.now (InBlocks (HasBlock runs)) n.offset n.size n.bytes.now ((get_or runs i none).start + k) (c.loop-run.page + k) c.loop-run.invariant.wrote.mixed
+          (λ k low. same_pages R0 R S c.args.index.now (InBlocks (HasBlock runs)) n.offset n.size (data_bytes n.content) ((get_or runs i none).start + k) (c.loop-run.page + k) c.loop-run.invariant.wrote.mixed
           (λ p b at j v w h. c.requires.fresh.apart p b at (subst (HasBlock runs) w h)) (c.in_ok-store_run.ensures.stored k low));
       pages = pages_from runs i c.loop-run.page _ none c.loop-run-test.true c.loop-run.invariant.pages;
       wrote = stores_more _ _ _ _ _ _ _ _ (λ j v of. run_held runs i (8 * j / 4096) none c.loop-run-test.true of) c.loop-run.invariant.wrote c.store_run.ensures.wrote;

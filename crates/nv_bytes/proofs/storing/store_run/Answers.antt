@@ -9,6 +9,7 @@ use Rattle.nv_bytes.specs.Bytes.{byte_after, file_byte}
 use Rattle.nv_bytes.specs.Storing.{HoldsPage, InBlocks}
 use Rattle.nv_bytes.proofs.StoredPages.{page_next, same_pages, of_file, of_index, in_run_of, less_of, none_below}
 use Rattle.nv_bytes.proofs.storing.store_run.Goals as goal
+use Rattle.nv_bytes.specs.Data.{data_bytes}
 
 pub loop-k-preserved : goal.loop-k-preserved
 loop-k-preserved g c =
@@ -18,10 +19,10 @@ loop-k-preserved g c =
     let n = c.args.change.now in
     let in_run = in_run_of c.args.run c.loop-k.k c.loop-k-test.true in
     record {
-      stored = page_next R S (byte_after n.offset n.bytes.now n.size (file_byte R0 c.args.index.now)) c.args.run.start c.args.page c.loop-k.k c.loop-k.invariant.stored c.store_page.ensures.wrote.mixed
-          (same_pages R0 R S c.args.index.now (InBlocks (InRun c.args.run)) n.offset n.size n.bytes.now (c.args.run.start + c.loop-k.k) (c.args.page + c.loop-k.k) c.loop-k.invariant.wrote.mixed
+      stored = page_next R S (byte_after n.offset (data_bytes n.content) n.size (file_byte R0 c.args.index.now)) c.args.run.start c.args.page c.loop-k.k c.loop-k.invariant.stored c.store_page.ensures.wrote.mixed
+          (same_pages R0 R S c.args.index.now (InBlocks (InRun c.args.run)) n.offset n.size (data_bytes n.content) (c.args.run.start + c.loop-k.k) (c.args.page + c.loop-k.k) c.loop-k.invariant.wrote.mixed
           (λ p b at i v w h. c.requires.apart p b at (subst (InRun c.args.run) w h))
-          (of_file R S c.args.index.now c.get.result n.offset n.size n.bytes.now (c.args.run.start + c.loop-k.k) (c.args.page + c.loop-k.k) c.get.ensures c.in_ok-store_page.ensures.stored));
+          (of_file R S c.args.index.now c.get.result n.offset n.size (data_bytes n.content) (c.args.run.start + c.loop-k.k) (c.args.page + c.loop-k.k) c.get.ensures c.in_ok-store_page.ensures.stored));
       wrote = stores_more _ _ _ _ _ _ _ _ (λ i v t. subst (InRun c.args.run) (sym t) in_run) c.loop-k.invariant.wrote c.store_page.ensures.wrote;
       len = mixed_size c.store_page.ensures.wrote.mixed ∙ c.loop-k.invariant.len;
       quiet = λ was. sym c.store_page.ensures.stopped ∙ ap is_err c.in_ok-store_page.was;
@@ -30,7 +31,7 @@ loop-k-preserved g c =
 
 pub loop-k-init : goal.loop-k-init
 loop-k-init g c = record {
-  stored = λ j below. none_below (λ (j : ℕ). HoldsPage (g.P.Pmem.region c.args.memory.now) (byte_after c.args.change.now.offset c.args.change.now.bytes.now c.args.change.now.size (file_byte (g.P.Pmem.region c.args.memory.now) c.args.index.now)) (c.args.run.start + j) (c.args.page + j)) j below;
+  stored = λ j below. none_below (λ (j : ℕ). HoldsPage (g.P.Pmem.region c.args.memory.now) (byte_after c.args.change.now.offset (data_bytes c.args.change.now.content) c.args.change.now.size (file_byte (g.P.Pmem.region c.args.memory.now) c.args.index.now)) (c.args.run.start + j) (c.args.page + j)) j below;
   wrote = stores_none (InBlocks (InRun c.args.run)) (g.P.Pmem.region c.args.memory.now) (g.P.Pmem.may_hold c.args.memory.now);
   len = refl;
   quiet = λ was. was;

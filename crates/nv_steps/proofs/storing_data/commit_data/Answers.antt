@@ -11,13 +11,14 @@ use Rattle.nv_commit.specs.Extends.{CanExtend}
 use Rattle.nv_steps.specs.Stores.{one_log}
 use Rattle.nv_steps.proofs.Stores.{data_stores, data_then_log}
 use Rattle.nv_steps.proofs.storing_data.commit_data.Goals as goal
+use Rattle.nv_bytes.specs.Data.{data_bytes}
 
 pub store_data-requires-clause-pages : goal.store_data-requires-clause-pages
 store_data-requires-clause-pages g c = subst AreSmall (sym c.deref.ensures.value) c.requires.pages
 
 pub returns-clause-commits : goal.returns-clause-commits
 returns-clause-commits g c s inode =
-    let bytes : ℕ → ℕ = byte_after c.args.change.now.offset c.args.change.now.bytes.now c.args.change.now.size (file_byte (g.P.Pmem.region c.args.memory.now) c.args.index.now) in
+    let bytes : ℕ → ℕ = byte_after c.args.change.now.offset (data_bytes c.args.change.now.content) c.args.change.now.size (file_byte (g.P.Pmem.region c.args.memory.now) c.args.index.now) in
     commits (g.P.Pmem.region c.args.memory.now) (g.P.Pmem.region c.store_data.new.memory) (g.P.Pmem.region c.extend_log.new.memory) s inode c.args.slot c.args.tail bytes c.args.log.now.entries.items c.args.log.now.fresh.items c.deref.result.now c.deref-2.result.now c.deref-3.result.now
     c.deref.ensures.value c.deref-2.ensures.value c.deref-3.ensures.value c.extend_log.result c.store_data.ensures.wrote.mixed c.in_ok-store_data.ensures.stored c.extend_log.ensures.wrote.mixed (λ held h can. c.extend_log.ensures.shows s held inode h can)
 
@@ -26,13 +27,13 @@ returns-clause-length g c = mixed_size c.extend_log.ensures.wrote.mixed ∙ mixe
 
 pub returns-in_err-store_data-clause-any_stop : goal.returns-in_err-store_data-clause-any_stop
 returns-in_err-store_data-clause-any_stop g c s held inode h can free settled =
-    data_left (byte_after c.args.change.now.offset c.args.change.now.bytes.now c.args.change.now.size (file_byte (g.P.Pmem.region c.args.memory.now) c.args.index.now)) c.args.log.now.entries.items c.deref.result.now c.args.log.now.entries.items c.args.log.now.fresh.items c.args.log.now.fresh.items
+    data_left (byte_after c.args.change.now.offset (data_bytes c.args.change.now.content) c.args.change.now.size (file_byte (g.P.Pmem.region c.args.memory.now) c.args.index.now)) c.args.log.now.entries.items c.deref.result.now c.args.log.now.entries.items c.args.log.now.fresh.items c.args.log.now.fresh.items
     c.deref.ensures.value refl refl can free _ settled _ _
-    (λ (S : Region). Commits (g.P.Pmem.region c.args.memory.now) S s inode c.args.slot c.args.tail (byte_after c.args.change.now.offset c.args.change.now.bytes.now c.args.change.now.size (file_byte (g.P.Pmem.region c.args.memory.now) c.args.index.now)) c.args.log.now.entries.items c.args.log.now.fresh.items) c.store_data.ensures.wrote
+    (λ (S : Region). Commits (g.P.Pmem.region c.args.memory.now) S s inode c.args.slot c.args.tail (byte_after c.args.change.now.offset (data_bytes c.args.change.now.content) c.args.change.now.size (file_byte (g.P.Pmem.region c.args.memory.now) c.args.index.now)) c.args.log.now.entries.items c.args.log.now.fresh.items) c.store_data.ensures.wrote
 
 pub returns-clause-any_stop : goal.returns-clause-any_stop
 returns-clause-any_stop g c s held inode h can free settled =
-    commit_left (byte_after c.args.change.now.offset c.args.change.now.bytes.now c.args.change.now.size (file_byte (g.P.Pmem.region c.args.memory.now) c.args.index.now)) c.args.log.now.entries.items c.deref.result.now c.deref-2.result.now c.args.log.now.fresh.items c.deref-3.result.now
+    commit_left (byte_after c.args.change.now.offset (data_bytes c.args.change.now.content) c.args.change.now.size (file_byte (g.P.Pmem.region c.args.memory.now) c.args.index.now)) c.args.log.now.entries.items c.deref.result.now c.deref-2.result.now c.args.log.now.fresh.items c.deref-3.result.now
     c.deref.ensures.value c.deref-2.ensures.value c.deref-3.ensures.value can free _ settled _ c.store_data.ensures.wrote c.in_ok-store_data.ensures.stored _ _ (λ there pending. c.extend_log.ensures.loose_stop s held inode h there pending)
 
 pub returns-in_err-store_data-clause-wrote : goal.returns-in_err-store_data-clause-wrote

@@ -17,6 +17,7 @@ use Rattle.nv_steps.specs.Stopped.{Wrote}
 use Rattle.nv_steps.proofs.WriteStops.{can_there, data_free, left_write}
 use Rattle.nv_steps.proofs.WritesFile.{bytes_as, commits_as, has_written, inside_as, writes_file}
 use Rattle.nv_steps.proofs.writing.change_bytes.Goals as goal
+use Rattle.nv_bytes.specs.Data.{data_bytes}
 
 pub returns-in-Err-NoSpace-clause-refused : goal.returns-in-Err-NoSpace-clause-refused
 returns-in-Err-NoSpace-clause-refused g c = inr (inr (refl, c.in-Err-NoSpace.ensures.refused c.in-Err-NoSpace.field-0-is))
@@ -26,32 +27,32 @@ commit_data-requires-clause-mapped g c = inside_as (g.P.Pmem.region c.args.memor
 
 pub commit_data-requires-clause-fresh : goal.commit_data-requires-clause-fresh
 commit_data-requires-clause-fresh g c =
-    let right = subst (IsRight c.args.row.now) (sym c.requires.plan) (plan_right c.args.row.now (block_at c.args.row.now.index) c.args.change.now.offset (length c.args.change.now.bytes.now) c.args.plan.now.time c.requires.file.small c.requires.some c.requires.fits) in
+    let right = subst (IsRight c.args.row.now) (sym c.requires.plan) (plan_right c.args.row.now (block_at c.args.row.now.index) c.args.change.now.offset (length (data_bytes c.args.change.now.content)) c.args.plan.now.time c.requires.file.small c.requires.some c.requires.fits) in
     blocks_fresh c.requires.stands c.requires.file right c.requires.cpu c.in-Ok.ensures.prepared c.prepare_data.new.row.index c.prepare_data.ensures.row.index
 
 pub commit_data-requires-clause-pages : goal.commit_data-requires-clause-pages
 commit_data-requires-clause-pages g c =
-    let right = subst (IsRight c.args.row.now) (sym c.requires.plan) (plan_right c.args.row.now (block_at c.args.row.now.index) c.args.change.now.offset (length c.args.change.now.bytes.now) c.args.plan.now.time c.requires.file.small c.requires.some c.requires.fits) in
+    let right = subst (IsRight c.args.row.now) (sym c.requires.plan) (plan_right c.args.row.now (block_at c.args.row.now.index) c.args.change.now.offset (length (data_bytes c.args.change.now.content)) c.args.plan.now.time c.requires.file.small c.requires.some c.requires.fits) in
     entries_small c.requires.stands c.requires.file right c.requires.cpu c.in-Ok.ensures.prepared
 
 pub commit_data-requires-clause-can : goal.commit_data-requires-clause-can
 commit_data-requires-clause-can g c =
-    let right = subst (IsRight c.args.row.now) (sym c.requires.plan) (plan_right c.args.row.now (block_at c.args.row.now.index) c.args.change.now.offset (length c.args.change.now.bytes.now) c.args.plan.now.time c.requires.file.small c.requires.some c.requires.fits) in
+    let right = subst (IsRight c.args.row.now) (sym c.requires.plan) (plan_right c.args.row.now (block_at c.args.row.now.index) c.args.change.now.offset (length (data_bytes c.args.change.now.content)) c.args.plan.now.time c.requires.file.small c.requires.some c.requires.fits) in
     subst (λ (t : ℕ). CanAppend (g.P.Pmem.region c.args.memory.now) t c.in-Ok.ready.log.entries.items c.in-Ok.ready.log.fresh.items) (sym c.prepare_data.ensures.row.tail) (can_append_entries c.requires.stands c.requires.file right c.requires.cpu c.in-Ok.ensures.prepared)
 
 pub settle_data-requires-clause-ready : goal.settle_data-requires-clause-ready
 settle_data-requires-clause-ready g c =
-    let right = subst (IsRight c.args.row.now) (sym c.requires.plan) (plan_right c.args.row.now (block_at c.args.row.now.index) c.args.change.now.offset (length c.args.change.now.bytes.now) c.args.plan.now.time c.requires.file.small c.requires.some c.requires.fits) in
+    let right = subst (IsRight c.args.row.now) (sym c.requires.plan) (plan_right c.args.row.now (block_at c.args.row.now.index) c.args.change.now.offset (length (data_bytes c.args.change.now.content)) c.args.plan.now.time c.requires.file.small c.requires.some c.requires.fits) in
     pages_settled c.requires.stands c.requires.file right c.requires.cpu c.in-Ok.ensures.prepared c.prepare_data.new.row.index c.in-Ok.ensures.first c.in-Ok.ensures.last
 
 pub settle_data-requires-clause-once : goal.settle_data-requires-clause-once
 settle_data-requires-clause-once g c =
-    let right = subst (IsRight c.args.row.now) (sym c.requires.plan) (plan_right c.args.row.now (block_at c.args.row.now.index) c.args.change.now.offset (length c.args.change.now.bytes.now) c.args.plan.now.time c.requires.file.small c.requires.some c.requires.fits) in
+    let right = subst (IsRight c.args.row.now) (sym c.requires.plan) (plan_right c.args.row.now (block_at c.args.row.now.index) c.args.change.now.offset (length (data_bytes c.args.change.now.content)) c.args.plan.now.time c.requires.file.small c.requires.some c.requires.fits) in
     (told c.requires.stands c.requires.file right c.requires.cpu c.in-Ok.ensures.prepared).pages_once
 
 pub give_all-requires-clause-can : goal.give_all-requires-clause-can
 give_all-requires-clause-can g c =
-    let right = subst (IsRight c.args.row.now) (sym c.requires.plan) (plan_right c.args.row.now (block_at c.args.row.now.index) c.args.change.now.offset (length c.args.change.now.bytes.now) c.args.plan.now.time c.requires.file.small c.requires.some c.requires.fits) in
+    let right = subst (IsRight c.args.row.now) (sym c.requires.plan) (plan_right c.args.row.now (block_at c.args.row.now.index) c.args.change.now.offset (length (data_bytes c.args.change.now.content)) c.args.plan.now.time c.requires.file.small c.requires.some c.requires.fits) in
     subst (CanGive c.prepare_data.new.free) (sym (c.deref.ensures.value ∙ c.in-Ok.ensures.replaced)) (can_give_replaced c.requires.stands c.requires.file right c.requires.cpu c.in-Ok.ensures.prepared)
 
 pub returns-in-Ok-commit_data-clause-writes : goal.returns-in-Ok-commit_data-clause-writes
@@ -62,15 +63,15 @@ returns-in-Ok-commit_data-clause-writes g c =
     let mid = c.prepare_data.new.row in
     let same = c.prepare_data.ensures.row in
     let n = c.args.change.now in
-    let right = subst (IsRight row) (sym c.requires.plan) (plan_right row (block_at row.index) n.offset (length n.bytes.now) c.args.plan.now.time c.requires.file.small c.requires.some c.requires.fits) in
+    let right = subst (IsRight row) (sym c.requires.plan) (plan_right row (block_at row.index) n.offset (length (data_bytes n.content)) c.args.plan.now.time c.requires.file.small c.requires.some c.requires.fits) in
     let entries = c.in-Ok.ready.log.entries.items in
     let fresh = c.in-Ok.ready.log.fresh.items in
-    let bytes : ℕ → ℕ = byte_after n.offset n.bytes.now n.size (file_byte R mid.index) in
+    let bytes : ℕ → ℕ = byte_after n.offset (data_bytes n.content) n.size (file_byte R mid.index) in
     let done = commits_as R S c.args.sup.now row.inode mid.inode c.slot_address-slot.result row.tail mid.tail bytes entries fresh same.inode same.tail c.slot_address-slot.ensures (c.in-Ok-commit_data.ensures.commits c.args.sup.now row.inode) in
     let has = has_written row mid c.settle_data.new.row c.args.plan.now entries fresh c.in-Ok-commit_data.end same c.prepare_data.ensures.names c.in-Ok-commit_data.ensures.end c.settle_data.ensures in
     let joins = subst (λ (xs : List Run). JoinAll c.prepare_data.new.free xs c.give_all.new.free) (c.deref.ensures.value ∙ c.in-Ok.ensures.replaced) c.give_all.ensures.given in
-    writes_file c.requires.stands c.requires.kind c.requires.file c.requires.cpu right c.in-Ok.ensures.prepared done has c.give_all.new.free joins n.offset c.args.plan.now.time n.bytes.now c.requires.some c.requires.plan
-    (λ x. bytes_as R row.index mid.index n.offset n.size row.numbers.size n.bytes.now same.index c.requires.size x)
+    writes_file c.requires.stands c.requires.kind c.requires.file c.requires.cpu right c.in-Ok.ensures.prepared done has c.give_all.new.free joins n.offset c.args.plan.now.time (data_bytes n.content) c.requires.some c.requires.plan
+    (λ x. bytes_as R row.index mid.index n.offset n.size row.numbers.size (data_bytes n.content) same.index c.requires.size x)
 
 pub returns-in-Ok-commit_data-clause-lists : goal.returns-in-Ok-commit_data-clause-lists
 returns-in-Ok-commit_data-clause-lists g c = c.give_all.ensures.lists ∙ prepared_sup c.in-Ok.ensures.prepared
@@ -190,10 +191,10 @@ pub returns-in-Err-Memory-clause-stopped : goal.returns-in-Err-Memory-clause-sto
 returns-in-Err-Memory-clause-stopped g c = λ is. absurd (memory_goes_on is)
 
 pub returns-in-Err-NoSpace-clause-any_stop : goal.returns-in-Err-NoSpace-clause-any_stop
-returns-in-Err-NoSpace-clause-any_stop g c held h shows settled = still _ _ c.args.sup.now held (Wrote (g.P.Pmem.region c.args.memory.now) c.args.sup.now c.args.free.now c.args.cpu c.args.plan.now c.args.change.now.offset c.args.change.now.bytes.now c.args.row.now) shows.sound settled
+returns-in-Err-NoSpace-clause-any_stop g c held h shows settled = still _ _ c.args.sup.now held (Wrote (g.P.Pmem.region c.args.memory.now) c.args.sup.now c.args.free.now c.args.cpu c.args.plan.now c.args.change.now.offset (data_bytes c.args.change.now.content) c.args.row.now) shows.sound settled
 
 pub returns-in-Err-Memory-clause-any_stop : goal.returns-in-Err-Memory-clause-any_stop
-returns-in-Err-Memory-clause-any_stop g c held h shows settled = still _ _ c.args.sup.now held (Wrote (g.P.Pmem.region c.args.memory.now) c.args.sup.now c.args.free.now c.args.cpu c.args.plan.now c.args.change.now.offset c.args.change.now.bytes.now c.args.row.now) shows.sound settled
+returns-in-Err-Memory-clause-any_stop g c held h shows settled = still _ _ c.args.sup.now held (Wrote (g.P.Pmem.region c.args.memory.now) c.args.sup.now c.args.free.now c.args.cpu c.args.plan.now c.args.change.now.offset (data_bytes c.args.change.now.content) c.args.row.now) shows.sound settled
 
 pub returns-in-Ok-commit_data-clause-any_stop : goal.returns-in-Ok-commit_data-clause-any_stop
 returns-in-Ok-commit_data-clause-any_stop g c held h shows settled left may =
@@ -202,10 +203,10 @@ returns-in-Ok-commit_data-clause-any_stop g c held h shows settled left may =
     let mid = c.prepare_data.new.row in
     let same = c.prepare_data.ensures.row in
     let n = c.args.change.now in
-    let right = subst (IsRight row) (sym c.requires.plan) (plan_right row (block_at row.index) n.offset (length n.bytes.now) c.args.plan.now.time c.requires.file.small c.requires.some c.requires.fits) in
+    let right = subst (IsRight row) (sym c.requires.plan) (plan_right row (block_at row.index) n.offset (length (data_bytes n.content)) c.args.plan.now.time c.requires.file.small c.requires.some c.requires.fits) in
     let p = c.in-Ok.ensures.prepared in
     left_write c.requires.stands c.requires.kind c.requires.file c.requires.cpu right p shows c.slot_address-slot.result mid.tail mid.inode same.inode same.tail c.slot_address-slot.ensures
-    (byte_after n.offset n.bytes.now n.size (file_byte R mid.index)) n.offset c.args.plan.now.time n.bytes.now c.requires.some c.requires.plan (λ x. bytes_as R row.index mid.index n.offset n.size row.numbers.size n.bytes.now same.index c.requires.size x) left
+    (byte_after n.offset (data_bytes n.content) n.size (file_byte R mid.index)) n.offset c.args.plan.now.time (data_bytes n.content) c.requires.some c.requires.plan (λ x. bytes_as R row.index mid.index n.offset n.size row.numbers.size (data_bytes n.content) same.index c.requires.size x) left
     (c.commit_data.ensures.any_stop c.args.sup.now held row.inode h (can_there c.requires.stands c.requires.kind c.requires.file c.requires.cpu right p shows c.slot_address-slot.result mid.tail mid.inode same.inode same.tail c.slot_address-slot.ensures) (data_free shows c.requires.stands.lists c.requires.cpu right p) settled left may)
 
 pub returns-clause-any_stop : goal.returns-clause-any_stop
@@ -215,10 +216,10 @@ returns-clause-any_stop g c held h shows settled left may =
     let mid = c.prepare_data.new.row in
     let same = c.prepare_data.ensures.row in
     let n = c.args.change.now in
-    let right = subst (IsRight row) (sym c.requires.plan) (plan_right row (block_at row.index) n.offset (length n.bytes.now) c.args.plan.now.time c.requires.file.small c.requires.some c.requires.fits) in
+    let right = subst (IsRight row) (sym c.requires.plan) (plan_right row (block_at row.index) n.offset (length (data_bytes n.content)) c.args.plan.now.time c.requires.file.small c.requires.some c.requires.fits) in
     let p = c.in-Ok.ensures.prepared in
     left_write c.requires.stands c.requires.kind c.requires.file c.requires.cpu right p shows c.slot_address-slot.result mid.tail mid.inode same.inode same.tail c.slot_address-slot.ensures
-    (byte_after n.offset n.bytes.now n.size (file_byte R mid.index)) n.offset c.args.plan.now.time n.bytes.now c.requires.some c.requires.plan (λ x. bytes_as R row.index mid.index n.offset n.size row.numbers.size n.bytes.now same.index c.requires.size x) left
+    (byte_after n.offset (data_bytes n.content) n.size (file_byte R mid.index)) n.offset c.args.plan.now.time (data_bytes n.content) c.requires.some c.requires.plan (λ x. bytes_as R row.index mid.index n.offset n.size row.numbers.size (data_bytes n.content) same.index c.requires.size x) left
     (c.commit_data.ensures.any_stop c.args.sup.now held row.inode h (can_there c.requires.stands c.requires.kind c.requires.file c.requires.cpu right p shows c.slot_address-slot.result mid.tail mid.inode same.inode same.tail c.slot_address-slot.ensures) (data_free shows c.requires.stands.lists c.requires.cpu right p) settled left may)
 
 pub returns-in-Err-NoSpace-clause-wrote : goal.returns-in-Err-NoSpace-clause-wrote
@@ -233,7 +234,7 @@ returns-in-Ok-commit_data-clause-wrote g c held h shows =
     let mid = c.prepare_data.new.row in
     let same = c.prepare_data.ensures.row in
     let n = c.args.change.now in
-    let right = subst (IsRight row) (sym c.requires.plan) (plan_right row (block_at row.index) n.offset (length n.bytes.now) c.args.plan.now.time c.requires.file.small c.requires.some c.requires.fits) in
+    let right = subst (IsRight row) (sym c.requires.plan) (plan_right row (block_at row.index) n.offset (length (data_bytes n.content)) c.args.plan.now.time c.requires.file.small c.requires.some c.requires.fits) in
     let p = c.in-Ok.ensures.prepared in
     c.commit_data.ensures.wrote c.args.sup.now held row.inode h (can_there c.requires.stands c.requires.kind c.requires.file c.requires.cpu right p shows c.slot_address-slot.result mid.tail mid.inode same.inode same.tail c.slot_address-slot.ensures) (data_free shows c.requires.stands.lists c.requires.cpu right p)
 
@@ -243,6 +244,6 @@ returns-clause-wrote g c held h shows =
     let mid = c.prepare_data.new.row in
     let same = c.prepare_data.ensures.row in
     let n = c.args.change.now in
-    let right = subst (IsRight row) (sym c.requires.plan) (plan_right row (block_at row.index) n.offset (length n.bytes.now) c.args.plan.now.time c.requires.file.small c.requires.some c.requires.fits) in
+    let right = subst (IsRight row) (sym c.requires.plan) (plan_right row (block_at row.index) n.offset (length (data_bytes n.content)) c.args.plan.now.time c.requires.file.small c.requires.some c.requires.fits) in
     let p = c.in-Ok.ensures.prepared in
     c.commit_data.ensures.wrote c.args.sup.now held row.inode h (can_there c.requires.stands c.requires.kind c.requires.file c.requires.cpu right p shows c.slot_address-slot.result mid.tail mid.inode same.inode same.tail c.slot_address-slot.ensures) (data_free shows c.requires.stands.lists c.requires.cpu right p)

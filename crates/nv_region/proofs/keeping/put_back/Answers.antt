@@ -1,7 +1,7 @@
 use Rattle.std.proofs.Common.{arith, refl}
 use Rattle.nv_region.proofs.Rows.{row_in, no_row}
 use Rattle.nv_region.proofs.Before.{row_put_back, all_put_back}
-use Rattle.nv_region.proofs.memory.put_back.Goals as goal
+use Rattle.nv_region.proofs.keeping.put_back.Goals as goal
 
 pub loop-row-init : goal.loop-row-init
 loop-row-init c = record { as_long = refl; done = λ j i less. absurd (omega (arith, less)); others = λ i away. refl }

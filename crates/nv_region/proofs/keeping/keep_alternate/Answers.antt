@@ -4,7 +4,7 @@ use Rattle.nv_region.specs.StoredLines.{holds}
 use Rattle.nv_region.proofs.Alternating.{none_alternated, row_alternated, all_alternated}
 use Rattle.nv_region.proofs.Rows.{row_in, no_row}
 use Rattle.nv_region.proofs.Before.{before_differ, length-words_before, row_words}
-use Rattle.nv_region.proofs.memory.keep_alternate.Goals as goal
+use Rattle.nv_region.proofs.keeping.keep_alternate.Goals as goal
 
 pub loop-row-init : goal.loop-row-init
 loop-row-init g c = (

@@ -1,6 +1,6 @@
 use Rattle.std.proofs.Common.{◌≡◌, ◌*◌, length, arith}
 use Rattle.nv_bytes.proofs.Words.{byte_of_row}
-use Rattle.nv_bytes.proofs.change.read_words.Goals as goal
+use Rattle.nv_bytes.proofs.contents.read_words.Goals as goal
 
 pub returns-clause-read : goal.returns-clause-read
 returns-clause-read c j k low few =

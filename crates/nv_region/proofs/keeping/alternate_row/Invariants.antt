@@ -1,6 +1,6 @@
 use Rattle.std.proofs.Common.{◌≡◌, ◌≤◌, ◌*◌, ℕ, length, get_or}
 use Rattle.nv_region.specs.Kept.{so_far}
-use Rattle.nv_region.proofs.memory.alternate_row.Given as goal
+use Rattle.nv_region.proofs.keeping.alternate_row.Given as goal
 
 abbrev pub invariant-loop-i : goal.invariant-loop-i
 invariant-loop-i g l =

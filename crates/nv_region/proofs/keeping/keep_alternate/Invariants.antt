@@ -1,7 +1,7 @@
 use Rattle.std.proofs.Common.{◌≡◌, true, length}
 use Rattle.nv_region.specs.Kept.{alternate}
 use Rattle.nv_region.proofs.Alternating.{Alternated}
-use Rattle.nv_region.proofs.memory.keep_alternate.Given as goal
+use Rattle.nv_region.proofs.keeping.keep_alternate.Given as goal
 
 abbrev pub ghost-alternate_row : goal.ghost-alternate_row
 ghost-alternate_row g a = g.fenced

@@ -39,7 +39,8 @@ use Rattle.nv_calls.proofs.Asked.{ends_small, low_pools, planned}
 use Rattle.nv_calls.proofs.Early.{good_reply, same_fuse}
 use Rattle.nv_calls.proofs.TextPaths.{front_path}
 use Rattle.nv_calls.proofs.Stores.{path_stores}
-use Rattle.nv_calls.proofs.fs.Fs.write.Goals as goal
+use Rattle.nv_calls.proofs.fs.Fs.write_data.Goals as goal
+use Rattle.nv_bytes.specs.Data.{data_bytes}
 
 pub give_back-requires : goal.give_back-requires
 give_back-requires g c =
@@ -49,8 +50,8 @@ pub returns-in_err-writable-clause-refused : goal.returns-in_err-writable-clause
 returns-in_err-writable-clause-refused g c runs p count says needs =
     let tree = tree_of (g.P.Pmem.region c.args.self.now.memory) c.args.self.now.rows in
     let w = err_from_is_err_and c.from_residual.result c.from_residual.ensures.1 in
-    refused_by c.from_residual.result c.in_err-writable.field-0.0 w.0 (IsRefusedBy (first_refusal (write_tests (world_of c.args.self.now) tree c.args.cpu p (c.args.offset + length c.args.bytes.now) count))) w.1 w.2
-    (inr (inr (c.in_err-writable.ensures.refused runs (is_bad p ∷ walk_tests tree p ++ is_missing tree p ∷ is_dir tree p ∷ is_too_large (c.args.offset + length c.args.bytes.now) ∷ has_no_space (world_of c.args.self.now) count ∷ []))))
+    refused_by c.from_residual.result c.in_err-writable.field-0.0 w.0 (IsRefusedBy (first_refusal (write_tests (world_of c.args.self.now) tree c.args.cpu p (c.args.offset + length (data_bytes c.args.content)) count))) w.1 w.2
+    (inr (inr (c.in_err-writable.ensures.refused runs (is_bad p ∷ walk_tests tree p ++ is_missing tree p ∷ is_dir tree p ∷ is_too_large (c.args.offset + length (data_bytes c.args.content)) ∷ has_no_space (world_of c.args.self.now) count ∷ []))))
 
 pub returns-in_err-writable-clause-unchanged : goal.returns-in_err-writable-clause-unchanged
 returns-in_err-writable-clause-unchanged g c =
@@ -67,8 +68,8 @@ returns-in_err-inode-clause-refused g c runs p count says needs =
     let tree = tree_of (g.P.Pmem.region c.args.self.now.memory) c.args.self.now.rows in
     let w = err_from_is_err_and c.from_residual-in_err-inode.result c.from_residual-in_err-inode.ensures.1 in
     let told = c.in_err-inode.ensures.refused (g.P.Pmem.region c.self.inside.memory) p says in
-    refused_by c.from_residual-in_err-inode.result c.in_err-inode.field-0.0 w.0 (IsRefusedBy (first_refusal (write_tests (world_of c.args.self.now) tree c.args.cpu p (c.args.offset + length c.args.bytes.now) count))) w.1 w.2
-    (inr (inr (write_front g.P.Pmem.region c.self.view_is c.args.cpu (c.args.offset + length c.args.bytes.now) count c.in_ok-writable.ensures.passed p c.in_err-inode.field-0.0 (large_same c.args.offset (length c.args.bytes.now) c.saturating_add.result c.saturating_add.ensures (tree_of (g.P.Pmem.region c.self.inside.memory) c.self.inside.rows.items) p ∙ told))))
+    refused_by c.from_residual-in_err-inode.result c.in_err-inode.field-0.0 w.0 (IsRefusedBy (first_refusal (write_tests (world_of c.args.self.now) tree c.args.cpu p (c.args.offset + length (data_bytes c.args.content)) count))) w.1 w.2
+    (inr (inr (write_front g.P.Pmem.region c.self.view_is c.args.cpu (c.args.offset + length (data_bytes c.args.content)) count c.in_ok-writable.ensures.passed p c.in_err-inode.field-0.0 (large_same c.args.offset (length (data_bytes c.args.content)) c.saturating_add.result c.saturating_add.ensures (tree_of (g.P.Pmem.region c.self.inside.memory) c.self.inside.rows.items) p ∙ told))))
 
 pub returns-in_err-inode-clause-unchanged : goal.returns-in_err-inode-clause-unchanged
 returns-in_err-inode-clause-unchanged g c =
@@ -84,9 +85,9 @@ returns-in_err-inode-clause-stopped g c runs =
 
 pub returns-then-count-eq0-clause-allowed : goal.returns-then-count-eq0-clause-allowed
 returns-then-count-eq0-clause-allowed g c p count says needs =
-    let none : first_refusal (front_tests (tree_of (g.P.Pmem.region c.self.inside.memory) c.self.inside.rows.items) p (c.args.offset + length c.args.bytes.now)) ≡ None =
-    large_same c.args.offset (length c.args.bytes.now) c.saturating_add.result c.saturating_add.ensures (tree_of (g.P.Pmem.region c.self.inside.memory) c.self.inside.rows.items) p ∙ c.in_ok-inode.ensures.refused (g.P.Pmem.region c.self.inside.memory) p says in
-    write_none g.P.Pmem.region c.self.view_is c.args.cpu (c.args.offset + length c.args.bytes.now) count c.in_ok-writable.ensures.passed p none (needs.none c.if-count-eq0.true)
+    let none : first_refusal (front_tests (tree_of (g.P.Pmem.region c.self.inside.memory) c.self.inside.rows.items) p (c.args.offset + length (data_bytes c.args.content))) ≡ None =
+    large_same c.args.offset (length (data_bytes c.args.content)) c.saturating_add.result c.saturating_add.ensures (tree_of (g.P.Pmem.region c.self.inside.memory) c.self.inside.rows.items) p ∙ c.in_ok-inode.ensures.refused (g.P.Pmem.region c.self.inside.memory) p says in
+    write_none g.P.Pmem.region c.self.view_is c.args.cpu (c.args.offset + length (data_bytes c.args.content)) count c.in_ok-writable.ensures.passed p none (needs.none c.if-count-eq0.true)
 
 pub change_bytes-changed-requires-clause-stands : goal.change_bytes-changed-requires-clause-stands
 change_bytes-changed-requires-clause-stands g c =
@@ -145,9 +146,9 @@ returns-in-Ok-clause-allowed g c p count says needs =
     let at = at_place rows inode ∙ c.lend-row.ensures.row in
     let leads : (names : List (List ℕ)) → IsPath c.args.path.now names → LeadsTo (tree_of (g.P.Pmem.region c.self.inside.memory) rows) names c.lend-row.result.inode (node_of (g.P.Pmem.region c.self.inside.memory) c.lend-row.result) = λ names path. subst (λ (r : Row). LeadsTo (tree_of (g.P.Pmem.region c.self.inside.memory) rows) names r.inode (node_of (g.P.Pmem.region c.self.inside.memory) r)) (same_Some _ _ (sym c.in_ok-inode.ensures.held ∙ c.lend-row.ensures.row)) (c.in_ok-inode.ensures.row (g.P.Pmem.region c.self.inside.memory) names path) in
     let numbered = own_row rows inode c.lend-row.result c.lend-row.ensures.row in
-    let none : first_refusal (front_tests (tree_of (g.P.Pmem.region c.self.inside.memory) c.self.inside.rows.items) p (c.args.offset + length c.args.bytes.now)) ≡ None =
-    large_same c.args.offset (length c.args.bytes.now) c.saturating_add.result c.saturating_add.ensures (tree_of (g.P.Pmem.region c.self.inside.memory) c.self.inside.rows.items) p ∙ c.in_ok-inode.ensures.refused (g.P.Pmem.region c.self.inside.memory) p says in
-    write_allowed g.P.Pmem.region c.self.view_is c.args.cpu (c.args.offset + length c.args.bytes.now) count c.in_ok-writable.ensures.passed p none c.args.path.now c.lend-row.result (node_of (g.P.Pmem.region c.self.inside.memory) c.lend-row.result) numbered leads says c.args.offset (length c.args.bytes.now) c.args.time (omega (arith, c.if-count-eq0.false)) needs
+    let none : first_refusal (front_tests (tree_of (g.P.Pmem.region c.self.inside.memory) c.self.inside.rows.items) p (c.args.offset + length (data_bytes c.args.content))) ≡ None =
+    large_same c.args.offset (length (data_bytes c.args.content)) c.saturating_add.result c.saturating_add.ensures (tree_of (g.P.Pmem.region c.self.inside.memory) c.self.inside.rows.items) p ∙ c.in_ok-inode.ensures.refused (g.P.Pmem.region c.self.inside.memory) p says in
+    write_allowed g.P.Pmem.region c.self.view_is c.args.cpu (c.args.offset + length (data_bytes c.args.content)) count c.in_ok-writable.ensures.passed p none c.args.path.now c.lend-row.result (node_of (g.P.Pmem.region c.self.inside.memory) c.lend-row.result) numbered leads says c.args.offset (length (data_bytes c.args.content)) c.args.time (omega (arith, c.if-count-eq0.false)) needs
     (subst (λ (q : Plan). (k : ℕ) → NeedsBlocks c.self.inside.free.pools c.args.cpu c.lend-row.result.tail q k → k ≤ all_blocks c.self.inside.free.pools) c.new-plan.ensures c.in-Ok.ensures.enough)
 
 pub returns-in-Err-clause-refused : goal.returns-in-Err-clause-refused
@@ -158,9 +159,9 @@ returns-in-Err-clause-refused g c still p count says needs =
     let at = at_place rows inode ∙ c.lend-row.ensures.row in
     let leads : (names : List (List ℕ)) → IsPath c.args.path.now names → LeadsTo (tree_of (g.P.Pmem.region c.self.inside.memory) rows) names c.lend-row.result.inode (node_of (g.P.Pmem.region c.self.inside.memory) c.lend-row.result) = λ names path. subst (λ (r : Row). LeadsTo (tree_of (g.P.Pmem.region c.self.inside.memory) rows) names r.inode (node_of (g.P.Pmem.region c.self.inside.memory) r)) (same_Some _ _ (sym c.in_ok-inode.ensures.held ∙ c.lend-row.ensures.row)) (c.in_ok-inode.ensures.row (g.P.Pmem.region c.self.inside.memory) names path) in
     let numbered = own_row rows inode c.lend-row.result c.lend-row.ensures.row in
-    let none : first_refusal (front_tests (tree_of (g.P.Pmem.region c.self.inside.memory) c.self.inside.rows.items) p (c.args.offset + length c.args.bytes.now)) ≡ None =
-    large_same c.args.offset (length c.args.bytes.now) c.saturating_add.result c.saturating_add.ensures (tree_of (g.P.Pmem.region c.self.inside.memory) c.self.inside.rows.items) p ∙ c.in_ok-inode.ensures.refused (g.P.Pmem.region c.self.inside.memory) p says in
-    write_refused g.P.Pmem.region c.self.view_is c.args.cpu (c.args.offset + length c.args.bytes.now) count c.in_ok-writable.ensures.passed p none c.args.path.now c.lend-row.result (node_of (g.P.Pmem.region c.self.inside.memory) c.lend-row.result) numbered leads says c.args.offset (length c.args.bytes.now) c.args.time (omega (arith, c.if-count-eq0.false)) needs c.in-Err.refusal
+    let none : first_refusal (front_tests (tree_of (g.P.Pmem.region c.self.inside.memory) c.self.inside.rows.items) p (c.args.offset + length (data_bytes c.args.content))) ≡ None =
+    large_same c.args.offset (length (data_bytes c.args.content)) c.saturating_add.result c.saturating_add.ensures (tree_of (g.P.Pmem.region c.self.inside.memory) c.self.inside.rows.items) p ∙ c.in_ok-inode.ensures.refused (g.P.Pmem.region c.self.inside.memory) p says in
+    write_refused g.P.Pmem.region c.self.view_is c.args.cpu (c.args.offset + length (data_bytes c.args.content)) count c.in_ok-writable.ensures.passed p none c.args.path.now c.lend-row.result (node_of (g.P.Pmem.region c.self.inside.memory) c.lend-row.result) numbered leads says c.args.offset (length (data_bytes c.args.content)) c.args.time (omega (arith, c.if-count-eq0.false)) needs c.in-Err.refusal
     (subst (λ (q : Plan). RefusesWrite c.in-Err.refusal c.self.inside.free c.args.cpu c.lend-row.result.tail q) c.new-plan.ensures c.in-Err.ensures.refused)
 
 pub returns-in-Ok-clause-changed : goal.returns-in-Ok-clause-changed
@@ -175,8 +176,8 @@ returns-in-Ok-clause-changed g c names path =
     let follows = λ (held : Store) (h : Held) (shows : ShowsRow (g.P.Pmem.region c.self.inside.memory) c.self.inside.sup held h c.lend-row.result c.self.inside.free). c.in-Ok.ensures.writes.follows held h shows in
     let led = leads names path in
     let put = back_one rows c.lend-row.new.self.items c.give_back.new.self.items inode c.change_bytes-changed.new.row c.lend-row.ensures.lent (c.change_bytes-changed.ensures.inode ∙ c.lend-row.ensures.number) c.give_back.ensures.rows in
-    rw put (write_changed g.P.Pmem.region c.self.view_is names c.lend-row.result.inode c.args.offset c.args.bytes.now c.args.time (omega (arith, c.if-count-eq0.false)) (tree_of (g.P.Pmem.region c.change_bytes-changed.new.memory) (set c.self.inside.rows.items (place_in rows inode) c.change_bytes-changed.new.row)) led.leads
-    (tree_after c.self.invariant.0 runs writes (place_in rows inode) c.lend-row.result c.change_bytes-changed.new.row at (data_entries plan c.in-Ok.ensures.writes.runs) follows (with_bytes c.args.offset c.args.bytes.now c.args.time) c.in-Ok.ensures.writes.inode
+    rw put (write_changed g.P.Pmem.region c.self.view_is names c.lend-row.result.inode c.args.offset (data_bytes c.args.content) c.args.time (omega (arith, c.if-count-eq0.false)) (tree_of (g.P.Pmem.region c.change_bytes-changed.new.memory) (set c.self.inside.rows.items (place_in rows inode) c.change_bytes-changed.new.row)) led.leads
+    (tree_after c.self.invariant.0 runs writes (place_in rows inode) c.lend-row.result c.change_bytes-changed.new.row at (data_entries plan c.in-Ok.ensures.writes.runs) follows (with_bytes c.args.offset (data_bytes c.args.content) c.args.time) c.in-Ok.ensures.writes.inode
     (written_node (g.P.Pmem.region c.self.inside.memory) (g.P.Pmem.region c.change_bytes-changed.new.memory) c.args.time c.in-Ok.ensures.writes c.new-plan.ensures
     (write_bytes c.self.invariant.0 runs writes (place_in rows inode) c.lend-row.result at c.in-Ok.ensures.writes))))
 
@@ -305,7 +306,7 @@ pub returns-then-count-eq0-clause-refused : goal.returns-then-count-eq0-clause-r
 returns-then-count-eq0-clause-refused g c still p count says needs = tt
 
 pub returns-then-count-eq0-clause-changed : goal.returns-then-count-eq0-clause-changed
-returns-then-count-eq0-clause-changed g c names path = none_written names c.args.offset c.args.bytes.now c.args.time (tree_of (g.P.Pmem.region c.args.self.now.memory) c.args.self.now.rows) c.if-count-eq0.true
+returns-then-count-eq0-clause-changed g c names path = none_written names c.args.offset (data_bytes c.args.content) c.args.time (tree_of (g.P.Pmem.region c.args.self.now.memory) c.args.self.now.rows) c.if-count-eq0.true
 
 pub returns-then-count-eq0-clause-log : goal.returns-then-count-eq0-clause-log
 returns-then-count-eq0-clause-log g c names i node held h path led sound is some = absurd (omega (arith, some, c.if-count-eq0.true))
@@ -339,7 +340,7 @@ new-plan-requires-clause-some g c = omega (arith, c.if-count-eq0.false)
 
 pub new-plan-requires-clause-small : goal.new-plan-requires-clause-small
 new-plan-requires-clause-small g c =
-    let ends = ends_small c.args.offset (length c.args.bytes.now) c.saturating_add.result c.saturating_add.ensures c.in_ok-inode.ensures.most in
+    let ends = ends_small c.args.offset (length (data_bytes c.args.content)) c.saturating_add.result c.saturating_add.ensures c.in_ok-inode.ensures.most in
     omega (arith, ends)
 
 pub change_bytes-changed-requires-clause-cpu : goal.change_bytes-changed-requires-clause-cpu
@@ -351,13 +352,13 @@ pub change_bytes-changed-requires-clause-some : goal.change_bytes-changed-requir
 change_bytes-changed-requires-clause-some g c = omega (arith, c.if-count-eq0.false)
 
 pub change_bytes-changed-requires-clause-fits : goal.change_bytes-changed-requires-clause-fits
-change_bytes-changed-requires-clause-fits g c = ends_small c.args.offset (length c.args.bytes.now) c.saturating_add.result c.saturating_add.ensures c.in_ok-inode.ensures.most
+change_bytes-changed-requires-clause-fits g c = ends_small c.args.offset (length (data_bytes c.args.content)) c.saturating_add.result c.saturating_add.ensures c.in_ok-inode.ensures.most
 
 pub change_bytes-changed-requires-clause-size : goal.change_bytes-changed-requires-clause-size
 change_bytes-changed-requires-clause-size g c = refl
 
 pub change_bytes-changed-requires-clause-plan : goal.change_bytes-changed-requires-clause-plan
-change_bytes-changed-requires-clause-plan g c = planned (block_at c.lend-row.result.index) c.lend-row.result.numbers.size c.args.offset (length c.args.bytes.now) c.args.time c.new-plan.result c.new-plan.ensures
+change_bytes-changed-requires-clause-plan g c = planned (block_at c.lend-row.result.index) c.lend-row.result.numbers.size c.args.offset (length (data_bytes c.args.content)) c.args.time c.new-plan.result c.new-plan.ensures
 
 pub returns-in-Ok-clause-stopped : goal.returns-in-Ok-clause-stopped
 returns-in-Ok-clause-stopped g c still =
@@ -374,13 +375,13 @@ pub returns-in_err-inode-clause-keeps_fuse : goal.returns-in_err-inode-clause-ke
 returns-in_err-inode-clause-keeps_fuse g c = same_fuse _ _
 
 pub returns-in_err-writable-clause-any_stop : goal.returns-in_err-writable-clause-any_stop
-returns-in_err-writable-clause-any_stop g c names path on able = call_stays g.P.Pmem.region c.args.self.now (makes_bytes c.args.offset c.args.bytes.now c.args.time) (LogsBytes c.args.cpu c.args.offset (length c.args.bytes.now) c.args.time) names c.in_err-writable.ensures.kept on able _ (c.in_err-writable.ensures.settled on)
+returns-in_err-writable-clause-any_stop g c names path on able = call_stays g.P.Pmem.region c.args.self.now (makes_bytes c.args.offset (data_bytes c.args.content) c.args.time) (LogsBytes c.args.cpu c.args.offset (length (data_bytes c.args.content)) c.args.time) names c.in_err-writable.ensures.kept on able _ (c.in_err-writable.ensures.settled on)
 
 pub returns-in_err-inode-clause-any_stop : goal.returns-in_err-inode-clause-any_stop
-returns-in_err-inode-clause-any_stop g c names path on able = call_stays g.P.Pmem.region c.args.self.now (makes_bytes c.args.offset c.args.bytes.now c.args.time) (LogsBytes c.args.cpu c.args.offset (length c.args.bytes.now) c.args.time) names c.in_ok-writable.ensures.kept on able _ (c.in_ok-writable.ensures.settled on)
+returns-in_err-inode-clause-any_stop g c names path on able = call_stays g.P.Pmem.region c.args.self.now (makes_bytes c.args.offset (data_bytes c.args.content) c.args.time) (LogsBytes c.args.cpu c.args.offset (length (data_bytes c.args.content)) c.args.time) names c.in_ok-writable.ensures.kept on able _ (c.in_ok-writable.ensures.settled on)
 
 pub returns-then-count-eq0-clause-any_stop : goal.returns-then-count-eq0-clause-any_stop
-returns-then-count-eq0-clause-any_stop g c names path on able = call_stays g.P.Pmem.region c.args.self.now (makes_bytes c.args.offset c.args.bytes.now c.args.time) (LogsBytes c.args.cpu c.args.offset (length c.args.bytes.now) c.args.time) names c.in_ok-writable.ensures.kept on able _ (c.in_ok-writable.ensures.settled on)
+returns-then-count-eq0-clause-any_stop g c names path on able = call_stays g.P.Pmem.region c.args.self.now (makes_bytes c.args.offset (data_bytes c.args.content) c.args.time) (LogsBytes c.args.cpu c.args.offset (length (data_bytes c.args.content)) c.args.time) names c.in_ok-writable.ensures.kept on able _ (c.in_ok-writable.ensures.settled on)
 
 pub returns-in-Ok-clause-any_stop : goal.returns-in-Ok-clause-any_stop
 returns-in-Ok-clause-any_stop g c names path on able =
@@ -390,7 +391,7 @@ returns-in-Ok-clause-any_stop g c names path on able =
     let inode = c.in_ok-inode.field-0.now.inode in
     let at = at_place rows inode ∙ c.lend-row.ensures.row in
     let leads : LeadsTo (tree_of (g.P.Pmem.region c.self.inside.memory) rows) names c.lend-row.result.inode (node_of (g.P.Pmem.region c.self.inside.memory) c.lend-row.result) = subst (λ (r : Row). LeadsTo (tree_of (g.P.Pmem.region c.self.inside.memory) rows) names r.inode (node_of (g.P.Pmem.region c.self.inside.memory) r)) (same_Some _ _ (sym c.in_ok-inode.ensures.held ∙ c.lend-row.ensures.row)) (c.in_ok-inode.ensures.row (g.P.Pmem.region c.self.inside.memory) names path) in
-    write_left g.P.Pmem.region c.self.view_is c.self.invariant.0 runs writes (place_in rows inode) c.lend-row.result at c.args.cpu c.new-plan.result c.args.offset c.args.bytes.now c.args.time c.new-plan.ensures (omega (arith, c.if-count-eq0.false)) names leads _ _ _
+    write_left g.P.Pmem.region c.self.view_is c.self.invariant.0 runs writes (place_in rows inode) c.lend-row.result at c.args.cpu c.new-plan.result c.args.offset (data_bytes c.args.content) c.args.time c.new-plan.ensures (omega (arith, c.if-count-eq0.false)) names leads _ _ _
     (λ held h shows pending. c.change_bytes-changed.ensures.any_stop held h shows pending) (c.self.invariant.2 runs)
 
 pub returns-in-Err-clause-any_stop : goal.returns-in-Err-clause-any_stop
@@ -401,7 +402,7 @@ returns-in-Err-clause-any_stop g c names path on able =
     let inode = c.in_ok-inode.field-0.now.inode in
     let at = at_place rows inode ∙ c.lend-row.ensures.row in
     let leads : LeadsTo (tree_of (g.P.Pmem.region c.self.inside.memory) rows) names c.lend-row.result.inode (node_of (g.P.Pmem.region c.self.inside.memory) c.lend-row.result) = subst (λ (r : Row). LeadsTo (tree_of (g.P.Pmem.region c.self.inside.memory) rows) names r.inode (node_of (g.P.Pmem.region c.self.inside.memory) r)) (same_Some _ _ (sym c.in_ok-inode.ensures.held ∙ c.lend-row.ensures.row)) (c.in_ok-inode.ensures.row (g.P.Pmem.region c.self.inside.memory) names path) in
-    write_left g.P.Pmem.region c.self.view_is c.self.invariant.0 runs writes (place_in rows inode) c.lend-row.result at c.args.cpu c.new-plan.result c.args.offset c.args.bytes.now c.args.time c.new-plan.ensures (omega (arith, c.if-count-eq0.false)) names leads _ _ _
+    write_left g.P.Pmem.region c.self.view_is c.self.invariant.0 runs writes (place_in rows inode) c.lend-row.result at c.args.cpu c.new-plan.result c.args.offset (data_bytes c.args.content) c.args.time c.new-plan.ensures (omega (arith, c.if-count-eq0.false)) names leads _ _ _
     (λ held h shows pending. c.change_bytes-changed.ensures.any_stop held h shows pending) (c.self.invariant.2 runs)
 
 pub returns-in_err-writable-clause-read_only : goal.returns-in_err-writable-clause-read_only

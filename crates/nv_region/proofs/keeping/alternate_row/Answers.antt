@@ -2,8 +2,8 @@ use Rattle.std.proofs.Common.{◌≡◌, ◌<◌, ◌≤◌, ◌+◌, ◌-◌, �
 use Rattle.std.proofs.lemmas.List.{get_or-set_other}
 use Rattle.nv_region.specs.Kept.{so_far}
 use Rattle.nv_region.proofs.Alternating.{step_lost, step_kept, step_same}
-use Rattle.nv_region.proofs.memory.alternate_row.Goals as goal
-use Rattle.nv_region.proofs.memory.alternate_row.Goals.{then-words-i, then-not-turn, else-not-turn, else-words-i}
+use Rattle.nv_region.proofs.keeping.alternate_row.Goals as goal
+use Rattle.nv_region.proofs.keeping.alternate_row.Goals.{then-words-i, then-not-turn, else-not-turn, else-words-i}
 
 pub loop-i-init : goal.loop-i-init
 loop-i-init g c =
