@@ -12,12 +12,13 @@ use Rattle.nv_super.specs.declared.superblock.Super.{Super}
 use Rattle.nv_super.specs.declared.owners.Owner.TheVariants as owners
 use Rattle.nv_super.specs.Layout.{IsLayout, fixed_layout}
 use Rattle.nv_super.specs.Super.{IsSuper}
-use Rattle.nv_inode.specs.Permitted.{is_permitted}
+use Rattle.nv_inode.specs.Chains.{layout_of}
+use Rattle.nv_inode.specs.Permitted.{is_permitted, is_permitted_by}
 use Rattle.nv_journal.specs.Undo.{dequeue, enqueue, journal, undone}
 use Rattle.nv_journal.specs.Pending.{BeforeOrAfter, CanUndo, IsEmpty}
-use Rattle.nv_journal.specs.Faults.{NoFault}
+use Rattle.nv_journal.specs.Faults.{NoJournalFault}
 use Rattle.nv_journal.proofs.Faultless.{idle_faultless}
-use Rattle.nv_journal.proofs.Partly.{low_rule}
+use Rattle.nv_inode.proofs.KeyWords.{lies_behind}
 use Rattle.nv_logpage.specs.Append.{AppendWords, appended, needed}
 use Rattle.nv_logpage.proofs.Local.{ReadsOn-same}
 use Rattle.nv_held.proofs.nv_outcome.SuperOf.{blocks_of_super, layout_of_super}
@@ -73,7 +74,7 @@ both_mixed {R} {S} {x} {y} done =
 pub sound_undone : {Q : Region} {s : Super} {held : Store} → ShowsSound Q s held → UndoneShows s held Q
 sound_undone {Q} {s} {held} sound =
     let own : Q ≡ undone s Q = sym (idle_undone s Q (layout_of_super Q s sound.sup) sound.idle) in
-    record { sup = subst (λ (U : Region). IsSuper U s) own sound.sup; shows = subst (λ (U : Region). Shows U (fixed_layout s) held) own sound.shows; journals = idle_faultless (is_permitted s) s.cpus Q sound.idle }
+    record { sup = subst (λ (U : Region). IsSuper U s) own sound.sup; shows = subst (λ (U : Region). Shows U (fixed_layout s) held) own sound.shows; journals = idle_faultless (is_permitted_by (layout_of s Q)) s.cpus Q sound.idle }
 
 -- ---- two logs
 
@@ -177,7 +178,7 @@ module _ {R : Region} {s : Super} {held : Store} {cpu i : ℕ} {h : Held} {x : E
 
     pub can_undo : length R.rest < 8 → CanUndo (is_permitted s) s.cpus S cpu (x.slot + 24) (y.slot + 24)
     can_undo short = record {
-      rule = low_rule s layout;
+      rule = lies_behind s;
       journals = (let blocks = blocks_of_super R s can.first.sound.sup in let long : size R ≡ 8 * length R.words + length R.rest = refl in omega (arith, layout.areas.room, blocks, long, short, mixed.as_long));
       inside = can.journals;
       permits_first = tail_permitted s i x.slot layout can.first.at;
@@ -185,7 +186,7 @@ module _ {R : Region} {s : Super} {held : Store} {cpu i : ℕ} {h : Held} {x : E
       quiet = λ c below sound. (front_idle R S s.cpus front can.first.sound.idle c below).1;
     }
 
-    pub faultless : NoFault s S
+    pub faultless : NoJournalFault (is_permitted s) s.cpus S
     faultless = no_fault can.first.sound front
 
     -- both tails moved, by puts of these numbers
@@ -244,5 +245,5 @@ module _ {R : Region} {s : Super} {held : Store} {cpu i : ℕ} {h : Held} {x : E
       pub both_idle : (N : Region) → SameOutside both (journal cpu) 4096 N → IsEmpty N cpu → ShowsIdle N s (with_logs held i h x j g y)
       both_idle N outside empty = words_idle can.first.sound clear.stand can.journals front second_there.shows both_front both_show N outside empty
 
-      pub undone_either : (left : Region) → BeforeOrAfter (is_permitted s) s.cpus S (x.slot + 24) new (y.slot + 24) last left → NoFault s left → BeforeOrBoth s held i h x j g y left
+      pub undone_either : (left : Region) → BeforeOrAfter (is_permitted s) s.cpus S (x.slot + 24) new (y.slot + 24) last left → NoJournalFault (is_permitted s) s.cpus left → BeforeOrBoth s held i h x j g y left
       undone_either left either none = words_undone can.first.sound clear.stand can.journals front second_there.shows both_front both_show left either none

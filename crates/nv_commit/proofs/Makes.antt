@@ -18,8 +18,8 @@ use Rattle.nv_inode.specs.declared.slot.Slot.{Slot}
 use Rattle.nv_inode.specs.Slot.{is_right_log, with_slot}
 use Rattle.nv_journal.specs.Undo.{dequeue, enqueue, journal}
 use Rattle.nv_journal.specs.Pending.{BeforeOrAfter, CanUndo, IsEmpty}
-use Rattle.nv_journal.specs.Faults.{NoFault}
-use Rattle.nv_journal.proofs.Partly.{low_rule}
+use Rattle.nv_journal.specs.Faults.{NoJournalFault}
+use Rattle.nv_inode.proofs.KeyWords.{lies_behind}
 use Rattle.nv_logpage.specs.Append.{AppendWords, FreshFor, appended, needed}
 use Rattle.nv_logpage.specs.Reads.{Reads, ends}
 use Rattle.nv_logpage.proofs.Local.{ReadsOn-same}
@@ -186,7 +186,7 @@ module _ {R : Region} {s : Super} {held : Store} {cpu j : ℕ} {n : NewInode} {i
 
     pub can_undo : length R.rest < 8 → CanUndo (is_permitted s) s.cpus S cpu n.slot (x.slot + 24)
     can_undo short = record {
-      rule = low_rule s layout;
+      rule = lies_behind s;
       journals = (let blocks = blocks_of_super R s can.parent.sound.sup in let long : size R ≡ 8 * length R.words + length R.rest = refl in omega (arith, layout.areas.room, blocks, long, short, mixed.as_long));
       inside = can.journals;
       permits_first = valid_permitted s j n.slot layout can.at;
@@ -194,7 +194,7 @@ module _ {R : Region} {s : Super} {held : Store} {cpu j : ℕ} {n : NewInode} {i
       quiet = λ c below sound. (front_idle R S s.cpus front can.parent.sound.idle c below).1;
     }
 
-    pub faultless : NoFault s S
+    pub faultless : NoJournalFault (is_permitted s) s.cpus S
     faultless = no_fault can.parent.sound front
 
     -- ---- the new log
@@ -330,5 +330,5 @@ module _ {R : Region} {s : Super} {held : Store} {cpu j : ℕ} {n : NewInode} {i
       pub made_idle : (N : Region) → SameOutside both (journal cpu) 4096 N → IsEmpty N cpu → ShowsIdle N s (with_made held j n i h x)
       made_idle N outside empty = words_idle can.parent.sound clear.stand can.journals front behind.shows both_front both_show N outside empty
 
-      pub made_undone : (left : Region) → BeforeOrAfter (is_permitted s) s.cpus S n.slot 1 (x.slot + 24) last left → NoFault s left → BeforeOrMade s held j n i h x left
+      pub made_undone : (left : Region) → BeforeOrAfter (is_permitted s) s.cpus S n.slot 1 (x.slot + 24) last left → NoJournalFault (is_permitted s) s.cpus left → BeforeOrMade s held j n i h x left
       made_undone left either none = words_undone can.parent.sound clear.stand can.journals front behind.shows both_front both_show left either none

@@ -10,8 +10,8 @@ use Rattle.nv_super.specs.Layout.{IsLayout, fixed_layout}
 use Rattle.nv_inode.specs.Permitted.{is_permitted}
 use Rattle.nv_journal.specs.Undo.{journal}
 use Rattle.nv_journal.specs.Pending.{BeforeOrAfter, CanUndo, IsEmpty}
-use Rattle.nv_journal.specs.Faults.{NoFault}
-use Rattle.nv_journal.proofs.Partly.{low_rule}
+use Rattle.nv_journal.specs.Faults.{NoJournalFault}
+use Rattle.nv_inode.proofs.KeyWords.{lies_behind}
 use Rattle.nv_logpage.specs.Append.{AppendWords, appended, end_of, needed}
 use Rattle.nv_held.proofs.nv_outcome.SuperOf.{blocks_of_super, layout_of_super}
 use Rattle.nv_held.specs.Held.{Held, Store, Shows, with_inode}
@@ -60,7 +60,7 @@ module _ {R : Region} {s : Super} {held : Store} {cpu i : ℕ} {h : Held} {x : E
 
     pub can_undo : length R.rest < 8 → CanUndo (is_permitted s) s.cpus S cpu (x.slot + 24) slot
     can_undo short = record {
-      rule = low_rule s layout;
+      rule = lies_behind s;
       journals = (let blocks = blocks_of_super R s can.parent.sound.sup in let long : size R ≡ 8 * length R.words + length R.rest = refl in omega (arith, layout.areas.room, blocks, long, short, appends.wrote.as_long));
       inside = can.journals;
       permits_first = tail_permitted s i x.slot layout can.parent.at;
@@ -68,7 +68,7 @@ module _ {R : Region} {s : Super} {held : Store} {cpu i : ℕ} {h : Held} {x : E
       quiet = λ c below sound. (front_idle R S s.cpus front can.parent.sound.idle c below).1;
     }
 
-    pub faultless : NoFault s S
+    pub faultless : NoJournalFault (is_permitted s) s.cpus S
     faultless = no_fault can.parent.sound front
 
     module _ (first_inside : x.slot + 32 ≤ size R) (second_inside : slot + 8 ≤ size R) (short : length R.rest < 8) where
@@ -113,5 +113,5 @@ module _ {R : Region} {s : Super} {held : Store} {cpu i : ℕ} {h : Held} {x : E
       pub removed_idle : (N : Region) → SameOutside both (journal cpu) 4096 N → IsEmpty N cpu → ShowsIdle N s (with_removed held i h x j)
       removed_idle N outside empty = words_idle can.parent.sound clear.stand can.journals front behind.shows both_front both_show N outside empty
 
-      pub removed_undone : (left : Region) → BeforeOrAfter (is_permitted s) s.cpus S (x.slot + 24) new slot 0 left → NoFault s left → BeforeOrRemoved s held i h x j left
+      pub removed_undone : (left : Region) → BeforeOrAfter (is_permitted s) s.cpus S (x.slot + 24) new slot 0 left → NoJournalFault (is_permitted s) s.cpus left → BeforeOrRemoved s held i h x j left
       removed_undone left either none = words_undone can.parent.sound clear.stand can.journals front behind.shows both_front both_show left either none

@@ -8,11 +8,13 @@ use Rattle.nv_super.specs.Layout.{fixed_layout}
 use Rattle.nv_super.specs.Super.{IsSuper}
 use Rattle.nv_super.proofs.Accepted.{super_stays}
 use Rattle.nv_inode.specs.Permitted.{is_permitted}
-use Rattle.nv_journal.specs.Undo.{dequeue, enqueue, is_sound, journal, pending_of, undone}
+use Rattle.nv_journal.specs.Undo.{dequeue, enqueue, is_sound, journal, pending_of, undo, undone}
 use Rattle.nv_journal.specs.Pending.{IsEmpty, SameButJournals}
-use Rattle.nv_journal.specs.Faults.{NoFault}
+use Rattle.nv_journal.specs.Faults.{NoFault, NoJournalFault}
 use Rattle.nv_journal.proofs.Faultless.{idle_faultless}
+use Rattle.nv_journal.proofs.Fixed.{no_fault_fixed, undone_fixed}
 use Rattle.nv_journal.proofs.Partly.{sound_of}
+use Rattle.nv_held.proofs.nv_outcome.SuperOf.{version_of_super}
 use Rattle.nv_held.specs.Held.{Store, Shows}
 use Rattle.nv_held.specs.Slots.{SlotsStand}
 use Rattle.nv_held.specs.Front.{SameFront}
@@ -21,7 +23,7 @@ use Rattle.nv_held.proofs.Fronts.{front_idle, front_super, shown_same}
 use Rattle.nv_commit.specs.Together.{ShowsIdle, UndoneShows}
 
 -- nothing is wrong with the journals of a region whose front is that of a sound one
-pub no_fault : {R S : Region} {s : Super} {held : Store} → ShowsSound R s held → SameFront s.cpus R S → NoFault s S
+pub no_fault : {R S : Region} {s : Super} {held : Store} → ShowsSound R s held → SameFront s.cpus R S → NoJournalFault (is_permitted s) s.cpus S
 no_fault {R} {S} {s} sound front = idle_faultless (is_permitted s) s.cpus S (front_idle R S s.cpus front sound.idle)
 
 module _ {R S both : Region} {s : Super} {held after : Store} {cpu : ℕ} (sound : ShowsSound R s held) (stand : SlotsStand (fixed_layout s)) (journals : cpu < s.cpus)
@@ -55,15 +57,21 @@ module _ {R S both : Region} {s : Super} {held after : Store} {cpu : ℕ} (sound
       shows = shown_same (fixed_layout s) after both N stand (λ at whole high. outside.behind at whole (omega (arith, high, journals))) both_show;
     }
 
-  -- the undone region while they change
-  pub words_undone : (left : Region) → SameButJournals s.cpus S (undone s left) ⊎ SameButJournals s.cpus both (undone s left) → NoFault s left → UndoneShows s held left ⊎ UndoneShows s after left
-  words_undone left (inl was) none = inl (record {
+  own_undone : (left : Region) → SameButJournals s.cpus S (undone s left) ⊎ SameButJournals s.cpus both (undone s left) → NoFault s left → UndoneShows s held left ⊎ UndoneShows s after left
+  own_undone left (inl was) none = inl (record {
     sup = super_stays S (undone s left) (λ k. 8 * was.as_long k + length (was.same_rest k)) (λ at whole low. was.words at whole (inl (omega (arith, low)))) s (front_super R S s s.cpus front sound.sup);
     shows = shown_same (fixed_layout s) held S (undone s left) stand (λ at whole high. was.words at whole (inr high)) shows;
     journals = none;
   })
-  words_undone left (inr now) none = inr (record {
+  own_undone left (inr now) none = inr (record {
     sup = super_stays both (undone s left) (λ k. 8 * now.as_long k + length (now.same_rest k)) (λ at whole low. now.words at whole (inl (omega (arith, low)))) s both_sup;
     shows = shown_same (fixed_layout s) after both (undone s left) stand (λ at whole high. now.words at whole (inr high)) both_show;
     journals = none;
   })
+
+  -- the undone region while they change, by the words of the fixed tables
+  pub words_undone : (left : Region) → SameButJournals s.cpus S (undo (is_permitted s) s.cpus left) ⊎ SameButJournals s.cpus both (undo (is_permitted s) s.cpus left) → NoJournalFault (is_permitted s) s.cpus left
+      → UndoneShows s held left ⊎ UndoneShows s after left
+  words_undone left either none =
+      let one = version_of_super R s sound.sup in
+      own_undone left (subst (λ (U : Region). SameButJournals s.cpus S U ⊎ SameButJournals s.cpus both U) (sym (undone_fixed s left one)) either) (no_fault_fixed s left one none)

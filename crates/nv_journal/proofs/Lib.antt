@@ -20,3 +20,5 @@ pub mod Both
 pub mod InOrder
 pub mod Emptied
 pub mod Faultless
+pub mod KeptLinks
+pub mod Fixed

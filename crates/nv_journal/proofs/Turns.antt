@@ -5,9 +5,9 @@ use Rattle.nv_region.specs.Region.{Region, word, put}
 use Rattle.nv_region.specs.Stops.{Adds, Choices, NoneAdded, One}
 use Rattle.nv_region.specs.Stored.{SameOutside, StoresOnly}
 use Rattle.nv_region.proofs.Wordwise.{outside_put, put_stores, same_stores, stores_within}
-use Rattle.nv_super.specs.Layout.{IsLayout}
-use Rattle.nv_super.specs.declared.superblock.Super.{Super}
-use Rattle.nv_inode.specs.Permitted.{is_permitted, LiesBehind}
+use Rattle.nv_super.specs.Layout.{Layout}
+use Rattle.nv_inode.specs.Chains.{IsLaid}
+use Rattle.nv_inode.specs.Permitted.{is_permitted_by, LiesBehind}
 use Rattle.nv_journal.specs.declared.pending.Pending.{Pending}
 use Rattle.nv_journal.specs.Undo.{journal, count_of, dequeue, is_sound, number_of, pending_of, pending_count, pending_from, pending_record, permitted, permitted_records, place_of, record_address, record_at, stores, with_record, ByRecord, IsNamed}
 use Rattle.nv_journal.specs.Undone.{OldValues}
@@ -33,19 +33,19 @@ named_step permits R r records true named = ap (λ (b : Bool). stores (cond b (r
 named_step permits R r records false named = ap (λ (b : Bool). stores (cond b (r ∷ permitted permits records) (permitted permits records)) R) named
 
 -- Of a journal's pending records the last ones are put back. The next older one stands at this place, and no store reached it.
-module _ (s : Super) (R now : Region) (p : Pending) (count done place : ℕ) (layout : IsLayout s) (below : p.cpu < s.cpus) (read : p ≡ pending_of R p.cpu) (all : count ≡ count_of p) (more : done < count)
-    (so_far : now ≡ stores (permitted (is_permitted s) (pending_from R p.cpu (count - done) done)) R) (stands : place ≡ place_of p (count - 1 - done)) where
+module _ (l : Layout) (R now : Region) (p : Pending) (count done place : ℕ) (layout : IsLaid l) (below : p.cpu < l.sup.cpus) (read : p ≡ pending_of R p.cpu) (all : count ≡ count_of p) (more : done < count)
+    (so_far : now ≡ stores (permitted (is_permitted_by l) (pending_from R p.cpu (count - done) done)) R) (stands : place ≡ place_of p (count - 1 - done)) where
   abbrev cpu : ℕ
   cpu = p.cpu
 
   abbrev permits : ℕ → Bool
-  permits = is_permitted s
+  permits = is_permitted_by l
 
   abbrev tables : ℕ
-  tables = (1 + s.cpus) * 4096
+  tables = (1 + l.sup.cpus) * 4096
 
-  rule : LiesBehind (is_permitted s) ((1 + s.cpus) * 4096)
-  rule = low_rule s layout
+  rule : LiesBehind (is_permitted_by l) ((1 + l.sup.cpus) * 4096)
+  rule = low_rule l layout
 
   room : journal cpu + 4096 ≤ tables
   room = omega (arith, below)

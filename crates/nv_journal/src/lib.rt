@@ -16,6 +16,7 @@ mod undoing;
 pub use committing::{begin, change_two, commit};
 pub use laws::{
     commits_keep_the_links, one_region_is_undone, quiet_journals_stay, the_superblock_stays,
-    undo_again_changes_nothing, undone_regions_are_quiet,
+    undo_again_changes_nothing, undo_keeps_the_chains, undone_regions_are_quiet,
+    version_1_is_undone_by_fixed_tables,
 };
-pub use undoing::{UndoError, undo};
+pub use undoing::{UndoError, undo, undo_by};

@@ -17,7 +17,7 @@ use Rattle.nv_outcome.specs.Metadata.{SameMetadata}
 use Rattle.nv_outcome.proofs.Metadata.{metadata_alone, same_inodes}
 use Rattle.nv_outcome.proofs.SameInodes.{SameInodes}
 use Rattle.nv_scan.proofs.Only.{slot_in_use}
-use Rattle.nv_outcome.proofs.SuperOf.{layout_of_super}
+use Rattle.nv_outcome.proofs.SuperOf.{layout_of_super, version_of_super}
 use Rattle.nv_super.proofs.Members.{none_in}
 use Rattle.nv_metadata.specs.Linked.{IsLinked, first, next, link_in}
 use Rattle.nv_metadata.specs.Gathered.{IsGathered}
@@ -41,23 +41,26 @@ linked_behind R s head tail _ low first = low
 linked_behind R s head tail _ low (next {b} linked apart start) = start_behind s (link_in R b) start
 
 -- links are words of data blocks, which stay where journals are rolled back
-linked_before : (R : Region) (s : Super) → IsLayout s → (head tail b : ℕ) → system_blocks s ≤ head / 4096 → IsLinked (undone s R) s head tail b → IsLinked R s head tail b
-linked_before R s layout head tail _ low first = first
-linked_before R s layout head tail _ low (next {b} linked apart start) =
+linked_before : (R : Region) (s : Super) → IsLayout s → s.version ≡ 1 → (head tail b : ℕ) → system_blocks s ≤ head / 4096 → IsLinked (undone s R) s head tail b → IsLinked R s head tail b
+linked_before R s layout version head tail _ low first = first
+linked_before R s layout version head tail _ low (next {b} linked apart start) =
     let behind = linked_behind (undone s R) s head tail b low linked in
-    let same : link_in (undone s R) b ≡ link_in R b = data_word s R layout (4096 * b + 4064) (omega arith) (omega (arith, behind)) in
-    subst (λ (w : ℕ). IsLinked R s head tail (w / 4096)) (sym same) (next (linked_before R s layout head tail b low linked) apart (ap (is_page_start s) (sym same) ∙ start))
+    let same : link_in (undone s R) b ≡ link_in R b = data_word s R layout version (4096 * b + 4064) (omega arith) (omega (arith, behind)) in
+    subst (λ (w : ℕ). IsLinked R s head tail (w / 4096)) (sym same) (next (linked_before R s layout version head tail b low linked) apart (ap (is_page_start s) (sym same) ∙ start))
 
 module _ (s : Super) (R S : Region) (is : IsSuper R s) (g : IsGathered s R S) where
   layout : IsLayout s
   layout = layout_of_super R s is
+
+  version : s.version ≡ 1
+  version = version_of_super R s is
 
   page : {i a : ℕ} {log : Log} → IsInode (undone s R) (fixed_layout s) i a log → (b : ℕ) → Contains log.pages b → SameToTail (word (undone s R) (a + 24)) R S b
   page {i} {a} {log} (right slot used ok read) b c =
       let head : ℕ = word (undone s R) (a + 16) in
       let tail : ℕ = word (undone s R) (a + 24) in
       let linked = log_pages_linked (undone s R) s head tail (right_tail s head tail ok) (right_head s head tail ok) read b c in
-      g.logs head tail b (i, a, record { kind = log.kind; slot = slot; used = used; head_is = refl; tail_is = refl; right = ok }) (linked_before R s layout head tail b (right_head_behind s head tail ok) linked)
+      g.logs head tail b (i, a, record { kind = log.kind; slot = slot; used = used; head_is = refl; tail_is = refl; right = ok }) (linked_before R s layout version head tail b (right_head_behind s head tail ok) linked)
   page (wrong slot used bad) b c = absurd (none_in b c)
 
   pub has_metadata : SameMetadata s R S

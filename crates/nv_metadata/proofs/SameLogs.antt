@@ -10,23 +10,21 @@ use Rattle.nv_super.specs.declared.superblock.Super.{Super}
 use Rattle.nv_super.specs.Layout.{IsLayout, SlotsApart, fixed_layout, slot_address, inode_limit, is_number, system_blocks, is_page_start}
 use Rattle.nv_super.proofs.Members.{none_in}
 use Rattle.nv_super.proofs.Slots.{slots_apart}
-use Rattle.nv_inode.specs.Permitted.{is_permitted}
 use Rattle.nv_inode.specs.declared.slot.Slot.{Slot}
 use Rattle.nv_inode.specs.Slot.{is_right_log, kind_at, slot_at}
 use Rattle.nv_scan.proofs.Pieces.{slot_is}
 use Rattle.nv_outcome.proofs.Tickets.{slot_number}
 use Rattle.nv_journal.specs.Undo.{undone}
 use Rattle.nv_journal.specs.Undone.{SameBefore}
-use Rattle.nv_journal.proofs.Front.{same_undone}
-use Rattle.nv_journal.proofs.Partly.{low_rule}
+use Rattle.nv_journal.proofs.Fixed.{front_undone}
 use Rattle.nv_metadata.specs.Linked.{IsLogOf, IsLog}
 use Rattle.nv_metadata.specs.Walk.{AreLogs}
 use Rattle.nv_metadata.specs.declared.logs.LogEnds.{LogEnds}
 
 -- rolled back, they have the same words there still
-pub same_rolled_back : (s : Super) (R S : Region) → IsLayout s → length S.words ≡ length R.words → SameBefore (4096 * system_blocks s) R S → SameBefore (4096 * system_blocks s) (undone s R) (undone s S)
-same_rolled_back s R S layout long same at aligned before =
-    same_undone (is_permitted s) s.cpus R S (λ a whole low. same a whole (omega (arith, low))) (low_rule s layout) long at aligned (same at aligned before)
+pub same_rolled_back : (s : Super) (R S : Region) → IsLayout s → s.version ≡ 1 → length S.words ≡ length R.words → SameBefore (4096 * system_blocks s) R S → SameBefore (4096 * system_blocks s) (undone s R) (undone s S)
+same_rolled_back s R S layout one long same at aligned before =
+    front_undone s R S layout one (λ a whole low. same a whole (omega (arith, low))) long at aligned (same at aligned before)
 
 -- the same inodes have the same logs
 log_there : (s : Super) (U V : Region) → IsLayout s → SameBefore (4096 * system_blocks s) U V → (i a head tail : ℕ) → IsLogOf U s i a head tail → IsLogOf V s i a head tail

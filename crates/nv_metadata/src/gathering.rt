@@ -66,6 +66,7 @@ fn gather_metadata<B: Blocks>(
     first: Vec<u8>,
 ) -> Result<Gathered, GatherError>
     requires layout { IsLayout sup }
+    requires version { sup.version ≡ 1 }
     requires first { length first.items ≡ 4096 }
     requires superblock { SaysSuper first.items sup }
     ensures gathered { (image : List ℕ) → B.bytes source.now ≡ Some image → length image ≡ 4096 * sup.blocks → AreBytesAt image 0 first.items → IfOk result (AreGathered (region_of image)) }
@@ -106,6 +107,7 @@ fn read_bytes<B: Blocks>(
 // Where logs begin and end, once the journals in the blocks of the front are rolled back.
 fn logs_rolled_back(alloc: Global, sup: &Super, front: &[u8]) -> Result<Vec<LogEnds>, GatherError>
     requires layout { IsLayout sup.now }
+    requires version { sup.now.version ≡ 1 }
     requires front { length front.now ≡ 4096 * system_blocks sup.now }
     ensures logs { (image : List ℕ) → AreBytesAt image 0 front.now → length image ≡ 4096 * sup.now.blocks → IfOk result (λ logs. AreLogs (undone sup.now (region_of image)) sup.now logs.items) }
     ensures unread { IfErr result (λ e. e ≡ GatherError.Memory) }

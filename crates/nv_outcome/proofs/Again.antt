@@ -1,5 +1,5 @@
 -- Recovering again shows the same, but for pending records.
-use Rattle.std.proofs.Common.{◌≡◌, ℕ, ◌*◌, ◌+◌, sym, refl, subst}
+use Rattle.std.proofs.Common.{◌≡◌, ℕ, sym, refl, subst}
 use Rattle.nv_region.specs.Region.{Region}
 use Rattle.nv_super.specs.declared.superblock.Super.{Super}
 use Rattle.nv_super.specs.declared.owners.Owner.{Owner}
@@ -10,16 +10,14 @@ use Rattle.nv_super.specs.Order.{Lists, claim_key, fault_key}
 use Rattle.nv_super.specs.Super.{IsSuper}
 use Rattle.nv_super.proofs.Rising.{Lists-only}
 use Rattle.nv_super.proofs.Filters.{rises_filter, from_filter, into_filter}
-use Rattle.nv_journal.specs.Permitted.{LiesBehind, is_permitted}
 use Rattle.nv_journal.specs.Undo.{undone}
 use Rattle.nv_journal.specs.Faults.{HasFault, IsPointerFault}
-use Rattle.nv_journal.proofs.Partly.{low_rule}
 use Rattle.nv_check.specs.nv_scan.Faults.{IsFaultOf, IsEntryFault, e1, e2, e3, e4, i1, i2, i3, l1, l2, l3, l4, entry}
 use Rattle.nv_outcome.specs.Outcome.{AreRows, AreFreeLists, IsDoubled, IsCrossFault, c1, c2, c2_root, c3, c4, c5, IsFaulty, journal, inode, cross, double, Outcome, IsOutcome}
 use Rattle.nv_outcome.specs.Same.{is_lasting, IsLasting, ShowsAgain, lasting_outcome}
 use Rattle.nv_outcome.proofs.SuperOf.{one_super, layout_of_super}
 use Rattle.nv_outcome.proofs.OnlyOne.{same_rows, same_free}
-use Rattle.nv_journal.proofs.AnyLength.{faults_left, undo_twice}
+use Rattle.nv_journal.proofs.KeptLinks.{faults_again, undone_twice}
 use Rattle.nv_journal.proofs.SuperKept.{super_undone}
 
 -- ---- faults that last
@@ -61,25 +59,22 @@ lasts_pointer s R _ h lasting = absurd h.2
 -- ---- the region with its journals rolled back
 
 module _ (R : Region) (s : Super) (is : IsSuper R s) where
-  pub rule : LiesBehind (is_permitted s) ((1 + s.cpus) * 4096)
-  rule = low_rule s (layout_of_super R s is)
-
   -- it stays so
   pub stays : undone s (undone s R) ≡ undone s R
-  stays = undo_twice (is_permitted s) s.cpus rule R
+  stays = undone_twice s R (layout_of_super R s is)
 
   -- its superblock is as before
   pub super_again : (t : Super) → IsSuper (undone s R) t → t ≡ s
   super_again t q = one_super (undone s R) s t (super_undone s R (layout_of_super R s is) is) q
 
   pub faulty_before : {f : Fault} → IsFaulty (undone s R) s f → IsFaulty R s f × IsLasting f
-  faulty_before {f} (journal h) = let w = (faults_left (is_permitted s) s.cpus rule R f).0 h in (journal w.0, pointer_lasts f w.1)
+  faulty_before {f} (journal h) = let w = (faults_again s R f (layout_of_super R s is)).0 h in (journal w.0, pointer_lasts f w.1)
   faulty_before {f} (inode i h) = let P : Region → Type 0 = λ Q. IsFaultOf Q (fixed_layout s) i f in (inode i (subst P stays h), inode_lasts h)
   faulty_before {f} (cross h) = let P : Region → Type 0 = λ Q. IsCrossFault Q (fixed_layout s) f in (cross (subst P stays h), cross_lasts h)
   faulty_before (double {b = b} {o = o} h) = let P : Region → Type 0 = λ Q. IsDoubled Q (fixed_layout s) b o in (double (subst P stays h), refl)
 
   pub faulty_again : {f : Fault} → IsFaulty R s f → IsLasting f → IsFaulty (undone s R) s f
-  faulty_again {f} (journal h) lasting = journal ((faults_left (is_permitted s) s.cpus rule R f).1 (h, lasts_pointer s R f h lasting))
+  faulty_again {f} (journal h) lasting = journal ((faults_again s R f (layout_of_super R s is)).1 (h, lasts_pointer s R f h lasting))
   faulty_again {f} (inode i h) lasting = let P : Region → Type 0 = λ Q. IsFaultOf Q (fixed_layout s) i f in inode i (subst P (sym stays) h)
   faulty_again {f} (cross h) lasting = let P : Region → Type 0 = λ Q. IsCrossFault Q (fixed_layout s) f in cross (subst P (sym stays) h)
   faulty_again (double {b = b} {o = o} h) lasting = let P : Region → Type 0 = λ Q. IsDoubled Q (fixed_layout s) b o in double (subst P (sym stays) h)

@@ -5,7 +5,8 @@ use Rattle.nv_region.specs.Region.{Region}
 use Rattle.nv_super.specs.declared.superblock.Super.{Super}
 use Rattle.nv_super.specs.declared.faults.Fault.{Fault}
 use Rattle.nv_super.specs.declared.faults.Fault.TheVariants as faults
-use Rattle.nv_journal.specs.Permitted.{is_permitted}
+use Rattle.nv_journal.specs.Chains.{layout_of}
+use Rattle.nv_journal.specs.Permitted.{is_permitted_by}
 use Rattle.nv_journal.specs.Undo.{dequeue, enqueue, is_sound, pending_count, record_at}
 use Rattle.nv_journal.specs.Faults.{IsFaultOf, HasFault}
 use Rattle.nv_outcome.proofs.Finite.{Decided, Finite, only, numbers, by_name, either, if_so, over}
@@ -54,4 +55,4 @@ module _ (permits : ℕ → Bool) (R : Region) (cpu : ℕ) where
 
 -- What is wrong with the journals of this region.
 pub journal_listed : (s : Super) (R : Region) → Finite (HasFault s R)
-journal_listed s R = over (numbers s.cpus) (λ cpu. by_name (there (is_permitted s) R cpu) (back (is_permitted s) R cpu) (of_journal (is_permitted s) R cpu))
+journal_listed s R = over (numbers s.cpus) (λ cpu. by_name (there (is_permitted_by (layout_of s R)) R cpu) (back (is_permitted_by (layout_of s R)) R cpu) (of_journal (is_permitted_by (layout_of s R)) R cpu))

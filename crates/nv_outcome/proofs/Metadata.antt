@@ -1,5 +1,5 @@
 -- The outcome of a region is read from its metadata alone.
-use Rattle.std.proofs.Common.{◌≡◌, ℕ, ◌+◌, ◌*◌, ◌/◌, ◌%◌, ◌<◌, ◌≤◌, length, ap, sym, ◌∙◌, subst, arith, Some}
+use Rattle.std.proofs.Common.{◌≡◌, ℕ, ◌+◌, ◌*◌, ◌%◌, ◌≤◌, ap, sym, ◌∙◌, subst, arith, Some}
 use Rattle.std.specs.List.{Contains}
 use Rattle.std.proofs.lemmas.Option.{slice_get-get_or}
 use Rattle.nv_region.specs.Region.{Region, size, word}
@@ -13,12 +13,10 @@ use Rattle.nv_super.specs.Super.{IsSuper}
 use Rattle.nv_super.proofs.Accepted.{super_stays}
 use Rattle.nv_super.proofs.Rising.{Lists-same}
 use Rattle.nv_super.proofs.Slots.{slots_apart}
-use Rattle.nv_journal.specs.Permitted.{is_permitted}
 use Rattle.nv_journal.specs.Undo.{undone}
 use Rattle.nv_journal.specs.Undone.{SameBefore}
-use Rattle.nv_journal.proofs.Front.{journal_fault_same, same_undone}
+use Rattle.nv_journal.proofs.Fixed.{front_faults, front_undone}
 use Rattle.nv_journal.proofs.High.{data_word}
-use Rattle.nv_journal.proofs.Partly.{low_rule}
 use Rattle.nv_check.specs.nv_logpage.ToTail.{SameToTail}
 use Rattle.nv_check.specs.nv_scan.Inode.{Log, IsInode}
 use Rattle.nv_check.specs.nv_scan.Owners.{by_log}
@@ -29,7 +27,7 @@ use Rattle.nv_check.proofs.nv_scan.Owned.{owned_block}
 use Rattle.nv_outcome.specs.Outcome.{IsDoubled, IsFaulty, journal, inode, cross, double, Outcome, IsOutcome}
 use Rattle.nv_outcome.specs.Metadata.{SameMetadata}
 use Rattle.nv_outcome.proofs.SameInodes.{SameInodes, SameSlotWords, turned, rows_there, free_there, doubled_there, fault_there, cross_there}
-use Rattle.nv_outcome.proofs.SuperOf.{layout_of_super}
+use Rattle.nv_outcome.proofs.SuperOf.{layout_of_super, version_of_super}
 
 module _ (s : Super) (R S : Region) (is : IsSuper R s) (same : SameMetadata s R S) where
   abbrev l : Layout
@@ -44,9 +42,15 @@ module _ (s : Super) (R S : Region) (is : IsSuper R s) (same : SameMetadata s R 
   layout : IsLayout s
   layout = layout_of_super R s is
 
+  version : s.version ≡ 1
+  version = version_of_super R s is
+
+  before_tables : SameBefore ((1 + s.cpus) * 4096) R S
+  before_tables at aligned low = same.front at aligned (omega (arith, low))
+
   -- a word in front of the data blocks, once the journals are rolled back
   front_word : SameBefore (4096 * system_blocks s) (undone s R) (undone s S)
-  front_word at aligned before = same_undone (is_permitted s) s.cpus R S (λ a whole low. same.front a whole (omega (arith, low))) (low_rule s layout) same.as_long at aligned (same.front at aligned before)
+  front_word at aligned before = front_undone s R S layout version before_tables same.as_long at aligned (same.front at aligned before)
 
   slot_words : (i a : ℕ) → slot_of l i ≡ Some a → SameSlotWords (undone s R) (undone s S) a
   slot_words i a slot = record {
@@ -70,7 +74,7 @@ module _ (s : Super) (R S : Region) (is : IsSuper R s) (same : SameMetadata s R 
   log_page {i} {a} {log} h b c at aligned here below =
       let owned = owned_block (undone s R) l b (owners.Log i c.0) (by_log h (slice_get-get_or log.pages c.0 b c.1 ∙ ap Some c.2)) in
       let high : 4096 * system_blocks s ≤ at = (let low = owned.0 in omega (arith, low, here)) in
-      data_word s S layout at aligned high ∙ same.pages i a log b h c at aligned here below ∙ sym (data_word s R layout at aligned high)
+      data_word s S layout version at aligned high ∙ same.pages i a log b h c at aligned here below ∙ sym (data_word s R layout version at aligned high)
 
   there : {i a : ℕ} {log : Log} → IsInode (undone s R) l i a log → IsInode (undone s S) l i a log
   there {i} {a} h = let e = slot_words i a (slot_in_use h) in IsInode-same (undone s S) (record { valid = e.valid; kind = e.kind; head = e.head; tail = e.tail }) (log_page h) h
@@ -86,17 +90,14 @@ module _ (s : Super) (R S : Region) (is : IsSuper R s) (same : SameMetadata s R 
 
   -- ---- all of it
 
-  before_tables : SameBefore ((1 + s.cpus) * 4096) R S
-  before_tables at aligned low = same.front at aligned (omega (arith, low))
-
   faulty_there : (f : Fault) → IsFaulty R s f → IsFaulty S s f
-  faulty_there f (journal h) = journal (journal_fault_same (is_permitted s) s.cpus R S before_tables f h)
+  faulty_there f (journal h) = journal (front_faults s R S version before_tables f h)
   faulty_there f (inode i h) = inode i (fault_there same_inodes h)
   faulty_there f (cross h) = cross (cross_there same_inodes h)
   faulty_there _ (double h) = double (doubled_there same_inodes h)
 
   faulty_back : (f : Fault) → IsFaulty S s f → IsFaulty R s f
-  faulty_back f (journal h) = journal (journal_fault_same (is_permitted s) s.cpus S R (λ at aligned low. sym (before_tables at aligned low)) f h)
+  faulty_back f (journal h) = journal (front_faults s S R version (λ at aligned low. sym (before_tables at aligned low)) f h)
   faulty_back f (inode i h) = inode i (fault_there (turned same_inodes) h)
   faulty_back f (cross h) = cross (cross_there (turned same_inodes) h)
   faulty_back _ (double h) = double (doubled_there (turned same_inodes) h)

@@ -1,6 +1,5 @@
 -- Regions that hold the same inodes, with the same slots, show the same of them and between them.
 use Rattle.std.proofs.Common.{◌≡◌, ℕ, ◌+◌, ◌<◌, List, ◌∷◌, sym, ◌∙◌, subst, Some}
-use Rattle.std.specs.List.{Contains}
 use Rattle.nv_region.specs.Region.{Region, word}
 use Rattle.nv_super.specs.declared.owners.Owner.{Owner}
 use Rattle.nv_super.specs.declared.owners.Run.{Run}

@@ -20,7 +20,7 @@ use Rattle.nv_scan.specs.declared.piece.Row.{Row}
 use Rattle.nv_held.specs.nv_outcome.Same.{SameRow}
 use Rattle.nv_held.specs.Held.{Held, Store, with_inode}
 use Rattle.nv_held.specs.Bytes.{byte_of}
-use Rattle.nv_held.proofs.nv_outcome.SuperOf.{layout_of_super}
+use Rattle.nv_held.proofs.nv_outcome.SuperOf.{layout_of_super, version_of_super}
 use Rattle.nv_commit.specs.declared.together.Extension.{Extension}
 use Rattle.nv_commit.specs.Extends.{with_log}
 use Rattle.nv_commit.specs.Together.{CanCommit, ShowsIdle, UndoneShows}
@@ -192,7 +192,7 @@ module _ {R : Region} {s : Super} {free after : FreeLists} {old mid : Row} {cpu 
           subst (λ (k : Held). ShowsIdle (undone s left) s (with_removed other mid.inode k x j)) is (subst (λ (st : Store). ShowsIdle (undone s left) s (with_removed st mid.inode h x j)) equal (undone_idle w))
 
       any_bytes : (left : Region) → IsMixed R (RemoveWords cpu x gone) left → (other : Store) (g : Held) → CanRemove R s other cpu mid.inode g x j gone → (i : ℕ) (f : Held) → other i ≡ Some f → (y : ℕ) → byte_of (undone s left) (fixed_layout s) f y ≡ byte_of R (fixed_layout s) f y
-      any_bytes left stored other g here i f is y = let parent = here.parent in let sound = parent.sound in undone_bytes s left f (layout_of_super R s sound.sup) y ∙ removed_bytes here left stored i f is y
+      any_bytes left stored other g here i f is y = let parent = here.parent in let sound = parent.sound in undone_bytes s left f (layout_of_super R s sound.sup) (version_of_super R s sound.sup) y ∙ removed_bytes here left stored i f is y
 
       any_front : (left : Region) → IsMixed R (RemoveWords cpu x gone) left → (other : Store) (g : Held) → CanRemove R s other cpu mid.inode g x j gone → SameFrontBut s.cpus cpu R (undone s left)
       any_front left stored other g here = let parent = here.parent in let sound = parent.sound in undone_front s cpu R left (layout_of_super R s sound.sup) sound.idle (removed_front here left stored)

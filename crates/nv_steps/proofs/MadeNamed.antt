@@ -24,7 +24,7 @@ use Rattle.nv_scan.specs.declared.piece.Row.{Row}
 use Rattle.nv_held.specs.nv_outcome.Same.{SameRow}
 use Rattle.nv_held.specs.Held.{Held, Store, with_inode}
 use Rattle.nv_held.specs.Bytes.{byte_of}
-use Rattle.nv_held.proofs.nv_outcome.SuperOf.{layout_of_super}
+use Rattle.nv_held.proofs.nv_outcome.SuperOf.{layout_of_super, version_of_super}
 use Rattle.nv_commit.specs.declared.together.Extension.{Extension}
 use Rattle.nv_commit.specs.declared.making.NewInode.{NewInode}
 use Rattle.nv_commit.specs.Extends.{with_log}
@@ -239,7 +239,7 @@ module _ {R : Region} {s : Super} {free after : FreeLists} {old mid : Row} {cpu 
             subst (λ (k : Held). ShowsIdle (undone s left) s (with_made other j n mid.inode k x)) is (subst (λ (st : Store). ShowsIdle (undone s left) s (with_made st j n mid.inode h x)) equal (undone_idle w))
 
         any_bytes : (other : Store) (g : Held) → CanMake R s other cpu j n mid.inode g x → (i : ℕ) (f : Held) → other i ≡ Some f → (y : ℕ) → byte_of (undone s left) (fixed_layout s) f y ≡ byte_of R (fixed_layout s) f y
-        any_bytes other g there i f is y = let parent = there.parent in let sound = parent.sound in undone_bytes s left f (layout_of_super R s sound.sup) y ∙ made_bytes there left mixed i f is y
+        any_bytes other g there i f is y = let parent = there.parent in let sound = parent.sound in undone_bytes s left f (layout_of_super R s sound.sup) (version_of_super R s sound.sup) y ∙ made_bytes there left mixed i f is y
 
         any_front : (other : Store) (g : Held) → CanMake R s other cpu j n mid.inode g x → SameFrontBut s.cpus cpu R (undone s left)
         any_front other g there = let parent = there.parent in let sound = parent.sound in undone_front s cpu R left (layout_of_super R s sound.sup) sound.idle (made_front there left mixed)

@@ -8,11 +8,12 @@ use Rattle.nv_region.specs.Stops.{Choices, IsMixed}
 use Rattle.nv_region.proofs.Wordwise.{mixed_word}
 use Rattle.nv_super.specs.declared.superblock.Super.{Super}
 use Rattle.nv_super.specs.Layout.{IsLayout, fixed_layout, slot_of}
-use Rattle.nv_inode.specs.Permitted.{is_permitted}
+use Rattle.nv_inode.specs.Chains.{layout_of}
+use Rattle.nv_inode.specs.Permitted.{is_permitted_by}
 use Rattle.nv_entry.specs.declared.entry.Entry.{Entry}
 use Rattle.nv_journal.specs.Undo.{dequeue, enqueue, is_sound, journal, settled_word, undone, undone_word}
 use Rattle.nv_journal.proofs.AnyLength.{undone_size}
-use Rattle.nv_journal.proofs.Partly.{low_rule}
+use Rattle.nv_journal.proofs.KeptLinks.{own_rule}
 use Rattle.nv_journal.proofs.Undone.{all_low, length_undo, word_undo}
 use Rattle.nv_held.specs.Held.{Held, Store}
 use Rattle.nv_held.specs.Loose.{Loose}
@@ -136,14 +137,14 @@ module _ (s : Super) (cpu : ℕ) (R left : Region) (layout : IsLayout s) (idle :
   stays = elim (cases_lt (at / 8) (length left.words)) [
     | inl within ↦ (
         let back : 8 * (at / 8) ≡ at = omega (arith, whole) in
-        word_undo (is_permitted s) ((1 + s.cpus) * 4096) (low_rule s layout) s.cpus left (at / 8) within ∙ ap (undone_word (is_permitted s) s.cpus left) back
-        ∙ all_low (is_permitted s) ((1 + s.cpus) * 4096) (low_rule s layout) left s.cpus at (settled_word left s.cpus at) low ∙ settled_same left s.cpus at pointers)
-    | inr past ↦ get_or_past (undone s left).words (at / 8) 0 (let same = length_undo (is_permitted s) ((1 + s.cpus) * 4096) (low_rule s layout) s.cpus left in omega (arith, same, past)) ∙ sym (get_or_past left.words (at / 8) 0 past)
+        word_undo (is_permitted_by (layout_of s left)) ((1 + s.cpus) * 4096) (own_rule s left layout) s.cpus left (at / 8) within ∙ ap (undone_word (is_permitted_by (layout_of s left)) s.cpus left) back
+        ∙ all_low (is_permitted_by (layout_of s left)) ((1 + s.cpus) * 4096) (own_rule s left layout) left s.cpus at (settled_word left s.cpus at) low ∙ settled_same left s.cpus at pointers)
+    | inr past ↦ get_or_past (undone s left).words (at / 8) 0 (let same = length_undo (is_permitted_by (layout_of s left)) ((1 + s.cpus) * 4096) (own_rule s left layout) s.cpus left in omega (arith, same, past)) ∙ sym (get_or_past left.words (at / 8) 0 past)
   ]
 
 -- Recovery leaves them too, where nothing was pending before.
 pub undone_front : (s : Super) (cpu : ℕ) (R left : Region) → IsLayout s → AreIdle s.cpus R → SameFrontBut s.cpus cpu R left → SameFrontBut s.cpus cpu R (undone s left)
 undone_front s cpu R left layout idle front = record {
-  len = undone_size (is_permitted s) s.cpus (low_rule s layout) left ∙ front.len;
+  len = undone_size (is_permitted_by (layout_of s left)) s.cpus (own_rule s left layout) left ∙ front.len;
   words = λ at whole low other. stays s cpu R left layout idle front at whole low other ∙ front.words at whole low other;
 }

@@ -11,7 +11,8 @@ use crate::checks::{check, check_at};
 use crate::small::{SMALL, Word, assert_words, small_region};
 use nv_journal::{
     UndoError, one_region_is_undone, quiet_journals_stay, the_superblock_stays, undo,
-    undo_again_changes_nothing, undone_regions_are_quiet,
+    undo_again_changes_nothing, undo_keeps_the_chains, undone_regions_are_quiet,
+    version_1_is_undone_by_fixed_tables,
 };
 use nv_region::{Fuse, MemRegion};
 use nv_super::{Fault, Super};
@@ -22,6 +23,15 @@ use std::process::Abort;
 const TWO: Super = Super {
     version: 1,
     cpus: 2,
+    blocks: 16,
+    table_blocks: 1,
+    state: 0,
+};
+
+// The small region in version 2, whose tables have chains.
+const GROWN: Super = Super {
+    version: 2,
+    cpus: 1,
     blocks: 16,
     table_blocks: 1,
     state: 0,
@@ -114,6 +124,34 @@ const HIGHEST: [Word; 4] = [(12416 + 24, 3), (12416, 2), (4096, 2), (8192, 2)];
 // One of the numbers is too large. No store is caused, so a fuse that takes none doesn't stop the undo.
 const NOTHING_PENDING: [Word; 3] = [(4096, 7), (4104, 7), (8192, 252)];
 
+// The chain has block 9. The records name the tail of a slot there, both links, and a word of a block of no chain.
+const IN_A_CHAIN: [Word; 11] = [
+    (4112, 36864),
+    (4104, 4),
+    (4160, 37016),
+    (4168, 5),
+    (4176, 36864),
+    (4184, 7),
+    (4192, 4112),
+    (4200, 0),
+    (4208, 20632),
+    (4216, 7),
+    (37016, 3),
+];
+
+// The tail alone is rolled back.
+const CHAIN_ROLLED_BACK: [Word; 5] = [(37016, 5), (36864, 0), (4112, 36864), (20632, 0), (4096, 4)];
+
+// In version 1 no data block has slots.
+const CHAIN_UNREAD: [Word; 3] = [(37016, 3), (4112, 36864), (4096, 4)];
+
+const NO_SLOTS: [Fault; 4] = [
+    Fault::J2 { cpu: 0, record: 0 },
+    Fault::J2 { cpu: 0, record: 1 },
+    Fault::J2 { cpu: 0, record: 2 },
+    Fault::J2 { cpu: 0, record: 3 },
+];
+
 /// The words of a region, its fuse, the faults that an undo tells, the words that it leaves, and the faults that another
 /// one tells, which leaves the same words.
 type Row<'a> = (&'a [Word], Fuse, &'a [Fault], &'a [Word], &'a [Fault]);
@@ -179,6 +217,17 @@ fn is_undone(rt: &impl Abort, alloc: Global, sup: &Super, row: &Row<'_>)
 {
     let mut memory = small_region(rt, alloc, row.0);
     assert_undone_twice(rt, alloc, &mut memory, sup, row);
+}
+
+#[test]
+fn records_of_chains_are_undone_in_version_2(rt: HostRuntime) {
+    let links = &NO_SLOTS[1..];
+    let by_chains: Row<'_> = (&IN_A_CHAIN, Fuse::Off, links, &CHAIN_ROLLED_BACK, &[]);
+    is_undone(&rt, rt.alloc(), &GROWN, &by_chains);
+    let by_fixed_tables: Row<'_> = (&IN_A_CHAIN, Fuse::Off, &NO_SLOTS, &CHAIN_UNREAD, &[]);
+    is_undone(&rt, rt.alloc(), &SMALL, &by_fixed_tables);
+    undo_keeps_the_chains();
+    version_1_is_undone_by_fixed_tables();
 }
 
 #[test]

@@ -5,8 +5,7 @@ use Rattle.nv_region.proofs.Fuses.{keeps_more}
 use Rattle.nv_region.specs.Region.{Region}
 use Rattle.nv_region.specs.Stored.{SameOutside}
 use Rattle.nv_region.proofs.Wordwise.{fenced_stores, outside_more, stores_more}
-use Rattle.nv_super.specs.Layout.{system_blocks}
-use Rattle.nv_inode.specs.Permitted.{is_permitted}
+use Rattle.nv_inode.specs.Permitted.{is_permitted_by, slots_end}
 use Rattle.nv_journal.specs.Undo.{count_of, pending_count, pending_from, permitted, stores}
 use Rattle.nv_journal.proofs.Partly.{read_sound}
 use Rattle.nv_journal.proofs.Turns.{old_value, one_turn}
@@ -17,21 +16,21 @@ put_back-requires g c = record {
   layout = c.requires.layout;
   blocks = blocks_stay _ _ _ _ c.loop-done.invariant.wrote.mixed c.requires.blocks;
   aligned = omega (arith, c.place.ensures);
-  inside = omega (arith, c.place.ensures, c.requires.cpu, c.requires.layout.areas.room);
+  inside = omega (arith, c.place.ensures, c.requires.cpu, c.requires.layout.layout.areas.room);
 }
 
 pub returns-in_err-put_back-clause-wrote : goal.returns-in_err-put_back-clause-wrote
-returns-in_err-put_back-clause-wrote g c = stores_more _ _ _ _ _ _ _ _ (old_value c.args.sup.now _ _ c.args.pending.now c.count-count.result c.loop-done.done c.place.result c.requires.layout c.requires.cpu c.requires.read c.count-count.ensures c.loop-done-test.true c.loop-done.invariant.so_far c.place.ensures (read_sound (g.P.Pmem.region c.args.memory.now) c.args.pending.now c.requires.read c.requires.sound)) c.loop-done.invariant.wrote c.put_back.ensures.wrote
+returns-in_err-put_back-clause-wrote g c = stores_more _ _ _ _ _ _ _ _ (old_value c.args.tables.now.layout _ _ c.args.pending.now c.count-count.result c.loop-done.done c.place.result c.requires.layout c.requires.cpu c.requires.read c.count-count.ensures c.loop-done-test.true c.loop-done.invariant.so_far c.place.ensures (read_sound (g.P.Pmem.region c.args.memory.now) c.args.pending.now c.requires.read c.requires.sound)) c.loop-done.invariant.wrote c.put_back.ensures.wrote
 
 pub returns-in_err-put_back-clause-outside : goal.returns-in_err-put_back-clause-outside
 returns-in_err-put_back-clause-outside g c = outside_more _ _ _ _ _ c.loop-done.invariant.outside c.put_back.ensures.outside
 
 pub loop-done-preserved : goal.loop-done-preserved
 loop-done-preserved g c = record {
-  so_far = one_turn c.args.sup.now _ _ c.args.pending.now c.count-count.result c.loop-done.done c.place.result
+  so_far = one_turn c.args.tables.now.layout _ _ c.args.pending.now c.count-count.result c.loop-done.done c.place.result
       c.requires.layout c.requires.cpu c.requires.read c.count-count.ensures c.loop-done-test.true c.loop-done.invariant.so_far c.place.ensures _ c.in_ok-put_back.ensures.done;
   wrote = stores_more _ _ _ _ _ _ _ _
-      (old_value c.args.sup.now _ _ c.args.pending.now c.count-count.result c.loop-done.done c.place.result
+      (old_value c.args.tables.now.layout _ _ c.args.pending.now c.count-count.result c.loop-done.done c.place.result
       c.requires.layout c.requires.cpu c.requires.read c.count-count.ensures c.loop-done-test.true c.loop-done.invariant.so_far c.place.ensures
       (read_sound (g.P.Pmem.region c.args.memory.now) c.args.pending.now c.requires.read c.requires.sound))
       c.loop-done.invariant.wrote c.put_back.ensures.wrote;
@@ -41,12 +40,12 @@ loop-done-preserved g c = record {
 
 pub returns-clause-done : goal.returns-clause-done
 returns-clause-done g c =
-    let s = c.args.sup.now in
+    let s = c.args.tables.now.layout in
     let R : Region = g.P.Pmem.region c.args.memory.now in
     let none : c.count-count.result - c.loop-done.done ≡ 0 = omega arith in
     let finished : c.loop-done.done ≡ c.count-count.result = omega arith in
     let all : c.loop-done.done ≡ pending_count R c.args.pending.now.cpu = finished ∙ c.count-count.ensures ∙ ap count_of c.requires.read in
-    on_ok_weaker c.fence.result (λ _. c.fence.ensures.same ∙ c.loop-done.invariant.so_far ∙ (λ i. stores (permitted (is_permitted s) (pending_from R c.args.pending.now.cpu (none i) (all i))) R)) c.fence.ensures.fenced
+    on_ok_weaker c.fence.result (λ _. c.fence.ensures.same ∙ c.loop-done.invariant.so_far ∙ (λ i. stores (permitted (is_permitted_by s) (pending_from R c.args.pending.now.cpu (none i) (all i))) R)) c.fence.ensures.fenced
 
 pub returns-clause-settled : goal.returns-clause-settled
 returns-clause-settled g c = search depth 2 parts 0 steps 300000
@@ -55,4 +54,4 @@ pub returns-clause-wrote : goal.returns-clause-wrote
 returns-clause-wrote g c = fenced_stores c.fence.result _ _ _ _ _ _ _ c.loop-done.invariant.wrote c.fence.ensures.same c.fence.ensures.fenced c.fence.ensures.refused_keep (g.met.P.Pmem.holds_now _)
 
 pub returns-clause-outside : goal.returns-clause-outside
-returns-clause-outside g c = subst (λ (Q : Region). SameOutside (g.P.Pmem.region c.args.memory.now) 4096 (4096 * (system_blocks c.args.sup.now - 1)) Q) (sym c.fence.ensures.same) c.loop-done.invariant.outside
+returns-clause-outside g c = subst (λ (Q : Region). SameOutside (g.P.Pmem.region c.args.memory.now) 4096 (4096 * (slots_end c.args.tables.now.layout.sup - 1)) Q) (sym c.fence.ensures.same) c.loop-done.invariant.outside

@@ -4,8 +4,8 @@ use Rattle.nv_region.specs.Region.{Region, HasBlocks, size}
 use Rattle.nv_region.proofs.Fuses.{keeps_within}
 use Rattle.nv_region.proofs.Told.{burnt_told}
 use Rattle.nv_region.proofs.Wordwise.{stores_none}
-use Rattle.nv_super.specs.Layout.{system_blocks}
-use Rattle.nv_inode.specs.Permitted.{is_permitted}
+use Rattle.nv_inode.specs.Permitted.{is_permitted_by, slots_end}
+use Rattle.nv_inode.proofs.LayoutWords.{end_least}
 use Rattle.nv_journal.proofs.Stored.{stands}
 use Rattle.nv_journal.proofs.Turns.{by_record, either_of, not_named, outside_either, outside_same, record_stored}
 use Rattle.nv_journal.proofs.rollback.put_back.Goals as goal
@@ -36,74 +36,71 @@ before_data at blocks some before = omega arith
 before_limit : (at blocks limit : ℕ) → at + 8 ≤ blocks * 4096 → 4096 * blocks ≤ limit → at + 8 ≤ limit
 before_limit at blocks limit before past = omega arith
 
-one_and : (n m : ℕ) → 1 ≤ 1 + n + m
-one_and n m = omega arith
+some_end : (n m end : ℕ) → 1 + n + m ≤ end → 1 ≤ end
+some_end n m end far = omega arith
 
 pub store-requires-clause-within : goal.store-requires-clause-within
 store-requires-clause-within g c =
-    let named = sym c.is_journal_word.ensures.value ∙ c.if-not-is_journal_word.false in
-    in_region _ c.args.sup.now.blocks (g.P.Pmem.region c.args.memory.now) (stands c.args.sup.now c.load-at.result c.requires.layout named).within c.requires.blocks
+    let named = sym c.permits.ensures.value ∙ c.if-not-permits.false in
+    in_region _ c.args.tables.now.layout.sup.blocks (g.P.Pmem.region c.args.memory.now) (stands c.args.tables.now.layout c.load-at.result c.requires.layout named).within c.requires.blocks
 
-pub returns-then-not-is_journal_word-clause-done : goal.returns-then-not-is_journal_word-clause-done
-returns-then-not-is_journal_word-clause-done g c =
-    not_named (is_permitted c.args.sup.now) (g.P.Pmem.region c.args.memory.now) c.args.place c.load-at.result c.load-at.ensures (sym c.is_journal_word.ensures.value ∙ c.if-not-is_journal_word.true)
+pub returns-then-not-permits-clause-done : goal.returns-then-not-permits-clause-done
+returns-then-not-permits-clause-done g c =
+    not_named (is_permitted_by c.args.tables.now.layout) (g.P.Pmem.region c.args.memory.now) c.args.place c.load-at.result c.load-at.ensures (sym c.permits.ensures.value ∙ c.if-not-permits.true)
 
-pub returns-then-not-is_journal_word-clause-wrote : goal.returns-then-not-is_journal_word-clause-wrote
-returns-then-not-is_journal_word-clause-wrote g c = stores_none _ _ _
+pub returns-then-not-permits-clause-wrote : goal.returns-then-not-permits-clause-wrote
+returns-then-not-permits-clause-wrote g c = stores_none _ _ _
 
 pub returns-clause-done : goal.returns-clause-done
 returns-clause-done g c =
-    let named = sym c.is_journal_word.ensures.value ∙ c.if-not-is_journal_word.false in
+    let named = sym c.permits.ensures.value ∙ c.if-not-permits.false in
     on_ok_weaker c.store.result
-    (λ stored. stored ∙ by_record (is_permitted c.args.sup.now) (g.P.Pmem.region c.args.memory.now) c.args.place c.load-at.result c.load-at.ensures c.load-before.result c.load-before.ensures named)
+    (λ stored. stored ∙ by_record (is_permitted_by c.args.tables.now.layout) (g.P.Pmem.region c.args.memory.now) c.args.place c.load-at.result c.load-at.ensures c.load-before.result c.load-before.ensures named)
     c.store.ensures.stored
 
 pub returns-clause-wrote : goal.returns-clause-wrote
 returns-clause-wrote g c =
-    let named = sym c.is_journal_word.ensures.value ∙ c.if-not-is_journal_word.false in
-    record_stored (is_permitted c.args.sup.now) (g.P.Pmem.region c.args.memory.now) c.args.place c.load-at.result c.load-at.ensures c.load-before.result c.load-before.ensures named c.store.result _ _ _
+    let named = sym c.permits.ensures.value ∙ c.if-not-permits.false in
+    record_stored (is_permitted_by c.args.tables.now.layout) (g.P.Pmem.region c.args.memory.now) c.args.place c.load-at.result c.load-at.ensures c.load-before.result c.load-before.ensures named c.store.result _ _ _
     c.store.ensures.stored c.store.ensures.refused c.store.ensures.may_keep c.store.ensures.refused_keep
 
 pub returns-clause-outside : goal.returns-clause-outside
 returns-clause-outside g c =
-    let lies = c.is_journal_word.ensures.lies c.if-not-is_journal_word.false in
-    outside_either _ _ _ 4096 (4096 * (system_blocks c.args.sup.now - 1)) c.load-at.result c.load-before.result lies.aligned (behind_start c.load-at.result c.args.sup.now.cpus lies.behind) (before_data c.load-at.result (system_blocks c.args.sup.now) (one_and c.args.sup.now.cpus (c.args.sup.now.cpus * c.args.sup.now.table_blocks)) lies.before) (outside_same _ _ _)
+    let lies = c.permits.ensures.lies c.if-not-permits.false in
+    outside_either _ _ _ 4096 (4096 * (slots_end c.args.tables.now.layout.sup - 1)) c.load-at.result c.load-before.result lies.aligned (behind_start c.load-at.result c.args.tables.now.layout.sup.cpus lies.behind) (before_data c.load-at.result (slots_end c.args.tables.now.layout.sup) (some_end c.args.tables.now.layout.sup.cpus (c.args.tables.now.layout.sup.cpus * c.args.tables.now.layout.sup.table_blocks) (slots_end c.args.tables.now.layout.sup) (end_least c.args.tables.now.layout.sup c.requires.layout.layout)) lies.before) (outside_same _ _ _)
     (either_of c.store.result _ _ _ _ c.store.ensures.stored c.store.ensures.refused)
 
 pub load-at-requires-clause-aligned : goal.load-at-requires-clause-aligned
 load-at-requires-clause-aligned g c = c.requires.aligned
 
 pub load-at-requires-clause-within : goal.load-at-requires-clause-within
-load-at-requires-clause-within g c = in_region _ c.args.sup.now.blocks (g.P.Pmem.region c.args.memory.now) (first_word c.args.place c.args.sup.now.blocks c.requires.inside) c.requires.blocks
+load-at-requires-clause-within g c = in_region _ c.args.tables.now.layout.sup.blocks (g.P.Pmem.region c.args.memory.now) (first_word c.args.place c.args.tables.now.layout.sup.blocks c.requires.inside) c.requires.blocks
 
 pub overflow_add-place : goal.overflow_add-place
-overflow_add-place g c = place_fits c.args.place c.args.sup.now.blocks c.requires.inside c.requires.layout.areas.blocks_to
+overflow_add-place g c = place_fits c.args.place c.args.tables.now.layout.sup.blocks c.requires.inside c.requires.layout.layout.areas.blocks_to
 
 pub load-before-requires-clause-aligned : goal.load-before-requires-clause-aligned
 load-before-requires-clause-aligned g c = second_aligned c.args.place c.requires.aligned
 
 pub load-before-requires-clause-within : goal.load-before-requires-clause-within
-load-before-requires-clause-within g c = in_region _ c.args.sup.now.blocks (g.P.Pmem.region c.args.memory.now) (second_word c.args.place c.args.sup.now.blocks c.requires.inside) c.requires.blocks
+load-before-requires-clause-within g c = in_region _ c.args.tables.now.layout.sup.blocks (g.P.Pmem.region c.args.memory.now) (second_word c.args.place c.args.tables.now.layout.sup.blocks c.requires.inside) c.requires.blocks
 
-pub is_journal_word-requires : goal.is_journal_word-requires
-is_journal_word-requires g c = c.requires.layout
+pub returns-then-not-permits-clause-outside : goal.returns-then-not-permits-clause-outside
+returns-then-not-permits-clause-outside g c = outside_same _ _ _
 
-pub returns-then-not-is_journal_word-clause-outside : goal.returns-then-not-is_journal_word-clause-outside
-returns-then-not-is_journal_word-clause-outside g c = outside_same _ _ _
+pub returns-then-not-permits-clause-stopped : goal.returns-then-not-permits-clause-stopped
+returns-then-not-permits-clause-stopped g c = tt
 
-pub returns-then-not-is_journal_word-clause-stopped : goal.returns-then-not-is_journal_word-clause-stopped
-returns-then-not-is_journal_word-clause-stopped g c = tt
-
-pub returns-then-not-is_journal_word-clause-keeps_fuse : goal.returns-then-not-is_journal_word-clause-keeps_fuse
-returns-then-not-is_journal_word-clause-keeps_fuse g c = record { burnt = λ on. on; steady = λ on. on; stays_open = λ limit past on. on }
+pub returns-then-not-permits-clause-keeps_fuse : goal.returns-then-not-permits-clause-keeps_fuse
+returns-then-not-permits-clause-keeps_fuse g c = record { burnt = λ on. on; steady = λ on. on; stays_open = λ limit past on. on }
 
 pub store-requires-clause-aligned : goal.store-requires-clause-aligned
-store-requires-clause-aligned g c = (c.is_journal_word.ensures.lies c.if-not-is_journal_word.false).aligned
+store-requires-clause-aligned g c = (c.permits.ensures.lies c.if-not-permits.false).aligned
 
 pub returns-clause-stopped : goal.returns-clause-stopped
 returns-clause-stopped g c = burnt_told c.store.result c.store.ensures.stopped
 
 pub returns-clause-keeps_fuse : goal.returns-clause-keeps_fuse
 returns-clause-keeps_fuse g c =
-    let lies = c.is_journal_word.ensures.lies c.if-not-is_journal_word.false in
-    keeps_within (λ limit past. before_limit c.load-at.result (system_blocks c.args.sup.now) limit lies.before past) c.store.ensures.keeps_fuse
+    let lies = c.permits.ensures.lies c.if-not-permits.false in
+    keeps_within (λ limit past. before_limit c.load-at.result (slots_end c.args.tables.now.layout.sup) limit lies.before past) c.store.ensures.keeps_fuse

@@ -5,6 +5,7 @@ use Rattle.byteorder.specs.Endian.{little_number}
 use Rattle.nv_region.specs.Region.{region_of, word}
 use Rattle.nv_region.proofs.Bytes.{size_of_bytes}
 use Rattle.nv_super.specs.Layout.{most_blocks}
+use Rattle.nv_outcome.proofs.SuperOf.{version_of_super}
 use Rattle.nv_metadata.proofs.Refused.{length_refused, refused_there}
 use Rattle.nv_metadata.proofs.Ready.{says}
 use Rattle.nv_metadata.proofs.HandedOn.{passed_on}
@@ -25,6 +26,9 @@ gather_metadata-requires-clause-superblock g c =
     let items = c.deref.ensures.value in
     says c.in-Ok.sup c.in_ok-first.first.items c.in_ok-alone.alone.memory.region c.in_ok-first.ensures.count c.in-Ok.ensures.blocks
     (λ at aligned within. made.front at aligned (omega (arith, within, ap length items)) ∙ ap (λ (l : List ℕ). little_number 8 (drop at l)) items) c.in-Ok.ensures.accepted
+
+pub gather_metadata-requires-clause-version : goal.gather_metadata-requires-clause-version
+gather_metadata-requires-clause-version g c = version_of_super c.in_ok-alone.alone.memory.region c.in-Ok.sup c.in-Ok.ensures.accepted
 
 pub returns-in-Ok-clause-gathered : goal.returns-in-Ok-clause-gathered
 returns-in-Ok-clause-gathered g c image known =

@@ -9,7 +9,7 @@ use Rattle.nv_recover.specs.Errors.{Fails, comes_first, error_of_undo}
 use Rattle.nv_recover.specs.declared.errors.RecoverError.{RecoverError}
 use Rattle.nv_recover.specs.declared.errors.RecoverError.TheVariants.{Super as Refused, Stopped}
 use Rattle.nv_recover.proofs.Handed.{burnt_of, fails_of, goes_on, handed, no_stop_of}
-use Rattle.nv_recover.proofs.Stops.{recovery_stores, stop_before, stop_undone}
+use Rattle.nv_recover.proofs.Stops.{front_of, open_front, recovery_stores, stop_before, stop_undone}
 use Rattle.nv_region.proofs.Wordwise.{stores_none}
 use Rattle.nv_recover.proofs.starting.start.Goals as goal
 
@@ -59,12 +59,12 @@ returns-in_err-journal-clause-stopped g c =
     (burnt_of c.undo.result c.in_err-journal.field-0.0 X c.in_err-journal.was c.undo.ensures.stopped)
 
 pub returns-in_err-journal-clause-keeps_fuse : goal.returns-in_err-journal-clause-keeps_fuse
-returns-in_err-journal-clause-keeps_fuse g c = keeps_within (λ limit past. past c.in_ok-sup.sup c.in_ok-sup.ensures.accepted) c.undo.ensures.keeps_fuse
+returns-in_err-journal-clause-keeps_fuse g c = keeps_within (λ limit past. front_of (g.P.Pmem.region c.args.memory.now) c.in_ok-sup.sup limit c.in_ok-sup.ensures.accepted (past c.in_ok-sup.sup c.in_ok-sup.ensures.accepted)) c.undo.ensures.keeps_fuse
 
 pub returns-in_err-journal-clause-unstopped : goal.returns-in_err-journal-clause-unstopped
 returns-in_err-journal-clause-unstopped g c = λ s is free. let R = g.P.Pmem.region c.args.memory.now in
     handed c.from_residual-in_err-journal.result (error_of_undo c.in_err-journal.field-0.0) (λ (e : RecoverError). e ≢ Stopped) c.from_residual-in_err-journal.ensures.1
-    (no_stop_of c.undo.result c.in_err-journal.field-0.0 c.in_err-journal.was (c.undo.ensures.open_done (subst (λ (t : Super). IsTrue ((g.P.Pmem.fuse c.args.memory.now).is_open (4096 * system_blocks t))) (one_super R c.in_ok-sup.sup s c.in_ok-sup.ensures.accepted is) free)))
+    (no_stop_of c.undo.result c.in_err-journal.field-0.0 c.in_err-journal.was (c.undo.ensures.open_done (open_front R c.in_ok-sup.sup (g.P.Pmem.fuse c.args.memory.now) c.in_ok-sup.ensures.accepted (subst (λ (t : Super). IsTrue ((g.P.Pmem.fuse c.args.memory.now).is_open (4096 * system_blocks t))) (one_super R c.in_ok-sup.sup s c.in_ok-sup.ensures.accepted is) free))))
 
 pub returns-clause-ok : goal.returns-clause-ok
 returns-clause-ok g c = record {
@@ -80,7 +80,7 @@ returns-clause-quiet g c = λ s is quiet. let R = g.P.Pmem.region c.args.memory.
     c.undo.ensures.quiet (subst (λ (t : Super). AllQuiet t.cpus R) (one_super R c.in_ok-sup.sup s c.in_ok-sup.ensures.accepted is) quiet)
 
 pub returns-clause-keeps_fuse : goal.returns-clause-keeps_fuse
-returns-clause-keeps_fuse g c = keeps_within (λ limit past. past c.in_ok-sup.sup c.in_ok-sup.ensures.accepted) c.undo.ensures.keeps_fuse
+returns-clause-keeps_fuse g c = keeps_within (λ limit past. front_of (g.P.Pmem.region c.args.memory.now) c.in_ok-sup.sup limit c.in_ok-sup.ensures.accepted (past c.in_ok-sup.sup c.in_ok-sup.ensures.accepted)) c.undo.ensures.keeps_fuse
 
 pub returns-in_err-sup-clause-any_stop : goal.returns-in_err-sup-clause-any_stop
 returns-in_err-sup-clause-any_stop g c = λ s is none. stop_before (g.P.Pmem.region c.args.memory.now) (g.P.Pmem.may_hold c.args.memory.now) s is none
