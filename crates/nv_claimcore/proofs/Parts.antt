@@ -5,7 +5,7 @@ use Rattle.std.proofs.lemmas.List.Elements.{All-nil, All-cons, All-append}
 use Rattle.std.proofs.lemmas.List.{append-nil, append_assoc}
 use mathlib.Core.List.{map-append}
 use Rattle.nv_super.specs.declared.owners.Owner.{Owner}
-use Rattle.nv_super.specs.declared.owners.Owner.TheVariants.{Log, Data}
+use Rattle.nv_super.specs.declared.owners.Owner.TheVariants.{Table, Log, Data}
 use Rattle.nv_super.specs.Owners.{raised, pairs}
 use Rattle.nv_claimcore.specs.declared.view.Record.{Record}
 use Rattle.nv_claimcore.specs.declared.view.View.{View}
@@ -22,6 +22,7 @@ settle_settled n [] = All-nil Settled
 settle_settled n (p ∷ ps) = All-cons Settled _ (settle n ps) refl (settle_settled n ps)
 
 raised_twice : (o : Owner) (j k : ℕ) → raised (raised o j) k ≡ raised o (j + k)
+raised_twice (Table c p) j k = refl
 raised_twice (Log i p) j k = refl
 raised_twice (Data i p) j k = ap (Data i) (omega arith)
 

@@ -2,7 +2,7 @@
 use Rattle.std.proofs.Common.{◌≡◌, ℕ, ◌<◌, ◌≤◌, ◌^◌, List, ◌++◌, map, sym, ap, ◌∙◌, arith}
 use Rattle.std.proofs.lemmas.List.{map-append}
 use Rattle.nv_super.specs.declared.owners.Owner.{Owner}
-use Rattle.nv_super.specs.declared.owners.Owner.TheVariants.{Log, Data}
+use Rattle.nv_super.specs.declared.owners.Owner.TheVariants.{Table, Log, Data}
 use Rattle.nv_super.specs.Owners.{MayOwn, page_end}
 use Rattle.nv_claimcore.specs.declared.view.View.{View}
 use Rattle.nv_claimcore.specs.Finished.{pair_of}
@@ -10,6 +10,7 @@ use Rattle.nv_claimcore.specs.Spans.{Adds}
 
 -- the page of each block fits a word
 pub page_small : (o : Owner) (n j : ℕ) → MayOwn o n → j ≤ n → page_end o j < 2 ^ 64
+page_small (Table c k) n j own l = omega arith
 page_small (Log i k) n j own l = omega arith
 page_small (Data i p) n j own l = omega arith
 

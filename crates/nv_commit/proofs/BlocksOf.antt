@@ -25,7 +25,7 @@ use Rattle.nv_held.proofs.nv_named.MoreEntries.{quiet_entries}
 use Rattle.nv_held.specs.Held.{Held, Store, good_in, with_inode}
 use Rattle.nv_held.specs.Blocks.{IsUnowned, NoneDoubled, OwnsIn, OwnsNew, by_log, by_page}
 use Rattle.nv_held.specs.Grows.{Maps, SameFile, grown}
-use Rattle.nv_held.proofs.Growing.{has_block, log_owned, page_owned}
+use Rattle.nv_held.proofs.Growing.{has_block, log_owned, page_owned, no_table_owned}
 use Rattle.nv_held.proofs.Kept.{page_owner}
 use Rattle.nv_held.proofs.Owning.{free_before, free_still, let_go, same_held}
 use Rattle.nv_commit.specs.Pages.{MapsNothing, SaysNoPage}
@@ -71,10 +71,13 @@ module _ (l : Layout) (held : Store) (i : ℕ) (new : Held) (page : ℕ) (out : 
       cc
 
   each_was : (b : ℕ) (o : Owner) → OwnsIn l after b o → inode_of o ≡ i → ((before : Owner) × OwnsIn l held b before × (inode_of before ≡ i)) ⊎ IsUnowned l held b
+  each_was b (owners.Table c k) owns mine = absurd (no_table_owned owns)
   each_was b (owners.Log j k) owns mine = inr (subst (IsUnowned l held) (sym (of_log b j k mine owns).0) free)
   each_was b (owners.Data j p) owns mine = absurd (of_page b j p mine owns)
 
   once : (b : ℕ) (o other : Owner) → OwnsIn l after b o → OwnsIn l after b other → inode_of o ≡ i → inode_of other ≡ i → o ≡ other
+  once b (owners.Table c k) other x y mine theirs = absurd (no_table_owned x)
+  once b o (owners.Table c k) x y mine theirs = absurd (no_table_owned y)
   once b (owners.Log j k) (owners.Log m n) x y mine theirs = λ t. owners.Log ((mine ∙ sym theirs) t) (((of_log b j k mine x).1 ∙ sym (of_log b m n theirs y).1) t)
   once b (owners.Log j k) (owners.Data m p) x y mine theirs = absurd (of_page b m p theirs y)
   once b (owners.Data j p) other x y mine theirs = absurd (of_page b j p mine x)
@@ -83,10 +86,12 @@ module _ (l : Layout) (held : Store) (i : ℕ) (new : Held) (page : ℕ) (out : 
   begun_owns = record { each = each_was; once = once }
 
   not_before : (b : ℕ) (o : Owner) → OwnsIn l held b o → inode_of o ≡ i → ⊥
+  not_before b (owners.Table c k) owns mine = no_table_owned owns
   not_before b (owners.Log j k) owns mine = let w = log_owned owns in let clash : None ≡ Some w.0 = sym out ∙ ap held (sym mine) ∙ w.1 in cc
   not_before b (owners.Data j p) owns mine = let w = page_owned owns in let clash : None ≡ Some w.0 = sym out ∙ ap held (sym mine) ∙ w.1 in cc
 
   not_now : (b : ℕ) → b ≢ page → (o : Owner) → OwnsIn l after b o → inode_of o ≡ i → ⊥
+  not_now b differs (owners.Table c k) owns mine = no_table_owned owns
   not_now b differs (owners.Log j k) owns mine = differs (of_log b j k mine owns).0
   not_now b differs (owners.Data j p) owns mine = of_page b j p mine owns
 
@@ -119,6 +124,7 @@ module _ (l : Layout) (held : Store) (i : ℕ) (f : Held) (is : held i ≡ Some 
   left = with_inode held i None
 
   gone : (b : ℕ) (o : Owner) → OwnsIn l left b o → inode_of o ≡ i → ⊥
+  gone b (owners.Table c k) owns mine = no_table_owned owns
   gone b (owners.Log j k) owns mine = let w = log_owned owns in let clash : None ≡ Some w.0 = sym (same_held held i None) ∙ ap left (sym mine) ∙ w.1 in cc
   gone b (owners.Data j p) owns mine = let w = page_owned owns in let clash : None ≡ Some w.0 = sym (same_held held i None) ∙ ap left (sym mine) ∙ w.1 in cc
 
@@ -127,6 +133,7 @@ module _ (l : Layout) (held : Store) (i : ℕ) (f : Held) (is : held i ≡ Some 
 
   -- where nothing is held nothing is owned
   nobody : (b : ℕ) (o : Owner) → OwnsIn l (λ _. None) b o → ⊥
+  nobody b (owners.Table c k) owns = no_table_owned owns
   nobody b (owners.Log j k) owns = let w = log_owned owns in let e = w.1 in cc
   nobody b (owners.Data j p) owns = let w = page_owned owns in let e = w.1 in cc
 
@@ -140,6 +147,7 @@ module _ (l : Layout) (held : Store) (i : ℕ) (f : Held) (is : held i ≡ Some 
 
   -- its own owners
   mine_was : (b : ℕ) → (Contains f.pages b → ⊥) → (Maps l f b → ⊥) → (o : Owner) → OwnsIn l held b o → inode_of o ≡ i → ⊥
+  mine_was b no_page no_data (owners.Table c k) owns mine = no_table_owned owns
   mine_was b no_page no_data (owners.Log j k) owns mine =
       let w = log_owned owns in
       let same : w.0 ≡ f = some_is w.0 f (held i) (ap held (sym mine) ∙ w.1) is in

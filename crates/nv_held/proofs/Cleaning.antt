@@ -15,7 +15,7 @@ use Rattle.nv_held.specs.Grows.{SameFile}
 use Rattle.nv_held.specs.Cleaned.{LosesPage}
 use Rattle.nv_held.proofs.Owning.{same_held, owned_before, owned_after}
 use Rattle.nv_held.proofs.Kept.{page_owner}
-use Rattle.nv_held.proofs.Growing.{log_owned, page_owned, one_place}
+use Rattle.nv_held.proofs.Growing.{log_owned, page_owned, no_table_owned, one_place}
 
 module _ (l : Layout) (held : Store) (i : ℕ) (h new : Held) (is : held i ≡ Some h) (b : ℕ) (less : LosesPage h new b) (file : SameFile l h new) where
   abbrev after : Store
@@ -43,6 +43,7 @@ module _ (l : Layout) (held : Store) (i : ℕ) (h new : Held) (is : held i ≡ S
 
   -- what the inode owns it has owned
   was : (q : ℕ) (o : Owner) → OwnsIn l after q o → inode_of o ≡ i → (before : Owner) × OwnsIn l held q before × (inode_of before ≡ i)
+  was q (owners.Table c k) owns mine = absurd (no_table_owned owns)
   was q (owners.Log j k) owns mine = let w = log_was q k (of_log q j k mine owns) in (owners.Log i w.0, w.1, refl)
   was q (owners.Data j p) owns mine = (owners.Data i p, by_page is (of_page q j p mine owns), refl)
 
@@ -59,6 +60,7 @@ module _ (l : Layout) (held : Store) (i : ℕ) (h new : Held) (is : held i ≡ S
 
   -- a block of the inode but for the page is its own still
   own_still : (q : ℕ) → q ≢ b → (o : Owner) → OwnsIn l held q o → inode_of o ≡ i → (later : Owner) × OwnsIn l after q later
+  own_still q differs (owners.Table c k) owns mine = absurd (no_table_owned owns)
   own_still q differs (owners.Log j k) owns mine = let w = page_owner l after i q new now (less.rest q (stands h.pages k q (of_old_log q j k mine owns)) differs) in (owners.Log i w.0, w.1)
   own_still q differs (owners.Data j p) owns mine = (owners.Data i p, by_page now (file p ∙ of_old_page q j p mine owns))
 
@@ -86,6 +88,8 @@ module _ (l : Layout) (held : Store) (i : ℕ) (h new : Held) (is : held i ≡ S
     two_pages q p r first second = let same : owners.Data i p ≡ owners.Data i r = undoubled q (owners.Data i p) (owners.Data i r) (by_page is first) (by_page is second) in cc
 
     mine_once : (q : ℕ) (o other : Owner) → OwnsIn l after q o → OwnsIn l after q other → inode_of o ≡ i → inode_of other ≡ i → o ≡ other
+    mine_once q (owners.Table c k) other x y mine theirs = absurd (no_table_owned x)
+    mine_once q o (owners.Table c k) x y mine theirs = absurd (no_table_owned y)
     mine_once q (owners.Log j k) (owners.Log m n) x y mine theirs =
         let place : k ≡ n = one_place new.pages k n q less.once (of_log q j k mine x) (of_log q m n theirs y) in
         λ t. owners.Log ((mine ∙ sym theirs) t) (place t)
@@ -101,6 +105,7 @@ module _ (l : Layout) (held : Store) (i : ℕ) (h new : Held) (is : held i ≡ S
 
     -- nothing of the inode owns the page
     page_gone : (o : Owner) → OwnsIn l after b o → inode_of o ≡ i → ⊥
+    page_gone (owners.Table c k) owns mine = no_table_owned owns
     page_gone (owners.Log j k) owns mine = (less.from b (stands new.pages k b (of_log b j k mine owns))).1 refl
     page_gone (owners.Data j p) owns mine = let clash : owners.Log i page.0 ≡ owners.Data i p = undoubled b (owners.Log i page.0) (owners.Data i p) page.1 (by_page is (of_page b j p mine owns)) in cc
 

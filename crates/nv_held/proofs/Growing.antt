@@ -1,5 +1,5 @@
 -- The owners and the free blocks once one log grew.
-use Rattle.std.proofs.Common.{◌≡◌, ◌↔◌, ℕ, ◌<◌, false, ◌⊎◌, inl, inr, List, ◌++◌, length, eqb, get_or, slice_get, refl, ap, sym, ◌∙◌, subst, arith, Option, Some, None}
+use Rattle.std.proofs.Common.{◌≡◌, ◌↔◌, ℕ, ◌<◌, true, false, ◌⊎◌, inl, inr, List, ◌++◌, length, eqb, get_or, slice_get, refl, ap, sym, ◌∙◌, subst, arith, Option, Some, None}
 use Rattle.std.specs.List.{Contains, IsDistinct}
 use Rattle.std.proofs.lemmas.Bool.{cases_eq, cases_lt, true≢false}
 use Rattle.std.proofs.lemmas.Bool.Decides.{eqb_tells}
@@ -18,6 +18,7 @@ use Rattle.nv_named.proofs.nv_outcome.Finite.{Decided, number_is, numbers, those
 use Rattle.nv_held.specs.Held.{Held, Store, with_inode, good_in}
 use Rattle.nv_held.specs.Blocks.{OwnsIn, by_log, by_page, IsUnowned, NoneDoubled, OwnsNew}
 use Rattle.nv_held.specs.Grows.{AreFree, SameFile, Maps, LetsGo, GrowsByData}
+use Rattle.nv_named.proofs.nv_scan.Only.{is_of_inode}
 use Rattle.nv_held.proofs.Owning.{same_held, owned_before, owned_after}
 use Rattle.nv_held.proofs.Kept.{page_owner}
 
@@ -28,6 +29,14 @@ log_owned (by_log {h = h} is page) = (h, is, page)
 
 pub page_owned : {l : Layout} {held : Store} {i p b : ℕ} → OwnsIn l held b (owners.Data i p) → (h : Held) × (held i ≡ Some h) × (block_of (good_in l h) p ≡ Some b)
 page_owned (by_page {h = h} is maps) = (h, is, maps)
+
+owned_by_inode : {l : Layout} {held : Store} {b : ℕ} {o : Owner} → OwnsIn l held b o → is_of_inode o ≡ true
+owned_by_inode (by_log is page) = refl
+owned_by_inode (by_page is maps) = refl
+
+-- a table owns no block
+pub no_table_owned : {l : Layout} {held : Store} {c k b : ℕ} → OwnsIn l held b (owners.Table c k) → ⊥
+no_table_owned owns = let clash : false ≡ true = owned_by_inode owns in cc
 
 -- a place of a list of numbers that differ
 pub one_place : (xs : List ℕ) (j k b : ℕ) → IsDistinct eqb xs → slice_get xs j ≡ Some b → slice_get xs k ≡ Some b → j ≡ k
@@ -90,11 +99,13 @@ module _ (l : Layout) (held : Store) (i : ℕ) (h new : Held) (is : held i ≡ S
 
   -- each block that the inode owns was its own or free
   each_was : (b : ℕ) (o : Owner) → OwnsIn l after b o → inode_of o ≡ i → ((before : Owner) × OwnsIn l held b before × (inode_of before ≡ i)) ⊎ IsUnowned l held b
+  each_was b (owners.Table c k) owns mine = absurd (no_table_owned owns)
   each_was b (owners.Log j k) owns mine = elim (log_was b k (of_log b j k mine owns)) [ inl w ↦ inl (owners.Log i w.0, w.1, refl) | inr w ↦ inr (by.free b w) ]
   each_was b (owners.Data j p) owns mine = elim (by.from p b (of_page b j p mine owns)) [ inl old ↦ inl (owners.Data i p, by_page is old, refl) | inr w ↦ inr w.0 ]
 
   -- what is free now
   unowned_now : (b : ℕ) → IsUnowned l held b → (Contains fresh b → ⊥) → (Maps l new b → ⊥) → (o : Owner) → OwnsIn l after b o → inode_of o ≡ i → ⊥
+  unowned_now b free out away (owners.Table c k) owns mine = no_table_owned owns
   unowned_now b free out away (owners.Log j k) owns mine = elim (log_was b k (of_log b j k mine owns)) [ inl w ↦ free.unowned (owners.Log i w.0) w.1 | inr one ↦ out one ]
   unowned_now b free out away (owners.Data j p) owns mine = away (p, of_page b j p mine owns)
 
@@ -108,6 +119,7 @@ module _ (l : Layout) (held : Store) (i : ℕ) (h new : Held) (is : held i ≡ S
 
   -- what was free
   was_free : (b : ℕ) → IsUnowned l after b → (Maps l h b → ⊥) → (o : Owner) → OwnsIn l held b o → inode_of o ≡ i → ⊥
+  was_free b free none (owners.Table c k) owns mine = no_table_owned owns
   was_free b free none (owners.Log j k) owns mine = let w = log_now b (Contains-append_left h.pages fresh b (stands h.pages k b (of_old_log b j k mine owns))) in free.unowned (owners.Log i w.0) w.1
   was_free b free none (owners.Data j p) owns mine = none (p, of_old_page b j p mine owns)
 
@@ -151,6 +163,8 @@ module _ (l : Layout) (held : Store) (i : ℕ) (h new : Held) (is : held i ≡ S
       same_page e = cc
 
     mine_once : IsDistinct eqb new.pages → (b : ℕ) (o other : Owner) → OwnsIn l after b o → OwnsIn l after b other → inode_of o ≡ i → inode_of other ≡ i → o ≡ other
+    mine_once differ b (owners.Table c k) other x y mine theirs = absurd (no_table_owned x)
+    mine_once differ b o (owners.Table c k) x y mine theirs = absurd (no_table_owned y)
     mine_once differ b (owners.Log j k) (owners.Log m n) x y mine theirs =
         let place : k ≡ n = one_place new.pages k n b differ (of_log b j k mine x) (of_log b m n theirs y) in
         λ t. owners.Log ((mine ∙ sym theirs) t) (place t)
@@ -166,6 +180,7 @@ module _ (l : Layout) (held : Store) (i : ℕ) (h new : Held) (is : held i ≡ S
 
     -- what the file let go is free
     gone_now : (b p : ℕ) → block_of (good_in l h) p ≡ Some b → (Maps l new b → ⊥) → (o : Owner) → OwnsIn l after b o → inode_of o ≡ i → ⊥
+    gone_now b p old away (owners.Table c k) owns mine = no_table_owned owns
     gone_now b p old away (owners.Log j k) owns mine = elim (log_was b k (of_log b j k mine owns)) [
       | inl w ↦ (let clash : owners.Log i w.0 ≡ owners.Data i p = undoubled b (owners.Log i w.0) (owners.Data i p) w.1 (by_page is old) in cc)
       | inr one ↦ (by.free b one).unowned (owners.Data i p) (by_page is old)

@@ -10,7 +10,7 @@ use Rattle.nv_named.specs.nv_scan.State.{block_of}
 use Rattle.nv_named.specs.nv_scan.Inode.{Log, IsInode, IsInUse, right, good_of}
 use Rattle.nv_named.specs.nv_scan.Owners as scan
 use Rattle.nv_named.specs.nv_scan.Owners.{Owns}
-use Rattle.nv_named.proofs.nv_scan.Only.{IsInode-only, slot_in_use, kind_in_use, owned_log, owned_page}
+use Rattle.nv_named.proofs.nv_scan.Only.{IsInode-only, slot_in_use, kind_in_use, owned_log, owned_page, no_table}
 use Rattle.nv_named.proofs.nv_scan.Pieces.{valid_one}
 use Rattle.nv_named.specs.nv_outcome.Outcome.{IsFree}
 use Rattle.nv_held.specs.Held.{Held, Store, HoldsInode, ShowsSlot, Shows, log_of}
@@ -60,6 +60,7 @@ module _ {R : Region} {l : Layout} {held : Store} (shows : Shows R l held) where
   owns_there b _ (by_page {i = i} {h = h} is maps) = let v = stands_at i h is in scan.by_page (held_inode R l i v.a h v.at v.is) maps
 
   pub owns_back : (b : ℕ) (o : Owner) → Owns R l b o → OwnsIn l held b o
+  owns_back b (owners.Table c k) h = absurd (no_table h)
   owns_back b (owners.Log i k) h = let u = owned_log h in let w = is_held i u.a u.log u.is in
       by_log w.held_is (subst (λ (x : Log). slice_get x.pages k ≡ Some b) w.same u.page)
   owns_back b (owners.Data i p) h = let u = owned_page h in let w = is_held i u.a u.log u.is in

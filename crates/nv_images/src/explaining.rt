@@ -126,7 +126,7 @@ const CLASSES: [Class; 28] = [
     Class {
         name: "B1",
         title: "a block with two owners",
-        meaning: "fault B1 block B log I K, or data I P. Block B has several owners, and there is a line for each: page K of the log of inode I, or page P of the file I. What one of them stored there the other may have overwritten, and nothing says which is right.",
+        meaning: "fault B1 block B log I K, or data I P, or table C K. Block B has several owners, and there is a line for each: page K of the log of inode I, page P of the file I, or place K of the chain of CPU C's table. What one of them stored there the other may have overwritten, and nothing says which is right.",
     },
     Class {
         name: "S1",

@@ -116,6 +116,11 @@ abbrev pub owned_fault : ℕ → List ℕ → ℕ → ℕ → Data
 owned_fault b owner i page = object_of ((codes "block", num b) ∷ (codes "class", string (codes "B1")) ∷ (codes "inode", num i)
     ∷ (codes "owner", string owner) ∷ (codes "page", num page) ∷ [])
 
+-- a block of the chain of a CPU's table, beside another owner
+abbrev pub table_fault : ℕ → ℕ → ℕ → Data
+table_fault b c k = object_of ((codes "block", num b) ∷ (codes "class", string (codes "B1")) ∷ (codes "cpu", num c)
+    ∷ (codes "owner", string (codes "table")) ∷ (codes "place", num k) ∷ [])
+
 -- the class of a fault and its fields
 abbrev pub fault_data : Fault → Data
 fault_data (J1 c) = object_of ((codes "class", string (codes "J1")) ∷ (codes "cpu", num c) ∷ [])
@@ -138,6 +143,7 @@ fault_data (C2 i) = inode_fault (codes "C2") i
 fault_data (C3 i) = inode_fault (codes "C3") i
 fault_data (C4 i) = inode_fault (codes "C4") i
 fault_data C5 = object_of ((codes "class", string (codes "C5")) ∷ [])
+fault_data (B1 b (owners.Table c k)) = table_fault b c k
 fault_data (B1 b (owners.Log i k)) = owned_fault b (codes "log") i k
 fault_data (B1 b (owners.Data i p)) = owned_fault b (codes "data") i p
 

@@ -77,6 +77,9 @@ fn owned_fault(alloc: Global, block: u64, owner: Owner) -> Result<Value, AllocEr
     ensures { IfOk result (λ v. view v ≡ fault_data (B1 block owner)) }
 {
     match owner {
+        Owner::Table { cpu, place } => {
+            json!(in alloc; {"place": place, "owner": "table", "cpu": cpu, "class": "B1", "block": block})
+        }
         Owner::Log { inode, page } => {
             json!(in alloc; {"page": page, "owner": "log", "inode": inode, "class": "B1", "block": block})
         }

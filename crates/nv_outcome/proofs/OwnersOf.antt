@@ -12,7 +12,7 @@ use Rattle.nv_check.specs.nv_scan.Inode.{Log, IsInode}
 use Rattle.nv_check.specs.nv_scan.Owners.{Owns, inode_of}
 use Rattle.nv_check.specs.nv_scan.Claims.{IsClaim, of_log, of_page}
 use Rattle.nv_check.specs.nv_scan.declared.piece.Row.{Row}
-use Rattle.nv_check.proofs.nv_scan.Only.{owned_log, owned_page}
+use Rattle.nv_check.proofs.nv_scan.Only.{owned_log, owned_page, no_table}
 use Rattle.nv_check.proofs.nv_scan.Pieces.{owned, owns}
 use Rattle.nv_outcome.specs.Outcome.{AreRows}
 use Rattle.nv_outcome.proofs.CrossLaw.{stands}
@@ -53,6 +53,7 @@ claims i pages m = by_name there back (either logs files) where
   back _ (of_page p b h) = inr (p, page_listed m p b h, (b, h, refl))
 
 in_use_of : {R : Region} {l : Layout} (b : ℕ) (o : Owner) → Owns R l b o → (a : ℕ) × (log : Log) × IsInode R l (inode_of o) a log
+in_use_of b (owners.Table c k) h = absurd (no_table h)
 in_use_of b (owners.Log i k) h = let w = owned_log h in (w.a, w.log, w.is)
 in_use_of b (owners.Data i p) h = let w = owned_page h in (w.a, w.log, w.is)
 

@@ -14,11 +14,12 @@ use Rattle.nv_check.specs.nv_scan.Rows.{IsPiece}
 use Rattle.nv_check.specs.nv_scan.Work.{claims_in}
 use Rattle.nv_check.specs.nv_scan.declared.piece.Piece.{Piece}
 use Rattle.nv_check.proofs.nv_scan.Existing.{slot_of_fault}
-use Rattle.nv_check.proofs.nv_scan.Only.{slot_in_use}
+use Rattle.nv_check.proofs.nv_scan.Only.{slot_in_use, no_table}
 use Rattle.nv_outcome.specs.Parts.{ArePieces, faults_in, piece_key}
 use Rattle.nv_outcome.proofs.Counts.{IsOnce-from_rises, IsOnce-append}
 
 pub slot_of_owner : {R : Region} {l : Layout} {b : ℕ} (o : Owner) → Owns R l b o → (a : ℕ) × (slot_of l (inode_of o) ≡ Some a)
+slot_of_owner (owners.Table c k) h = absurd (no_table h)
 slot_of_owner (owners.Log i k) (by_log {a = a} h e) = (a, slot_in_use h)
 slot_of_owner (owners.Data i p) (by_page {a = a} h e) = (a, slot_in_use h)
 

@@ -22,13 +22,13 @@ abbrev key : ℕ × Owner → List ℕ
 key x = owner_key x.1
 
 log_below : (i j k : ℕ) → j < k → Below (owner_key (owners.Log i j)) (owner_key (owners.Log i k))
-log_below i j k h = below_rest i (0 ∷ j ∷ []) (0 ∷ k ∷ []) (below_rest 0 (j ∷ []) (k ∷ []) (below_first j k [] [] h))
+log_below i j k h = below_rest 1 (i ∷ 0 ∷ j ∷ []) (i ∷ 0 ∷ k ∷ []) (below_rest i (0 ∷ j ∷ []) (0 ∷ k ∷ []) (below_rest 0 (j ∷ []) (k ∷ []) (below_first j k [] [] h)))
 
 data_below : (i p q : ℕ) → p < q → Below (owner_key (owners.Data i p)) (owner_key (owners.Data i q))
-data_below i p q h = below_rest i (1 ∷ p ∷ []) (1 ∷ q ∷ []) (below_rest 1 (p ∷ []) (q ∷ []) (below_first p q [] [] h))
+data_below i p q h = below_rest 1 (i ∷ 1 ∷ p ∷ []) (i ∷ 1 ∷ q ∷ []) (below_rest i (1 ∷ p ∷ []) (1 ∷ q ∷ []) (below_rest 1 (p ∷ []) (q ∷ []) (below_first p q [] [] h)))
 
 log_before_data : (i k p : ℕ) → Below (owner_key (owners.Log i k)) (owner_key (owners.Data i p))
-log_before_data i k p = below_rest i (0 ∷ k ∷ []) (1 ∷ p ∷ []) (below_first 0 1 (k ∷ []) (p ∷ []) (omega arith))
+log_before_data i k p = below_rest 1 (i ∷ 0 ∷ k ∷ []) (i ∷ 1 ∷ p ∷ []) (below_rest i (0 ∷ k ∷ []) (1 ∷ p ∷ []) (below_first 0 1 (k ∷ []) (p ∷ []) (omega arith)))
 
 log_claims-push : (i k : ℕ) (xs : List ℕ) (n b : ℕ) → length xs ≡ n → log_claims i k (xs ++ b ∷ []) ≡ log_claims i k xs ++ (b, owners.Log i (k + n)) ∷ []
 log_claims-push i k [] n b h = let e : k ≡ k + n = omega arith in ap (λ (j : ℕ). (b, owners.Log i j) ∷ []) e

@@ -1,5 +1,5 @@
 -- A region holds one thing of each inode.
-use Rattle.std.proofs.Common.{◌≡◌, ℕ, ◌+◌, true, false, ap, sym, ◌∙◌, subst, Some, slice_get}
+use Rattle.std.proofs.Common.{◌≡◌, ℕ, ◌+◌, Bool, true, false, refl, ap, sym, ◌∙◌, subst, Some, slice_get}
 use Rattle.std.proofs.lemmas.Bool.{true≢false}
 use Rattle.nv_region.specs.Region.{Region, word}
 use Rattle.nv_super.specs.Layout.{Layout, slot_of}
@@ -63,8 +63,23 @@ owned_log (by_log {a = a} {log = x} h e) = record { a = a; log = x; is = h; page
 pub owned_page : {R : Region} {l : Layout} {i p b : ℕ} → Owns R l b (owners.Data i p) → OwnsPage R l i p b
 owned_page (by_page {a = a} {log = x} h e) = record { a = a; log = x; is = h; maps = e }
 
+-- an owner that is of an inode
+abbrev pub is_of_inode : Owner → Bool
+is_of_inode (owners.Table c k) = false
+is_of_inode (owners.Log i k) = true
+is_of_inode (owners.Data i p) = true
+
+owned_by_inode : {R : Region} {l : Layout} {b : ℕ} {o : Owner} → Owns R l b o → is_of_inode o ≡ true
+owned_by_inode (by_log h e) = refl
+owned_by_inode (by_page h e) = refl
+
+-- a table owns no block
+pub no_table : {R : Region} {l : Layout} {c k b : ℕ} → Owns R l b (owners.Table c k) → ⊥
+no_table h = let clash : false ≡ true = owned_by_inode h in cc
+
 -- each owner has one block
 pub one_block : (R : Region) (l : Layout) (o : Owner) (b c : ℕ) → Owns R l b o → Owns R l c o → b ≡ c
+one_block R l (owners.Table n k) b c h q = absurd (no_table h)
 one_block R l (owners.Log i k) b c h q =
     let u = owned_log h in let v = owned_log q in
     let same : u.log ≡ v.log = (IsInode-only u.is v.is).1 in

@@ -41,7 +41,7 @@ use Rattle.nv_scan.specs.declared.fold.Fold.{Fold}
 use Rattle.nv_scan.specs.declared.piece.Row.{Row}
 use Rattle.nv_scan.specs.declared.piece.Piece.{Piece}
 use Rattle.nv_scan.proofs.FaultsOnce.{IsOnce-option, IsOnce-more, end_apart, head_apart, inode_apart}
-use Rattle.nv_scan.proofs.Only.{IsInode-only, slot_in_use, kind_in_use, owned_log, owned_page}
+use Rattle.nv_scan.proofs.Only.{IsInode-only, slot_in_use, kind_in_use, owned_log, owned_page, no_table}
 
 -- an inode's slot stands in the fixed tables
 pub slot_is : (s : Super) (i : ℕ) → IsLayout s → IsTrue (is_number s i) → slot_of (fixed_layout s) i ≡ Some (slot_address s i)
@@ -61,6 +61,7 @@ module _ {R : Region} {l : Layout} {i a : ℕ} {log : Log} (is : IsInode R l i a
   -- what the inode owns is what its log's pages and its index give
   pub owned : (pages : List ℕ) (m : Pages) → pages ≡ log.pages → ((p : ℕ) → block_at m p ≡ block_of (good_of l log) p)
       → (b : ℕ) (o : Owner) → Owns R l b o → inode_of o ≡ i → IsClaim i pages m (b, o)
+  owned pages m same index b (owners.Table c k) h e = absurd (no_table h)
   owned pages m same index b (owners.Log j k) h e =
       let w = owned_log (subst (λ (n : ℕ). Owns R l b (owners.Log n k)) e h) in
       subst (λ (n : ℕ). IsClaim i pages m (b, owners.Log n k)) (sym e)
@@ -265,6 +266,7 @@ empty_piece R s i fault p layout number no_kind told one two e = record {
         cc
 
     owns_none : (b : ℕ) (o : Owner) → Owns R (fixed_layout s) b o → inode_of o ≡ i → ⊥
+    owns_none b (owners.Table c k) h same = no_table h
     owns_none b (owners.Log j k) h same = unused (owned_log (subst (λ (n : ℕ). Owns R (fixed_layout s) b (owners.Log n k)) same h)).is
     owns_none b (owners.Data j q) h same = unused (owned_page (subst (λ (n : ℕ). Owns R (fixed_layout s) b (owners.Data n q)) same h)).is
 

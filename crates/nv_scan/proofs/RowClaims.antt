@@ -19,7 +19,7 @@ use Rattle.nv_scan.specs.Work.{rows_in, claims_in}
 use Rattle.nv_scan.specs.declared.piece.Row.{Row}
 use Rattle.nv_scan.specs.declared.piece.Piece.{Piece}
 use Rattle.nv_scan.proofs.Blocks.{data_pages}
-use Rattle.nv_scan.proofs.Only.{owned_log, owned_page}
+use Rattle.nv_scan.proofs.Only.{owned_log, owned_page, no_table}
 use Rattle.nv_scan.proofs.Pieces.{claims_are}
 
 -- the claims of one row more
@@ -34,6 +34,7 @@ module _ (R : Region) (l : Layout) where
   claims_nothing p is unused = Lists-only (λ (x : ℕ × Owner). owner_key x.1) (λ x. Owns R l x.0 x.1 × (inode_of x.1 ≡ p.inode)) p.claims.items [] is.claims none
     where
       owns_none : (b : ℕ) (o : Owner) → Owns R l b o → inode_of o ≡ p.inode → ⊥
+      owns_none b (owners.Table c k) h same = no_table h
       owns_none b (owners.Log j k) h same = let w = owned_log (subst (λ (n : ℕ). Owns R l b (owners.Log n k)) same h) in unused (_, _, w.is)
       owns_none b (owners.Data j q) h same = let w = owned_page (subst (λ (n : ℕ). Owns R l b (owners.Data n q)) same h) in unused (_, _, w.is)
 

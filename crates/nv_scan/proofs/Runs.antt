@@ -35,6 +35,7 @@ no_run = record { page = 0; count = 0; block = 0 }
 -- ---- what can be claimed
 
 page_fits : (R : Region) (l : Layout) (b : ℕ) (o : Owner) → Owns R l b o → MayOwn o 1
+page_fits R l b (owners.Table c k) h = refl
 page_fits R l b (owners.Log i k) h = omega arith
 page_fits R l b (owners.Data i p) h = let w = owned_page h in let d = data_pages l.sup w.log.kind w.log.entries p b w.maps in omega (arith, d.0)
 

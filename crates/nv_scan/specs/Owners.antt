@@ -1,4 +1,4 @@
--- The owners of blocks: the pages of logs, and the pages of files.
+-- The owners of blocks: the pages of logs, and the pages of files. No block of a table is owned by these definitions.
 use Rattle.std.specs.Prelude.{◌≡◌, ℕ, ◌<◌, ◌≤◌, List, Some, slice_get}
 use Rattle.nv_region.specs.Region.{Region}
 use Rattle.nv_super.specs.declared.superblock.Super.{Super}
@@ -16,8 +16,9 @@ pub data Owns (R : Region) (l : Layout) : ℕ → Owner → Type 0 where
   -- page p of the file maps to it
   by_page : {i a p b : ℕ} {log : Log} → IsInode R l i a log → block_of (good_of l log) p ≡ Some b → Owns R l b (owners.Data i p)
 
--- the inode that an owner is of
+-- The inode that an owner is of. A table is of none, and 0 is the number of none.
 abbrev pub inode_of : Owner → ℕ
+inode_of (owners.Table c k) = 0
 inode_of (owners.Log i k) = i
 inode_of (owners.Data i p) = i
 

@@ -10,21 +10,19 @@ use Rattle.std.proofs.lemmas.List.Kept.{IsStrictlySortedBy-dedup, Contains-dedup
 use Rattle.std.proofs.lemmas.List.Sorted.{Contains-permutation, IsPermutation-sym}
 use Rattle.nv_super.specs.Order.{owner_key, fault_key, claim_key, Rises, SortedOf}
 use Rattle.nv_super.specs.declared.owners.Owner.{Owner}
-use Rattle.nv_super.specs.declared.owners.Owner.TheVariants.{Log, Data}
+use Rattle.nv_super.specs.declared.owners.Owner.TheVariants.{Table, Log, Data}
 use Rattle.nv_super.specs.declared.faults.Fault.{Fault}
 use Rattle.nv_super.specs.declared.faults.Fault.TheVariants.{J1, J2, H1, H2, I1, I2, I3, L1, L2, L3, L4, E1, E2, E3, E4, C1, C2, C3, C4, C5, B1}
 
-owner_at : ℕ → ℕ → ℕ → Owner
-owner_at i role k = cond (nat_eq role 0) (Log i k) (Data i k)
-
 -- the owner of a key
 abbrev owner_of : List ℕ → Owner
-owner_of (i ∷ r ∷ k ∷ []) = cond (nat_eq r 0) (Log i k) (Data i k)
+owner_of (t ∷ i ∷ r ∷ k ∷ []) = cond (nat_eq t 0) (Table i r) (cond (nat_eq r 0) (Log i k) (Data i k))
 owner_of _ = Log 0 0
 
 pub owner_key_only : (o p : Owner) → owner_key o ≡ owner_key p → o ≡ p
 owner_key_only o p e = sym (back o) ∙ ap owner_of e ∙ back p where
   back : (o : Owner) → owner_of (owner_key o) ≡ o
+  back (Table c k) = refl
   back (Log i k) = refl
   back (Data i k) = refl
 
@@ -33,9 +31,9 @@ pick [] c = C5
 pick (x ∷ xs) c = cond (nat_eq c x.0) x.1 (pick xs c)
 
 abbrev fault_of : List ℕ → Fault
-fault_of (c ∷ x ∷ y ∷ z ∷ w ∷ []) =
+fault_of (c ∷ x ∷ y ∷ z ∷ w ∷ v ∷ []) =
     pick ((0, J1 x) ∷ (1, J2 x y) ∷ (2, H1 x y) ∷ (3, H2 x y) ∷ (4, I1 x) ∷ (5, I2 x) ∷ (6, I3 x) ∷ (7, L1 x y) ∷ (8, L2 x y) ∷ (9, L3 x y) ∷ (10, L4 x y)
-    ∷ (11, E1 x y) ∷ (12, E2 x y) ∷ (13, E3 x y) ∷ (14, E4 x y) ∷ (15, C1 x y) ∷ (16, C2 x) ∷ (17, C3 x) ∷ (18, C4 x) ∷ (19, C5) ∷ (20, B1 x (owner_of (y ∷ z ∷ w ∷ []))) ∷ []) c
+    ∷ (11, E1 x y) ∷ (12, E2 x y) ∷ (13, E3 x y) ∷ (14, E4 x y) ∷ (15, C1 x y) ∷ (16, C2 x) ∷ (17, C3 x) ∷ (18, C4 x) ∷ (19, C5) ∷ (20, B1 x (owner_of (y ∷ z ∷ w ∷ v ∷ []))) ∷ []) c
 fault_of _ = C5
 
 fault_back : (f : Fault) → fault_of (fault_key f) ≡ f
@@ -59,6 +57,7 @@ fault_back (C2 x) = refl
 fault_back (C3 x) = refl
 fault_back (C4 x) = refl
 fault_back C5 = refl
+fault_back (B1 b (Table c k)) = refl
 fault_back (B1 b (Log i k)) = refl
 fault_back (B1 b (Data i k)) = refl
 

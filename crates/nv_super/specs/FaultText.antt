@@ -1,14 +1,15 @@
 -- The texts of the faults.
 use Rattle.std.specs.Prelude.{ℕ, List, ◌++◌, codes, decimal}
 use Rattle.nv_super.specs.declared.owners.Owner.{Owner}
-use Rattle.nv_super.specs.declared.owners.Owner.TheVariants.{Log, Data}
+use Rattle.nv_super.specs.declared.owners.Owner.TheVariants.{Table, Log, Data}
 use Rattle.nv_super.specs.declared.superblock.SuperFault.{SuperFault}
 use Rattle.nv_super.specs.declared.superblock.SuperFault.TheVariants as super_faults
 use Rattle.nv_super.specs.declared.faults.Fault.{Fault}
 use Rattle.nv_super.specs.declared.faults.Fault.TheVariants.{J1, J2, H1, H2, I1, I2, I3, L1, L2, L3, L4, E1, E2, E3, E4, C1, C2, C3, C4, C5, B1}
 
--- why an inode holds a block: as a page of its log, or of its file
+-- what holds a block: a CPU's table, as a place of its chain, or an inode, as a page of its log, or of its file
 abbrev pub owner_text : Owner → List ℕ
+owner_text (Table c k) = codes "table " ++ decimal c ++ codes " " ++ decimal k
 owner_text (Log i k) = codes "log " ++ decimal i ++ codes " " ++ decimal k
 owner_text (Data i p) = codes "data " ++ decimal i ++ codes " " ++ decimal p
 

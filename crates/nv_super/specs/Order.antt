@@ -5,37 +5,38 @@ use Rattle.std.specs.declared.cmp.Ordering.TheVariants.{Less}
 use Rattle.std.specs.Cmp.Lexicographic.{slice_cmp}
 use Rattle.std.specs.List.{Contains}
 use Rattle.nv_super.specs.declared.owners.Owner.{Owner}
-use Rattle.nv_super.specs.declared.owners.Owner.TheVariants.{Log, Data}
+use Rattle.nv_super.specs.declared.owners.Owner.TheVariants.{Table, Log, Data}
 use Rattle.nv_super.specs.declared.faults.Fault.{Fault}
 use Rattle.nv_super.specs.declared.faults.Fault.TheVariants.{J1, J2, H1, H2, I1, I2, I3, L1, L2, L3, L4, E1, E2, E3, E4, C1, C2, C3, C4, C5, B1}
 
--- by inode, then Log before Data, then number
+-- Tables before inodes: tables by CPU, then place; inodes by number, then Log before Data, then page.
 abbrev pub owner_key : Owner → List ℕ
-owner_key (Log i k) = i ∷ 0 ∷ k ∷ []
-owner_key (Data i p) = i ∷ 1 ∷ p ∷ []
+owner_key (Table c k) = 0 ∷ c ∷ k ∷ 0 ∷ []
+owner_key (Log i k) = 1 ∷ i ∷ 0 ∷ k ∷ []
+owner_key (Data i p) = 1 ∷ i ∷ 1 ∷ p ∷ []
 
 -- by class, then by the fields from left to right, with zeros behind
 abbrev pub fault_key : Fault → List ℕ
-fault_key (J1 c) = 0 ∷ c ∷ 0 ∷ 0 ∷ 0 ∷ []
-fault_key (J2 c k) = 1 ∷ c ∷ k ∷ 0 ∷ 0 ∷ []
-fault_key (H1 c a) = 2 ∷ c ∷ a ∷ 0 ∷ 0 ∷ []
-fault_key (H2 c a) = 3 ∷ c ∷ a ∷ 0 ∷ 0 ∷ []
-fault_key (I1 i) = 4 ∷ i ∷ 0 ∷ 0 ∷ 0 ∷ []
-fault_key (I2 i) = 5 ∷ i ∷ 0 ∷ 0 ∷ 0 ∷ []
-fault_key (I3 i) = 6 ∷ i ∷ 0 ∷ 0 ∷ 0 ∷ []
-fault_key (L1 i a) = 7 ∷ i ∷ a ∷ 0 ∷ 0 ∷ []
-fault_key (L2 i a) = 8 ∷ i ∷ a ∷ 0 ∷ 0 ∷ []
-fault_key (L3 i a) = 9 ∷ i ∷ a ∷ 0 ∷ 0 ∷ []
-fault_key (L4 i a) = 10 ∷ i ∷ a ∷ 0 ∷ 0 ∷ []
-fault_key (E1 i a) = 11 ∷ i ∷ a ∷ 0 ∷ 0 ∷ []
-fault_key (E2 i a) = 12 ∷ i ∷ a ∷ 0 ∷ 0 ∷ []
-fault_key (E3 i a) = 13 ∷ i ∷ a ∷ 0 ∷ 0 ∷ []
-fault_key (E4 i a) = 14 ∷ i ∷ a ∷ 0 ∷ 0 ∷ []
-fault_key (C1 d a) = 15 ∷ d ∷ a ∷ 0 ∷ 0 ∷ []
-fault_key (C2 i) = 16 ∷ i ∷ 0 ∷ 0 ∷ 0 ∷ []
-fault_key (C3 i) = 17 ∷ i ∷ 0 ∷ 0 ∷ 0 ∷ []
-fault_key (C4 i) = 18 ∷ i ∷ 0 ∷ 0 ∷ 0 ∷ []
-fault_key C5 = 19 ∷ 0 ∷ 0 ∷ 0 ∷ 0 ∷ []
+fault_key (J1 c) = 0 ∷ c ∷ 0 ∷ 0 ∷ 0 ∷ 0 ∷ []
+fault_key (J2 c k) = 1 ∷ c ∷ k ∷ 0 ∷ 0 ∷ 0 ∷ []
+fault_key (H1 c a) = 2 ∷ c ∷ a ∷ 0 ∷ 0 ∷ 0 ∷ []
+fault_key (H2 c a) = 3 ∷ c ∷ a ∷ 0 ∷ 0 ∷ 0 ∷ []
+fault_key (I1 i) = 4 ∷ i ∷ 0 ∷ 0 ∷ 0 ∷ 0 ∷ []
+fault_key (I2 i) = 5 ∷ i ∷ 0 ∷ 0 ∷ 0 ∷ 0 ∷ []
+fault_key (I3 i) = 6 ∷ i ∷ 0 ∷ 0 ∷ 0 ∷ 0 ∷ []
+fault_key (L1 i a) = 7 ∷ i ∷ a ∷ 0 ∷ 0 ∷ 0 ∷ []
+fault_key (L2 i a) = 8 ∷ i ∷ a ∷ 0 ∷ 0 ∷ 0 ∷ []
+fault_key (L3 i a) = 9 ∷ i ∷ a ∷ 0 ∷ 0 ∷ 0 ∷ []
+fault_key (L4 i a) = 10 ∷ i ∷ a ∷ 0 ∷ 0 ∷ 0 ∷ []
+fault_key (E1 i a) = 11 ∷ i ∷ a ∷ 0 ∷ 0 ∷ 0 ∷ []
+fault_key (E2 i a) = 12 ∷ i ∷ a ∷ 0 ∷ 0 ∷ 0 ∷ []
+fault_key (E3 i a) = 13 ∷ i ∷ a ∷ 0 ∷ 0 ∷ 0 ∷ []
+fault_key (E4 i a) = 14 ∷ i ∷ a ∷ 0 ∷ 0 ∷ 0 ∷ []
+fault_key (C1 d a) = 15 ∷ d ∷ a ∷ 0 ∷ 0 ∷ 0 ∷ []
+fault_key (C2 i) = 16 ∷ i ∷ 0 ∷ 0 ∷ 0 ∷ 0 ∷ []
+fault_key (C3 i) = 17 ∷ i ∷ 0 ∷ 0 ∷ 0 ∷ 0 ∷ []
+fault_key (C4 i) = 18 ∷ i ∷ 0 ∷ 0 ∷ 0 ∷ 0 ∷ []
+fault_key C5 = 19 ∷ 0 ∷ 0 ∷ 0 ∷ 0 ∷ 0 ∷ []
 fault_key (B1 b o) = 20 ∷ b ∷ owner_key o
 
 -- the keys rise strictly

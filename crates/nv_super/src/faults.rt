@@ -91,9 +91,10 @@ impl Fault {
                 FaultKey {
                     class: 20,
                     first: *block,
-                    second: key.inode,
-                    third: key.role,
-                    fourth: key.number,
+                    second: key.kind,
+                    third: key.first,
+                    fourth: key.second,
+                    fifth: key.third,
                 }
             }
         }

@@ -6,12 +6,13 @@ use crate::faults::Fault;
 use crate::owners::Owner;
 use std::cmp::Ordering;
 
-/// By inode, then log before data, then number.
+/// Tables before inodes; then by CPU and place, or by inode, log before data, and page.
 #[derive(Clone, Copy, Debug, PartialEq, Eq, PartialOrd, Ord)]
 pub(crate) struct OwnerKey {
-    pub(crate) inode: u64,
-    pub(crate) role: u64,
-    pub(crate) number: u64,
+    pub(crate) kind: u64,
+    pub(crate) first: u64,
+    pub(crate) second: u64,
+    pub(crate) third: u64,
 }
 
 /// By class, then by the fields from left to right.
@@ -22,10 +23,11 @@ pub(crate) struct FaultKey {
     pub(crate) second: u64,
     pub(crate) third: u64,
     pub(crate) fourth: u64,
+    pub(crate) fifth: u64,
 }
 
 pub(crate) fn short_key(class: u64, first: u64, second: u64) -> FaultKey
-    ensures { result ≡ record { class = class; first = first; second = second; third = 0; fourth = 0 } }
+    ensures { result ≡ record { class = class; first = first; second = second; third = 0; fourth = 0; fifth = 0 } }
 {
     FaultKey {
         class,
@@ -33,6 +35,7 @@ pub(crate) fn short_key(class: u64, first: u64, second: u64) -> FaultKey
         second,
         third: 0,
         fourth: 0,
+        fifth: 0,
     }
 }
 
@@ -46,15 +49,23 @@ impl Owner {
         ensures { owner_fields result ≡ owner_key self.now }
     {
         match self {
+            Owner::Table { cpu, place } => OwnerKey {
+                kind: 0,
+                first: *cpu,
+                second: *place,
+                third: 0,
+            },
             Owner::Log { inode, page } => OwnerKey {
-                inode: *inode,
-                role: 0,
-                number: *page,
+                kind: 1,
+                first: *inode,
+                second: 0,
+                third: *page,
             },
             Owner::Data { inode, page } => OwnerKey {
-                inode: *inode,
-                role: 1,
-                number: *page,
+                kind: 1,
+                first: *inode,
+                second: 1,
+                third: *page,
             },
         }
     }

@@ -12,10 +12,12 @@ pub struct Run {
     pub count: u64,
 }
 
-/// Why an inode holds a block: as a page of its log, or as the block of a page of its file.
-/// Pages count from 0. Owners rise by inode, then the log before the data, then by page.
+/// What holds a block: the table of a CPU, as a place of its chain, or an inode, as a page of its log or the block of a
+/// page of its file. Places and pages count from 0. Tables come first, by CPU and then by place; inodes rise by number,
+/// then the log before the data, then by page.
 #[derive(Clone, Copy, Debug)]
 pub enum Owner {
+    Table { cpu: u64, place: u64 },
     Log { inode: u64, page: u64 },
     Data { inode: u64, page: u64 },
 }
@@ -31,12 +33,13 @@ impl Run {
 
 impl Owner {
     /// The owner of the block that stands `by` places on in a run: a file's page is raised by so much, and a log's
-    /// stays.
+    /// page and a table's place stay.
     pub fn raised(self, by: u64) -> Owner
         requires { page_end self by < 2 ^ 64 }
         ensures { result ≡ raised self by }
     {
         match self {
+            Owner::Table { cpu, place } => Owner::Table { cpu, place },
             Owner::Log { inode, page } => Owner::Log { inode, page },
             Owner::Data { inode, page } => Owner::Data {
                 inode,
@@ -54,6 +57,7 @@ impl fmt::Display for Owner {
 
     fn fmt<W: fmt::Write>(&self, f: &mut fmt::Formatter<W>) -> fmt::Result {
         match *self {
+            Owner::Table { cpu, place } => write!(f, "table {cpu} {place}"),
             Owner::Log { inode, page } => write!(f, "log {inode} {page}"),
             Owner::Data { inode, page } => write!(f, "data {inode} {page}"),
         }

@@ -126,7 +126,9 @@ const LOG: Owner = Owner::Log { inode: 2, page: 0 };
 
 const DATA: Owner = Owner::Data { inode: 2, page: 0 };
 
-const UNSORTED: [Fault; 6] = [
+const TABLE: Owner = Owner::Table { cpu: 63, place: 9 };
+
+const UNSORTED: [Fault; 7] = [
     Fault::B1 {
         block: 8,
         owner: DATA,
@@ -141,16 +143,24 @@ const UNSORTED: [Fault; 6] = [
         record: 251,
     },
     Fault::C5,
+    Fault::B1 {
+        block: 8,
+        owner: TABLE,
+    },
     Fault::J2 { cpu: 0, record: 0 },
 ];
 
-const SORTED: [Fault; 5] = [
+const SORTED: [Fault; 6] = [
     Fault::J2 { cpu: 0, record: 0 },
     Fault::J2 {
         cpu: 0,
         record: 251,
     },
     Fault::C5,
+    Fault::B1 {
+        block: 8,
+        owner: TABLE,
+    },
     Fault::B1 {
         block: 8,
         owner: LOG,

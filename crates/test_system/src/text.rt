@@ -136,7 +136,7 @@ fn push_pools(alloc: Global, out: &mut String) -> Result<(), AllocError> {
     push_free_line(out, 7, &ONE_RUN)
 }
 
-const FAULTS: [(Fault, &str); 22] = [
+const FAULTS: [(Fault, &str); 23] = [
     (Fault::J1 { cpu: 1 }, "fault J1 cpu 1\n"),
     (
         Fault::J2 {
@@ -233,6 +233,13 @@ const FAULTS: [(Fault, &str); 22] = [
             owner: Owner::Data { inode: 2, page: 1 },
         },
         "fault B1 block 8 data 2 1\n",
+    ),
+    (
+        Fault::B1 {
+            block: 9,
+            owner: Owner::Table { cpu: 1, place: 2 },
+        },
+        "fault B1 block 9 table 1 2\n",
     ),
 ];
 
