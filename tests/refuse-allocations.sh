@@ -8,7 +8,7 @@
 # one or two more of them as the workers share the inodes: so the first few runs meet no refusal. It takes ten minutes.
 set -u
 source "$(dirname "${BASH_SOURCE[0]}")/refusing.sh"
-refuse_each recoveries 450
+refuse_each recoveries 462
 
 mapfile -t whole < <(head -n 7 stdout)
 wanted=()

@@ -1,5 +1,6 @@
 -- The bytes of words.
 use Rattle.std.proofs.Common.{◌≡◌, inl, inr, ℕ, zero, suc, ◌+◌, ◌*◌, ◌/◌, ◌%◌, ◌<◌, ◌≤◌, List, [], ◌∷◌, ◌++◌, length, take, drop, map, get_or, set, refl, sym, ap, ◌∙◌, subst, arith, length-take, length-drop, length-set}
+use Rattle.std.specs.Prelude.{replicate}
 use Rattle.std.specs.List.{flat_map, range_with_len}
 use Rattle.std.specs.Int.{to_le_bytes, from_le_bytes, byte_at, bytes_low_first, w64}
 use Rattle.std.proofs.lemmas.List.{ext_get_or, get_or-take, get_or-drop, get_or-set_same, get_or-set_other, get_or_past}
@@ -22,6 +23,12 @@ byte_there w (suc (suc (suc (suc (suc zero))))) few = refl
 byte_there w (suc (suc (suc (suc (suc (suc zero)))))) few = refl
 byte_there w (suc (suc (suc (suc (suc (suc (suc zero))))))) few = refl
 byte_there w (suc (suc (suc (suc (suc (suc (suc (suc k)))))))) few = absurd (omega arith)
+
+-- one byte many times is small bytes
+pub small_same : (b n i : ℕ) → b < 256 → get_or (replicate n b) i 0 < 256
+small_same b zero i low = omega arith
+small_same b (suc n) zero low = low
+small_same b (suc n) (suc i) low = small_same b n i low
 
 -- the bytes of the word of eight bytes
 pub byte_back : (bytes : List ℕ) (w k : ℕ) → length bytes ≡ 8 → ((i : ℕ) → get_or bytes i 0 < 256) → w ≡ from_le_bytes w64 bytes → k < 8 → byte_of_word w k ≡ get_or bytes k 0

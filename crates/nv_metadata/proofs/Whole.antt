@@ -1,15 +1,11 @@
 -- What is fetched of all logs, with the front, is what is to be gathered.
-use Rattle.std.proofs.Common.{◌≡◌, ◌≤◌, ◌<◌, inl, inr, ◌+◌, ◌/◌, ◌%◌, ℕ, refl, sym, ap, ◌∙◌, arith, min}
+use Rattle.std.proofs.Common.{◌≡◌, ◌<◌, inl, inr, ◌+◌, ◌/◌, ◌%◌, ℕ, ap, ◌∙◌, arith, min}
 use Rattle.std.proofs.lemmas.Bool.{cases_eq, eq-eqb, ne_eqb}
-use Rattle.std.specs.List.{Contains}
 use Rattle.std.proofs.Common.{List}
 use Rattle.nv_region.specs.Region.{Region}
 use Rattle.nv_super.specs.declared.superblock.Super.{Super}
-use Rattle.nv_super.specs.Layout.{system_blocks}
-use Rattle.nv_inode.specs.Slot.{is_right_log}
 use Rattle.nv_journal.specs.Undo.{undone}
-use Rattle.nv_logpage.specs.ToTail.{SameToTail}
-use Rattle.nv_metadata.specs.Linked.{IsLinked, IsLog, IsLogBlock, wanted}
+use Rattle.nv_metadata.specs.Linked.{IsLogBlock, wanted}
 use Rattle.nv_metadata.specs.Memory.{MetadataState, held}
 use Rattle.nv_metadata.specs.Walk.{AreLogs, AreFetched}
 use Rattle.nv_metadata.specs.Gathered.{IsGathered}

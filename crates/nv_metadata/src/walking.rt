@@ -22,6 +22,9 @@ use std::alloc::Global;
 
 const PAGE: usize = 4096;
 
+// Room for the first entries of a log. Most logs are short, and a whole page is dear to clear for them.
+const SHORT_PIECE: usize = 512;
+
 // The bytes of the longest entry: three words, and those of a name of 255 bytes.
 const LONGEST_ENTRY: usize = 280;
 
@@ -144,11 +147,41 @@ fn fetch<B: Blocks>(
     ensures shows { (image : List ℕ) → B.bytes source.now ≡ Some image → Shows (system_blocks sup.now) (region_of image) memory.old → OnOk result (Shows (system_blocks sup.now) (region_of image) memory.new) }
     ensures known { (image : List ℕ) → B.bytes source.now ≡ Some image → length image ≡ 4096 * sup.now.blocks → IfErr result (λ e. e ≡ GatherError.Memory) }
 {
+    if count <= SHORT_PIECE {
+        fetch_piece::<B, SHORT_PIECE>(memory, source, sup, block, count)
+    } else {
+        fetch_piece::<B, PAGE>(memory, source, sup, block, count)
+    }
+}
+
+// Does so by way of a piece that has room for them.
+fn fetch_piece<B: Blocks, const SIZE: usize>(
+    memory: &mut MetadataRegion,
+    source: &B,
+    sup: &Super,
+    block: u64,
+    count: usize,
+) -> Result<(), GatherError>
+    requires areas { HasAreas sup.now }
+    requires ready { IsReady sup.now memory.old }
+    requires behind { system_blocks sup.now ≤ block }
+    requires inside { block < sup.now.blocks }
+    requires whole { count % 8 ≡ 0 }
+    requires few { count ≤ 4096 }
+    requires room { count ≤ SIZE }
+    requires small { SIZE ≤ 4096 }
+    ensures ready { IsReady sup.now memory.new }
+    ensures held { OnOk result (count ≤ held memory.new block) }
+    ensures keeps { OnOk result ((b : ℕ) → held memory.old b ≤ held memory.new b) }
+    ensures only { OnOk result ((b : ℕ) → b ≢ block → held memory.new b ≡ held memory.old b) }
+    ensures shows { (image : List ℕ) → B.bytes source.now ≡ Some image → Shows (system_blocks sup.now) (region_of image) memory.old → OnOk result (Shows (system_blocks sup.now) (region_of image) memory.new) }
+    ensures known { (image : List ℕ) → B.bytes source.now ≡ Some image → length image ≡ 4096 * sup.now.blocks → IfErr result (λ e. e ≡ GatherError.Memory) }
+{
     if memory.held(block) >= count {
         return Ok(());
     }
-    let mut page = [0; PAGE];
-    let bytes = &mut page[..count];
+    let mut piece = [0; SIZE];
+    let bytes = &mut piece[..count];
     source.read(BLOCK_SIZE * block, bytes)?;
     memory.hold(block, bytes)?;
     Ok(())

@@ -5,7 +5,7 @@ use Rattle.nv_logpage.proofs.Steps.{start_inside}
 use Rattle.nv_metadata.proofs.Same.{start_behind}
 use Rattle.nv_metadata.specs.Linked.{link_in}
 use Rattle.nv_metadata.specs.Memory.{held}
-use Rattle.nv_metadata.proofs.SameLogs.{right_start, right_whole}
+use Rattle.nv_metadata.proofs.SameLogs.{right_start}
 use Rattle.nv_metadata.proofs.Walked.{IsWalked, walked_first, walked_on, walked_all}
 use Rattle.nv_metadata.proofs.walking.fetch_log.Goals as goal
 

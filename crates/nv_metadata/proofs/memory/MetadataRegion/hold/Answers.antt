@@ -1,4 +1,4 @@
-use Rattle.std.proofs.Common.{◌≡◌, ◌≢◌, ◌<◌, ◌≤◌, ◌+◌, ◌*◌, ℕ, length, get_or, set, ap, ◌∙◌, arith}
+use Rattle.std.proofs.Common.{◌≡◌, ◌<◌, ◌≤◌, ◌*◌, length, set, ap, ◌∙◌, arith}
 use Rattle.nv_region.specs.Region.{size, word}
 use Rattle.nv_metadata.specs.Memory.{MetadataState, held}
 use Rattle.nv_metadata.proofs.Held.{shown, size_shown, piece_held, zeros_behind, others_stay, count_here, count_elsewhere}

@@ -1,6 +1,5 @@
-use Rattle.std.proofs.Common.{◌/◌, refl, ◌∙◌, arith, ap}
-use Rattle.nv_region.specs.Region.{word}
-use Rattle.nv_metadata.proofs.Held.{shown, words_shown, front_first, zeros_first, none_at}
+use Rattle.std.proofs.Common.{◌/◌, refl, arith}
+use Rattle.nv_metadata.proofs.Held.{words_shown, front_first, zeros_first}
 use Rattle.nv_metadata.proofs.memory.MetadataRegion.new.Goals as goal
 
 pub returns-clause-blocks : goal.returns-clause-blocks

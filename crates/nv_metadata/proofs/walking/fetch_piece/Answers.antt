@@ -3,7 +3,7 @@ use Rattle.nv_super.specs.Layout.{system_blocks}
 use Rattle.nv_metadata.specs.Memory.{MetadataState, IsReady}
 use Rattle.nv_metadata.proofs.Shown.{shows_more}
 use Rattle.nv_metadata.proofs.Ready.{ready_more}
-use Rattle.nv_metadata.proofs.walking.fetch.Goals as goal
+use Rattle.nv_metadata.proofs.walking.fetch_piece.Goals as goal
 
 pub returns-clause-shows : goal.returns-clause-shows
 returns-clause-shows g c image known shows =
@@ -17,3 +17,6 @@ returns-clause-ready g c =
 
 pub returns-in_err-hold-clause-ready : goal.returns-in_err-hold-clause-ready
 returns-in_err-hold-clause-ready g c = subst (λ (m : MetadataState). IsReady c.args.sup.now m) (sym c.in_err-hold.ensures.refused) c.requires.ready
+
+pub whole_as_front-bytes : goal.whole_as_front-bytes
+whole_as_front-bytes g c = (c.requires.room, omega (arith, c.requires.small))
