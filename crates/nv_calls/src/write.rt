@@ -106,21 +106,21 @@ impl<P: Pmem + Drop> Fs<P> {
         time: u64,
     ) -> Result<(), Refusal>
         ensures stopped_before { IsTrue self.old.stopped → (result ≡ Result.Err RefusalValue.Stopped) × (self.new ≡ self.old) }
-        ensures allowed { (p : Path) (count : ℕ) → Says path.now p → WriteNeeds (P.region self.old.memory) self.old cpu p offset (length (data_bytes content)) time count
-            → OnOk result (first_refusal (write_tests (world_of self.old) (shown P.region self.old) cpu p (offset + length (data_bytes content)) count) ≡ Option.None) }
-        ensures refused { self.old.stopped ≡ false → (p : Path) (count : ℕ) → Says path.now p → WriteNeeds (P.region self.old.memory) self.old cpu p offset (length (data_bytes content)) time count
-            → IfErr result (IsRefusedBy (first_refusal (write_tests (world_of self.old) (shown P.region self.old) cpu p (offset + length (data_bytes content)) count))) }
+        ensures allowed { (p : Path) (count : ℕ) → Says path.now p → WriteNeeds (P.region self.old.memory) self.old cpu p offset (length (data_bytes content.entry)) time count
+            → OnOk result (first_refusal (write_tests (world_of self.old) (shown P.region self.old) cpu p (offset + length (data_bytes content.entry)) count) ≡ Option.None) }
+        ensures refused { self.old.stopped ≡ false → (p : Path) (count : ℕ) → Says path.now p → WriteNeeds (P.region self.old.memory) self.old cpu p offset (length (data_bytes content.entry)) time count
+            → IfErr result (IsRefusedBy (first_refusal (write_tests (world_of self.old) (shown P.region self.old) cpu p (offset + length (data_bytes content.entry)) count))) }
         ensures changed { (names : List (List ℕ)) → IsPath path.now names
-            → OnOk result (SameTree (shown P.region self.new) (written names offset (data_bytes content) time (shown P.region self.old))) }
+            → OnOk result (SameTree (shown P.region self.new) (written names offset (data_bytes content.entry) time (shown P.region self.old))) }
         // The log of the inode has the write's entries more, and no other log has changed.
         ensures log { (names : List (List ℕ)) (i : ℕ) (node : Node) (held : Store) (h : Held) → IsPath path.now names → LeadsTo (shown P.region self.old) names i node
-            → ShowsSound (P.region self.old.memory) self.old.sup held → held i ≡ Option.Some h → 0 < length (data_bytes content)
-            → OnOk result (ShowsLogWrite (P.region self.new.memory) self.old cpu held i h (plan_of (block_of (good_in (fixed_layout self.old.sup) h)) node.size offset (length (data_bytes content)) time)) }
-        ensures nothing { length (data_bytes content) ≡ 0 → OnOk result (self.new ≡ self.old) }
+            → ShowsSound (P.region self.old.memory) self.old.sup held → held i ≡ Option.Some h → 0 < length (data_bytes content.entry)
+            → OnOk result (ShowsLogWrite (P.region self.new.memory) self.old cpu held i h (plan_of (block_of (good_in (fixed_layout self.old.sup) h)) node.size offset (length (data_bytes content.entry)) time)) }
+        ensures nothing { length (data_bytes content.entry) ≡ 0 → OnOk result (self.new ≡ self.old) }
         ensures unchanged { IfErr result (λ e. (e ≡ RefusalValue.Stopped → ⊥) → SameMount self.old self.new) }
         ensures stopped { self.old.stopped ≡ false → (IsTrue self.new.stopped → (result ≡ Result.Err RefusalValue.Stopped) × IsTrue (P.fuse self.new.memory).has_burnt) × (result ≡ Result.Err RefusalValue.Stopped → IsTrue self.new.stopped) }
         ensures keeps { KeepsMount self.old self.new }
-        ensures settled { 0 < length (data_bytes content) → OnOk result (NothingPending (P.region self.new.memory) (P.may_hold self.new.memory)) }
+        ensures settled { 0 < length (data_bytes content.entry) → OnOk result (NothingPending (P.region self.new.memory) (P.may_hold self.new.memory)) }
         ensures length { size (P.region self.new.memory) ≡ size (P.region self.old.memory) }
         ensures keeps_fuse { KeepsFuse (λ limit. size (P.region self.old.memory) ≤ limit) (P.fuse self.old.memory) (P.fuse self.new.memory) }
         // Where the text is no path, all stays as it was.
@@ -132,7 +132,7 @@ impl<P: Pmem + Drop> Fs<P> {
             → ShowsSound (P.region self.old.memory) self.old.sup held → StoresIn self.old.sup held (one_log self.old.sup i) (P.region self.old.memory) (P.region self.new.memory) }
         // Whatever a stop leaves, at any exit: recovery finds what was mounted, or what the call makes, without faults.
         ensures any_stop { (names : List (List ℕ)) → IsPath path.now names → self.old.stopped ≡ false → self.old.read_only ≡ false
-            → LeavesOnly (P.region self.new.memory) (P.may_hold self.new.memory) (LeavesCall (makes_bytes offset (data_bytes content) time) (LogsBytes cpu offset (length (data_bytes content)) time) (P.region self.old.memory) self.old names) }
+            → LeavesOnly (P.region self.new.memory) (P.may_hold self.new.memory) (LeavesCall (makes_bytes offset (data_bytes content.entry) time) (LogsBytes cpu offset (length (data_bytes content.entry)) time) (P.region self.old.memory) self.old names) }
     {
         self.writable(cpu)?;
         let count = content.len();

@@ -3,6 +3,7 @@
 ghost use Rattle.std.specs.Prelude.{◌≡◌, ◌++◌, OnOk, string_bytes, flat_map, codes, decimal};
 ghost use Rattle.nv_text.specs.Report.{inode_head, inode_tail, inode_line, stat_line, log_line, page_line};
 
+use crate::fields::push_field;
 use nv_super::Kind;
 use std::alloc::AllocError;
 use std::fmt::Write;
@@ -31,10 +32,11 @@ fn push_inode_head(out: &mut String, attributes: &Attributes) -> Result<(), Allo
         group,
         ..
     } = *attributes;
-    write!(
-        out,
-        "inode {inode} {kind} mode {mode} owner {owner} group {group}"
-    )
+    push_field(out, "inode ", inode)?;
+    write!(out, " {kind}")?;
+    push_field(out, " mode ", u64::from(mode))?;
+    push_field(out, " owner ", u64::from(owner))?;
+    push_field(out, " group ", u64::from(group))
 }
 
 fn push_inode_tail(out: &mut String, attributes: &Attributes) -> Result<(), AllocError>
@@ -46,7 +48,10 @@ fn push_inode_tail(out: &mut String, attributes: &Attributes) -> Result<(), Allo
         time,
         ..
     } = *attributes;
-    writeln!(out, " size {size} links {links} time {time}")
+    push_field(out, " size ", size)?;
+    push_field(out, " links ", u64::from(links))?;
+    push_field(out, " time ", time)?;
+    out.push_str("\n")
 }
 
 /// `inode I KIND mode M owner U group G size Z links L time T`.
@@ -69,7 +74,7 @@ fn push_log_pages(out: &mut String, pages: &[u64]) -> Result<(), AllocError>
     ensures { OnOk result (string_bytes out.new ≡ string_bytes out.old ++ flat_map (λ page. codes " " ++ decimal page) pages.now) }
 {
     for page in pages {
-        write!(out, " {page}")?;
+        push_field(out, " ", *page)?;
     }
     Ok(())
 }
@@ -80,12 +85,16 @@ pub fn push_log_line(out: &mut String, pages: &[u64], tail: u64) -> Result<(), A
 {
     out.push_str("  log")?;
     push_log_pages(out, pages)?;
-    writeln!(out, " tail {tail}")
+    push_field(out, " tail ", tail)?;
+    out.push_str("\n")
 }
 
 /// `  page P COUNT BLOCK`: `count` pages of a file from `page` on lie in the blocks from `block` on.
 pub fn push_page_line(out: &mut String, page: u64, count: u64, block: u64) -> Result<(), AllocError>
     ensures { OnOk result (string_bytes out.new ≡ string_bytes out.old ++ page_line page count block) }
 {
-    writeln!(out, "  page {page} {count} {block}")
+    push_field(out, "  page ", page)?;
+    push_field(out, " ", count)?;
+    push_field(out, " ", block)?;
+    out.push_str("\n")
 }

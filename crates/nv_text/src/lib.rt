@@ -9,6 +9,7 @@ mod answers;
 mod digits;
 mod escapes;
 mod faults;
+mod fields;
 mod free;
 mod inodes;
 mod names;

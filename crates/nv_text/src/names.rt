@@ -3,6 +3,7 @@
 ghost use Rattle.std.specs.Prelude.{◌≡◌, ◌++◌, IfSome, OnOk, string_bytes, flat_map};
 ghost use Rattle.nv_text.specs.Names.{hex_byte, is_plain, escaped_byte, escaped, list_line, name_line, data_text, data_line};
 
+use crate::fields::push_field;
 use std::alloc::AllocError;
 use std::fmt::Write;
 
@@ -71,7 +72,8 @@ pub fn push_list_line(out: &mut String, name: &[u8], inode: u64) -> Result<(), A
     ensures { OnOk result (string_bytes out.new ≡ string_bytes out.old ++ list_line name.now inode) }
 {
     push_escaped(out, name)?;
-    writeln!(out, " {inode}")
+    push_field(out, " ", inode)?;
+    out.push_str("\n")
 }
 
 /// `  name NAME INODE`.

@@ -16,12 +16,12 @@ none_refuses k size file within = λ i. cond (file i) (Some IsDirectory) (cond (
   under : nat_lt 1073741824 size ≡ false
   under = grind (arith, nat_tests)
 
-pub returns-then-size-gt-MOST_BYTES : goal.returns-then-size-gt-MOST_BYTES
-returns-then-size-gt-MOST_BYTES c =
+pub returns-then-size-gt-MOST_FILE_BYTES : goal.returns-then-size-gt-MOST_FILE_BYTES
+returns-then-size-gt-MOST_FILE_BYTES c =
     let file : is_directory c.args.row.now.kind ≡ false = search rules in
-    too_large c.args.row.now.kind c.args.size file c.if-size-gt-MOST_BYTES.true
+    too_large c.args.row.now.kind c.args.size file c.if-size-gt-MOST_FILE_BYTES.true
 
 pub returns : goal.returns
 returns c =
     let file : is_directory c.args.row.now.kind ≡ false = search rules in
-    none_refuses c.args.row.now.kind c.args.size file (omega (arith, c.if-size-gt-MOST_BYTES.false))
+    none_refuses c.args.row.now.kind c.args.size file (omega (arith, c.if-size-gt-MOST_FILE_BYTES.false))

@@ -1,10 +1,12 @@
-use Rattle.std.proofs.Common.{◌∙◌, subst, sym}
+use Rattle.std.proofs.Common.{◌∙◌, ap, subst, sym}
 use Rattle.nv_region.specs.Stops.{LeavesOnly}
 use Rattle.nv_region.specs.Stored.{StoresOnly}
 use Rattle.nv_recover.specs.Behind.{RecoveryStores}
 use Rattle.nv_recover.specs.Errors.{UndoesAsBefore}
 use Rattle.nv_held.specs.nv_outcome.Answer.{outcome_of}
 use Rattle.nv_calls.proofs.Mounted.{opens, rolls_back_once, tells}
+use Rattle.nv_super.specs.declared.superblock.Super.{Super}
+use Rattle.nv_journal.specs.Undo.{undone}
 use Rattle.nv_calls.proofs.fs.Fs.mount_with.Goals as goal
 
 pub open-requires-clause-outcome : goal.open-requires-clause-outcome
@@ -22,6 +24,10 @@ open-requires-clause-settled g c = c.in-Ok.ensures.settled c.requires.settled
 
 pub returns-in-Ok-clause-outcome : goal.returns-in-Ok-clause-outcome
 returns-in-Ok-clause-outcome g c = tells (g.P.Pmem.region c.args.memory) c.open.result c.in-Ok.found c.open.ensures.sup c.open.ensures.rows c.open.ensures.free c.open.ensures.faults c.in-Ok.ensures.ok
+
+pub returns-in-Ok-clause-undone : goal.returns-in-Ok-clause-undone
+returns-in-Ok-clause-undone g c =
+    ap g.P.Pmem.region c.open.ensures.memory ∙ c.in-Ok.ensures.undone ∙ ap (λ (s : Super). undone s (g.P.Pmem.region c.args.memory)) (sym c.open.ensures.sup)
 
 pub returns-in-Ok-clause-quiet : goal.returns-in-Ok-clause-quiet
 returns-in-Ok-clause-quiet g c s is quiet = c.open.ensures.memory ∙ c.in-Ok.ensures.quiet s is quiet

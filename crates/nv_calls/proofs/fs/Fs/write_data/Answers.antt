@@ -69,7 +69,7 @@ returns-in_err-inode-clause-refused g c runs p count says needs =
     let w = err_from_is_err_and c.from_residual-in_err-inode.result c.from_residual-in_err-inode.ensures.1 in
     let told = c.in_err-inode.ensures.refused (g.P.Pmem.region c.self.inside.memory) p says in
     refused_by c.from_residual-in_err-inode.result c.in_err-inode.field-0.0 w.0 (IsRefusedBy (first_refusal (write_tests (world_of c.args.self.now) tree c.args.cpu p (c.args.offset + length (data_bytes c.args.content)) count))) w.1 w.2
-    (inr (inr (write_front g.P.Pmem.region c.self.view_is c.args.cpu (c.args.offset + length (data_bytes c.args.content)) count c.in_ok-writable.ensures.passed p c.in_err-inode.field-0.0 (large_same c.args.offset (length (data_bytes c.args.content)) c.saturating_add.result c.saturating_add.ensures (tree_of (g.P.Pmem.region c.self.inside.memory) c.self.inside.rows.items) p ∙ told))))
+    (inr (inr (write_front g.P.Pmem.region c.self.view_is c.args.cpu (c.args.offset + length (data_bytes c.args.content)) count c.in_ok-writable.ensures.passed p c.in_err-inode.field-0.0 (large_same c.args.offset (length (data_bytes c.args.content)) c.saturating_add.result (rw c.len-count.ensures at c.saturating_add.ensures) (tree_of (g.P.Pmem.region c.self.inside.memory) c.self.inside.rows.items) p ∙ told))))
 
 pub returns-in_err-inode-clause-unchanged : goal.returns-in_err-inode-clause-unchanged
 returns-in_err-inode-clause-unchanged g c =
@@ -86,8 +86,8 @@ returns-in_err-inode-clause-stopped g c runs =
 pub returns-then-count-eq0-clause-allowed : goal.returns-then-count-eq0-clause-allowed
 returns-then-count-eq0-clause-allowed g c p count says needs =
     let none : first_refusal (front_tests (tree_of (g.P.Pmem.region c.self.inside.memory) c.self.inside.rows.items) p (c.args.offset + length (data_bytes c.args.content))) ≡ None =
-    large_same c.args.offset (length (data_bytes c.args.content)) c.saturating_add.result c.saturating_add.ensures (tree_of (g.P.Pmem.region c.self.inside.memory) c.self.inside.rows.items) p ∙ c.in_ok-inode.ensures.refused (g.P.Pmem.region c.self.inside.memory) p says in
-    write_none g.P.Pmem.region c.self.view_is c.args.cpu (c.args.offset + length (data_bytes c.args.content)) count c.in_ok-writable.ensures.passed p none (needs.none c.if-count-eq0.true)
+    large_same c.args.offset (length (data_bytes c.args.content)) c.saturating_add.result (rw c.len-count.ensures at c.saturating_add.ensures) (tree_of (g.P.Pmem.region c.self.inside.memory) c.self.inside.rows.items) p ∙ c.in_ok-inode.ensures.refused (g.P.Pmem.region c.self.inside.memory) p says in
+    write_none g.P.Pmem.region c.self.view_is c.args.cpu (c.args.offset + length (data_bytes c.args.content)) count c.in_ok-writable.ensures.passed p none (needs.none (rw c.len-count.ensures at c.if-count-eq0.true))
 
 pub change_bytes-changed-requires-clause-stands : goal.change_bytes-changed-requires-clause-stands
 change_bytes-changed-requires-clause-stands g c =
@@ -147,9 +147,9 @@ returns-in-Ok-clause-allowed g c p count says needs =
     let leads : (names : List (List ℕ)) → IsPath c.args.path.now names → LeadsTo (tree_of (g.P.Pmem.region c.self.inside.memory) rows) names c.lend-row.result.inode (node_of (g.P.Pmem.region c.self.inside.memory) c.lend-row.result) = λ names path. subst (λ (r : Row). LeadsTo (tree_of (g.P.Pmem.region c.self.inside.memory) rows) names r.inode (node_of (g.P.Pmem.region c.self.inside.memory) r)) (same_Some _ _ (sym c.in_ok-inode.ensures.held ∙ c.lend-row.ensures.row)) (c.in_ok-inode.ensures.row (g.P.Pmem.region c.self.inside.memory) names path) in
     let numbered = own_row rows inode c.lend-row.result c.lend-row.ensures.row in
     let none : first_refusal (front_tests (tree_of (g.P.Pmem.region c.self.inside.memory) c.self.inside.rows.items) p (c.args.offset + length (data_bytes c.args.content))) ≡ None =
-    large_same c.args.offset (length (data_bytes c.args.content)) c.saturating_add.result c.saturating_add.ensures (tree_of (g.P.Pmem.region c.self.inside.memory) c.self.inside.rows.items) p ∙ c.in_ok-inode.ensures.refused (g.P.Pmem.region c.self.inside.memory) p says in
-    write_allowed g.P.Pmem.region c.self.view_is c.args.cpu (c.args.offset + length (data_bytes c.args.content)) count c.in_ok-writable.ensures.passed p none c.args.path.now c.lend-row.result (node_of (g.P.Pmem.region c.self.inside.memory) c.lend-row.result) numbered leads says c.args.offset (length (data_bytes c.args.content)) c.args.time (omega (arith, c.if-count-eq0.false)) needs
-    (subst (λ (q : Plan). (k : ℕ) → NeedsBlocks c.self.inside.free.pools c.args.cpu c.lend-row.result.tail q k → k ≤ all_blocks c.self.inside.free.pools) c.new-plan.ensures c.in-Ok.ensures.enough)
+    large_same c.args.offset (length (data_bytes c.args.content)) c.saturating_add.result (rw c.len-count.ensures at c.saturating_add.ensures) (tree_of (g.P.Pmem.region c.self.inside.memory) c.self.inside.rows.items) p ∙ c.in_ok-inode.ensures.refused (g.P.Pmem.region c.self.inside.memory) p says in
+    write_allowed g.P.Pmem.region c.self.view_is c.args.cpu (c.args.offset + length (data_bytes c.args.content)) count c.in_ok-writable.ensures.passed p none c.args.path.now c.lend-row.result (node_of (g.P.Pmem.region c.self.inside.memory) c.lend-row.result) numbered leads says c.args.offset (length (data_bytes c.args.content)) c.args.time (omega (arith, c.if-count-eq0.false, c.len-count.ensures)) needs
+    (subst (λ (q : Plan). (k : ℕ) → NeedsBlocks c.self.inside.free.pools c.args.cpu c.lend-row.result.tail q k → k ≤ all_blocks c.self.inside.free.pools) (rw c.len-count.ensures at c.new-plan.ensures) c.in-Ok.ensures.enough)
 
 pub returns-in-Err-clause-refused : goal.returns-in-Err-clause-refused
 returns-in-Err-clause-refused g c still p count says needs =
@@ -160,9 +160,9 @@ returns-in-Err-clause-refused g c still p count says needs =
     let leads : (names : List (List ℕ)) → IsPath c.args.path.now names → LeadsTo (tree_of (g.P.Pmem.region c.self.inside.memory) rows) names c.lend-row.result.inode (node_of (g.P.Pmem.region c.self.inside.memory) c.lend-row.result) = λ names path. subst (λ (r : Row). LeadsTo (tree_of (g.P.Pmem.region c.self.inside.memory) rows) names r.inode (node_of (g.P.Pmem.region c.self.inside.memory) r)) (same_Some _ _ (sym c.in_ok-inode.ensures.held ∙ c.lend-row.ensures.row)) (c.in_ok-inode.ensures.row (g.P.Pmem.region c.self.inside.memory) names path) in
     let numbered = own_row rows inode c.lend-row.result c.lend-row.ensures.row in
     let none : first_refusal (front_tests (tree_of (g.P.Pmem.region c.self.inside.memory) c.self.inside.rows.items) p (c.args.offset + length (data_bytes c.args.content))) ≡ None =
-    large_same c.args.offset (length (data_bytes c.args.content)) c.saturating_add.result c.saturating_add.ensures (tree_of (g.P.Pmem.region c.self.inside.memory) c.self.inside.rows.items) p ∙ c.in_ok-inode.ensures.refused (g.P.Pmem.region c.self.inside.memory) p says in
-    write_refused g.P.Pmem.region c.self.view_is c.args.cpu (c.args.offset + length (data_bytes c.args.content)) count c.in_ok-writable.ensures.passed p none c.args.path.now c.lend-row.result (node_of (g.P.Pmem.region c.self.inside.memory) c.lend-row.result) numbered leads says c.args.offset (length (data_bytes c.args.content)) c.args.time (omega (arith, c.if-count-eq0.false)) needs c.in-Err.refusal
-    (subst (λ (q : Plan). RefusesWrite c.in-Err.refusal c.self.inside.free c.args.cpu c.lend-row.result.tail q) c.new-plan.ensures c.in-Err.ensures.refused)
+    large_same c.args.offset (length (data_bytes c.args.content)) c.saturating_add.result (rw c.len-count.ensures at c.saturating_add.ensures) (tree_of (g.P.Pmem.region c.self.inside.memory) c.self.inside.rows.items) p ∙ c.in_ok-inode.ensures.refused (g.P.Pmem.region c.self.inside.memory) p says in
+    write_refused g.P.Pmem.region c.self.view_is c.args.cpu (c.args.offset + length (data_bytes c.args.content)) count c.in_ok-writable.ensures.passed p none c.args.path.now c.lend-row.result (node_of (g.P.Pmem.region c.self.inside.memory) c.lend-row.result) numbered leads says c.args.offset (length (data_bytes c.args.content)) c.args.time (omega (arith, c.if-count-eq0.false, c.len-count.ensures)) needs c.in-Err.refusal
+    (subst (λ (q : Plan). RefusesWrite c.in-Err.refusal c.self.inside.free c.args.cpu c.lend-row.result.tail q) (rw c.len-count.ensures at c.new-plan.ensures) c.in-Err.ensures.refused)
 
 pub returns-in-Ok-clause-changed : goal.returns-in-Ok-clause-changed
 returns-in-Ok-clause-changed g c names path =
@@ -176,9 +176,9 @@ returns-in-Ok-clause-changed g c names path =
     let follows = λ (held : Store) (h : Held) (shows : ShowsRow (g.P.Pmem.region c.self.inside.memory) c.self.inside.sup held h c.lend-row.result c.self.inside.free). c.in-Ok.ensures.writes.follows held h shows in
     let led = leads names path in
     let put = back_one rows c.lend-row.new.self.items c.give_back.new.self.items inode c.change_bytes-changed.new.row c.lend-row.ensures.lent (c.change_bytes-changed.ensures.inode ∙ c.lend-row.ensures.number) c.give_back.ensures.rows in
-    rw put (write_changed g.P.Pmem.region c.self.view_is names c.lend-row.result.inode c.args.offset (data_bytes c.args.content) c.args.time (omega (arith, c.if-count-eq0.false)) (tree_of (g.P.Pmem.region c.change_bytes-changed.new.memory) (set c.self.inside.rows.items (place_in rows inode) c.change_bytes-changed.new.row)) led.leads
+    rw put (write_changed g.P.Pmem.region c.self.view_is names c.lend-row.result.inode c.args.offset (data_bytes c.args.content) c.args.time (omega (arith, c.if-count-eq0.false, c.len-count.ensures)) (tree_of (g.P.Pmem.region c.change_bytes-changed.new.memory) (set c.self.inside.rows.items (place_in rows inode) c.change_bytes-changed.new.row)) led.leads
     (tree_after c.self.invariant.0 runs writes (place_in rows inode) c.lend-row.result c.change_bytes-changed.new.row at (data_entries plan c.in-Ok.ensures.writes.runs) follows (with_bytes c.args.offset (data_bytes c.args.content) c.args.time) c.in-Ok.ensures.writes.inode
-    (written_node (g.P.Pmem.region c.self.inside.memory) (g.P.Pmem.region c.change_bytes-changed.new.memory) c.args.time c.in-Ok.ensures.writes c.new-plan.ensures
+    (written_node (g.P.Pmem.region c.self.inside.memory) (g.P.Pmem.region c.change_bytes-changed.new.memory) c.args.time c.in-Ok.ensures.writes (rw c.len-count.ensures at c.new-plan.ensures)
     (write_bytes c.self.invariant.0 runs writes (place_in rows inode) c.lend-row.result at c.in-Ok.ensures.writes))))
 
 pub returns-in-Ok-clause-log : goal.returns-in-Ok-clause-log
@@ -189,7 +189,7 @@ returns-in-Ok-clause-log g c names i node held h path led sound is some =
     let inode = c.in_ok-inode.field-0.now.inode in
     let at = at_place rows inode ∙ c.lend-row.ensures.row in
     let leads : (names : List (List ℕ)) → IsPath c.args.path.now names → LeadsTo (tree_of (g.P.Pmem.region c.self.inside.memory) rows) names c.lend-row.result.inode (node_of (g.P.Pmem.region c.self.inside.memory) c.lend-row.result) = λ names path. subst (λ (r : Row). LeadsTo (tree_of (g.P.Pmem.region c.self.inside.memory) rows) names r.inode (node_of (g.P.Pmem.region c.self.inside.memory) r)) (same_Some _ _ (sym c.in_ok-inode.ensures.held ∙ c.lend-row.ensures.row)) (c.in_ok-inode.ensures.row (g.P.Pmem.region c.self.inside.memory) names path) in
-    write_logged g.P.Pmem.region c.self.view_is names c.args.time i node held h c.self.invariant.0 runs (stands c.self.inside.rows.items (place_in rows inode) c.lend-row.result at) (leads names path) c.in-Ok.ensures.writes c.new-plan.ensures
+    write_logged g.P.Pmem.region c.self.view_is names c.args.time i node held h c.self.invariant.0 runs (stands c.self.inside.rows.items (place_in rows inode) c.lend-row.result at) (leads names path) c.in-Ok.ensures.writes (rw c.len-count.ensures at c.new-plan.ensures)
     (λ st k shown holds. write_log c.self.invariant.0 runs writes (place_in rows inode) c.lend-row.result at c.in-Ok.ensures.writes st k shown holds) led sound is
 
 pub returns-in-Err-clause-unchanged : goal.returns-in-Err-clause-unchanged
@@ -259,7 +259,7 @@ pub returns-in-Ok-clause-settled : goal.returns-in-Ok-clause-settled
 returns-in-Ok-clause-settled g c some = c.in-Ok.ensures.settled
 
 pub returns-in-Ok-clause-nothing : goal.returns-in-Ok-clause-nothing
-returns-in-Ok-clause-nothing g c none = absurd (c.if-count-eq0.false none)
+returns-in-Ok-clause-nothing g c none = absurd (c.if-count-eq0.false (c.len-count.ensures ∙ none))
 
 pub returns-in-Ok-clause-keeps : goal.returns-in-Ok-clause-keeps
 returns-in-Ok-clause-keeps g c = record { sup = ap (λ (m : Mount g.row.P.Denot). m.sup) c.self.view_is; faults = ap (λ (m : Mount g.row.P.Denot). m.faults) c.self.view_is; read_only = ap (λ (m : Mount g.row.P.Denot). m.read_only) c.self.view_is }
@@ -306,10 +306,10 @@ pub returns-then-count-eq0-clause-refused : goal.returns-then-count-eq0-clause-r
 returns-then-count-eq0-clause-refused g c still p count says needs = tt
 
 pub returns-then-count-eq0-clause-changed : goal.returns-then-count-eq0-clause-changed
-returns-then-count-eq0-clause-changed g c names path = none_written names c.args.offset (data_bytes c.args.content) c.args.time (tree_of (g.P.Pmem.region c.args.self.now.memory) c.args.self.now.rows) c.if-count-eq0.true
+returns-then-count-eq0-clause-changed g c names path = none_written names c.args.offset (data_bytes c.args.content) c.args.time (tree_of (g.P.Pmem.region c.args.self.now.memory) c.args.self.now.rows) (rw c.len-count.ensures at c.if-count-eq0.true)
 
 pub returns-then-count-eq0-clause-log : goal.returns-then-count-eq0-clause-log
-returns-then-count-eq0-clause-log g c names i node held h path led sound is some = absurd (omega (arith, some, c.if-count-eq0.true))
+returns-then-count-eq0-clause-log g c names i node held h path led sound is some = absurd (omega (arith, some, (rw c.len-count.ensures at c.if-count-eq0.true)))
 
 pub returns-then-count-eq0-clause-nothing : goal.returns-then-count-eq0-clause-nothing
 returns-then-count-eq0-clause-nothing g c none = refl
@@ -324,7 +324,7 @@ pub returns-then-count-eq0-clause-keeps : goal.returns-then-count-eq0-clause-kee
 returns-then-count-eq0-clause-keeps g c = record { sup = refl; faults = refl; read_only = refl }
 
 pub returns-then-count-eq0-clause-settled : goal.returns-then-count-eq0-clause-settled
-returns-then-count-eq0-clause-settled g c some = absurd (omega (arith, some, c.if-count-eq0.true))
+returns-then-count-eq0-clause-settled g c some = absurd (omega (arith, some, (rw c.len-count.ensures at c.if-count-eq0.true)))
 
 pub returns-then-count-eq0-clause-length : goal.returns-then-count-eq0-clause-length
 returns-then-count-eq0-clause-length g c = refl
@@ -340,8 +340,8 @@ new-plan-requires-clause-some g c = omega (arith, c.if-count-eq0.false)
 
 pub new-plan-requires-clause-small : goal.new-plan-requires-clause-small
 new-plan-requires-clause-small g c =
-    let ends = ends_small c.args.offset (length (data_bytes c.args.content)) c.saturating_add.result c.saturating_add.ensures c.in_ok-inode.ensures.most in
-    omega (arith, ends)
+    let ends = ends_small c.args.offset (length (data_bytes c.args.content)) c.saturating_add.result (rw c.len-count.ensures at c.saturating_add.ensures) c.in_ok-inode.ensures.most in
+    omega (arith, ends, c.len-count.ensures)
 
 pub change_bytes-changed-requires-clause-cpu : goal.change_bytes-changed-requires-clause-cpu
 change_bytes-changed-requires-clause-cpu g c =
@@ -349,16 +349,16 @@ change_bytes-changed-requires-clause-cpu g c =
     low_pools c.self.invariant.0 c.args.cpu low
 
 pub change_bytes-changed-requires-clause-some : goal.change_bytes-changed-requires-clause-some
-change_bytes-changed-requires-clause-some g c = omega (arith, c.if-count-eq0.false)
+change_bytes-changed-requires-clause-some g c = omega (arith, c.if-count-eq0.false, c.len-count.ensures)
 
 pub change_bytes-changed-requires-clause-fits : goal.change_bytes-changed-requires-clause-fits
-change_bytes-changed-requires-clause-fits g c = ends_small c.args.offset (length (data_bytes c.args.content)) c.saturating_add.result c.saturating_add.ensures c.in_ok-inode.ensures.most
+change_bytes-changed-requires-clause-fits g c = ends_small c.args.offset (length (data_bytes c.args.content)) c.saturating_add.result (rw c.len-count.ensures at c.saturating_add.ensures) c.in_ok-inode.ensures.most
 
 pub change_bytes-changed-requires-clause-size : goal.change_bytes-changed-requires-clause-size
 change_bytes-changed-requires-clause-size g c = refl
 
 pub change_bytes-changed-requires-clause-plan : goal.change_bytes-changed-requires-clause-plan
-change_bytes-changed-requires-clause-plan g c = planned (block_at c.lend-row.result.index) c.lend-row.result.numbers.size c.args.offset (length (data_bytes c.args.content)) c.args.time c.new-plan.result c.new-plan.ensures
+change_bytes-changed-requires-clause-plan g c = planned (block_at c.lend-row.result.index) c.lend-row.result.numbers.size c.args.offset (length (data_bytes c.args.content)) c.args.time c.new-plan.result (rw c.len-count.ensures at c.new-plan.ensures)
 
 pub returns-in-Ok-clause-stopped : goal.returns-in-Ok-clause-stopped
 returns-in-Ok-clause-stopped g c still =
@@ -391,7 +391,7 @@ returns-in-Ok-clause-any_stop g c names path on able =
     let inode = c.in_ok-inode.field-0.now.inode in
     let at = at_place rows inode ∙ c.lend-row.ensures.row in
     let leads : LeadsTo (tree_of (g.P.Pmem.region c.self.inside.memory) rows) names c.lend-row.result.inode (node_of (g.P.Pmem.region c.self.inside.memory) c.lend-row.result) = subst (λ (r : Row). LeadsTo (tree_of (g.P.Pmem.region c.self.inside.memory) rows) names r.inode (node_of (g.P.Pmem.region c.self.inside.memory) r)) (same_Some _ _ (sym c.in_ok-inode.ensures.held ∙ c.lend-row.ensures.row)) (c.in_ok-inode.ensures.row (g.P.Pmem.region c.self.inside.memory) names path) in
-    write_left g.P.Pmem.region c.self.view_is c.self.invariant.0 runs writes (place_in rows inode) c.lend-row.result at c.args.cpu c.new-plan.result c.args.offset (data_bytes c.args.content) c.args.time c.new-plan.ensures (omega (arith, c.if-count-eq0.false)) names leads _ _ _
+    write_left g.P.Pmem.region c.self.view_is c.self.invariant.0 runs writes (place_in rows inode) c.lend-row.result at c.args.cpu c.new-plan.result c.args.offset (data_bytes c.args.content) c.args.time (rw c.len-count.ensures at c.new-plan.ensures) (omega (arith, c.if-count-eq0.false, c.len-count.ensures)) names leads _ _ _
     (λ held h shows pending. c.change_bytes-changed.ensures.any_stop held h shows pending) (c.self.invariant.2 runs)
 
 pub returns-in-Err-clause-any_stop : goal.returns-in-Err-clause-any_stop
@@ -402,7 +402,7 @@ returns-in-Err-clause-any_stop g c names path on able =
     let inode = c.in_ok-inode.field-0.now.inode in
     let at = at_place rows inode ∙ c.lend-row.ensures.row in
     let leads : LeadsTo (tree_of (g.P.Pmem.region c.self.inside.memory) rows) names c.lend-row.result.inode (node_of (g.P.Pmem.region c.self.inside.memory) c.lend-row.result) = subst (λ (r : Row). LeadsTo (tree_of (g.P.Pmem.region c.self.inside.memory) rows) names r.inode (node_of (g.P.Pmem.region c.self.inside.memory) r)) (same_Some _ _ (sym c.in_ok-inode.ensures.held ∙ c.lend-row.ensures.row)) (c.in_ok-inode.ensures.row (g.P.Pmem.region c.self.inside.memory) names path) in
-    write_left g.P.Pmem.region c.self.view_is c.self.invariant.0 runs writes (place_in rows inode) c.lend-row.result at c.args.cpu c.new-plan.result c.args.offset (data_bytes c.args.content) c.args.time c.new-plan.ensures (omega (arith, c.if-count-eq0.false)) names leads _ _ _
+    write_left g.P.Pmem.region c.self.view_is c.self.invariant.0 runs writes (place_in rows inode) c.lend-row.result at c.args.cpu c.new-plan.result c.args.offset (data_bytes c.args.content) c.args.time (rw c.len-count.ensures at c.new-plan.ensures) (omega (arith, c.if-count-eq0.false, c.len-count.ensures)) names leads _ _ _
     (λ held h shows pending. c.change_bytes-changed.ensures.any_stop held h shows pending) (c.self.invariant.2 runs)
 
 pub returns-in_err-writable-clause-read_only : goal.returns-in_err-writable-clause-read_only
