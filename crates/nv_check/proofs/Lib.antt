@@ -10,7 +10,6 @@ pub mod Heads
 pub mod Listed
 pub mod Together
 pub mod CrossRows
-pub mod Near
 pub mod Ordered
 pub mod SameCross
 pub use Rattle.nv_scan.proofs as nv_scan

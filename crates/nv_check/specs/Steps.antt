@@ -1,8 +1,6 @@
 -- What the checks make, step by step.
-use Rattle.std.specs.Prelude.{◌≡◌, ℕ, ◌+◌, ◌<◌, ◌≤◌, ◌==◌, Bool, true, false, not, if◌then◌else◌, List, [], ◌∷◌, ◌++◌, length, count_by, Option, Some, None, is_some, unwrap_or, slice_get, slice_index, slice_index_or, ◌⊎◌}
-use Rattle.std.specs.List.{AllZip, Contains, flat_map, filter_map, cons_option, list_any, range_with_len}
-use Rattle.std.specs.declared.vec.Vec.{Vec}
-use Rattle.std.specs.declared.alloc.Global.{Global}
+use Rattle.std.specs.Prelude.{◌≡◌, ℕ, ◌+◌, ◌<◌, ◌≤◌, ◌==◌, Bool, true, false, not, if◌then◌else◌, List, [], ◌∷◌, ◌++◌, length, count_by, Option, Some, None, is_some, slice_index, slice_index_or, ◌⊎◌}
+use Rattle.std.specs.List.{Contains, flat_map, filter_map, list_any}
 use Rattle.nv_super.specs.declared.kind.Kind.{Kind}
 use Rattle.nv_super.specs.declared.kind.Kind.TheVariants.{File, Directory}
 use Rattle.nv_super.specs.declared.faults.Fault.{Fault}
@@ -148,28 +146,3 @@ is_root l = is_root_of l.kind l.inode
 -- the fault of a region whose inode 1 isn't a directory
 abbrev pub root_faults : List Listing → List Fault
 root_faults listings = if list_any is_root listings then [] else (faults.C5 ∷ [])
-
--- how often an inode is named, by the counts at the places of a table
-abbrev pub named_at : List ℕ → Option ℕ → ℕ
-named_at counts None = 0
-named_at counts (Some k) = unwrap_or (slice_get counts k) 0
-
--- how often an inode is named, by the counts and the table
-abbrev pub named_by : List (Option ℕ) → List ℕ → ℕ → ℕ
-named_by table counts i = named_at counts (place_of table i)
-
--- the faults of one row's names, and of how often it is named
-abbrev pub near_of : List (Option ℕ) → List ℕ → Listing → List Fault
-near_of table counts l = unused_of table l ++ cons_option (count_fault_of l.kind l.inode l.links (named_by table counts l.inode)) []
-
--- the faults of the row at place k
-abbrev pub IsNearAt : List (Option ℕ) → List ℕ → List Listing → ℕ → Vec Fault Global → Type 0
-IsNearAt table counts listings k found = (l : Listing) → IsAt listings k l → found.items ≡ near_of table counts l
-
--- the faults of all rows, place by place
-abbrev pub AreNear : List (Option ℕ) → List ℕ → List Listing → List (Vec Fault Global) → Type 0
-AreNear table counts listings near = AllZip (IsNearAt table counts listings) (range_with_len 0 (length listings)) near
-
--- the faults of all rows, one behind another
-abbrev pub all_of : List (Vec Fault Global) → List Fault
-all_of near = flat_map (λ (v : Vec Fault Global). v.items) near

@@ -25,11 +25,7 @@ use std::alloc::{AllocError, Global};
 ///
 /// Errors: `AllocError` where a growth was refused, or where 64 bits can't count the names of one inode. No memory holds
 /// so many names.
-pub fn cross_faults_one(
-    alloc: Global,
-    sup: &Super,
-    rows: &RowList,
-) -> Result<Vec<Fault>, AllocError>
+pub fn cross_faults(alloc: Global, sup: &Super, rows: &RowList) -> Result<Vec<Fault>, AllocError>
     requires layout { IsLayout sup.now }
     requires apart { AreNumbersBelow (inode_limit sup.now) (map (λ (r : RowValue). r.inode) rows.now.items) }
     requires numbers { All (λ (r : RowValue). IsTrue (is_number sup.now r.inode)) rows.now.items }

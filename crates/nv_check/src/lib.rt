@@ -9,11 +9,9 @@ mod cross;
 mod listing;
 mod names;
 mod owners;
-mod parallel;
 mod places;
 mod tables;
 mod walk;
 
-pub use cross::cross_faults_one;
+pub use cross::cross_faults;
 pub use owners::doubled;
-pub use parallel::cross_faults;

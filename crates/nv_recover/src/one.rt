@@ -26,7 +26,7 @@ use crate::scanned::Scanned;
 use crate::sets::Sets;
 use crate::starting::start;
 use nv_numbered::Chunks;
-use nv_outcome::{Recovered, cross_faults_one};
+use nv_outcome::{Recovered, cross_faults};
 use nv_region::Pmem;
 use nv_scan::{
     Inodes, ListedInodes, Scanner, push_heads, room_for_ticket, scan_slots, ticket_count,
@@ -81,7 +81,7 @@ fn scan_all<P: Pmem>(alloc: Global, memory: &P, sup: &Super) -> Result<Scanned, 
 {
     let (inodes, sets) = scan_tickets(alloc, memory, sup)?;
     let owned = sets.owned(alloc, sup, inodes.rows.as_rows())?;
-    let cross = cross_faults_one(alloc, sup, &inodes.rows)?;
+    let cross = cross_faults(alloc, sup, &inodes.rows)?;
     Ok(Scanned {
         inodes,
         owned,

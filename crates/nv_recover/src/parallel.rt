@@ -74,7 +74,7 @@ pub fn recover<P: Pmem + Sync, G: Gate + Sync, H: Threads + Sync>(
     Ok(finish(alloc, started, scanned)?)
 }
 
-// Scans all inodes by workers, and shares the work between inodes among threads too.
+// Scans all inodes by workers.
 fn scan_on_threads<P: Pmem + Sync, G: Gate + Sync, H: Threads + Sync>(
     rt: &H,
     alloc: Global,
@@ -90,7 +90,7 @@ fn scan_on_threads<P: Pmem + Sync, G: Gate + Sync, H: Threads + Sync>(
 {
     let (inodes, claimed) = scan_by_workers(rt, alloc, memory, sup, workers, gate)?;
     let owned = owned_of(alloc, claimed)?;
-    let cross = cross_faults(rt, alloc, sup, &inodes.rows)?;
+    let cross = cross_faults(alloc, sup, &inodes.rows)?;
     Ok(Scanned {
         inodes,
         owned,

@@ -30,7 +30,7 @@ use crate::starting::{is_worker_count, start};
 use nv_claimcore::{ClaimState, CoreRefusal, replay};
 use nv_claimmap::{Claimed, ClaimedRuns};
 use nv_numbered::Chunks;
-use nv_outcome::{Recovered, cross_faults_one};
+use nv_outcome::{Recovered, cross_faults};
 use nv_region::Pmem;
 use nv_scan::{
     Claims, Inodes, ListedInodes, Scanner, push_heads, room_for_ticket, scan_slots, ticket_count,
@@ -101,7 +101,7 @@ fn scan_by_schedule<P: Pmem>(
     let (inodes, work, claims) = scan_apart(alloc, memory, sup)?;
     let claimed = claim_all(alloc, sup, workers, schedule, work, claims)?;
     let owned = owned_of(alloc, claimed)?;
-    let cross = cross_faults_one(alloc, sup, &inodes.rows)?;
+    let cross = cross_faults(alloc, sup, &inodes.rows)?;
     Ok(Scanned {
         inodes,
         owned,

@@ -2,7 +2,7 @@
 
 use crate::rows::row;
 use crate::small::SMALL;
-use nv_check::{cross_faults, cross_faults_one, doubled};
+use nv_check::{cross_faults, doubled};
 use nv_claimmap::ClaimedRuns;
 use nv_names::NameIndex;
 use nv_numbered::Chunks;
@@ -54,10 +54,8 @@ fn faults_between_four_rows(rt: HostRuntime) -> Result<(), AllocError> {
     rows.push(row(alloc, 4, Kind::Directory, 1, names_of_4))?;
     rows.push(row(alloc, 2, Kind::File, 2, NameIndex::new(alloc)))?;
     let rows = RowList::of(alloc, rows)?;
-    let one = cross_faults_one(alloc, &SMALL, &rows)?;
-    assert_faults(&rt, &one);
-    let threads = cross_faults(&rt, alloc, &SMALL, &rows)?;
-    assert_faults(&rt, &threads);
+    let found = cross_faults(alloc, &SMALL, &rows)?;
+    assert_faults(&rt, &found);
     Ok(())
 }
 

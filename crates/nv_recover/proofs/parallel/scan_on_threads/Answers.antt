@@ -5,10 +5,10 @@ use Rattle.nv_recover.proofs.Owned.{owned_claimed}
 use Rattle.nv_recover.proofs.parallel.scan_on_threads.Goals as goal
 
 pub cross_faults-requires-clause-apart : goal.cross_faults-requires-clause-apart
-cross_faults-requires-clause-apart g c κs within = (rows_apart c.requires.layout c.in_ok-inodes.ensures.1 _ refl).apart
+cross_faults-requires-clause-apart g c = (rows_apart c.requires.layout c.in_ok-inodes.ensures.1 _ refl).apart
 
 pub cross_faults-requires-clause-numbers : goal.cross_faults-requires-clause-numbers
-cross_faults-requires-clause-numbers g c κs within = (rows_apart c.requires.layout c.in_ok-inodes.ensures.1 _ refl).numbers
+cross_faults-requires-clause-numbers g c = (rows_apart c.requires.layout c.in_ok-inodes.ensures.1 _ refl).numbers
 
 pub owned_of-requires : goal.owned_of-requires
 owned_of-requires g c = let is = c.in_ok-inodes.ensures in record { covers = claims_covered c.args.sup.now is.0 c.in_ok-inodes.claimed is.1.pieces_are is.2 refl refl }

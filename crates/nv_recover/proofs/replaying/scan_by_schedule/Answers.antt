@@ -8,11 +8,11 @@ pub claim_all-requires-clause-inside : goal.claim_all-requires-clause-inside
 claim_all-requires-clause-inside g c = let is = c.in_ok-inodes.ensures.inodes in
     work_inside c.args.sup.now is.0 is.1.pieces_are c.in_ok-inodes.work.items is.2
 
-pub cross_faults_one-requires-clause-apart : goal.cross_faults_one-requires-clause-apart
-cross_faults_one-requires-clause-apart g c = (rows_apart c.requires.layout c.in_ok-inodes.ensures.inodes.1 _ refl).apart
+pub cross_faults-requires-clause-apart : goal.cross_faults-requires-clause-apart
+cross_faults-requires-clause-apart g c = (rows_apart c.requires.layout c.in_ok-inodes.ensures.inodes.1 _ refl).apart
 
-pub cross_faults_one-requires-clause-numbers : goal.cross_faults_one-requires-clause-numbers
-cross_faults_one-requires-clause-numbers g c = (rows_apart c.requires.layout c.in_ok-inodes.ensures.inodes.1 _ refl).numbers
+pub cross_faults-requires-clause-numbers : goal.cross_faults-requires-clause-numbers
+cross_faults-requires-clause-numbers g c = (rows_apart c.requires.layout c.in_ok-inodes.ensures.inodes.1 _ refl).numbers
 
 pub owned_of-requires : goal.owned_of-requires
 owned_of-requires g c =

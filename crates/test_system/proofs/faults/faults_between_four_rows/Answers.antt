@@ -43,22 +43,12 @@ module _ (a b c d : Row) (p : a.inode ≡ 3) (q : b.inode ≡ 1) (r : c.inode �
   numbered (suc (suc (suc zero))) e lt = ap (is_number small) s
   numbered (suc (suc (suc (suc k)))) e lt = absurd (omega (arith, lt))
 
-pub cross_faults_one-requires-clause-apart : goal.cross_faults_one-requires-clause-apart
-cross_faults_one-requires-clause-apart g c =
-    rw (c.in_ok-rows.ensures, c.in_ok-push-4.ensures.ok, c.in_ok-push-3.ensures.ok, c.in_ok-push-2.ensures.ok, c.in_ok-push.ensures.ok, c.new-rows.ensures)
-    (apart c.row.result c.row-2.result c.row-3.result c.row-4.result c.row.ensures c.row-2.ensures c.row-3.ensures c.row-4.ensures)
-
-pub cross_faults_one-requires-clause-numbers : goal.cross_faults_one-requires-clause-numbers
-cross_faults_one-requires-clause-numbers g c =
-    rw (c.in_ok-rows.ensures, c.in_ok-push-4.ensures.ok, c.in_ok-push-3.ensures.ok, c.in_ok-push-2.ensures.ok, c.in_ok-push.ensures.ok, c.new-rows.ensures)
-    (numbered c.row.result c.row-2.result c.row-3.result c.row-4.result c.row.ensures c.row-2.ensures c.row-3.ensures c.row-4.ensures)
-
 pub cross_faults-requires-clause-apart : goal.cross_faults-requires-clause-apart
-cross_faults-requires-clause-apart g c κs =
+cross_faults-requires-clause-apart g c =
     rw (c.in_ok-rows.ensures, c.in_ok-push-4.ensures.ok, c.in_ok-push-3.ensures.ok, c.in_ok-push-2.ensures.ok, c.in_ok-push.ensures.ok, c.new-rows.ensures)
     (apart c.row.result c.row-2.result c.row-3.result c.row-4.result c.row.ensures c.row-2.ensures c.row-3.ensures c.row-4.ensures)
 
 pub cross_faults-requires-clause-numbers : goal.cross_faults-requires-clause-numbers
-cross_faults-requires-clause-numbers g c κs =
+cross_faults-requires-clause-numbers g c =
     rw (c.in_ok-rows.ensures, c.in_ok-push-4.ensures.ok, c.in_ok-push-3.ensures.ok, c.in_ok-push-2.ensures.ok, c.in_ok-push.ensures.ok, c.new-rows.ensures)
     (numbered c.row.result c.row-2.result c.row-3.result c.row-4.result c.row.ensures c.row-2.ensures c.row-3.ensures c.row-4.ensures)

@@ -6,7 +6,7 @@ use Rattle.std.specs.declared.alloc.Global.{Global}
 use Rattle.nv_check.specs.Cross.{IsCrossFaultIn}
 use Rattle.nv_check.specs.Listings.{IsFault}
 use Rattle.nv_check.proofs.CrossRows.{cross_listed}
-use Rattle.nv_check.proofs.cross.cross_faults_one.Goals as goal
+use Rattle.nv_check.proofs.cross.cross_faults.Goals as goal
 
 pub returns : goal.returns
 returns c =
