@@ -278,6 +278,8 @@ expect_script "a number too few" 2 "ok${newline}bad line 3" "line 3: expected po
 expect_script "a space after a command" 2 "bad line 1" "line 1: expected tree, $words" 'tree \n'
 expect_script "no command" 2 "bad line 1" \
     "line 1: expected time, format, recover, replay, poke, cut, list, stat, read, create, mkdir, write, size, attr, link, unlink, rmdir, rename, clean, tree, free, faults, report, peek or stop" 'move 0 /a /b\n'
+expect_script "a command with a letter left out" 2 "bad line 1" "line 1: no command has this name; the nearest is create CPU PATH" 'crate 0 /a\n'
+expect_script "a command with two letters exchanged" 2 "bad line 1" "line 1: no command has this name; the nearest is list PATH" 'lsit /\n'
 expect_script "a carriage return" 2 "bad line 1" \
     "line 1: it ends with a carriage return, byte 13; byte 10 alone ends a line" 'recover 1\r\n'
 expect_script "a byte order mark" 2 "bad line 1" \

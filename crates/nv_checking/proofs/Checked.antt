@@ -7,6 +7,7 @@ use Rattle.nv_super.proofs.Lengths.{longer_is_refused}
 use Rattle.nv_super.specs.declared.superblock.SuperFault.TheVariants.{Length}
 use Rattle.nv_super.specs.FaultText.{super_fault_name}
 use Rattle.nv_checking.specs.Checking.{IsRefusal, IsCheckAs}
+use Rattle.nv_checking.specs.Explained.{IsExplained}
 use Rattle.nv_checking.specs.declared.output.Output.{Output}
 use Rattle.nv_checking.specs.Workers.{is_worker_count}
 
@@ -17,3 +18,8 @@ too_long bytes long = longer_is_refused (region_of bytes) (let same = size_of_by
 pub long_check : (output : Output) (bytes : List ℕ) (workers : ℕ) (text : List ℕ) (status : ℕ) → is_worker_count workers ≡ true → 2 ^ 30 < length bytes → IsRefusal (super_fault_name Length) text status
     → IsCheckAs output (region_of bytes) workers text status
 long_check output bytes workers text status count long said = rw count (inl (Length, too_long bytes long, said))
+
+-- the same of a check with sentences
+pub long_explained : (bytes : List ℕ) (workers : ℕ) (text : List ℕ) (status : ℕ) → is_worker_count workers ≡ true → 2 ^ 30 < length bytes → IsRefusal (super_fault_name Length) text status
+    → IsExplained (region_of bytes) workers text status
+long_explained bytes workers text status count long said = rw count (inl (Length, too_long bytes long, said))

@@ -127,8 +127,8 @@ pub(crate) fn check_memory<P: Pmem + Sync, H: Threads + Sync>(
     }
 }
 
-// The exit status of a check whose report has these faults.
-fn status_of(faults: &[Fault]) -> u8
+/// The exit status of a check whose report has these faults.
+pub(crate) fn status_of(faults: &[Fault]) -> u8
     ensures { result ≡ status_of (how_it_went faults.now) }
 {
     how_it_went(faults).status()

@@ -1,6 +1,6 @@
 //! The check of the image in a file, and its map as text and as a drawing.
 
-ghost use Rattle.std.specs.Prelude.{◌≡◌, ◌⊎◌, ◌≤◌, true, false, is_none, IfOk, IfErr};
+ghost use Rattle.std.specs.Prelude.{◌≡◌, ◌≢◌, ◌⊎◌, ◌≤◌, true, false, is_none, IfOk, IfErr};
 ghost use Rattle.std.specs.Io.KnownBytes.{Keeps};
 ghost use Rattle.nv_images.specs.Images.{IsUnread, IsUnsaved, IsUnanswered};
 ghost use Rattle.nv_checking.specs.Mapping.{mapped_answer, WritesMap, FailsMap};
@@ -8,12 +8,13 @@ ghost use Rattle.nv_checking.specs.Files.{WritesImageCheck, EndsImageCheck, Fail
 
 use crate::answered::Answered;
 use crate::checking::check_region_as;
+use crate::explained::explain_region;
 use crate::gathered::check_gathered;
 use crate::mapping::{Mapped, answered, map_cells, map_gathered, write_map};
 use crate::output::Output;
 use crate::plain::gather_plain;
 use nv_images::{
-    Failure, Held, Image, ImageFile, Lock, Stamp, Target, hold, open_image, read_image,
+    Failure, Held, Image, ImageFile, Lock, Stamp, Target, hold, image_at, open_image, read_image,
     refuse_length, save_file, see_ready, svg_text, tell_explain, tell_faults, tell_length,
     tell_refused,
 };
@@ -64,6 +65,45 @@ where
         tell_explain(rt);
     }
     Ok(status)
+}
+
+/// `check_file` of the whole report, and below it, where the image has faults, of each in a sentence where it is, which word
+/// stands there, and what holds in a sound region. For this the image is read whole.
+///
+/// Errors: those of `check_file`.
+pub fn explain_file<'a, H: Files + AllocGlobal + Print + Eprint + Threads + Sync>(
+    rt: &H,
+    path: &'a str,
+    workers: u32,
+) -> Result<u8, Failure<'a>>
+where
+    ensures status { IfOk result (λ status. status ≤ 2) }
+    ensures error { IfErr result (IsUnchecked path.entry) }
+{
+    let image = image_at(rt, path)?;
+    let status = explain_image(rt, &image, workers, &mut io::writer(rt))?;
+    tell_image_refused(rt, &image, status);
+    if status == Last::Faulty.status() {
+        tell_explain(rt);
+    }
+    Ok(status)
+}
+
+// Checks an image as `explain_region` does. One that is longer than a region can be is refused as `S1`.
+fn explain_image<H: AllocGlobal + Threads + Sync, W: Write>(
+    rt: &H,
+    image: &Image,
+    workers: u32,
+    writer: &mut W,
+) -> Result<u8, ScriptError>
+    ensures status { IfOk result (λ status. status ≤ 2) }
+    ensures error { IfErr result (λ e. e ≢ ScriptError.Read) }
+{
+    let workers = u64::from(workers);
+    match image {
+        Image::Bytes(bytes) => explain_region(rt, rt.alloc(), bytes, workers, writer),
+        Image::TooLong(_) => refuse_length(writer),
+    }
 }
 
 /// Recovers the image in a file in memory, and prints what its blocks are used for, or why that can't be told. With `svg` the

@@ -4,11 +4,12 @@
 //! a region, and writes its report, or another `output`. `gathered` does so from the metadata alone. `imaging` recovers them on
 //! this thread, and `gathered_image` the metadata, for looks into them, whose answer is in `answered`, and for `mapping`, which
 //! tells what the blocks are used for. `files` checks and maps images in files, and `several` checks several. `plain` gathers the
-//! metadata of those in plain files.
+//! metadata of those in plain files. `explained` writes a report with what is wrong below it, in `sentences`.
 #![tactic(auto)]
 
 mod answered;
 mod checking;
+mod explained;
 mod files;
 mod gathered;
 mod gathered_image;
@@ -19,11 +20,13 @@ mod output;
 mod plain;
 mod recovering;
 mod recovery;
+mod sentences;
 mod several;
 
 pub use answered::Answered;
 pub use checking::{check_region, check_region_as};
-pub use files::{check_file, map_file};
+pub use explained::explain_region;
+pub use files::{check_file, explain_file, map_file};
 pub use gathered::{BlocksError, check_blocks, check_gathered};
 pub use gathered_image::{GatheredImage, recover_gathered};
 pub use imaging::{Image, recover_image};

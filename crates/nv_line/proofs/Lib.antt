@@ -5,3 +5,4 @@ pub mod Words
 pub mod ShapedWords
 pub mod Rows
 pub mod Grammar
+pub mod Near

@@ -5,5 +5,6 @@ pub mod Spelling
 pub mod View
 pub mod Lines
 pub mod Reading
+pub mod Nearest
 pub mod Reasons
 pub mod Excess

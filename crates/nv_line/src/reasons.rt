@@ -4,6 +4,7 @@ ghost use Rattle.std.specs.Prelude.{◌≡◌, Some, IfOk, map};
 ghost use Rattle.nv_line.specs.Reasons.{form_text, reason_of_form, reason_of_words, reason_of, excess_text, reason_text};
 
 use crate::excess::{first_large, shrunk};
+use crate::nearest::nearest;
 use crate::parsing::words;
 use crate::table::{command_of, form_named};
 use nv_stream::LINE_LIMIT;
@@ -59,8 +60,8 @@ pub enum Reason {
     CarriageReturn,
     /// It begins with a byte order mark.
     ByteOrderMark,
-    /// Its first word is no command.
-    NoCommand,
+    /// Its first word is no command. The form is that of the command whose name is nearest, where one is near.
+    NoCommand(Option<Form>),
     /// It would be a command, but for numbers that are too large, of which this is the first.
     TooLarge(Excess),
     /// Its first word is a command's, and its other words aren't.
@@ -102,17 +103,17 @@ impl Form {
     }
 }
 
-// By the words of a line. The error is a refused growth of another list of them, or of a schedule.
+// By the words of a line. The error is a refused growth of another list of them, of a schedule, or of a table of edits.
 #[tactic(auto, unfolding(crate::specs::Reasons::reason_of_words))]
 fn reason_of_words(alloc: Global, words: &[&[u8]]) -> Result<Reason, AllocError>
     ensures { IfOk result (λ reason. reason ≡ reason_of_words (map (λ word. word.now) words.now)) }
 {
     let [name, words @ ..] = words else {
-        return Ok(Reason::NoCommand);
+        return Ok(Reason::NoCommand(None));
     };
     match form_named(name) {
         Some(form) => reason_of_form(alloc, form, words),
-        None => Ok(Reason::NoCommand),
+        None => Ok(Reason::NoCommand(nearest(alloc, name)?)),
     }
 }
 
@@ -130,7 +131,7 @@ fn reason_of_form(alloc: Global, form: Form, words: &[&[u8]]) -> Result<Reason, 
     }
 }
 
-/// Why a bad line is bad. The error is a refused growth of a list of the line's words, or of a schedule.
+/// Why a bad line is bad. The error is a refused growth of a list of the line's words, of a schedule, or of a table of edits.
 #[tactic(auto, unfolding(crate::specs::Reasons::reason_of))]
 pub fn why_bad(alloc: Global, line: &[u8]) -> Result<Reason, AllocError>
     ensures { IfOk result (λ reason. reason ≡ reason_of line.now) }
@@ -173,7 +174,12 @@ impl fmt::Display for Reason {
                 "it begins with a byte order mark, the bytes 239, 187 and 191; a script has none",
             ),
             Reason::TooLarge(excess) => write!(f, "{excess}"),
-            Reason::NoCommand => f.write_str(
+            Reason::NoCommand(Some(form)) => write!(
+                f,
+                "no command has this name; the nearest is {}",
+                form.text()
+            ),
+            Reason::NoCommand(None) => f.write_str(
                 "expected time, format, recover, replay, poke, cut, list, stat, read, create, mkdir, write, size, attr, link, unlink, rmdir, rename, clean, tree, free, faults, report, peek or stop",
             ),
             Reason::Form(form) => write!(
