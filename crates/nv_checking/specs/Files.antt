@@ -20,6 +20,7 @@ use Rattle.nv_checking.specs.declared.mapping.Mapped.{Mapped}
 use Rattle.nv_checking.specs.declared.mapping.Mapped.TheVariants as maps
 use Rattle.nv_checking.specs.Checking.{WritesCheckAs, EndsCheckAs, FailsCheckAs}
 use Rattle.nv_checking.specs.Mapping.{IsMapped}
+use Rattle.nv_checking.specs.Explained.{WritesExplained, FailsExplained}
 
 -- the line that refuses an image for its length
 abbrev pub length_refused : List ℕ
@@ -39,6 +40,16 @@ EndsImageCheck output (images.TooLong length) workers old new status = status �
 abbrev pub FailsImageCheck : Output → Image → ℕ → ScriptError → Option (List ℕ) → Option (List ℕ) → Type 0
 FailsImageCheck output (images.Bytes bytes) workers e old new = FailsCheckAs output bytes.items workers e old new
 FailsImageCheck output (images.TooLong length) workers e old new = (e ≡ Write) × AppendsFront old new length_refused
+
+-- the report of the image with its sentences was written, and the status is this: those of its bytes, or the refusal of its length
+abbrev pub WritesImageExplained : Image → ℕ → Option (List ℕ) → Option (List ℕ) → ℕ → Type 0
+WritesImageExplained (images.Bytes bytes) workers old new status = WritesExplained bytes.items workers old new status
+WritesImageExplained (images.TooLong length) workers old new status = Appends old new length_refused × (status ≡ 2)
+
+-- after an error: as of the bytes, or a front of the refusal where the writer failed
+abbrev pub FailsImageExplained : Image → ℕ → ScriptError → Option (List ℕ) → Option (List ℕ) → Type 0
+FailsImageExplained (images.Bytes bytes) workers e old new = FailsExplained bytes.items workers e old new
+FailsImageExplained (images.TooLong length) workers e old new = (e ≡ Write) × AppendsFront old new length_refused
 
 -- the map of the image: that of its bytes, or the refusal of its length
 abbrev pub IsImageMapped : Image → ℕ → Mapped → Type 0

@@ -4,7 +4,7 @@ ghost use Rattle.std.specs.Prelude.{◌≡◌, ◌≢◌, ◌⊎◌, ◌≤◌, 
 ghost use Rattle.std.specs.Io.KnownBytes.{Keeps};
 ghost use Rattle.nv_images.specs.Images.{IsUnread, IsUnsaved, IsUnanswered};
 ghost use Rattle.nv_checking.specs.Mapping.{mapped_answer, WritesMap, FailsMap};
-ghost use Rattle.nv_checking.specs.Files.{WritesImageCheck, EndsImageCheck, FailsImageCheck, IsImageMapped, IsUnchecked, IsUnmapped};
+ghost use Rattle.nv_checking.specs.Files.{WritesImageCheck, EndsImageCheck, FailsImageCheck, WritesImageExplained, FailsImageExplained, IsImageMapped, IsUnchecked, IsUnmapped};
 
 use crate::answered::Answered;
 use crate::checking::check_region_as;
@@ -96,6 +96,8 @@ fn explain_image<H: AllocGlobal + Threads + Sync, W: Write>(
     workers: u32,
     writer: &mut W,
 ) -> Result<u8, ScriptError>
+    ensures ok { IfOk result (λ status. WritesImageExplained image.now workers (W.contents writer.old) (W.contents writer.new) status) }
+    ensures err { IfErr result (λ e. FailsImageExplained image.now workers e (W.contents writer.old) (W.contents writer.new)) }
     ensures status { IfOk result (λ status. status ≤ 2) }
     ensures error { IfErr result (λ e. e ≢ ScriptError.Read) }
 {
