@@ -8,7 +8,7 @@ _nova() {
         case ${COMP_WORDS[1]} in
             run) words="--image --save --force --strict --help" ;;
             shell) words="--force --help" ;;
-            check) words="--workers --summary --only-faults --json --help" ;;
+            check) words="--workers --summary --only-faults --json --explain --help" ;;
             mkfs) words="--blocks --cpus --tables --size --force --help" ;;
             clean) words="--help" ;;
             ls) words="--help" ;;

@@ -88,8 +88,21 @@ expect "a report with a fault as JSON" 1 "1 5 11 L2 of 1 at 20448" "nova explain
 expect "a sound report as JSON" 0 "1 4 12" "" bash -c "$with_json" bash "$program" "$folder/region" "$read_json"
 expect "a refused image as JSON" 2 "refused S1" "it has 100 bytes; $lengths" "$program" check "$folder/short" --json
 expect "two outputs at once" 2 "" \
-    "error: only one of the arguments '--summary', '--only-faults' and '--json' can be used${newline}${newline}Usage: nova check [OPTIONS] <path>${newline}${newline}For more information, try '--help'." \
+    "error: only one of the arguments '--summary', '--only-faults', '--json' and '--explain' can be used, and '--explain' with one path alone${newline}${newline}Usage: nova check [OPTIONS] <path>${newline}${newline}For more information, try '--help'." \
     "$program" check "$folder/region" --json --summary
+# A report with a sentence for each fault.
+with_sentences="nova explain CLASS says what a fault means, as nova explain L2 does for L2"
+expect "a fault in a sentence" 1 "$("$program" check "$here/examples/ring.img" 2>/dev/null)
+L2 inode 1 at 20448: block 4 has at offset 4064 the word 12288; the link of a log's page leads to one that wasn't read before" \
+    "$with_sentences" "$program" check "$here/examples/ring.img" --explain
+expect "no fault in a sentence" 0 "$("$program" check "$folder/region")" "" "$program" check "$folder/region" --explain
+expect "a refused image and sentences" 2 "refused S1" "it has 100 bytes; $lengths" "$program" check "$folder/short" --explain
+for others in "$folder/region --json" "$folder/region --summary" "$folder/region $folder/short"; do
+    # shellcheck disable=SC2086
+    "$program" check $others --explain >"$folder/out" 2>"$folder/said"
+    same "sentences of $others" "2  error: only one of the arguments '--summary', '--only-faults', '--json' and '--explain' can be used, and '--explain' with one path alone" \
+        "$? $(cat "$folder/out") $(head -n 1 "$folder/said")"
+done
 # word AT VALUE: the region, with this word of less than 256 there.
 word() {
     cp "$folder/region" "$folder/changed"
@@ -112,6 +125,11 @@ word 40 2
 expect "another state" 2 "refused S7" "its state is 2; 0 and 1 are taken" "$program" check "$folder/changed"
 expect "another state, listed" 2 "" "refused S7${newline}its state is 2; 0 and 1 are taken" "$program" ls "$folder/changed"
 expect "another state, mapped" 2 "" "refused S7${newline}its state is 2; 0 and 1 are taken" "$program" map "$folder/changed"
+# The slot of inode 1 begins at byte 8320, and has the kind in its second word.
+word 8328 7
+expect "a kind that is none, in a sentence" 0 \
+    "I2 inode 1: block 2 has at offset 136 the word 7; the kind of a slot in use is 1, a file, or 2, a directory${newline}C5: inode 1 is a directory in use" \
+    "" bash -c '"$1" check "$2" --explain 2>/dev/null | tail -n 2' bash "$program" "$folder/changed"
 head -c 65536 /dev/zero >"$folder/other"
 printf '\123\357' | dd of="$folder/other" bs=1 seek=1080 conv=notrunc status=none
 expect "an image of ext4" 2 "refused S2" "its first word is 0; $magic${newline}by its first bytes it is an image of ext2, ext3 or ext4" \

@@ -214,7 +214,7 @@ same "with the image as the last word" "${tried% -- *} -- check --workers 4 imag
 same "an image that isn't there" "nova_check: rt try -- check none status 2" "$(cd "$folder" && TRIED=2 run try check none | xargs)"
 same "a try that fails itself" "status 2" "$(run try check none | tail -n 1)"
 same "a try of another command" "status 2" "$(run try run)"
-same "says what can be tried" "usage: ./nova try check IMAGE [--workers N] [--summary | --only-faults | --json]" "$(cat "$folder/said")"
+same "says what can be tried" "usage: ./nova try check IMAGE [--workers N] [--summary | --only-faults | --json | --explain]" "$(cat "$folder/said")"
 same "and nothing is proved" "" "$(cat "$log")"
 
 # Words that name no program, and help.

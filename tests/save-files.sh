@@ -365,6 +365,27 @@ same "an image in use behind a save: status of the shell" 0 $?
 same "an image in use behind a save: errors of the shell" "" "$(cat "$folder/first-err")"
 same "an image in use behind a save: what is there" "d 3 e 4 hello 2" "$("$program" ls "$room/image" | xargs)"
 
+# No other run gets in between two saves of a shell.
+begin
+rm -f "$folder/pipe" "$folder/first" "$folder/enough"
+mkfifo "$folder/pipe"
+"$program" shell "$room/image" <"$folder/pipe" >"$folder/first" 2>"$folder/first-err" &
+first=$!
+exec 9>"$folder/pipe"
+printf 'mkdir 0 /d\n' >&9
+until grep -qx ok "$folder/first" || ! kill -0 "$first" 2>/dev/null; do sleep 0.01; done
+(until [ -e "$folder/enough" ]; do "$program" mkfs "$room/image" --force --blocks 8 --cpus 1 --tables 1 2>/dev/null && echo got in; done) >"$folder/others" &
+others=$!
+yes save | head -n 40 >&9
+while [ "$(grep -cx ok "$folder/first")" != 41 ] && kill -0 "$first" 2>/dev/null; do sleep 0.01; done
+: >"$folder/enough"
+wait "$others"
+go_on
+same "a shell that saves often: status" 0 $?
+same "a shell that saves often: output" "recovered inodes 2 free 10 faults 0 $(yes ok | head -n 41 | xargs)" "$(xargs <"$folder/first")"
+same "a shell that saves often: who got in" "" "$(cat "$folder/others")"
+same "a shell that saves often: what is there" "d 3 hello 2" "$("$program" ls "$room/image" | xargs)"
+
 # Of two runs that are to replace one image the second is refused, by whatever name.
 begin
 ln -s image "$room/link"

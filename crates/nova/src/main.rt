@@ -20,7 +20,7 @@ mod show;
 
 use cleaning::clean;
 use nv_args::{CheckOutput, Todo, VERSION, read_words};
-use nv_checking::{Blocks, Output, check_file, check_files, map_file};
+use nv_checking::{Blocks, Output, check_file, check_files, explain_file, map_file};
 use nv_cli::suiting_areas;
 use nv_images::{Failure, Lock, Target, ended, explain, print_line, refuse_words, words_of};
 use run::{Images, run, script_at, script_on};
@@ -97,6 +97,7 @@ where
             workers,
             output,
         } => match paths.as_slice() {
+            [path] if output == CheckOutput::Explained => explain_file(rt, path, workers),
             [path] => check_file(rt, path, workers, output_of(output)),
             paths => check_files(rt, paths, workers, output_of(output)),
         },
@@ -123,7 +124,7 @@ where
 
 fn output_of(output: CheckOutput) -> Output {
     match output {
-        CheckOutput::Report => Output::Report,
+        CheckOutput::Report | CheckOutput::Explained => Output::Report,
         CheckOutput::Summary => Output::Summary,
         CheckOutput::OnlyFaults => Output::OnlyFaults,
         CheckOutput::Json => Output::Json,

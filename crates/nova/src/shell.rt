@@ -2,8 +2,8 @@
 
 use nv_cli::{Hint, Host, MemRegion, run_shell};
 use nv_images::{
-    Failure, Held, Loaded, Lock, Reason, Stamp, Target, hold, region_at, save_region, see_ready,
-    tell_failure, tell_unaccepted, why_region_refused,
+    Failure, Held, Loaded, Lock, Reason, Stamp, Target, hold, region_at, save_and_hold,
+    save_region, see_ready, tell_failure, tell_unaccepted, why_region_refused,
 };
 use nv_stream::Unsaved;
 use std::io::{IsTerminal, Read};
@@ -114,13 +114,13 @@ impl<'a, H: Files + AllocGlobal + Print + Eprint> FileHost<'a, H>
 where
     H::File: Lock,
 {
-    // Saves the region in the file of the image, and holds the new file there for the next time.
+    // Saves the region in the file of the image, and holds the new file there, which is locked from before it is there.
     fn save_back(&mut self, region: &MemRegion) -> Result<(), Failure<'a>> {
         let Some(held) = &self.held else {
             return Err(Failure::unsaved(self.image, Unsaved::InUse));
         };
-        save_at_place(self.rt, held, region, None)?;
-        self.held = hold(self.rt, back_to(self.image)).ok();
+        see_place(self.rt, held, None)?;
+        self.held = save_and_hold(self.rt, held, region)?;
         Ok(())
     }
 
@@ -131,7 +131,8 @@ where
             force: self.force,
         };
         let held = hold(self.rt, target)?;
-        save_at_place(self.rt, &held, region, self.stamp())
+        see_place(self.rt, &held, self.stamp())?;
+        save_region(self.rt, &held, region)
     }
 
     // Whether the path leads to the file of the image.
@@ -148,11 +149,10 @@ where
     }
 }
 
-// Saves a region at a place that is held. Standard output, where the answers go, is none.
-fn save_at_place<'a, H: Files + AllocGlobal + Print + Eprint>(
+// Sees that a region can be saved at a place that is held. Standard output, where the answers go, is none.
+fn see_place<'a, H: Files + AllocGlobal + Print + Eprint>(
     rt: &H,
     held: &Held<'a, H::File>,
-    region: &MemRegion,
     image: Option<Stamp>,
 ) -> Result<(), Failure<'a>>
 where
@@ -161,6 +161,5 @@ where
     if held.is_output() {
         return Err(Failure::unsaved(held.target.path, Unsaved::NotFile));
     }
-    see_ready(rt, held, None, image)?;
-    save_region(rt, held, region)
+    see_ready(rt, held, None, image)
 }

@@ -8,7 +8,7 @@
 #![tactic(auto)]
 
 use nv_args::{CheckOutput, Todo, VERSION, read_words};
-use nv_checking::{Blocks, Output, check_file, check_files, map_file};
+use nv_checking::{Blocks, Output, check_file, check_files, explain_file, map_file};
 use nv_images::{Failure, Lock, Target, ended, explain, print_line, refuse_words, words_of};
 use std::alloc::AllocError;
 use std::env::Env;
@@ -57,6 +57,7 @@ where
             workers,
             output,
         } => match paths.as_slice() {
+            [path] if output == CheckOutput::Explained => explain_file(rt, path, workers),
             [path] => check_file(rt, path, workers, output_of(output)),
             paths => check_files(rt, paths, workers, output_of(output)),
         },
@@ -73,7 +74,7 @@ where
 
 fn output_of(output: CheckOutput) -> Output {
     match output {
-        CheckOutput::Report => Output::Report,
+        CheckOutput::Report | CheckOutput::Explained => Output::Report,
         CheckOutput::Summary => Output::Summary,
         CheckOutput::OnlyFaults => Output::OnlyFaults,
         CheckOutput::Json => Output::Json,

@@ -51,10 +51,10 @@ run_app = command (codes "run") (place_rule (codes "script") ∷ option_rule (co
 abbrev pub shell_app : App
 shell_app = command (codes "shell") (needed_rule (codes "image") ∷ flag_rule (codes "force") ∷ [])
 
--- `check`: the files of images, a number of workers, and what is printed in place of the report
+-- `check`: the files of images, a number of workers, and what is printed in place of the report or below it
 abbrev pub check_app : App
 check_app = command (codes "check") (several_rule (codes "path") ∷ workers_rule ∷ flag_rule (codes "summary") ∷ flag_rule (codes "only-faults")
-    ∷ flag_rule (codes "json") ∷ [])
+    ∷ flag_rule (codes "json") ∷ flag_rule (codes "explain") ∷ [])
 
 -- `mkfs`: an image's file, the numbers of a new region, its size in place of its blocks, and whether the file may be there
 abbrev pub mkfs_app : App

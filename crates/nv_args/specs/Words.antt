@@ -1,5 +1,5 @@
 -- What the words of a command line ask for.
-use Rattle.std.specs.Prelude.{◌≡◌, ◌⊎◌, ◌*◌, ◌^◌, ℕ, ◌≤◌, ◌<◌, ◌↔◌, List, [], ◌∷◌, ◌++◌, Option, Some, None, IsTrue, codes, option_map, map, unwrap_or}
+use Rattle.std.specs.Prelude.{◌≡◌, ◌⊎◌, ◌*◌, ◌^◌, ℕ, ◌≤◌, ◌<◌, ◌↔◌, List, [], ◌∷◌, ◌++◌, Option, Some, None, IsTrue, codes, option_map, map, unwrap_or, length}
 use Rattle.std.specs.Borrow.{Bor}
 use Rattle.std.specs.Str.Parse.{IsNumeral, digits_value, without_leading_plus}
 use Rattle.clap.specs.Walk.{Row, Text, first_of, all_of}
@@ -7,7 +7,7 @@ use Rattle.clap.specs.Simple.{subcommand_of}
 use Rattle.clap.specs.Faults.{fault_of}
 use Rattle.nv_args.specs.CommandLine.{nova_app}
 use Rattle.nv_args.specs.declared.todo.CheckOutput.{CheckOutput}
-use Rattle.nv_args.specs.declared.todo.CheckOutput.TheVariants.{Report, Summary, OnlyFaults, Json}
+use Rattle.nv_args.specs.declared.todo.CheckOutput.TheVariants.{Report, Summary, OnlyFaults, Json, Explained}
 use Rattle.nv_args.specs.declared.todo.Todo.{Todo}
 use Rattle.nv_args.specs.declared.todo.Todo.TheVariants.{Version, Run, Shell, Check, Mkfs, Clean, Ls, Stat, Cat, Explain, Map}
 use Rattle.nv_args.specs.declared.todo.Which.{Which}
@@ -75,12 +75,18 @@ AreWorkers (Some text) workers = IsNumeral 10 (without_leading_plus text)
 abbrev pub IsGiven : Text → List Row → Type 0
 IsGiven name values = first_of name values ≡ Some (codes "true")
 
--- a check prints the report, unless one of three options asks for something else
-abbrev pub IsOutput : List Row → CheckOutput → Type 0
-IsOutput values Report = (¬ IsGiven (codes "summary") values) × (¬ IsGiven (codes "only-faults") values) × (¬ IsGiven (codes "json") values)
-IsOutput values Summary = IsGiven (codes "summary") values × (¬ IsGiven (codes "only-faults") values) × (¬ IsGiven (codes "json") values)
-IsOutput values OnlyFaults = (¬ IsGiven (codes "summary") values) × IsGiven (codes "only-faults") values × (¬ IsGiven (codes "json") values)
-IsOutput values Json = (¬ IsGiven (codes "summary") values) × (¬ IsGiven (codes "only-faults") values) × IsGiven (codes "json") values
+-- a check prints the report, unless one of four options asks for something else; that each fault is explained, only of one image
+abbrev pub IsOutput : List Row → ℕ → CheckOutput → Type 0
+IsOutput values images Report = (¬ IsGiven (codes "summary") values) × (¬ IsGiven (codes "only-faults") values)
+    × (¬ IsGiven (codes "json") values) × (¬ IsGiven (codes "explain") values)
+IsOutput values images Summary = IsGiven (codes "summary") values × (¬ IsGiven (codes "only-faults") values) × (¬ IsGiven (codes "json") values)
+    × (¬ IsGiven (codes "explain") values)
+IsOutput values images OnlyFaults = (¬ IsGiven (codes "summary") values) × IsGiven (codes "only-faults") values
+    × (¬ IsGiven (codes "json") values) × (¬ IsGiven (codes "explain") values)
+IsOutput values images Json = (¬ IsGiven (codes "summary") values) × (¬ IsGiven (codes "only-faults") values) × IsGiven (codes "json") values
+    × (¬ IsGiven (codes "explain") values)
+IsOutput values images Explained = (¬ IsGiven (codes "summary") values) × (¬ IsGiven (codes "only-faults") values)
+    × (¬ IsGiven (codes "json") values) × IsGiven (codes "explain") values × (images ≡ 1)
 
 -- the numbers of a new region are written: its blocks and the others, or its size, and of the others those that are written
 abbrev pub AreNumbers : List Row → ℕ → Option ℕ → Option ℕ → Type 0
@@ -124,7 +130,7 @@ HasValues values (Run script image save force strict) = (first_of (codes "script
     × (IsTrue strict ↔ IsGiven (codes "strict") values)
 HasValues values (Shell image force) = (first_of (codes "image") values ≡ Some image.now) × (IsTrue force ↔ IsGiven (codes "force") values)
 HasValues values (Check paths workers output) = (all_of (codes "path") values ≡ Some (map (λ path. path.now) paths.items))
-    × AreWorkers (first_of (codes "workers") values) workers × IsOutput values output
+    × AreWorkers (first_of (codes "workers") values) workers × IsOutput values (length paths.items) output
 HasValues values (Mkfs image blocks cpus tables force) = (first_of (codes "image") values ≡ Some image.now)
     × AreNumbers values blocks cpus tables × (IsTrue force ↔ IsGiven (codes "force") values)
 HasValues values (Clean image path) = (first_of (codes "image") values ≡ Some image.now) × (first_of (codes "path") values ≡ option_map (λ text. text.now) path)

@@ -135,6 +135,11 @@ const COMMANDS: [CommandForm<'static>; 10] = [
                 name: "json",
                 help: "Print the report as JSON",
             },
+            Argument {
+                written: Written::Flag,
+                name: "explain",
+                help: "Say below the report of one image, of each fault, what is wrong with which word",
+            },
         ],
     },
     CommandForm {

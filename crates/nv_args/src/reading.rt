@@ -98,19 +98,21 @@ fn worker_count(text: Option<&str>) -> Option<u32>
     (1..=64).contains(&workers).then_some(workers)
 }
 
-// What a check is to print, unless that are several things.
-fn output_of(values: &ArgMatches<'_>) -> Option<CheckOutput>
-    ensures some { IfSome result (λ output. IsOutput (rows_of (found_of values.now)) output) }
-    ensures none { IsNone result → (output : CheckOutput) → ¬ IsOutput (rows_of (found_of values.now)) output }
+// What a check of so many images is to print, unless that are several things.
+fn output_of(values: &ArgMatches<'_>, images: usize) -> Option<CheckOutput>
+    ensures some { IfSome result (λ output. IsOutput (rows_of (found_of values.now)) images output) }
+    ensures none { IsNone result → (output : CheckOutput) → ¬ IsOutput (rows_of (found_of values.now)) images output }
 {
     let summary = is_given(values, "summary");
     let only_faults = is_given(values, "only-faults");
     let json = is_given(values, "json");
-    match (summary, only_faults, json) {
-        (false, false, false) => Some(CheckOutput::Report),
-        (true, false, false) => Some(CheckOutput::Summary),
-        (false, true, false) => Some(CheckOutput::OnlyFaults),
-        (false, false, true) => Some(CheckOutput::Json),
+    let explain = is_given(values, "explain");
+    match (summary, only_faults, json, explain) {
+        (false, false, false, false) => Some(CheckOutput::Report),
+        (true, false, false, false) => Some(CheckOutput::Summary),
+        (false, true, false, false) => Some(CheckOutput::OnlyFaults),
+        (false, false, true, false) => Some(CheckOutput::Json),
+        (false, false, false, true) if images == 1 => Some(CheckOutput::Explained),
         _ => None,
     }
 }
@@ -146,7 +148,7 @@ fn check_of<'a>(alloc: Global, values: &ArgMatches<'a>) -> Result<Option<Todo<'a
     let Some(workers) = worker_count(text_of(values, "workers")) else {
         return Ok(None);
     };
-    let Some(output) = output_of(values) else {
+    let Some(output) = output_of(values, paths.len()) else {
         return Ok(None);
     };
     Ok(Some(Todo::Check {
@@ -376,8 +378,8 @@ fn asks_for_image(matches: &ArgMatches<'_>) -> bool {
     matches!(matches.subcommand(), Some(("mkfs", _)))
 }
 
-// What words that pass ask for. Of these only a check that is to print several things, and a new image of no size, ask for
-// nothing.
+// What words that pass ask for. Of these only a check that is to print several things, or to explain several images, and a new
+// image of no size ask for nothing.
 fn asked(found: Result<Option<Todo<'_>>, AllocError>, is_image: bool) -> Result<Todo<'_>, Usage>
     ensures ok { IfOk result (λ todo. found.entry ≡ Ok (Some todo)) }
     ensures err { IfErr result (λ usage. (found.entry ≡ Ok None) ⊎ WantsMemory usage) }

@@ -107,4 +107,6 @@ pub enum CheckOutput {
     OnlyFaults,
     /// The report as JSON.
     Json,
+    /// The whole report, and of each fault what is wrong with which word.
+    Explained,
 }

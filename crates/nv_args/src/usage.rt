@@ -8,7 +8,7 @@ use std::fmt;
 use std::marker::Model;
 
 const TWO_OUTPUTS: &str = "\
-error: only one of the arguments '--summary', '--only-faults' and '--json' can be used
+error: only one of the arguments '--summary', '--only-faults', '--json' and '--explain' can be used, and '--explain' with one path alone
 
 Usage: nova check [OPTIONS] <path>
 
@@ -28,7 +28,7 @@ For more information, try '--help'.
 pub(crate) enum Cause {
     /// They are no words of the command line, or they ask for help.
     Words(Error),
-    /// A check is to print several things.
+    /// A check is to print several things, or to explain several images.
     TwoOutputs,
     /// An image is to be made of no size, of two, or of one that can't be read.
     NoSize,

@@ -130,14 +130,14 @@ where
     Ok(())
 }
 
-/// `save_file`, which goes on holding the place: the new file has its lock from before it is there. Answers nothing where the
+/// `save_region`, which goes on holding the place: the new file has its lock from before it is there. Answers nothing where the
 /// place can't be held any more, and for standard output.
 ///
 /// Errors: those of `save_file`.
 pub fn save_and_hold<'a, H: Files + AllocGlobal + Print>(
     rt: &H,
     held: &Held<'a, H::File>,
-    bytes: &[u8],
+    region: &MemRegion,
 ) -> Result<Option<Held<'a, H::File>>, Failure<'a>>
 where
     H::File: Lock,
@@ -145,7 +145,7 @@ where
     ensures file { is_none held.now.place ≡ false → IfErr result (IsUnsaved held.now.target.path) }
     ensures output { is_none held.now.place ≡ true → IfErr result IsUnanswered }
 {
-    match save_content(rt, held, &bytes)? {
+    match save_content(rt, held, &RegionContent { region })? {
         Some(file) => Ok(held_again(rt, held.target, file)),
         None => Ok(None),
     }

@@ -1,4 +1,4 @@
-use Rattle.std.proofs.Common.{refl, inl, inr, drop, length, ap, sym, ◌∙◌, ◌≡◌, [], arith}
+use Rattle.std.proofs.Common.{refl, inl, inr, drop, ap, sym, ◌∙◌, ◌≡◌, []}
 use Rattle.std.proofs.lemmas.List.{drop_all}
 use Rattle.nv_line.specs.declared.nearest.Named.{Named}
 use Rattle.nv_line.specs.Nearest.{Near, look_through, names}
