@@ -7,7 +7,7 @@ use Rattle.nv_super.specs.Layout.{IsLayout, system_blocks}
 use Rattle.nv_super.specs.declared.superblock.Super.{Super}
 use Rattle.nv_report.specs.nv_outcome.nv_journal.Undo.{undone}
 use Rattle.nv_report.specs.nv_outcome.Outcome.{Outcome, IsOutcome}
-use Rattle.nv_report.proofs.nv_outcome.SuperOf.{blocks_of_super, layout_of_super, one_super}
+use Rattle.nv_report.proofs.nv_outcome.SuperOf.{blocks_of_super, layout_of_super, one_super, version_of_super}
 use Rattle.nv_report.proofs.nv_outcome.Again.{rolled_back, stays}
 use Rattle.nv_report.proofs.nv_outcome.nv_journal.High.{data_word}
 use Rattle.nv_metadata.specs.Memory.{MetadataState}
@@ -65,7 +65,7 @@ module _ (S : Region) (o : Outcome) (is : IsOutcome S o) where
   pub shown_as : AreShownAs (undone o.sup S) S o.rows
   shown_as = record {
     inside = λ row c p b at. (let high = (bounds row c p b at).1 in let blocks = blocks_of_super S o.sup is.sup in omega (arith, high, blocks));
-    same = λ row p b x c at. ap (λ (w : ℕ). w / 256 ^ (x % 8) % 256) (let low = (bounds row c p b at).0 in data_word o.sup S layout (b * 4096 + x % 4096 / 8 * 8) (omega arith) (omega (arith, low)));
+    same = λ row p b x c at. ap (λ (w : ℕ). w / 256 ^ (x % 8) % 256) (let low = (bounds row c p b at).0 in data_word o.sup S layout (version_of_super S o.sup is.sup) (b * 4096 + x % 4096 / 8 * 8) (omega arith) (omega (arith, low)));
   }
 
 -- the same of the rows that are mounted
