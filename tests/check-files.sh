@@ -222,6 +222,7 @@ expect "a drawing on standard output" 0 "<svg </svg>" "" bash -c '"$1" map "$2" 
 expect "a new image on standard output" 0 "same" "" bash -c '"$1" mkfs - --blocks 16 --cpus 1 --tables 1 | cmp - "$2" && echo same' bash "$program" "$folder/region"
 expect "a clean image from input to output" 0 "same" "cleaned pages 0" \
     bash -c '"$1" clean - <"$2" | cmp - "$2" && echo same' bash "$program" "$folder/region"
+word 40 2
 expect "cleaning another state" 2 "" "refused S7${newline}its state is 2; 0 and 1 are taken" "$program" clean "$folder/changed"
 
 # Of a plain file the metadata alone are read, and the blocks of a file that is shown; a pipe is read whole. Both say the same.
