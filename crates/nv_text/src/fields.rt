@@ -5,7 +5,7 @@ ghost use Rattle.std.specs.Prelude.{◌≡◌, ◌++◌, OnOk, string_bytes, dec
 use itoa::Buffer;
 use std::alloc::AllocError;
 
-/// A label, and a number in decimal. A report has half a million of them, and `write!` takes four times as long.
+/// A label, and a number in decimal. A report can have half a million of them, which `write!` takes longer for.
 pub(crate) fn push_field(out: &mut String, label: &str, number: u64) -> Result<(), AllocError>
     ensures { OnOk result (string_bytes out.new ≡ string_bytes out.old ++ label.now ++ decimal number) }
 {
