@@ -1,14 +1,14 @@
 -- The words of a region with a front and pieces: at first, and where one piece more is held.
-use Rattle.std.proofs.Common.{◌≡◌, ◌≢◌, inl, inr, ◌+◌, ◌*◌, ◌/◌, ◌%◌, ◌<◌, ◌≤◌, ℕ, List, ◌++◌, length, get_or, set, drop, replicate, sym, ap, ◌∙◌, arith, get_or-set_same, get_or-set_other}
+use Rattle.std.proofs.Common.{◌≡◌, ◌≢◌, inl, inr, ◌+◌, ◌-◌, ◌*◌, ◌/◌, ◌%◌, ◌<◌, ◌≤◌, ℕ, List, ◌++◌, length, get_or, set, drop, take, replicate, sym, ap, ◌∙◌, arith, get_or-set_same, get_or-set_other, length-drop}
 use Rattle.std.proofs.lemmas.Bool.{cases_lt}
-use Rattle.std.proofs.lemmas.List.{get_or_past, get_or-replicate, length-replicate}
+use Rattle.std.proofs.lemmas.List.{get_or_past, get_or-replicate, length-replicate, drop-drop}
 use Rattle.byteorder.specs.Endian.{little_number}
 use Rattle.nv_region.specs.Region.{Region, size, word, words_of}
 use Rattle.nv_region.specs.ImageState.{with_front}
 use Rattle.nv_region.proofs.Fronted.{as_long_fronted, word_in_front, word_behind_front, count_of_words}
 use Rattle.nv_region.proofs.Bytes.{word_of_bytes}
 use Rattle.nv_metadata.specs.Memory.{pieced, piece_word}
-use Rattle.nv_metadata.proofs.Pieces.{words_of_pieces, word_of_pieces, no_piece, a_piece, piece_stays, piece_comes}
+use Rattle.nv_metadata.proofs.Pieces.{words_of_pieces, word_of_pieces, no_piece, a_piece, piece_stays, piece_comes, number_taken}
 
 -- the region that is shown
 abbrev pub shown : List ℕ → ℕ → List ℕ → List ℕ → List ℕ → Region
@@ -66,6 +66,17 @@ word_some front blocks starts counts bytes at aligned behind within some =
     let offset : 8 * (at / 8 % 512) ≡ at % 4096 = omega (arith, aligned) in
     word_shown front blocks starts counts bytes (at / 8) (omega (arith, behind)) (omega (arith, within)) ∙ a_piece starts counts bytes (at / 8) (omega (arith, offset, some, there))
     ∙ (λ i. little_number 8 (drop (from i + offset i) bytes))
+
+-- the bytes that are held of a block have its words
+pub word_of_part : (front : List ℕ) (blocks : ℕ) (starts counts bytes : List ℕ) (block start count : ℕ) → start ≡ get_or starts block 0 → count ≡ get_or counts block 0 → count % 8 ≡ 0 → start + count ≤ length bytes → 8 * length front ≤ 4096 * block → block < blocks
+    → (at : ℕ) → at % 8 ≡ 0 → at / 4096 ≡ block → at % 4096 < count → little_number 8 (drop (at % 4096) (take (start + count - start) (drop start bytes))) ≡ word (shown front blocks starts counts bytes) at
+word_of_part front blocks starts counts bytes block start count begins counted whole inside behind below at aligned is within =
+    let there : get_or counts (at / 4096) 0 ≡ count = ap (λ (b : ℕ). get_or counts b 0) is ∙ sym counted in
+    let from : get_or starts (at / 4096) 0 ≡ start = ap (λ (b : ℕ). get_or starts b 0) is ∙ sym begins in
+    let long : length (drop start bytes) ≡ length bytes - start = length-drop start bytes in
+    number_taken (start + count - start) (drop start bytes) (at % 4096) (omega (arith, aligned, whole, within)) (omega (arith, long, inside))
+    ∙ ap (little_number 8) (drop-drop (at % 4096) start bytes) ∙ ap (λ (n : ℕ). little_number 8 (drop (n + at % 4096) bytes)) (sym from)
+    ∙ sym (word_some front blocks starts counts bytes at aligned (omega (arith, behind, is)) (omega (arith, below, is, aligned)) (omega (arith, there, within)))
 
 -- ---- one piece more
 

@@ -9,4 +9,5 @@ pub mod HandedOn
 pub mod SameLogs
 pub mod Ready
 pub mod Whole
+pub mod Joined
 pub use Rattle.nv_outcome.proofs as nv_outcome

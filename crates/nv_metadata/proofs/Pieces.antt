@@ -1,5 +1,5 @@
 -- The words of pieces that stand one behind another.
-use Rattle.std.proofs.Common.{◌≡◌, inl, inr, ◌+◌, ◌*◌, ◌/◌, ◌%◌, ◌<◌, ◌≤◌, ℕ, true, false, nat_lt, List, [], ◌∷◌, ◌++◌, length, get_or, take, drop, refl, sym, ap, ◌∙◌, arith, length-drop, add-one}
+use Rattle.std.proofs.Common.{◌≡◌, inl, inr, ◌+◌, ◌-◌, ◌*◌, ◌/◌, ◌%◌, ◌<◌, ◌≤◌, ℕ, true, false, nat_lt, List, [], ◌∷◌, ◌++◌, length, get_or, take, drop, refl, sym, ap, ◌∙◌, arith, length-drop, add-one}
 use Rattle.std.proofs.Math.Seq.{take-suc}
 use Rattle.std.proofs.lemmas.Bool.{cases_lt}
 use Rattle.std.proofs.lemmas.Bool.Decides.{nat_tests}
@@ -78,3 +78,7 @@ piece_comes news mores bytes piece i start count within =
 pub word_more : (words copied more : List ℕ) (k x : ℕ) → k < length words → x ≡ get_or words k 0 → copied ≡ take k words → more ≡ copied ++ x ∷ [] → more ≡ take (k + 1) words
 word_more words copied more k x within is so_far pushed =
     pushed ∙ ap (λ (l : List ℕ). l ++ x ∷ []) so_far ∙ ap (λ (y : ℕ). take k words ++ y ∷ []) is ∙ sym (ap (λ (m : ℕ). take m words) (add-one k) ∙ take-suc words k 0 within)
+
+-- a part of bytes has as many as it was cut for
+pub part_length : (start count : ℕ) (xs : List ℕ) → start + count ≤ length xs → length (take (start + count - start) (drop start xs)) ≡ count
+part_length start count xs within = (let n = length-drop start xs in let l = length-take (start + count - start) (drop start xs) in omega (arith, n, l, within))

@@ -1,13 +1,16 @@
 -- A memory is ready for its superblock: at first, and with a block more.
-use Rattle.std.proofs.Common.{◌≡◌, ◌≢◌, ◌+◌, ◌*◌, ◌/◌, ◌%◌, ◌≤◌, ℕ, false, List, ◌++◌, length, drop, sym, ap, ◌∙◌, arith}
+use Rattle.std.proofs.Common.{◌≡◌, ◌≢◌, ◌+◌, ◌*◌, ◌/◌, ◌%◌, ◌≤◌, ℕ, false, List, ◌++◌, length, drop, take, sym, ap, ◌∙◌, subst, arith}
+use Rattle.std.proofs.lemmas.List.{take-append-drop, take-take, length-take}
 use Rattle.byteorder.specs.Endian.{little_number}
 use Rattle.nv_region.specs.Region.{Region, HasBlocks, size, word}
 use Rattle.nv_super.specs.declared.superblock.Super.{Super}
-use Rattle.nv_super.specs.Layout.{most_blocks, system_blocks}
+use Rattle.nv_super.specs.Layout.{IsLayout, most_blocks, system_blocks}
 use Rattle.nv_super.specs.Super.{IsSuper}
 use Rattle.nv_super.proofs.Accepted.{super_stays}
-use Rattle.nv_metadata.specs.Memory.{MetadataState, IsReady}
+use Rattle.nv_metadata.specs.Memory.{MetadataState, CanHold, IsReady, SameFront}
+use Rattle.nv_metadata.specs.Blocks.{AreBytesAt}
 use Rattle.nv_metadata.specs.Gathered.{SaysSuper}
+use Rattle.nv_metadata.specs.Parts.{IsFront}
 use Rattle.nv_metadata.proofs.Pieces.{number_within}
 use Rattle.nv_metadata.proofs.Refused.{accepted_there}
 
@@ -16,15 +19,14 @@ same_size : (R S : Region) (blocks : ℕ) → HasBlocks R blocks → HasBlocks S
 same_size R S blocks r s = (let a = r.0 in let b = r.1 in let c = s.0 in let d = s.1 in omega (arith, a, b, c, d))
 
 -- with a block more
-pub ready_more : (s : Super) (m new : MetadataState) (block : ℕ) → IsReady s m → system_blocks s ≤ block
+pub hold_more : (s : Super) (m new : MetadataState) (block : ℕ) → CanHold s m → system_blocks s ≤ block
     → ((at : ℕ) → at % 8 ≡ 0 → at / 4096 ≢ block → word new.memory.region at ≡ word m.memory.region at) → length new.memory.region.words ≡ length m.memory.region.words → new.memory.region.rest ≡ m.memory.region.rest
-    → (new.memory.front ≡ m.memory.front) × (new.memory.burnt ≡ m.memory.burnt) → IsReady s new
-ready_more s m new block ready behind others long rest same = record {
+    → SameFront m new → CanHold s new
+hold_more s m new block ready behind others long rest same = record {
   blocks = blocks;
   few = ready.few;
   superblock = super_stays m.memory.region new.memory.region (same_size m.memory.region new.memory.region s.blocks ready.blocks blocks) (λ at aligned low. others at aligned (λ is. omega (arith, low, is, behind))) s ready.superblock;
-  front = same.0 ∙ ready.front;
-  unburnt = same.1 ∙ ready.unburnt;
+  front = (let is = same.0 in let high = ready.front in omega (arith, is, high));
 } where
   blocks : HasBlocks new.memory.region s.blocks
   blocks = (long ∙ ready.blocks.0, ap length rest ∙ ready.blocks.1)
@@ -40,6 +42,43 @@ ready_first s first rest front m says few joined count longer has words fresh = 
   unburnt = fresh.1;
 }
 
+-- the first block of a front is one
+pub front_first : (s : Super) (front : List ℕ) → IsFront s front → IsFront s (take 4096 front)
+front_first s front is =
+    let long : length (take 4096 front) ≡ 4096 = (let n = length-take 4096 front in let begins = is.begins in omega (arith, n, begins)) in
+    record {
+      begins = omega (arith, long);
+      whole = omega (arith, long);
+      ends = (let begins = is.begins in let ends = is.ends in omega (arith, long, begins, ends));
+      superblock = subst (λ (l : List ℕ). SaysSuper l s) (sym (take-take 4096 4096 front (omega arith))) is.superblock;
+    }
+
+-- bytes that were read begin with those that were read of them first
+pub read_first : (bytes front : List ℕ) (n : ℕ) → AreBytesAt bytes 0 front → n ≤ length front → AreBytesAt bytes 0 (take n front)
+read_first bytes front n are few =
+    let long : length (take n front) ≡ n = (let l = length-take n front in omega (arith, l, few)) in
+    record {
+      within = (let w = are.within in omega (arith, long, few, w));
+      same = ap (take n) are.same ∙ take-take n (length front) bytes few ∙ ap (λ (k : ℕ). take k bytes) (sym long);
+    }
+
+-- a memory with this front can hold data blocks
+pub can_first : (s : Super) (front : List ℕ) (m : MetadataState) → IsLayout s → IsFront s front → HasBlocks m.memory.region s.blocks → ((at : ℕ) → at % 8 ≡ 0 → at + 8 ≤ length front → word m.memory.region at ≡ little_number 8 (drop at front))
+    → (m.memory.front ≡ length front) × (m.memory.burnt ≡ false) → CanHold s m
+can_first s front m layout is has words fresh = record {
+  blocks = has;
+  few = layout.blocks_to;
+  superblock = is.superblock m.memory.region has (λ at aligned within. words at aligned (omega (arith, within, length-take 4096 front)) ∙ ap (λ (l : List ℕ). little_number 8 (drop at l)) (sym (take-append-drop 4096 front)) ∙ number_within (take 4096 front) (drop 4096 front) at within);
+  front = (let ends = is.ends in let n = fresh.0 in omega (arith, ends, n));
+}
+
 -- what a region that has these bytes alone says, each one says that begins with them
 pub says : (s : Super) (first : List ℕ) (M : Region) → length first ≡ 4096 → HasBlocks M s.blocks → ((at : ℕ) → at % 8 ≡ 0 → at + 8 ≤ length first → word M at ≡ little_number 8 (drop at first)) → IsSuper M s → SaysSuper first s
 says s first M count blocks words is R has same = accepted_there R M (same_size R M s.blocks has blocks) (λ at aligned low. words at aligned (omega (arith, low, aligned, count)) ∙ sym (same at aligned (omega (arith, low, aligned, count)))) s is
+
+-- what is ready can hold data blocks, and is ready then
+pub ready_holds : (s : Super) (m : MetadataState) → IsReady s m → CanHold s m
+ready_holds s m ready = record { blocks = ready.blocks; few = ready.few; superblock = ready.superblock; front = (let is = ready.front in omega (arith, is)) }
+
+pub ready_stays : (s : Super) (m new : MetadataState) → IsReady s m → SameFront m new → CanHold s new → IsReady s new
+ready_stays s m new ready same can = record { blocks = can.blocks; few = can.few; superblock = can.superblock; front = same.0 ∙ ready.front; unburnt = same.1 ∙ ready.unburnt }

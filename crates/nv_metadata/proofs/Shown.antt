@@ -3,7 +3,7 @@ use Rattle.std.proofs.Common.{◌≡◌, ◌≢◌, inl, inr, ◌+◌, ◌*◌, 
 use Rattle.std.proofs.lemmas.Bool.{cases_eq}
 use Rattle.std.proofs.lemmas.List.{drop-drop, take-append-drop, take-take, drop-take}
 use Rattle.byteorder.specs.Endian.{little_number}
-use Rattle.nv_region.specs.Region.{HasBlocks, word, words_of, region_of}
+use Rattle.nv_region.specs.Region.{Region, HasBlocks, word, words_of, region_of}
 use Rattle.nv_region.proofs.Fronted.{count_of_words}
 use Rattle.nv_region.proofs.Bytes.{word_of_bytes, size_of_bytes}
 use Rattle.nv_metadata.specs.Blocks.{AreBytesAt}
@@ -23,44 +23,46 @@ pub whole_words : (bytes : List ℕ) (blocks : ℕ) → length bytes ≡ 4096 * 
 whole_words bytes blocks long = (let n : length (words_of bytes) ≡ 512 * blocks = omega (arith, count_of_words bytes, long) in (n, omega (arith, size_of_bytes bytes, long, n)))
 
 -- at first
-pub shows_first : (bytes front : List ℕ) (blocks first : ℕ) (m : MetadataState) → length bytes ≡ 4096 * blocks → AreBytesAt bytes 0 front → length front ≡ 4096 * first → HasBlocks m.memory.region blocks
+pub shows_first : (bytes front : List ℕ) (blocks : ℕ) (m : MetadataState) → length bytes ≡ 4096 * blocks → AreBytesAt bytes 0 front → m.memory.front ≡ length front → length front % 8 ≡ 0 → HasBlocks m.memory.region blocks
     → ((at : ℕ) → at % 8 ≡ 0 → at + 8 ≤ length front → word m.memory.region at ≡ little_number 8 (drop at front)) → ((at : ℕ) → at % 8 ≡ 0 → length front ≤ at → word m.memory.region at ≡ 0) → ((b : ℕ) → held m b ≡ 0)
-    → Shows first (region_of bytes) m
-shows_first bytes front blocks first m long are count has words zeros none = record {
+    → Shows (region_of bytes) m
+shows_first bytes front blocks m long are count whole has words zeros none = record {
   as_long = has.0 ∙ sym (whole_words bytes blocks long).0;
   rest_as_long = has.1 ∙ sym (whole_words bytes blocks long).1;
-  front = λ at aligned low. words at aligned (omega (arith, aligned, low, count)) ∙ word_read bytes front 0 at are refl aligned (omega (arith, aligned, low, count)) ∙ ap (word (region_of bytes)) (let same : 0 + at ≡ at = omega arith in same);
+  front = λ at aligned low. words at aligned (omega (arith, aligned, low, count, whole)) ∙ word_read bytes front 0 at are refl aligned (omega (arith, aligned, low, count, whole)) ∙ ap (word (region_of bytes)) (let same : 0 + at ≡ at = omega arith in same);
   pieces = λ at aligned high some. absurd (let n = none (at / 4096) in omega (arith, n, some));
   zeros = λ at aligned high _. zeros at aligned (omega (arith, high, count));
 }
 
--- with the bytes of a block more
-pub shows_more : (bytes piece : List ℕ) (block first : ℕ) (m new : MetadataState) → Shows first (region_of bytes) m → AreBytesAt bytes (4096 * block) piece → length piece % 8 ≡ 0 → first ≤ block
+-- with the bytes of a block more, whose words are the region's
+pub shows_with : (R : Region) (piece : List ℕ) (block : ℕ) (m new : MetadataState) → Shows R m → ((at : ℕ) → at % 8 ≡ 0 → at / 4096 ≡ block → at % 4096 < length piece → little_number 8 (drop (at % 4096) piece) ≡ word R at)
+    → m.memory.front ≤ 4096 * block → new.memory.front ≡ m.memory.front
     → ((at : ℕ) → at % 8 ≡ 0 → at / 4096 ≡ block → at % 4096 < length piece → word new.memory.region at ≡ little_number 8 (drop (at % 4096) piece))
     → ((at : ℕ) → at % 8 ≡ 0 → at / 4096 ≡ block → length piece ≤ at % 4096 → word new.memory.region at ≡ 0)
     → ((at : ℕ) → at % 8 ≡ 0 → at / 4096 ≢ block → word new.memory.region at ≡ word m.memory.region at)
     → held new block ≡ length piece → ((b : ℕ) → b ≢ block → held new b ≡ held m b) → length new.memory.region.words ≡ length m.memory.region.words → new.memory.region.rest ≡ m.memory.region.rest
-    → Shows first (region_of bytes) new
-shows_more bytes piece block first m new shows are whole behind words zeros others here elsewhere long rest = record {
+    → Shows R new
+shows_with R piece block m new shows same behind front words zeros others here elsewhere long rest = record {
   as_long = long ∙ shows.as_long;
   rest_as_long = ap length rest ∙ shows.rest_as_long;
-  front = λ at aligned low. others at aligned (λ is. omega (arith, is, low, behind)) ∙ shows.front at aligned low;
+  front = λ at aligned low. others at aligned (λ is. omega (arith, is, low, behind, front)) ∙ shows.front at aligned (omega (arith, low, front));
   pieces = λ at aligned high some. elim (cases_eq (at / 4096) block) [
-    | inl same ↦ here_is at aligned same (let n = count_of at same in omega (arith, n, some))
-    | inr other ↦ others at aligned other ∙ shows.pieces at aligned high (let n = elsewhere (at / 4096) other in omega (arith, n, some))
+    | inl is ↦ (let within : at % 4096 < length piece = (let n = count_of at is in omega (arith, n, some)) in words at aligned is within ∙ same at aligned is within)
+    | inr other ↦ others at aligned other ∙ shows.pieces at aligned (let past : m.memory.front ≤ at = omega (arith, high, front) in past) (let n = elsewhere (at / 4096) other in omega (arith, n, some))
   ];
   zeros = λ at aligned high past. elim (cases_eq (at / 4096) block) [
-    | inl same ↦ zeros at aligned same (let n = count_of at same in omega (arith, n, past))
-    | inr other ↦ others at aligned other ∙ shows.zeros at aligned high (let n = elsewhere (at / 4096) other in omega (arith, n, past))
+    | inl is ↦ zeros at aligned is (let n = count_of at is in omega (arith, n, past))
+    | inr other ↦ others at aligned other ∙ shows.zeros at aligned (let past_front : m.memory.front ≤ at = omega (arith, high, front) in past_front) (let n = elsewhere (at / 4096) other in omega (arith, n, past))
   ];
 } where
   count_of : (at : ℕ) → at / 4096 ≡ block → held new (at / 4096) ≡ length piece
   count_of at is = ap (held new) is ∙ here
 
-  here_is : (at : ℕ) → at % 8 ≡ 0 → at / 4096 ≡ block → at % 4096 < length piece → word new.memory.region at ≡ word (region_of bytes) at
-  here_is at aligned is within =
-      words at aligned is within ∙ word_read bytes piece (4096 * block) (at % 4096) are (omega arith) (omega (arith, aligned)) (omega (arith, aligned, within, whole))
-      ∙ ap (word (region_of bytes)) (let at_is : 4096 * block + at % 4096 ≡ at = omega (arith, is) in at_is)
+-- the words of bytes of a block that were read are those of the image
+pub words_read : (bytes piece : List ℕ) (block : ℕ) → AreBytesAt bytes (4096 * block) piece → length piece % 8 ≡ 0 → (at : ℕ) → at % 8 ≡ 0 → at / 4096 ≡ block → at % 4096 < length piece → little_number 8 (drop (at % 4096) piece) ≡ word (region_of bytes) at
+words_read bytes piece block are whole at aligned is within =
+    word_read bytes piece (4096 * block) (at % 4096) are (omega arith) (omega (arith, aligned)) (omega (arith, aligned, within, whole))
+    ∙ ap (word (region_of bytes)) (let at_is : 4096 * block + at % 4096 ≡ at = omega (arith, is) in at_is)
 
 -- the first bytes, and those behind them
 take_add : (n m : ℕ) (xs : List ℕ) → take (n + m) xs ≡ take n xs ++ take m (drop n xs)

@@ -16,7 +16,8 @@ use Rattle.nv_metadata.specs.declared.logs.LogEnds.{LogEnds}
 
 -- one block was fetched, as much of it as is wanted
 pub record Fetched (s : Super) (R : Region) (tail : ℕ) (m new : MetadataState) (block : ℕ) : Type 0 where
-  pub shows : Shows (system_blocks s) R new
+  pub shows : Shows R new
+  pub high : new.memory.front ≤ 4096 * system_blocks s
   pub behind : system_blocks s ≤ block
   pub here : wanted tail block ≤ held new block
   pub keeps : (b : ℕ) → held m b ≤ held new b
@@ -25,7 +26,7 @@ pub record Fetched (s : Super) (R : Region) (tail : ℕ) (m new : MetadataState)
 -- These blocks were walked to, the last of which is still to be fetched. Of all others as much is held as is wanted, and where they
 -- lead was walked to.
 pub record IsWalked (s : Super) (R : Region) (head tail : ℕ) (old m : MetadataState) (walked : List ℕ) (block : ℕ) : Type 0 where
-  pub shows : Shows (system_blocks s) R m
+  pub shows : Shows R m
   pub begins : Contains walked (head / 4096)
   pub here : Contains walked block
   pub linked : (b : ℕ) → Contains walked b → IsLinked R s head tail b
@@ -39,7 +40,7 @@ wanted_all : (tail b : ℕ) → b ≢ tail / 4096 → wanted tail b ≡ 4096
 wanted_all tail b apart = rw (ne_eqb b (tail / 4096) apart) refl
 
 module _ (s : Super) (R : Region) (head tail : ℕ) (old : MetadataState) where
-  pub walked_first : Shows (system_blocks s) R old → IsWalked s R head tail old old (head / 4096 ∷ []) (head / 4096)
+  pub walked_first : Shows R old → IsWalked s R head tail old old (head / 4096 ∷ []) (head / 4096)
   walked_first shows = record {
     shows = shows;
     begins = Contains-head (head / 4096) [];
@@ -62,7 +63,7 @@ module _ (s : Super) (R : Region) (head tail : ℕ) (old : MetadataState) where
         let behind = f.behind in
         let place : (4096 * block + 4064) / 4096 ≡ block = omega arith in
         let count : held new ((4096 * block + 4064) / 4096) ≡ held new block = ap (held new) place in
-        f.shows.pieces (4096 * block + 4064) (omega arith) (omega (arith, behind)) (omega (arith, all, some, count))
+        f.shows.pieces (4096 * block + 4064) (omega arith) (let high = f.high in omega (arith, behind, high)) (omega (arith, all, some, count))
 
     all_now : (b : ℕ) → Contains walked b → wanted tail b ≤ held new b
     all_now b c = elim (cases_eq b block) [
@@ -132,7 +133,7 @@ module _ (s : Super) (R : Region) (head tail : ℕ) (old : MetadataState) where
 
 -- ---- one log after another
 
-pub fetched_none : (s : Super) (R : Region) (m : MetadataState) → Shows (system_blocks s) R m → AreFetched s R [] m m
+pub fetched_none : (s : Super) (R : Region) (m : MetadataState) → Shows R m → AreFetched s R [] m m
 fetched_none s R m shows = record { shows = shows; all = λ log b c. absurd (none_in log c); only = λ b. inl refl }
 
 pub fetched_more : (s : Super) (R : Region) (logs : List LogEnds) (log : LogEnds) (old m new : MetadataState) → AreFetched s R logs old m → IsFetched s R log.head log.tail m new → AreFetched s R (logs ++ log ∷ []) old new

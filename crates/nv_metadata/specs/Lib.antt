@@ -3,4 +3,6 @@ pub mod Memory
 pub mod Linked
 pub mod Walk
 pub mod Gathered
+pub mod Parts
+pub mod Fronts
 pub use Rattle.nv_outcome.specs as nv_outcome

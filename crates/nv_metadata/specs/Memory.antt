@@ -37,14 +37,25 @@ pub record HasPieces (m : Inside) : Type 0 where
   pub whole : (b : ℕ) → get_or m.counts.items b 0 % 8 ≡ 0
   pub inside : (b : ℕ) → get_or m.starts.items b 0 + get_or m.counts.items b 0 ≤ length m.bytes.items
 
--- The memory shows another region: it is as long, and has the same words in front of this block and in what it holds of other blocks.
+-- The memory shows another region: it is as long, and has the same words in its front and in what it holds of other blocks.
 -- Elsewhere it has zeros.
-pub record Shows (first : ℕ) (R : Region) (m : MetadataState) : Type 0 where
+pub record Shows (R : Region) (m : MetadataState) : Type 0 where
   pub as_long : length m.memory.region.words ≡ length R.words
   pub rest_as_long : length m.memory.region.rest ≡ length R.rest
-  pub front : SameBefore (4096 * first) R m.memory.region
-  pub pieces : (at : ℕ) → at % 8 ≡ 0 → 4096 * first ≤ at → at % 4096 < held m (at / 4096) → word m.memory.region at ≡ word R at
-  pub zeros : (at : ℕ) → at % 8 ≡ 0 → 4096 * first ≤ at → held m (at / 4096) ≤ at % 4096 → word m.memory.region at ≡ 0
+  pub front : SameBefore m.memory.front R m.memory.region
+  pub pieces : (at : ℕ) → at % 8 ≡ 0 → m.memory.front ≤ at → at % 4096 < held m (at / 4096) → word m.memory.region at ≡ word R at
+  pub zeros : (at : ℕ) → at % 8 ≡ 0 → m.memory.front ≤ at → held m (at / 4096) ≤ at % 4096 → word m.memory.region at ≡ 0
+
+-- Data blocks can be held: the memory has this superblock, and its front ends where they begin or before.
+pub record CanHold (s : Super) (m : MetadataState) : Type 0 where
+  pub blocks : HasBlocks m.memory.region s.blocks
+  pub few : s.blocks ≤ most_blocks
+  pub superblock : IsSuper m.memory.region s
+  pub front : m.memory.front ≤ 4096 * system_blocks s
+
+-- the same stores are taken: the front is as long, and no fuse has burnt since
+abbrev pub SameFront : MetadataState → MetadataState → Type 0
+SameFront old new = (new.memory.front ≡ old.memory.front) × (new.memory.burnt ≡ old.memory.burnt)
 
 -- The memory has this superblock, and takes stores just in front of the data blocks.
 pub record IsReady (s : Super) (m : MetadataState) : Type 0 where

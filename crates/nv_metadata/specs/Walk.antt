@@ -3,7 +3,6 @@ use Rattle.std.specs.Prelude.{◌≡◌, ◌≤◌, ◌⊎◌, ℕ, List}
 use Rattle.std.specs.List.{Contains}
 use Rattle.nv_region.specs.Region.{Region}
 use Rattle.nv_super.specs.declared.superblock.Super.{Super}
-use Rattle.nv_super.specs.Layout.{system_blocks}
 use Rattle.nv_metadata.specs.Linked.{IsLinked, IsLog, wanted}
 use Rattle.nv_metadata.specs.Memory.{MetadataState, Shows, held}
 use Rattle.nv_metadata.specs.declared.logs.LogEnds.{LogEnds}
@@ -11,7 +10,7 @@ use Rattle.nv_metadata.specs.declared.logs.LogEnds.{LogEnds}
 -- Of all linked blocks of a log as much is held as is wanted. The memory shows the region, and no less of any block is held than before,
 -- nor more of one that isn't linked.
 pub record IsFetched (s : Super) (R : Region) (head tail : ℕ) (old new : MetadataState) : Type 0 where
-  pub shows : Shows (system_blocks s) R new
+  pub shows : Shows R new
   pub all : (b : ℕ) → IsLinked R s head tail b → wanted tail b ≤ held new b
   pub keeps : (b : ℕ) → held old b ≤ held new b
   pub only : (b : ℕ) → (held new b ≡ held old b) ⊎ IsLinked R s head tail b
@@ -22,7 +21,7 @@ IsLinkedIn s R logs b = (log : LogEnds) × Contains logs log × IsLinked R s log
 
 -- the same of these logs
 pub record AreFetched (s : Super) (R : Region) (logs : List LogEnds) (old new : MetadataState) : Type 0 where
-  pub shows : Shows (system_blocks s) R new
+  pub shows : Shows R new
   pub all : (log : LogEnds) (b : ℕ) → Contains logs log → IsLinked R s log.head log.tail b → wanted log.tail b ≤ held new b
   pub only : (b : ℕ) → (held new b ≡ held old b) ⊎ IsLinkedIn s R logs b
 

@@ -2,16 +2,17 @@
 //!
 //! First the superblock is read, and then all blocks in front of the data blocks in one read. A copy of these is rolled back:
 //! it says where logs begin and end. From each head on the links lead to the pages, which are read
-//! once, that of the tail up to it.
+//! once by each thread, that of the tail up to it.
 
-ghost use Rattle.std.specs.Prelude.{◌≡◌, ◌≤◌, ◌+◌, ◌*◌, ◌^◌, ℕ, List, Some, IfOk, IfErr, IsTrue, length};
+ghost use Rattle.std.specs.Prelude.{◌≡◌, ◌≤◌, ◌+◌, ◌*◌, ◌^◌, ℕ, List, Some, IfOk, IfErr, IsTrue, length, take};
 ghost use Rattle.std.specs.List.{Contains};
 ghost use Rattle.nv_region.specs.Region.{region_of};
 ghost use Rattle.nv_super.specs.Layout.{IsLayout, system_blocks};
 ghost use Rattle.nv_inode.specs.Slot.{is_right_log};
 ghost use Rattle.nv_journal.specs.Undo.{undone};
 ghost use Rattle.nv_metadata.specs.Blocks.{AreBytesAt};
-ghost use Rattle.nv_metadata.specs.Gathered.{AreGathered, IsOpen, SaysSuper};
+ghost use Rattle.nv_metadata.specs.Fronts.{IsFrontOf, IsSoundFront};
+ghost use Rattle.nv_metadata.specs.Gathered.{AreGathered, IsOpen};
 ghost use Rattle.nv_metadata.specs.Walk.{AreLogs};
 ghost use Rattle.nv_metadata.specs.declared.logs.LogEnds.{LogEnds as LogEndsValue};
 
@@ -19,10 +20,14 @@ use crate::blocks::Blocks;
 use crate::errors::GatherError;
 use crate::logs::{LogEnds, right_logs};
 use crate::memory::MetadataRegion;
-use crate::walking::fetch_logs;
+use crate::parts::{fetch_alone, fetch_apart};
 use nv_journal::undo;
 use nv_super::{BLOCK_SIZE, LEAST_BLOCKS, MOST_BLOCKS, Super, SuperFault, read_super};
 use std::alloc::Global;
+use std::thread::Threads;
+
+// More threads than these wait for one another, and each holds tables with a place for every block.
+const MOST_THREADS: u64 = 8;
 
 /// What was read of an image.
 #[derive(Drop)]
@@ -30,6 +35,15 @@ pub enum Gathered {
     /// The superblock's numbers, and the region of the metadata as the image has them: nothing is rolled back in it.
     Metadata(Super, MetadataRegion),
     /// The first fault of the superblock, for which no more than the first block was read.
+    Refused(SuperFault),
+}
+
+// The bytes of an image in front of its data blocks.
+#[derive(Drop)]
+enum Front {
+    // The superblock's numbers, and all of these bytes.
+    Accepted(Super, Vec<u8>),
+    // The first fault of the superblock.
     Refused(SuperFault),
 }
 
@@ -45,33 +59,76 @@ pub fn gather<B: Blocks>(alloc: Global, source: &B) -> Result<Gathered, GatherEr
     ensures known { (image : List ℕ) → B.bytes source.now ≡ Some image → IfErr result (λ e. e ≡ GatherError.Memory) }
     ensures open { IfOk result IsOpen }
 {
-    let length = source.len()?;
-    let blocks = length / BLOCK_SIZE;
-    if length % BLOCK_SIZE != 0 || blocks < LEAST_BLOCKS || blocks > MOST_BLOCKS {
-        return Ok(Gathered::Refused(SuperFault::Length));
-    }
-    let first = read_bytes(alloc, source, 0, BLOCK_SIZE)?;
-    let alone = MetadataRegion::new(alloc, blocks, &first)?;
-    match read_super(&alone) {
-        Ok(sup) => gather_metadata(alloc, source, sup, first),
-        Err(fault) => Ok(Gathered::Refused(fault)),
+    match read_front(alloc, source)? {
+        Front::Accepted(sup, front) => {
+            let logs = logs_rolled_back(alloc, &sup, &front)?;
+            let memory = fetch_alone(alloc, source, &sup, &front, &logs)?;
+            Ok(Gathered::Metadata(sup, memory))
+        }
+        Front::Refused(fault) => Ok(Gathered::Refused(fault)),
     }
 }
 
-// The metadata of an image whose first block was read, and says these numbers.
-fn gather_metadata<B: Blocks>(
+/// `gather`, where so many threads read the pages of logs, and eight at most. What is gathered is the same.
+///
+/// Errors: those of `gather`.
+pub fn gather_on<B: Blocks + Sync, H: Threads + Sync>(
+    rt: &H,
     alloc: Global,
     source: &B,
-    sup: Super,
-    first: Vec<u8>,
+    threads: u64,
 ) -> Result<Gathered, GatherError>
-    requires layout { IsLayout sup }
-    requires version { sup.version ≡ 1 }
-    requires first { length first.items ≡ 4096 }
-    requires superblock { SaysSuper first.items sup }
-    ensures gathered { (image : List ℕ) → B.bytes source.now ≡ Some image → length image ≡ 4096 * sup.blocks → AreBytesAt image 0 first.items → IfOk result (AreGathered (region_of image)) }
-    ensures known { (image : List ℕ) → B.bytes source.now ≡ Some image → length image ≡ 4096 * sup.blocks → IfErr result (λ e. e ≡ GatherError.Memory) }
+    ensures gathered { (image : List ℕ) → B.bytes source.now ≡ Some image → IfOk result (AreGathered (region_of image)) }
+    ensures known { (image : List ℕ) → B.bytes source.now ≡ Some image → IfErr result (λ e. e ≡ GatherError.Memory) }
     ensures open { IfOk result IsOpen }
+{
+    match read_front(alloc, source)? {
+        Front::Accepted(sup, front) => {
+            let logs = logs_rolled_back(alloc, &sup, &front)?;
+            let threads = threads.min(MOST_THREADS);
+            let memory = fetch_apart(rt, alloc, source, &sup, &front, &logs, threads)?;
+            Ok(Gathered::Metadata(sup, memory))
+        }
+        Front::Refused(fault) => Ok(Gathered::Refused(fault)),
+    }
+}
+
+// The bytes of an image in front of its data blocks, or the first fault of its superblock, for which no more than the first
+// block is read.
+fn read_front<B: Blocks>(alloc: Global, source: &B) -> Result<Front, GatherError>
+    ensures read { (image : List ℕ) → B.bytes source.now ≡ Some image → IfOk result (IsFrontOf image) }
+    ensures known { (image : List ℕ) → B.bytes source.now ≡ Some image → IfErr result (λ e. e ≡ GatherError.Memory) }
+    ensures sound { IfOk result IsSoundFront }
+{
+    let length = source.len()?;
+    let blocks = length / BLOCK_SIZE;
+    if length % BLOCK_SIZE != 0 || blocks < LEAST_BLOCKS || blocks > MOST_BLOCKS {
+        return Ok(Front::Refused(SuperFault::Length));
+    }
+    let first = read_bytes(alloc, source, 0, BLOCK_SIZE)?;
+    let alone = MetadataRegion::new(alloc, blocks, &first, 0)?;
+    match read_super(&alone) {
+        Ok(sup) => {
+            let front = read_rest(alloc, source, &sup, first)?;
+            Ok(Front::Accepted(sup, front))
+        }
+        Err(fault) => Ok(Front::Refused(fault)),
+    }
+}
+
+// The bytes in front of the data blocks, of which the first block was read.
+fn read_rest<B: Blocks>(
+    alloc: Global,
+    source: &B,
+    sup: &Super,
+    first: Vec<u8>,
+) -> Result<Vec<u8>, GatherError>
+    requires layout { IsLayout sup.now }
+    requires first { length first.items ≡ 4096 }
+    ensures begins { IfOk result (λ front. take 4096 front.items ≡ first.items) }
+    ensures count { IfOk result (λ front. length front.items ≡ 4096 * system_blocks sup.now) }
+    ensures read { (image : List ℕ) → B.bytes source.now ≡ Some image → AreBytesAt image 0 first.items → IfOk result (λ front. AreBytesAt image 0 front.items) }
+    ensures known { (image : List ℕ) → B.bytes source.now ≡ Some image → length image ≡ 4096 * sup.now.blocks → IfErr result (λ e. e ≡ GatherError.Memory) }
 {
     let rest = read_bytes(
         alloc,
@@ -81,10 +138,7 @@ fn gather_metadata<B: Blocks>(
     )?;
     let mut front = first;
     front.extend_from_slice(&rest)?;
-    let logs = logs_rolled_back(alloc, &sup, &front)?;
-    let mut memory = MetadataRegion::new(alloc, sup.blocks, &front)?;
-    fetch_logs(alloc, &mut memory, source, &sup, &logs)?;
-    Ok(Gathered::Metadata(sup, memory))
+    Ok(front)
 }
 
 // So many bytes of the image from one on.
@@ -113,7 +167,7 @@ fn logs_rolled_back(alloc: Global, sup: &Super, front: &[u8]) -> Result<Vec<LogE
     ensures unread { IfErr result (λ e. e ≡ GatherError.Memory) }
     ensures right { IfOk result (λ logs. (log : LogEndsValue) → Contains logs.items log → IsTrue (is_right_log sup.now log.head log.tail)) }
 {
-    let mut memory = MetadataRegion::new(alloc, sup.blocks, front)?;
+    let mut memory = MetadataRegion::new(alloc, sup.blocks, front, 0)?;
     undo(alloc, &mut memory, sup)?;
     Ok(right_logs(alloc, &memory, sup)?)
 }

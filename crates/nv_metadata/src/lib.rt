@@ -10,10 +10,11 @@ mod gathering;
 mod laws;
 mod logs;
 mod memory;
+mod parts;
 mod walking;
 
 pub use blocks::{Blocks, HeldBytes};
 pub use errors::GatherError;
-pub use gathering::{Gathered, gather};
+pub use gathering::{Gathered, gather, gather_on};
 pub use laws::{a_gathered_region_has_the_metadata, a_gathered_region_has_the_same_outcome};
 pub use memory::MetadataRegion;

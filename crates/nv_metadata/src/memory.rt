@@ -51,10 +51,16 @@ impl Model for MetadataRegion {
 }
 
 impl MetadataRegion {
-    /// The region of so many blocks that has these bytes at its front, which takes stores, and holds no other block.
+    /// The region of so many blocks that has these bytes at its front, which takes stores, and holds no other block. There is
+    /// room for as many bytes as `room` blocks have: they are never moved, and what isn't used of it is never touched.
     ///
     /// Errors: `AllocError` where a growth was refused.
-    pub fn new(alloc: Global, blocks: u64, front: &[u8]) -> Result<MetadataRegion, AllocError>
+    pub fn new(
+        alloc: Global,
+        blocks: u64,
+        front: &[u8],
+        room: u64,
+    ) -> Result<MetadataRegion, AllocError>
         requires few { blocks ≤ most_blocks }
         requires within { length front.now ≤ 4096 * blocks }
         requires whole { length front.now % 8 ≡ 0 }
@@ -69,8 +75,7 @@ impl MetadataRegion {
             front: words_of(alloc, front)?,
             starts: vec![in alloc; 0; blocks as usize]?,
             counts: vec![in alloc; 0; blocks as usize]?,
-            // Room for all blocks: their bytes are never moved, and what isn't used is never touched.
-            bytes: Vec::with_capacity(alloc, (blocks * BLOCK_SIZE) as usize)?,
+            bytes: Vec::with_capacity(alloc, (room.min(blocks) * BLOCK_SIZE) as usize)?,
             burnt: false,
         })
     }
@@ -105,6 +110,17 @@ impl MetadataRegion {
         self.starts[block as usize] = start;
         self.counts[block as usize] = bytes.len();
         Ok(())
+    }
+
+    /// The bytes that are held of a block behind the front, from its first on: none where it isn't.
+    pub(crate) fn piece(&self, block: u64) -> &[u8]
+        requires { 4096 * block < size self.now.memory.region }
+        ensures count { length result.now ≡ held self.now block }
+        ensures whole { length result.now % 8 ≡ 0 }
+        ensures words { self.now.memory.front ≤ 4096 * block → (at : ℕ) → at % 8 ≡ 0 → at / 4096 ≡ block → at % 4096 < length result.now → little_number 8 (drop (at % 4096) result.now) ≡ word self.now.memory.region at }
+    {
+        let start = self.starts[block as usize];
+        &self.bytes[start..start + self.counts[block as usize]]
     }
 
     // The word at a byte address of a block that may be held.

@@ -6,7 +6,7 @@ ghost use Rattle.nv_region.specs.Region.{HasBlocks, region_of};
 ghost use Rattle.nv_super.specs.Layout.{HasAreas, is_page_start, system_blocks};
 ghost use Rattle.nv_inode.specs.Slot.{is_right_log};
 ghost use Rattle.nv_metadata.specs.Linked.{IsLinked, link_in, wanted};
-ghost use Rattle.nv_metadata.specs.Memory.{Shows, IsReady, held};
+ghost use Rattle.nv_metadata.specs.Memory.{CanHold, SameFront, Shows, held};
 ghost use Rattle.nv_metadata.specs.Walk.{IsFetched, AreFetched};
 ghost use Rattle.nv_metadata.specs.declared.logs.LogEnds.{LogEnds as LogEndsValue};
 
@@ -39,10 +39,11 @@ pub(crate) fn fetch_logs<B: Blocks>(
     logs: &[LogEnds],
 ) -> Result<(), GatherError>
     requires areas { HasAreas sup.now }
-    requires ready { IsReady sup.now memory.old }
+    requires can { CanHold sup.now memory.old }
     requires right { (log : LogEndsValue) → Contains logs.now log → IsTrue (is_right_log sup.now log.head log.tail) }
-    ensures ready { IsReady sup.now memory.new }
-    ensures fetched { (image : List ℕ) → B.bytes source.now ≡ Some image → Shows (system_blocks sup.now) (region_of image) memory.old → OnOk result (AreFetched sup.now (region_of image) logs.now memory.old memory.new) }
+    ensures can { CanHold sup.now memory.new }
+    ensures front { SameFront memory.old memory.new }
+    ensures fetched { (image : List ℕ) → B.bytes source.now ≡ Some image → Shows (region_of image) memory.old → OnOk result (AreFetched sup.now (region_of image) logs.now memory.old memory.new) }
     ensures known { (image : List ℕ) → B.bytes source.now ≡ Some image → length image ≡ 4096 * sup.now.blocks → IfErr result (λ e. e ≡ GatherError.Memory) }
 {
     let mut walked = BlockList::new(alloc, sup.blocks)?;
@@ -62,12 +63,13 @@ fn fetch_log<B: Blocks>(
     walked: &mut BlockList,
 ) -> Result<(), GatherError>
     requires areas { HasAreas sup.now }
-    requires ready { IsReady sup.now memory.old }
+    requires can { CanHold sup.now memory.old }
     requires right { IsTrue (is_right_log sup.now log.head log.tail) }
     requires all_blocks { walked.old.bound ≡ sup.now.blocks }
-    ensures ready { IsReady sup.now memory.new }
+    ensures can { CanHold sup.now memory.new }
+    ensures front { SameFront memory.old memory.new }
     ensures all_blocks { walked.new.bound ≡ sup.now.blocks }
-    ensures fetched { (image : List ℕ) → B.bytes source.now ≡ Some image → Shows (system_blocks sup.now) (region_of image) memory.old → OnOk result (IsFetched sup.now (region_of image) log.head log.tail memory.old memory.new) }
+    ensures fetched { (image : List ℕ) → B.bytes source.now ≡ Some image → Shows (region_of image) memory.old → OnOk result (IsFetched sup.now (region_of image) log.head log.tail memory.old memory.new) }
     ensures known { (image : List ℕ) → B.bytes source.now ≡ Some image → length image ≡ 4096 * sup.now.blocks → IfErr result (λ e. e ≡ GatherError.Memory) }
 {
     let mut block = log.head / BLOCK_SIZE;
@@ -93,7 +95,7 @@ fn next_page(
     block: u64,
 ) -> Option<u64>
     requires areas { HasAreas sup.now }
-    requires ready { IsReady sup.now memory.now }
+    requires can { CanHold sup.now memory.now }
     requires inside { block < sup.now.blocks }
     requires all_blocks { walked.now.bound ≡ sup.now.blocks }
     ensures apart { IfSome result (λ _. block ≢ tail / 4096) }
@@ -135,16 +137,17 @@ fn fetch<B: Blocks>(
     count: usize,
 ) -> Result<(), GatherError>
     requires areas { HasAreas sup.now }
-    requires ready { IsReady sup.now memory.old }
+    requires can { CanHold sup.now memory.old }
     requires behind { system_blocks sup.now ≤ block }
     requires inside { block < sup.now.blocks }
     requires whole { count % 8 ≡ 0 }
     requires few { count ≤ 4096 }
-    ensures ready { IsReady sup.now memory.new }
+    ensures can { CanHold sup.now memory.new }
+    ensures front { SameFront memory.old memory.new }
     ensures held { OnOk result (count ≤ held memory.new block) }
     ensures keeps { OnOk result ((b : ℕ) → held memory.old b ≤ held memory.new b) }
     ensures only { OnOk result ((b : ℕ) → b ≢ block → held memory.new b ≡ held memory.old b) }
-    ensures shows { (image : List ℕ) → B.bytes source.now ≡ Some image → Shows (system_blocks sup.now) (region_of image) memory.old → OnOk result (Shows (system_blocks sup.now) (region_of image) memory.new) }
+    ensures shows { (image : List ℕ) → B.bytes source.now ≡ Some image → Shows (region_of image) memory.old → OnOk result (Shows (region_of image) memory.new) }
     ensures known { (image : List ℕ) → B.bytes source.now ≡ Some image → length image ≡ 4096 * sup.now.blocks → IfErr result (λ e. e ≡ GatherError.Memory) }
 {
     if count <= SHORT_PIECE {
@@ -163,18 +166,19 @@ fn fetch_piece<B: Blocks, const SIZE: usize>(
     count: usize,
 ) -> Result<(), GatherError>
     requires areas { HasAreas sup.now }
-    requires ready { IsReady sup.now memory.old }
+    requires can { CanHold sup.now memory.old }
     requires behind { system_blocks sup.now ≤ block }
     requires inside { block < sup.now.blocks }
     requires whole { count % 8 ≡ 0 }
     requires few { count ≤ 4096 }
     requires room { count ≤ SIZE }
     requires small { SIZE ≤ 4096 }
-    ensures ready { IsReady sup.now memory.new }
+    ensures can { CanHold sup.now memory.new }
+    ensures front { SameFront memory.old memory.new }
     ensures held { OnOk result (count ≤ held memory.new block) }
     ensures keeps { OnOk result ((b : ℕ) → held memory.old b ≤ held memory.new b) }
     ensures only { OnOk result ((b : ℕ) → b ≢ block → held memory.new b ≡ held memory.old b) }
-    ensures shows { (image : List ℕ) → B.bytes source.now ≡ Some image → Shows (system_blocks sup.now) (region_of image) memory.old → OnOk result (Shows (system_blocks sup.now) (region_of image) memory.new) }
+    ensures shows { (image : List ℕ) → B.bytes source.now ≡ Some image → Shows (region_of image) memory.old → OnOk result (Shows (region_of image) memory.new) }
     ensures known { (image : List ℕ) → B.bytes source.now ≡ Some image → length image ≡ 4096 * sup.now.blocks → IfErr result (λ e. e ≡ GatherError.Memory) }
 {
     if memory.held(block) >= count {

@@ -1,71 +1,25 @@
-use Rattle.std.proofs.Common.{◌≡◌, ◌≢◌, ◌⊎◌, inl, inr, ◌<◌, ◌+◌, ◌/◌, ◌%◌, ℕ, List, length, drop, refl, sym, ap, ◌∙◌, subst, arith}
-use Rattle.std.proofs.lemmas.Bool.{true≢false}
-use Rattle.std.proofs.lemmas.Result.{err_from_is_err_and}
-use Rattle.byteorder.specs.Endian.{little_number}
-use Rattle.nv_region.specs.Region.{region_of, word}
-use Rattle.nv_region.proofs.Bytes.{size_of_bytes}
-use Rattle.nv_super.specs.Layout.{most_blocks}
-use Rattle.nv_outcome.proofs.SuperOf.{version_of_super}
-use Rattle.nv_metadata.proofs.Refused.{length_refused, refused_there}
-use Rattle.nv_metadata.proofs.Ready.{says}
-use Rattle.nv_metadata.proofs.HandedOn.{passed_on}
-use Rattle.nv_metadata.proofs.Shown.{word_read}
+use Rattle.std.proofs.Common.{◌≡◌, ◌*◌, ◌∙◌, ℕ, List, length, ap, sym, subst}
+use Rattle.nv_region.specs.Region.{region_of}
+use Rattle.nv_journal.specs.Undo.{undone}
+use Rattle.nv_metadata.specs.Blocks.{AreBytesAt}
+use Rattle.nv_metadata.specs.Fronts.{IsFrontOf, IsSoundFront}
+use Rattle.nv_metadata.specs.Parts.{IsFront}
+use Rattle.nv_metadata.specs.Walk.{AreLogs}
+use Rattle.nv_metadata.specs.declared.gathering.Front.{Front}
+use Rattle.nv_metadata.specs.declared.gathering.Front.TheVariants.{Accepted}
+use Rattle.nv_metadata.specs.declared.logs.LogEnds.{LogEnds}
+use Rattle.nv_metadata.proofs.Whole.{gathered_of}
 use Rattle.nv_metadata.proofs.gathering.gather.Goals as goal
 
-pub returns-then-length-ne0-clause-gathered : goal.returns-then-length-ne0-clause-gathered
-returns-then-length-ne0-clause-gathered g c image known =
-    let P : ℕ → Type 0 = λ n. (n % 4096 ≢ 0) ⊎ ((n / 4096 < 8) ⊎ (most_blocks < n / 4096)) in
-    length_refused (region_of image) (subst P (c.in_ok-length.ensures.count image known ∙ sym (size_of_bytes image)) (elim c.then-length-ne0.either [
-      | inl cut ↦ inl cut
-      | inr other ↦ elim other [ inl few ↦ inr (inl few.1) | inr many ↦ inr (inr many.2) ]
-    ]))
-
-pub gather_metadata-requires-clause-superblock : goal.gather_metadata-requires-clause-superblock
-gather_metadata-requires-clause-superblock g c =
-    let made = c.in_ok-alone.ensures in
-    let items = c.deref.ensures.value in
-    says c.in-Ok.sup c.in_ok-first.first.items c.in_ok-alone.alone.memory.region c.in_ok-first.ensures.count c.in-Ok.ensures.blocks
-    (λ at aligned within. made.front at aligned (omega (arith, within, ap length items)) ∙ ap (λ (l : List ℕ). little_number 8 (drop at l)) items) c.in-Ok.ensures.accepted
-
-pub gather_metadata-requires-clause-version : goal.gather_metadata-requires-clause-version
-gather_metadata-requires-clause-version g c = version_of_super c.in_ok-alone.alone.memory.region c.in-Ok.sup c.in-Ok.ensures.accepted
-
-pub returns-in-Ok-clause-gathered : goal.returns-in-Ok-clause-gathered
-returns-in-Ok-clause-gathered g c image known =
-    let as_long : c.in_ok-length.length ≡ length image = c.in_ok-length.ensures.count image known in
-    let has = c.in-Ok.ensures.blocks in
-    let made = c.in_ok-alone.ensures.blocks in
-    let words = has.0 in
-    let same_words = made.0 in
-    c.gather_metadata.ensures.gathered image known (omega (arith, as_long, words, same_words, c.if-length-ne0.false)) (c.in_ok-first.ensures.read image known)
-
-pub returns-in-Err-clause-gathered : goal.returns-in-Err-clause-gathered
-returns-in-Err-clause-gathered g c image known =
-    let as_long : c.in_ok-length.length ≡ length image = c.in_ok-length.ensures.count image known in
-    let made = c.in_ok-alone.ensures in
-    let words = made.blocks.0 in
-    let rest = made.blocks.1 in
-    let items = c.deref.ensures.value in
-    let count : length c.deref.result.now ≡ 4096 = omega (arith, ap length items, c.in_ok-first.ensures.count) in
-    refused_there (region_of image) c.in_ok-alone.alone.memory.region (omega (arith, as_long, words, rest, size_of_bytes image, c.if-length-ne0.false))
-    (λ at aligned low. made.front at aligned (omega (arith, low, aligned, count)) ∙ ap (λ (l : List ℕ). little_number 8 (drop at l)) items
-    ∙ word_read image c.in_ok-first.first.items 0 at (c.in_ok-first.ensures.read image known) refl aligned (omega (arith, low, aligned, c.in_ok-first.ensures.count)) ∙ ap (word (region_of image)) (let same : 0 + at ≡ at = omega arith in same))
-    c.in-Err.fault c.in-Err.ensures.refused
-
-pub returns-in_err-length-clause-known : goal.returns-in_err-length-clause-known
-returns-in_err-length-clause-known g c image known = absurd (true≢false (c.in_err-length.ensures.known image known))
-
-pub returns-in_err-first-clause-known : goal.returns-in_err-first-clause-known
-returns-in_err-first-clause-known g c image known =
-    let as_long : c.in_ok-length.length ≡ length image = c.in_ok-length.ensures.count image known in
-    let error = err_from_is_err_and c.from_residual-in_err-first.result c.from_residual-in_err-first.ensures.1 in
-    passed_on c.from_residual-in_err-first.result c.in_err-first.field-0.0 error.0 error.1 error.2 (c.in_err-first.ensures.known image known (omega (arith, as_long, c.if-blocks-lt-LEAST_BLOCKS.false)))
-
-pub returns-in-Ok-clause-known : goal.returns-in-Ok-clause-known
-returns-in-Ok-clause-known g c image known =
-    let as_long : c.in_ok-length.length ≡ length image = c.in_ok-length.ensures.count image known in
-    let has = c.in-Ok.ensures.blocks in
-    let made = c.in_ok-alone.ensures.blocks in
-    let words = has.0 in
-    let same_words = made.0 in
-    c.gather_metadata.ensures.known image known (omega (arith, as_long, words, same_words, c.if-length-ne0.false))
+pub returns-in_ok-memory-in-Accepted-clause-gathered : goal.returns-in_ok-memory-in-Accepted-clause-gathered
+returns-in_ok-memory-in-Accepted-clause-gathered g c image known =
+    let s = c.in-Accepted.sup in
+    let are : IsFrontOf image (Accepted s c.in-Accepted.front) = subst (λ (f : Front). IsFrontOf image f) c.in-Accepted.is (c.in_ok-sup.ensures.read image known) in
+    let sound : IsSoundFront (Accepted s c.in-Accepted.front) = subst (λ (f : Front). IsSoundFront f) c.in-Accepted.is c.in_ok-sup.ensures.sound in
+    let front = c.deref-in-Accepted.ensures.value in
+    let bytes : AreBytesAt image 0 c.deref-in-Accepted.result.now = subst (λ (l : List ℕ). AreBytesAt image 0 l) (sym front) are.1 in
+    let first : IsFront s c.deref-in-Accepted.result.now = subst (λ (l : List ℕ). IsFront s l) (sym front) sound.2 in
+    let logs = c.in_ok-logs-in-Accepted.ensures.logs image (subst (λ (l : List ℕ). AreBytesAt image 0 l) (sym c.deref.ensures.value) are.1) are.0 in
+    let logs_are : AreLogs (undone s (region_of image)) s c.deref-in-Accepted-2.result.now = subst (λ (l : List LogEnds). AreLogs (undone s (region_of image)) s l) (sym c.deref-in-Accepted-2.ensures.value) logs in
+    let part = c.in_ok-memory-in-Accepted.ensures in
+    gathered_of s image c.deref-in-Accepted.result.now c.deref-in-Accepted-2.result.now c.in_ok-memory-in-Accepted.memory are.0 bytes first (ap (λ (l : List ℕ). length l) front ∙ sound.3) part.opens.0 logs_are (part.fetched image known are.0 bytes)

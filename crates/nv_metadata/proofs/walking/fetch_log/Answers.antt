@@ -1,4 +1,4 @@
-use Rattle.std.proofs.Common.{ℕ, ◌≤◌, ◌/◌, ap, ◌∙◌, sym, subst, arith, length}
+use Rattle.std.proofs.Common.{ℕ, ◌≤◌, ◌/◌, refl, ap, ◌∙◌, sym, subst, arith, length}
 use Rattle.nv_blockset.specs.Listed.{Listed}
 use Rattle.nv_region.specs.Region.{region_of}
 use Rattle.nv_logpage.proofs.Steps.{start_inside}
@@ -15,7 +15,8 @@ pages-init g c =
     let head = c.args.log.head in
     let start = right_start s head c.args.log.tail c.requires.right in
     let inside = start_inside s head start in record {
-      ready = c.requires.ready;
+      can = c.requires.can;
+      front = (refl, refl);
       bound = ap (λ (l : Listed). l.bound) c.restart.ensures ∙ c.requires.all_blocks;
       few = omega (arith, ap (λ (l : Listed). l.bound) c.restart.ensures, ap (λ (l : Listed). length l.blocks) c.restart.ensures, c.requires.all_blocks, inside);
       behind = start_behind s head start;
@@ -31,7 +32,8 @@ pages-preserved g c =
     let leads = said.next in
     let behind = start_behind s link said.start in
     let inside = start_inside s link said.start in record {
-      ready = c.fetch.ensures.ready;
+      can = c.fetch.ensures.can;
+      front = (c.fetch.ensures.front.0 ∙ c.pages.invariant.front.0, c.fetch.ensures.front.1 ∙ c.pages.invariant.front.1);
       bound = ap (λ (l : Listed). l.bound) c.in_ok-push-in-Some.ensures.pushed ∙ c.pages.invariant.bound;
       few = c.push.ensures.few;
       behind = omega (arith, behind, leads);
@@ -41,7 +43,7 @@ pages-preserved g c =
           let fetched = c.in_ok-fetch.ensures in
           subst (λ (l : Listed). IsWalked s (region_of image) c.args.log.head c.args.log.tail c.args.memory.now c.fetch.new.memory l.blocks c.in-Some.next) (sym c.in_ok-push-in-Some.ensures.pushed)
           (walked_on s (region_of image) c.args.log.head c.args.log.tail c.args.memory.now c.pages.memory c.fetch.new.memory c.pages.walked.blocks c.pages.block is
-          (record { shows = fetched.shows image known is.shows; behind = c.pages.invariant.behind; here = subst (λ (n : ℕ). n ≤ held c.fetch.new.memory c.pages.block) c.wanted.ensures.wanted fetched.held; keeps = fetched.keeps; only = fetched.only }) c.in-Some.next said.apart said.start leads));
+          (record { shows = fetched.shows image known is.shows; high = c.fetch.ensures.can.front; behind = c.pages.invariant.behind; here = subst (λ (n : ℕ). n ≤ held c.fetch.new.memory c.pages.block) c.wanted.ensures.wanted fetched.held; keeps = fetched.keeps; only = fetched.only }) c.in-Some.next said.apart said.start leads));
     }
 
 pub returns-in-None-clause-fetched : goal.returns-in-None-clause-fetched
@@ -49,4 +51,4 @@ returns-in-None-clause-fetched g c image known shows =
     let is = c.pages.invariant.walked image known shows in
     let fetched = c.in_ok-fetch.ensures in
     walked_all c.args.sup.now (region_of image) c.args.log.head c.args.log.tail c.args.memory.now c.pages.memory c.fetch.new.memory c.pages.walked.blocks c.pages.block is
-    (record { shows = fetched.shows image known is.shows; behind = c.pages.invariant.behind; here = subst (λ (n : ℕ). n ≤ held c.fetch.new.memory c.pages.block) c.wanted.ensures.wanted fetched.held; keeps = fetched.keeps; only = fetched.only }) c.in-None.ensures.none
+    (record { shows = fetched.shows image known is.shows; high = c.fetch.ensures.can.front; behind = c.pages.invariant.behind; here = subst (λ (n : ℕ). n ≤ held c.fetch.new.memory c.pages.block) c.wanted.ensures.wanted fetched.held; keeps = fetched.keeps; only = fetched.only }) c.in-None.ensures.none

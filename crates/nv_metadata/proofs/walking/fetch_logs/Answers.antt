@@ -8,7 +8,8 @@ use Rattle.nv_metadata.proofs.walking.fetch_logs.Goals as goal
 
 pub loop-log-preserved : goal.loop-log-preserved
 loop-log-preserved g c = record {
-  ready = c.fetch_log.ensures.ready;
+  can = c.fetch_log.ensures.can;
+  front = (c.fetch_log.ensures.front.0 ∙ c.loop-log.invariant.front.0, c.fetch_log.ensures.front.1 ∙ c.loop-log.invariant.front.1);
   bound = c.fetch_log.ensures.all_blocks;
   fetched = λ image known shows. (
       let k = c.loop-log.log-index in

@@ -1,13 +1,13 @@
 use Rattle.std.proofs.Common.{◌≡◌, ℕ, List, Some, take}
 use Rattle.nv_region.specs.Region.{region_of}
-use Rattle.nv_super.specs.Layout.{system_blocks}
-use Rattle.nv_metadata.specs.Memory.{IsReady, Shows}
+use Rattle.nv_metadata.specs.Memory.{CanHold, SameFront, Shows}
 use Rattle.nv_metadata.specs.Walk.{AreFetched}
 use Rattle.nv_metadata.proofs.walking.fetch_logs.Given as goal
 
 abbrev pub invariant-loop-log : goal.invariant-loop-log
 invariant-loop-log g l = record {
-  ready : IsReady l.sup l.memory;
+  can : CanHold l.sup l.memory;
+  front : SameFront l.fn.memory l.memory;
   bound : l.walked.bound ≡ l.sup.blocks;
-  fetched : (image : List ℕ) → g.B.Blocks.bytes l.source ≡ Some image → Shows (system_blocks l.sup) (region_of image) l.fn.memory → AreFetched l.sup (region_of image) (take l.log-index l.logs) l.fn.memory l.memory;
+  fetched : (image : List ℕ) → g.B.Blocks.bytes l.source ≡ Some image → Shows (region_of image) l.fn.memory → AreFetched l.sup (region_of image) (take l.log-index l.logs) l.fn.memory l.memory;
 }
