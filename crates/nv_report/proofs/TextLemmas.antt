@@ -1,5 +1,7 @@
 -- One text behind another.
-use Rattle.std.proofs.Common.{◌≡◌, ℕ, List, [], ◌∷◌, ◌++◌, refl, sym, ap, ◌∙◌, append_assoc, append-nil}
+use Rattle.std.proofs.Common.{◌≡◌, ◌+◌, ◌<◌, ℕ, List, [], ◌∷◌, ◌++◌, length, get_or, map, take, drop, refl, sym, ap, ap₂, ◌∙◌, subst, append_assoc, append-nil, add-one}
+use Rattle.std.proofs.Math.Seq.{take-suc}
+use Rattle.std.proofs.lemmas.List.{map-append, take-append-drop}
 use Rattle.nv_scan.specs.declared.piece.Row.{Row}
 use Rattle.nv_outcome.specs.Outcome.{Outcome}
 use Rattle.nv_text.specs.Report.{region_line}
@@ -14,6 +16,24 @@ use Rattle.nv_report.specs.declared.part.Part.TheVariants as parts
 pub tree_snoc : (rows : List Row) (row : Row) (text more : List ℕ) → IsTreeText rows text → IsRowText row more → IsTreeText (rows ++ row ∷ []) (text ++ more)
 tree_snoc [] row text more is shown = (more, [], shown, refl, ap (λ t. t ++ more) is ∙ sym (append-nil more))
 tree_snoc (x ∷ rows) row text more is shown = (is.0, is.1 ++ more, is.2, tree_snoc rows row is.1 more is.3 shown, ap (λ t. t ++ more) is.4 ∙ append_assoc is.0 is.1 more)
+
+-- the texts of inodes, and of others behind them
+pub tree_both : (rows more : List Row) (text rest : List ℕ) → IsTreeText rows text → IsTreeText more rest → IsTreeText (rows ++ more) (text ++ rest)
+tree_both [] more text rest is others = subst (IsTreeText more) (sym (ap (λ t. t ++ rest) is)) others
+tree_both (row ∷ rows) more text rest is others = (is.0, is.1 ++ rest, is.2, tree_both rows more is.1 rest is.3 others, ap (λ t. t ++ rest) is.4 ∙ append_assoc is.0 is.1 rest)
+
+-- the text of the next inode of a list
+pub tree_next : {X : Type 0} (row_of : X → Row) (list : List X) (k : ℕ) (x : X) (old new : List ℕ) → k < length list → x ≡ get_or list k x → IsTreeText (map row_of (take k list)) old → AddsText (IsRowText (row_of x)) old new → IsTreeText (map row_of (take (k + 1) list)) new
+tree_next row_of list k x old new below is texts adds =
+    let rows : map row_of (take (k + 1) list) ≡ map row_of (take k list) ++ row_of x ∷ [] =
+        ap (λ (n : ℕ). map row_of (take n list)) (add-one k) ∙ ap (map row_of) (take-suc list k x below) ∙ map-append row_of (take k list) (get_or list k x ∷ []) ∙ ap (λ y. map row_of (take k list) ++ row_of y ∷ []) (sym is) in
+    subst (λ (l : List Row). IsTreeText l new) (sym rows) (subst (λ (t : List ℕ). IsTreeText (map row_of (take k list) ++ row_of x ∷ []) t) (sym adds.2) (tree_snoc (map row_of (take k list)) (row_of x) old adds.0 texts adds.1))
+
+-- the texts of two halves of a list
+pub tree_halves : {X : Type 0} (row_of : X → Row) (list : List X) (n : ℕ) (first second : List X) (text rest : List ℕ) → first ≡ take n list → second ≡ drop n list → IsTreeText (map row_of first) text → IsTreeText (map row_of second) rest → IsTreeText (map row_of list) (text ++ rest)
+tree_halves row_of list n first second text rest front back a b =
+    let rows : map row_of first ++ map row_of second ≡ map row_of list = sym (map-append row_of first second) ∙ ap (map row_of) (ap₂ ◌++◌ front back ∙ take-append-drop n list) in
+    subst (λ (l : List Row). IsTreeText l (text ++ rest)) rows (tree_both (map row_of first) (map row_of second) text rest a b)
 
 -- two texts, one after the other
 pub adds_both : (P Q S : List ℕ → Type 0) (old mid new : List ℕ) → ((a b : List ℕ) → P a → Q b → S (a ++ b)) → AddsText P old mid → AddsText Q mid new → AddsText S old new

@@ -1,7 +1,8 @@
 //! A recovery as a script and a check tell it: its texts, and the exit status that it leaves.
 //!
 //! `texts` shows a part of what was found (`part`, `shown`), for which `rows` writes the inodes, and `summary` sums it up in one
-//! line. `last` has how it went. `lengths` says for a user why a region's length is refused.
+//! line. `last` has how it went. `lengths` says for a user why a region's length is refused. `threaded` writes
+//! the report by several threads.
 #![tactic(auto)]
 
 mod last;
@@ -12,6 +13,7 @@ mod rows;
 mod shown;
 mod summary;
 mod texts;
+mod threaded;
 
 pub use last::{Last, how_it_went};
 pub use laws::{one_report, one_row_text};
@@ -21,3 +23,4 @@ pub use part::Part;
 pub use shown::Shown;
 pub use summary::summary_text;
 pub use texts::{part_text, recovered_text, refused_text, shown_text};
+pub use threaded::report_text;

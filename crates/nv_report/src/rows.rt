@@ -23,7 +23,7 @@ pub fn push_rows(out: &mut String, rows: &Rows) -> Result<(), AllocError>
     Ok(())
 }
 
-fn push_row(out: &mut String, row: &Row) -> Result<(), AllocError>
+pub(crate) fn push_row(out: &mut String, row: &Row) -> Result<(), AllocError>
     ensures { OnOk result (AddsText (IsRowText row.now) (string_bytes out.old) (string_bytes out.new)) }
 {
     push_row_head(out, row)?;

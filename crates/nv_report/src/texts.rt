@@ -76,7 +76,7 @@ fn push_report(out: &mut String, shown: &Shown<'_>) -> Result<(), AllocError>
     push_faults(out, shown.faults)
 }
 
-fn push_free(out: &mut String, free: &Allocators) -> Result<(), AllocError>
+pub(crate) fn push_free(out: &mut String, free: &Allocators) -> Result<(), AllocError>
     ensures { OnOk result (string_bytes out.new ≡ string_bytes out.old ++ free_lines free.now.pools) }
 {
     let lists = free.lists()?;
