@@ -211,11 +211,11 @@ impl Leaves {
         ensures items { self.new.items ≡ slice_set self.old.items place 0 }
         ensures room { self.new.room ≡ self.old.room + 1 }
     {
-        let leaf = (place / LEAF) as usize;
-        let words = &mut self.leaves[leaf];
+        let leaf = place / LEAF;
+        let words = &mut self.leaves[leaf as usize];
         words[(place % LEAF) as usize] = 0;
-        let others = self.used[leaf] - 1;
-        self.used[leaf] = others;
+        let others = self.used[leaf as usize] - 1;
+        self.used[leaf as usize] = others;
         self.count -= 1;
         if others == 0 {
             give_back(words, &mut self.spares);
