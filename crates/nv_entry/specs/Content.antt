@@ -2,7 +2,7 @@
 use Rattle.std.specs.Prelude.{ℕ, ◌+◌, ◌-◌, ◌*◌, Bool, true, false, not, nat_le, nat_lt, ◌&&◌, ◌||◌, ◌==◌, if◌then◌else◌, Option, Some, None, List, [], ◌∷◌}
 use Rattle.std.specs.List.{list_any}
 use Rattle.nv_super.specs.declared.superblock.Super.{Super}
-use Rattle.nv_super.specs.Layout.{system_blocks, is_number}
+use Rattle.nv_super.specs.Layout.{system_blocks, is_name_number}
 use Rattle.nv_super.specs.declared.kind.Kind.{Kind}
 use Rattle.nv_super.specs.declared.kind.Kind.TheVariants.{File, Directory}
 use Rattle.nv_entry.specs.declared.content.ContentFault.{ContentFault}
@@ -45,9 +45,9 @@ is_dots _ = false
 abbrev pub has_bad_byte : List ℕ → Bool
 has_bad_byte name = list_any (λ b. (b == 0) || (b == 47)) name
 
--- a name that no path can say, or a number that no inode has
+-- a name that no path can say, or a number that no name may say
 abbrev pub is_name_out_of_range : Super → NameEntry → Bool
-is_name_out_of_range s e = has_bad_byte e.name || is_dots e.name || not (is_number s e.inode)
+is_name_out_of_range s e = has_bad_byte e.name || is_dots e.name || not (is_name_number s e.inode)
 
 -- no link, or more than a file can have
 abbrev pub is_links_out_of_range : LinksEntry → Bool

@@ -140,12 +140,12 @@ fn is_attr_out_of_range(kind: Kind, e: &AttrEntry) -> bool
         }
 }
 
-/// Whether no path can say the name, or no inode has the number.
+/// Whether no path can say the name, or no name may say the number.
 fn is_name_out_of_range(sup: &Super, inode: u64, name: &[u8]) -> bool
     requires { HasAreas sup.now }
     ensures { (e : NameValue) → e.inode ≡ inode → e.name ≡ name.now → result ≡ is_name_out_of_range sup.now e }
 {
-    has_bad_byte(name) || is_dots(name) || !sup.is_number(inode)
+    has_bad_byte(name) || is_dots(name) || !sup.is_name_number(inode)
 }
 
 /// Whether it has a byte 0 or a `/`.

@@ -110,6 +110,12 @@ chain_version l b laid marked = elim (cases_eq l.sup.version 1) [
   | inr other ↦ (let from = laid.layout.version_from in let to = laid.layout.version_to in omega (arith, other, from, to))
 ]
 
+pub chain_version_at : (l : Layout) → IsLaid l → (c k b : ℕ) → slice_get (chain_of l c) k ≡ Some b → l.sup.version ≡ 2
+chain_version_at l laid c k b has = elim (cases_eq l.sup.version 1) [
+  | inl one ↦ absurd (none_at k b (ap (λ (xs : List ℕ). slice_get xs k) (sym (laid.fixed one c)) ∙ has))
+  | inr other ↦ (let from = laid.layout.version_from in let to = laid.layout.version_to in omega (arith, other, from, to))
+]
+
 -- ---- where permitted words lie
 
 multiple : (at : ℕ) → IsKeyOffset at → at % 8 ≡ 0

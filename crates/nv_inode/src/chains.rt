@@ -17,18 +17,12 @@ use crate::blocks::SlotBlock;
 use crate::slot::{HEAD, TAIL, VALID};
 use crate::tables::first_slot;
 use nv_blockset::{BlockList, contains, insert, words_for};
-use nv_super::{BLOCK_SIZE, Fault, Pmem, SLOT_SIZE, Super};
+use nv_super::{BLOCK_SIZE, EXTRA_SLOTS, Fault, Pmem, SLOT_SIZE, Super, WITH_CHAINS};
 use std::alloc::{AllocError, Global};
 use std::marker::Model;
 
-/// How many slots a block of a chain has.
-pub const EXTRA_SLOTS: u64 = 31;
-
 /// Where the link to the first block of a chain stands, in bytes from the start of its CPU's journal.
 pub(crate) const FIRST_LINK: u64 = 16;
-
-/// The layout version whose tables have chains.
-pub(crate) const WITH_CHAINS: u64 = 2;
 
 /// The tables of a region: its superblock's numbers, and for each CPU the blocks of its table's chain. Contracts see
 /// them as a layout, and what is wrong with the ends of the chains.

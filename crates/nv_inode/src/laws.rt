@@ -1,10 +1,10 @@
 //! Laws of the tables' chains.
 
-ghost use Rattle.std.specs.Prelude.{◌≡◌, ◌≢◌, ◌⊎◌, length, ◌≤◌, ◌<◌, ◌+◌, ◌*◌, ◌++◌, ◌∷◌, ℕ, false, eqb, List, [], Some, slice_get};
+ghost use Rattle.std.specs.Prelude.{◌≡◌, ◌≢◌, ◌⊎◌, length, ◌≤◌, ◌<◌, ◌+◌, ◌*◌, ◌++◌, ◌∷◌, ℕ, IsTrue, false, eqb, List, [], Some, slice_get};
 ghost use Rattle.std.specs.List.{Contains, list_any};
 ghost use Rattle.nv_super.specs.nv_region.Region.{Region, word};
 ghost use Rattle.nv_super.specs.declared.superblock.Super.{Super};
-ghost use Rattle.nv_super.specs.Layout.{IsLayout, Layout, chain_of, fixed_layout, slot_of, system_blocks};
+ghost use Rattle.nv_super.specs.Layout.{IsLayout, Layout, chain_of, fixed_layout, is_name_number, slot_of, system_blocks};
 ghost use Rattle.nv_super.specs.nv_region.Stops.{IsMixed};
 ghost use Rattle.nv_super.specs.nv_region.Stored.{Within};
 ghost use Rattle.nv_inode.specs.Growing.{CanLink, IsLinked, with_block};
@@ -60,6 +60,16 @@ pub fn linked_blocks_are_tables()
 pub fn linked_slots_are_unused()
     ensures stay { (l : Layout) (c b i a : ℕ) → c < length l.chains → slot_of l i ≡ Some a → slot_of (with_block l c b) i ≡ Some a }
     ensures unused { (l : Layout) (R Q : Region) (link c b i a : ℕ) → c < length l.chains → IsLinked R link b Q → slot_of (with_block l c b) i ≡ Some a → (slot_of l i ≡ Some a) ⊎ (word Q a ≡ 0) }
+{}
+
+/// A name may say each number that has a slot.
+pub fn slots_have_names()
+    ensures { (l : Layout) (i a : ℕ) → IsLaid l → slot_of l i ≡ Some a → IsTrue (is_name_number l.sup i) }
+{}
+
+/// A number that a name may say stays one where the version becomes 2.
+pub fn upgraded_names_stay()
+    ensures { (s : Super) (i : ℕ) → s.version ≡ 1 → IsTrue (is_name_number s i) → IsTrue (is_name_number (upgraded s) i) }
 {}
 
 /// In version 1 a region has the layout of fixed tables, whatever its words say: no chain and no fault of one, and a

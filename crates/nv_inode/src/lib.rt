@@ -13,12 +13,13 @@ mod upgrading;
 mod words;
 
 pub use blocks::SlotBlock;
-pub use chains::{EXTRA_SLOTS, Tables, read_tables};
+pub use chains::{Tables, read_tables};
 pub use growing::link_block;
 pub use laws::{
     blocks_have_all_slots, chains_are_laid, chains_grow, linked_blocks_are_tables,
     linked_slots_are_unused, no_link_is_permitted, one_chain, slots_are_in_one_block,
-    slots_of_blocks, upgraded_regions_are_the_same, version_1_has_fixed_tables,
+    slots_have_names, slots_of_blocks, upgraded_names_stay, upgraded_regions_are_the_same,
+    version_1_has_fixed_tables,
 };
 pub use permitted::is_journal_word;
 pub use slot::{LINK, Slot, SlotState};

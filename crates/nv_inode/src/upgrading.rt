@@ -9,10 +9,10 @@ ghost use Rattle.nv_super.specs.Layout.{IsLayout};
 ghost use Rattle.nv_inode.specs.Chains.{first_link};
 ghost use Rattle.nv_inode.specs.Upgraded.{IsUpgraded, NoLinks, UpgradeStores, UpgradedOrNot};
 
-use crate::chains::{FIRST_LINK, WITH_CHAINS};
+use crate::chains::FIRST_LINK;
 use crate::words::set_word;
 use nv_region::commit_word;
-use nv_super::{BLOCK_SIZE, Pmem, Stopped, Super};
+use nv_super::{BLOCK_SIZE, Pmem, Stopped, Super, WITH_CHAINS};
 
 /// Where the layout's version stands, in bytes.
 const VERSION: u64 = 8;

@@ -1,10 +1,11 @@
 -- Lemmas on the values with their numbers, for this crate and its callers.
-use Rattle.std.proofs.Common.{◌≡◌, ◌⊎◌, ◌↔◌, ℕ, zero, suc, ◌+◌, ◌<◌, List, [], ◌∷◌, length, get_or, Option, Some, None, is_some, cond, count_by, refl, sym, ap, ◌∙◌, inl, inr, add-zero, zero-add, arith, Contains}
+use Rattle.std.proofs.Common.{◌≡◌, ◌⊎◌, ◌↔◌, ℕ, zero, suc, ◌+◌, ◌-◌, ◌<◌, ◌≤◌, List, [], ◌∷◌, length, get_or, drop, Option, Some, None, is_some, cond, count_by, refl, sym, ap, ◌∙◌, inl, inr, add-zero, zero-add, arith, Contains}
 use Rattle.std.specs.declared.cmp.Ordering.TheVariants.{Less}
 use Rattle.std.specs.Ordering.{nat_cmp}
 use Rattle.std.specs.List.{AllByRecursion}
 use Rattle.std.specs.List.Sorted.{IsStrictlySortedBy}
 use Rattle.std.specs.Map.{keys_of}
+use Rattle.std.proofs.lemmas.List.{get_or-drop, drop-drop}
 use Rattle.std.proofs.lemmas.List.Sums.{sum_by-cons}
 use Rattle.nv_numbered.specs.Values.{entries_from}
 
@@ -27,6 +28,11 @@ no_values [] none = refl
 no_values (x ∷ xs) none = absurd (omega arith)
 
 module _ {T : Type 0} where
+  pub none_listed : (first : ℕ) (slots : List (Option T)) → ((k : ℕ) → get_or slots k None ≡ None) → entries_from first slots ≡ []
+  none_listed first [] none = refl
+  none_listed first (None ∷ rest) none = none_listed (first + 1) rest (λ k. none (suc k))
+  none_listed first (Some value ∷ rest) none = let clash = none zero in cc
+
   -- there is one entry for each slot with a value
   pub length-entries_from : (first : ℕ) (slots : List (Option T)) → length (entries_from first slots) ≡ count_by is_some slots
   length-entries_from first [] = refl
@@ -85,3 +91,28 @@ module _ {T : Type 0} where
     λ none. no_values _ (length-entries_from first slots ∙ counted ∙ ap (λ (l : List T). length l) none),
     λ empty. no_values _ (sym (length-entries_from first slots ∙ counted) ∙ ap (λ (l : List (ℕ × T)). length l) empty),
   )
+
+  -- the first value and those behind it, where it has so many slots without a value before it
+  entries_from-found : (first m : ℕ) (slots : List (Option T)) (value : T) → get_or slots m None ≡ Some value → ((k : ℕ) → k < m → get_or slots k None ≡ None) → entries_from first slots ≡ (first + m, value) ∷ entries_from (first + m + 1) (drop (m + 1) slots)
+  entries_from-found first m [] value found before = absurd (let none : ◌≡◌ {A = Option T} None (Some value) = found in cc)
+  entries_from-found first zero (slot ∷ rest) value found before = rw (found, add-zero) refl
+  entries_from-found first (suc m) (None ∷ rest) value found before =
+      let shift : first + 1 + m ≡ first + suc m = omega arith in
+      let more : suc m + 1 ≡ suc (m + 1) = omega arith in
+      rw (← shift, more) (entries_from-found (first + 1) m rest value found (λ k low. before (suc k) (omega (arith, low))))
+  entries_from-found first (suc m) (Some other ∷ rest) value found before =
+      absurd (let none : ◌≡◌ {A = Option T} (Some other) None = before zero (omega arith) in cc)
+
+  -- what is left from a number on, where the first value is that of another
+  pub entries-next : (slots : List (Option T)) (from number : ℕ) (value : T) → from ≤ number → get_or slots number None ≡ Some value → ((k : ℕ) → from ≤ k → k < number → get_or slots k None ≡ None) → entries_from from (drop from slots) ≡ (number, value) ∷ entries_from (number + 1) (drop (number + 1) slots)
+  entries-next slots from number value low found before =
+      let m = number - from in
+      let at : from + m ≡ number = omega (arith, low) in
+      let behind : drop (m + 1) (drop from slots) ≡ drop (number + 1) slots = drop-drop (m + 1) from slots ∙ (let sum : from + (m + 1) ≡ number + 1 = omega (arith, low) in ap (λ n. drop n slots) sum) in
+      entries_from-found from m (drop from slots) value (get_or-drop from slots m None ∙ ap (λ n. get_or slots n None) at ∙ found)
+      (λ k few. get_or-drop from slots k None ∙ before (from + k) (omega arith) (omega (arith, few)))
+      ∙ rw (at, behind) refl
+
+  -- there is none where no slot from the number on has one
+  pub entries-none : (slots : List (Option T)) (from : ℕ) → ((k : ℕ) → from ≤ k → get_or slots k None ≡ None) → entries_from from (drop from slots) ≡ []
+  entries-none slots from none = none_listed from (drop from slots) (λ k. get_or-drop from slots k None ∙ none (from + k) (omega arith))

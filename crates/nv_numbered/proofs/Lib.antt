@@ -8,3 +8,7 @@ pub mod PairLemmas
 pub mod SlotLemmas
 pub mod SoundLemmas
 pub mod Permuted
+pub mod WordLemmas
+pub mod LeafLemmas
+pub mod SpareLemmas
+pub mod LeavedLemmas

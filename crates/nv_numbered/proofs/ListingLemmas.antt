@@ -5,6 +5,7 @@ use Rattle.std.specs.Map.{lookup}
 use Rattle.std.specs.Ordering.{nat_cmp}
 use Rattle.std.proofs.lemmas.Bool.Decides.{nat_tests}
 use Rattle.nv_numbered.specs.Values.{entries_from}
+use Rattle.nv_numbered.proofs.EntryLemmas.{none_listed}
 
 module _ {T : Type 0} where
   no_entry_below : (n first : ℕ) (slots : List (Option T)) → n < first → lookup (is_at (nat_cmp n)) (entries_from first slots) ≡ None
@@ -31,11 +32,6 @@ module _ {T : Type 0} where
       let later : lookup (is_at (nat_cmp (first + suc k))) (entries_from (first + 1) rest) ≡ get_or rest k None =
       rw shift (lookup-entries_from (first + 1) k rest) in
       ap (λ b. cond b (Some value) (lookup (is_at (nat_cmp (first + suc k))) (entries_from (first + 1) rest))) differs ∙ later
-
-  none_listed : (first : ℕ) (slots : List (Option T)) → ((k : ℕ) → get_or slots k None ≡ None) → entries_from first slots ≡ []
-  none_listed first [] none = refl
-  none_listed first (None ∷ rest) none = none_listed (first + 1) rest (λ k. none (suc k))
-  none_listed first (Some value ∷ rest) none = let clash = none zero in cc
 
   -- a value that comes behind all others is the last entry
   pub entries_from-push : (first : ℕ) (slots : List (Option T)) (k : ℕ) (value : T) → k < length slots → ((later : ℕ) → k ≤ later → get_or slots later None ≡ None) → entries_from first (set slots k (Some value)) ≡ entries_from first slots ++ (first + k, value) ∷ []

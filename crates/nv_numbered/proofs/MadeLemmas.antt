@@ -27,7 +27,7 @@ module _ {T : Type 0} where
 
   module _ (places numbers : List ℕ) (values : List T) (limit n : ℕ) (many : length values ≡ length numbers) (given : AreNumbersBelow limit numbers) (long : length places ≡ limit) (inside : n < length numbers) (sound : IsSound places (take n numbers) (take n values)) where
     -- the next number has no place yet
-    vacant_next : get_or places (get_or numbers n 0) 0 ≡ 0
+    pub vacant_next : get_or places (get_or numbers n 0) 0 ≡ 0
     vacant_next = elim (place_cases (get_or places (get_or numbers n 0) 0)) [
       | inl vacant ↦ vacant
       | inr found ↦

@@ -39,6 +39,11 @@ module _ {T : Type 0} where
   slot_at_index places values number index place =
       slot_at places values number ∙ ap (slot_of values) (place ∙ add-one index)
 
+  -- a place that isn't 0 leads to the value before it
+  pub slot_at_place : (places : List ℕ) (values : List T) (number place : ℕ) (value : T) → place ≡ get_or places number 0 → get_or places number 0 ≢ 0 → slice_get values (place - 1) ≡ Some value → get_or (slots_of places values) number None ≡ Some value
+  slot_at_place places values number place value read some has =
+      slot_at_index places values number (place - 1) (omega (arith, read, some)) ∙ has
+
   -- where the places lead to the same values as before, the number has what it had
   slot_kept : (places left : List ℕ) (values rest : List T) (number : ℕ) → get_or left number 0 ≡ get_or places number 0 → ((index : ℕ) → get_or places number 0 ≡ index + 1 → slice_get rest index ≡ slice_get values index) → get_or (slots_of left rest) number None ≡ get_or (slots_of places values) number None
   slot_kept places left values rest number same agree =

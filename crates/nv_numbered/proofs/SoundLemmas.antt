@@ -1,5 +1,5 @@
 -- A table stays sound as values come, are written and go.
-use Rattle.std.proofs.Common.{◌≡◌, ◌≢◌, ℕ, zero, suc, ◌+◌, ◌-◌, ◌^◌, ◌<◌, List, [], ◌∷◌, ◌++◌, length, get_or, set, replicate, Option, Some, None, is_some, IsSome, cond, count_by, refl, sym, ap, subst, ◌∙◌, inl, inr, arith, length-set, true≢false}
+use Rattle.std.proofs.Common.{◌≡◌, ◌≢◌, ℕ, zero, suc, ◌+◌, ◌-◌, ◌^◌, ◌<◌, ◌≤◌, List, [], ◌∷◌, ◌++◌, length, get_or, set, replicate, Option, Some, None, is_some, IsSome, cond, count_by, refl, sym, ap, subst, ◌∙◌, inl, inr, arith, length-set, true≢false}
 use Rattle.std.proofs.lemmas.List.{length-map, length_push, length-replicate, get_or_read}
 use Rattle.std.proofs.lemmas.List.Sums.{sum_by-set, sum_by-cons, count_by-le-length}
 use Rattle.std.proofs.lemmas.Option.{slice_get-get_or}
@@ -55,6 +55,14 @@ module _ {T : Type 0} where
               cc
         ]
 
+    -- each place that isn't 0 leads to a value
+    pub leads_to_value : get_or places n 0 ≢ 0 → get_or places n 0 ≤ length values
+    leads_to_value some =
+        elim (place_cases (get_or places n 0)) [
+          | inl vacant ↦ absurd (some vacant)
+          | inr found ↦ omega (arith, (sound.paired.numbered n found.0 found.1).0, sound.as_many, found.1)
+        ]
+
     -- where a number has no value, there are fewer values than numbers
     pub one_is_free : T → n < length places → get_or (slots_of places values) n None ≡ None → length values < length places
     one_is_free x inside none =
@@ -80,11 +88,8 @@ module _ {T : Type 0} where
         }
 
     -- the index of a number's value, where its place was read
-    pub index_read : (place : ℕ) → IsSome (get_or (slots_of places values) n None) → place ≡ get_or places n place → get_or places n 0 ≡ place - 1 + 1
-    index_read place present read =
-        let found = index_of_value present in
-        let within = place_within places n found.0 found.1 in
-        omega (arith, found.1, get_or_read places n place within read 0)
+    pub index_read : (place : ℕ) → IsSome (get_or (slots_of places values) n None) → place ≡ get_or places n 0 → get_or places n 0 ≡ place - 1 + 1
+    index_read place present read = let found = index_of_value present in omega (arith, found.1, read)
 
     -- the place that was read leads to the index before it
     pub before_place : (place : ℕ) → place ≡ get_or places n 0 → place ≢ 0 → get_or places n 0 ≡ place - 1 + 1

@@ -2,30 +2,29 @@
 
 ghost use Rattle.std.specs.Iterator.{YieldsFirstBy, item_count};
 
-use crate::Chunks;
-use crate::table::value_of;
+use crate::{Chunks, Leaves};
 use std::marker::Model;
 
 /// The values with their numbers, rising by number, seen as the list of those that are left.
 #[derive(Drop)]
 pub struct Iter<'a, T> {
-    pub(crate) places: &'a [u32],
-    // The number of the first of `places`.
+    pub(crate) places: &'a Leaves,
+    // The first number that is left.
     pub(crate) number: u64,
     pub(crate) values: &'a Chunks<T>,
 }
 
 impl<'a, T> Model for Iter<'a, T> {
-    ghost use Rattle.std.specs.Prelude.{ℕ, ◌+◌, ◌<◌, ◌^◌, List, length};
+    ghost use Rattle.std.specs.Prelude.{ℕ, List, drop};
 
     ghost Value = { List (ℕ × T) };
 
     ghost use Rattle.nv_numbered.specs.Values.{entries_from};
-    ghost use Rattle.nv_numbered.specs.Table.{slots_of};
+    ghost use Rattle.nv_numbered.specs.Table.{slots_of, LeadToValues};
 
-    ghost view = { λ it. entries_from it.number (slots_of it.places.now it.values.now.items) };
+    ghost view = { λ it. entries_from it.number (drop it.number (slots_of it.places.now.items it.values.now.items)) };
 
-    ghost invariant = { λ it. it.number + length it.places.now < 2 ^ 64 };
+    ghost invariant = { λ it. LeadToValues it.places.now.items it.values.now.items };
 }
 
 impl<'a, T> Iterator for Iter<'a, T> {
@@ -36,14 +35,13 @@ impl<'a, T> Iterator for Iter<'a, T> {
     ghost remaining = { item_count (λ rest. rest) };
 
     fn next(&mut self) -> Option<(u64, &'a T)> {
-        while let Some((place, rest)) = self.places.split_first() {
-            let number = self.number;
-            self.places = rest;
-            self.number += 1;
-            if let Some(value) = value_of(self.values, *place) {
-                return Some((number, value));
+        match self.places.next_used(self.number) {
+            None => None,
+            Some(number) => {
+                self.number = number + 1;
+                let place = self.places.get(number);
+                Some((number, self.values.at(place as usize - 1)))
             }
         }
-        None
     }
 }

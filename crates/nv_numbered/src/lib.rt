@@ -3,8 +3,10 @@
 
 mod chunks;
 mod iter;
+mod leaves;
 mod table;
 
 pub use chunks::Chunks;
 pub use iter::Iter;
+pub use leaves::Leaves;
 pub use table::Numbered;

@@ -10,18 +10,20 @@ ghost use Rattle.std.specs.Borrow.{sem};
 ghost use Rattle.nv_numbered.specs.Values.{AreNumbersBelow, value_at, limit_of, entries};
 ghost use Rattle.nv_numbered.specs.Table.{slot_of};
 
-use crate::{Chunks, Iter};
+use crate::{Chunks, Iter, Leaves};
 use std::alloc::{AllocError, AllocFailed, Global};
 use std::marker::Model;
 
 /// Values, each under a number below a limit.
 ///
-/// A number that may have a value takes four bytes, and each value four bytes more than its own. Removing a value moves
-/// the last one into its place, so the values lie in no order.
+/// Each value takes four bytes more than its own, and 4,096 numbers, from a multiple of it on, take 16 KiB where one of
+/// them has a value. As much more memory is kept as the room for further values asks for, whatever their numbers are,
+/// but never more than all numbers below the limit take. Removing a value moves the last one into its place, so the
+/// values lie in no order.
 #[derive(Drop)]
 pub struct Numbered<T> {
     // Of each number, one more than the index of its value, and 0 where it has none.
-    places: Vec<u32>,
+    places: Leaves,
     // The number of each value.
     numbers: Vec<u32>,
     values: Chunks<T>,
@@ -39,7 +41,7 @@ impl<T> Model for Numbered<T> {
 
     ghost view = { λ t. record {
       slots = slots_of t.places.items t.values.items;
-      room = min (vec_capacity t.numbers - vec_len t.numbers) t.values.room;
+      room = min (min (vec_capacity t.numbers - vec_len t.numbers) t.values.room) t.places.room;
     } };
 
     ghost invariant = { λ t. IsSound t.places.items t.numbers.items t.values.items };
@@ -55,27 +57,17 @@ pub(crate) fn value_of<T>(values: &Chunks<T>, place: u32) -> Option<&T>
     values.get(place as usize - 1)
 }
 
-// The place of a number, which is 0 past the limit.
-fn place_of(places: &[u32], number: u64) -> u32
-    ensures { result ≡ slice_index places.now number }
-{
-    match places.get(number as usize) {
-        Some(place) => *place,
-        None => 0,
-    }
-}
-
 impl<T> Numbered<T> {
     ghost use Rattle.nv_numbered.specs.Lends.{lends_value, lends_get};
 
-    /// No values, with a place for each number below the limit.
+    /// No values, each of which is to have a number below the limit. It takes 28 bytes for 4,096 numbers.
     pub fn new(alloc: Global, limit: u64) -> Result<Numbered<T>, AllocError>
         requires { limit < 2 ^ 32 }
         ensures empty { IfOk result (λ v. (number : ℕ) → value_at v number ≡ None) }
         ensures limit { IfOk result (λ v. limit_of v ≡ limit) }
     {
         Ok(Numbered {
-            places: vec![in alloc; 0; limit as usize]?,
+            places: Leaves::new(alloc, limit, 0)?,
             numbers: Vec::new(alloc),
             values: Chunks::new(alloc),
         })
@@ -83,7 +75,7 @@ impl<T> Numbered<T> {
 
     /// Values in any order, each under the number at its place among `numbers`. It moves no value.
     ///
-    /// Errors: `AllocError` where there is no memory for a place of each number below the limit.
+    /// Errors: `AllocError` where there is no memory for the places of these numbers.
     pub fn from_values(
         alloc: Global,
         values: Chunks<T>,
@@ -99,9 +91,9 @@ impl<T> Numbered<T> {
         ensures values { IfOk result (λ v. (number : ℕ) (value : T) →
             (value_at v number ≡ Some value) ↔ ((k : ℕ) × (slice_index numbers.items k ≡ number) × (slice_get values.items k ≡ Some value))) }
     {
-        let mut places = vec![in alloc; 0; limit as usize]?;
+        let mut places = Leaves::new(alloc, limit, numbers.len())?;
         for (index, number) in numbers.iter().enumerate() {
-            places[*number as usize] = index as u32 + 1;
+            places.insert(*number as u64, index as u32 + 1);
         }
         Ok(Numbered {
             places,
@@ -114,7 +106,7 @@ impl<T> Numbered<T> {
     pub fn get(&self, number: u64) -> Option<&T>
         ensures { option_copied result ≡ value_at self.now number }
     {
-        value_of(&self.values, place_of(&self.places, number))
+        value_of(&self.values, self.places.get(number))
     }
 
     /// The value of a number for writing, if it has one.
@@ -134,7 +126,7 @@ impl<T> Numbered<T> {
         ensures* writes_back { sem 𝓛 (lends_value T.row self.entry number result) }
         ensures value { value_at self.old number ≡ Some result.now }
     {
-        let place = self.places[number as usize];
+        let place = self.places.get(number);
         self.values.at_mut(place as usize - 1)
     }
 
@@ -152,7 +144,7 @@ impl<T> Numbered<T> {
         self.values.is_empty()
     }
 
-    /// The values with their numbers, rising by number. It looks at every number below the limit.
+    /// The values with their numbers, rising by number. It looks at all those of 4,096 numbers of which one has a value.
     pub fn iter(&self) -> Iter<'_, T>
         ensures listed { result ≡ entries self.now }
         ensures rising { IsStrictlySortedBy nat_cmp (keys_of result) }
@@ -176,7 +168,8 @@ impl<T> Numbered<T> {
         ensures room { self.old.room ≤ self.new.room }
     {
         self.numbers.reserve(more)?;
-        self.values.reserve(more)
+        self.values.reserve(more)?;
+        self.places.reserve(more)
     }
 
     /// Gives a value to a number that has none. It takes no memory.
@@ -189,7 +182,7 @@ impl<T> Numbered<T> {
     {
         self.numbers.push_reserved(number as u32);
         self.values.push_reserved(value);
-        self.places[number as usize] = self.values.len() as u32;
+        self.places.insert(number, self.values.len() as u32);
     }
 
     /// As `insert`, where no room need have been made. Where a growth was refused the value comes back, and the values
@@ -217,14 +210,14 @@ impl<T> Numbered<T> {
         ensures room { self.old.room ≤ self.new.room }
         ensures freed { OnSome result (self.new.room ≡ self.old.room + 1) }
     {
-        let place = place_of(&self.places, number);
+        let place = self.places.get(number);
         if place == 0 {
             return None;
         }
         let moved = self.numbers[self.numbers.len() - 1];
         // The last value comes to this place. Where it is the one that goes, the second write has the last word.
-        self.places[moved as usize] = place;
-        self.places[number as usize] = 0;
+        self.places.replace(moved as u64, place);
+        self.places.remove(number);
         let index = place as usize - 1;
         let _number = self.numbers.swap_remove(index);
         Some(self.values.swap_remove(index))

@@ -9,6 +9,7 @@ pub mod Ranges
 pub mod Sorted
 pub mod Pools
 pub mod Slots
+pub mod Names
 pub mod Accepted
 pub mod Lengths
 pub mod First

@@ -30,6 +30,15 @@ inode_limit s = 32 * s.cpus * s.table_blocks
 abbrev pub is_number : Super → ℕ → Bool
 is_number s i = nat_lt 0 i && nat_lt i (inode_limit s)
 
+-- The numbers that a name may say are below this, by the version and the sizes alone. In version 2 it is as if each data
+-- block were in the chain of each CPU.
+abbrev pub name_limit : Super → ℕ
+name_limit s = if s.version == 2 then s.cpus * (32 * s.table_blocks + 31 * (s.blocks - system_blocks s)) else inode_limit s
+
+-- a name may say this number
+abbrev pub is_name_number : Super → ℕ → Bool
+is_name_number s i = nat_lt 0 i && nat_lt i (name_limit s)
+
 -- the most blocks that a region can have
 abbrev pub most_blocks : ℕ
 most_blocks = 262144

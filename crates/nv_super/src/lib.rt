@@ -12,11 +12,11 @@ mod superblock;
 
 pub use faults::Fault;
 pub use kind::Kind;
-pub use laws::{pools_cover_the_data_blocks, slots_stand_apart};
+pub use laws::{pools_cover_the_data_blocks, slots_stand_apart, version_1_names_are_numbers};
 pub use nv_region::{MOST_BLOCKS, Pmem, Stopped, store_word};
 pub use owners::{Owner, Run};
 pub use sorting::{sort_claims, sort_faults};
 pub use superblock::{
-    BLOCK_SIZE, LEAST_BLOCKS, MAGIC, MOST_CPUS, MOST_FILE_BYTES, MOST_FILE_PAGES,
-    MOST_TABLE_BLOCKS, SLOT_SIZE, Super, SuperFault, read_super, write_super,
+    BLOCK_SIZE, EXTRA_SLOTS, LEAST_BLOCKS, MAGIC, MOST_CPUS, MOST_FILE_BYTES, MOST_FILE_PAGES,
+    MOST_TABLE_BLOCKS, SLOT_SIZE, Super, SuperFault, WITH_CHAINS, read_super, write_super,
 };

@@ -8,7 +8,7 @@ ghost use Rattle.std.specs.Prelude.{◌≡◌, ◌≤◌, ◌<◌, ◌+◌, ◌-
 ghost use Rattle.nv_region.specs.Region.{HasBlocks, size};
 ghost use Rattle.nv_region.specs.Fuses.{KeepsFuse};
 ghost use Rattle.nv_region.specs.Stored.{StoresOnly, Within};
-ghost use Rattle.nv_super.specs.Layout.{system_blocks, pool_start, slot_address, is_page_start, inode_limit, is_number, HasAreas, IsLayout};
+ghost use Rattle.nv_super.specs.Layout.{system_blocks, pool_start, slot_address, is_page_start, inode_limit, is_number, name_limit, is_name_number, HasAreas, IsLayout};
 ghost use Rattle.nv_super.specs.Super.{IsSuper, IsRefused, with_numbers};
 
 use nv_region::{MOST_BLOCKS, Pmem, Stopped};
@@ -31,6 +31,12 @@ pub const MOST_TABLE_BLOCKS: u64 = 64;
 
 /// The bytes of an inode's slot.
 pub const SLOT_SIZE: u64 = 128;
+
+/// The layout version whose tables have chains of blocks.
+pub const WITH_CHAINS: u64 = 2;
+
+/// How many slots a block of a chain has.
+pub const EXTRA_SLOTS: u64 = 31;
 
 /// The most pages of a file.
 pub const MOST_FILE_PAGES: u64 = 262_144;
@@ -177,6 +183,27 @@ impl Super {
         ensures { result ≡ is_number self.now inode }
     {
         inode > 0 && inode < self.inode_limit()
+    }
+
+    /// The numbers that a name may say are below this, whatever the chains of tables are. In version 1 they are the
+    /// numbers of inodes.
+    pub fn name_limit(&self) -> u64
+        requires { HasAreas self.now }
+        ensures { result ≡ name_limit self.now }
+    {
+        if self.version != WITH_CHAINS {
+            return self.inode_limit();
+        }
+        let blocks = self.blocks - self.system_blocks();
+        self.cpus * (BLOCK_SIZE / SLOT_SIZE * self.table_blocks + EXTRA_SLOTS * blocks)
+    }
+
+    /// Whether a name may say this number.
+    pub fn is_name_number(&self, inode: u64) -> bool
+        requires { HasAreas self.now }
+        ensures { result ≡ is_name_number self.now inode }
+    {
+        inode > 0 && inode < self.name_limit()
     }
 
     /// The first block of the pool of a CPU, and the block behind its last. A pool may be empty.
