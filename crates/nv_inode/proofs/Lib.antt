@@ -12,3 +12,4 @@ pub mod GrownSlots
 pub mod UpgradedTables
 pub mod TicketBlocks
 pub mod TicketsOnce
+pub mod BlockBounds
