@@ -114,14 +114,7 @@ fn scan_tickets<P: Pmem>(
     let mut each = room_for_ticket(alloc)?;
     let mut sets = Sets::new(alloc, sup)?;
     for ticket in 0..ticket_count(tables) {
-        let count = scan_slots(
-            memory,
-            tables,
-            &mut scanner,
-            &mut inodes,
-            &mut each,
-            ticket,
-        )?;
+        let count = scan_slots(memory, tables, &mut scanner, &mut inodes, &mut each, ticket)?;
         push_heads(&mut heads, &inodes.rows)?;
         sets.claim_each(&each[..count]);
     }

@@ -140,14 +140,7 @@ fn scan_apart<P: Pmem>(
     let mut work = Vec::new(alloc);
     let mut claims = ClaimedRuns::new(alloc);
     for ticket in 0..ticket_count(tables) {
-        let count = scan_slots(
-            memory,
-            tables,
-            &mut scanner,
-            &mut inodes,
-            &mut each,
-            ticket,
-        )?;
+        let count = scan_slots(memory, tables, &mut scanner, &mut inodes, &mut each, ticket)?;
         push_heads(&mut heads, &inodes.rows)?;
         let mut runs = runs_of(alloc, &each[..count])?;
         work.push(runs.to_list(alloc)?)?;

@@ -211,6 +211,7 @@ fn scan_block<P: Pmem>(
     ensures count { IfOk result (λ count. count ≤ 32) }
     ensures next { IfOk result (λ count. AreNext (P.region memory.now) tables.now.layout (numbers_to tables.now.layout block.now block.now.slots) inodes.old inodes.new (claims_among (take count each.new.items))) }
 {
+    let cpus = tables.cpus();
     let mut count = 0;
     let mut at = block.start;
     let mut inode = block.first;
@@ -220,7 +221,7 @@ fn scan_block<P: Pmem>(
             count += 1;
         }
         at += SLOT_SIZE;
-        inode += tables.cpus();
+        inode += cpus;
     }
     Ok(count)
 }

@@ -38,7 +38,7 @@ loop-preserved g c =
     let found = subst (λ (i : ℕ). KeepsFound R lay i c.loop.inodes c.scan_at.new.inodes own c.in_ok-found.found) l.inode
     (c.in_ok-found.ensures.kept lay (c.requires.tables ∙ sym l.scanner) (λ some. subst (λ (i : ℕ). slot_of lay i ≡ Some c.loop.at) (sym l.inode) (stands (subst (λ (i : ℕ). i ≢ 0) l.inode some) ∙ ap Some (sym l.at)))) in
     let at_next : c.loop.at + 128 ≡ block.start + 128 * (k + 1) = (let at = l.at in omega (arith, at)) in
-    let inode_next : c.loop.inode + c.cpus-inode.result ≡ number_in lay block (k + 1) = next_number lay block k l.inode c.cpus-inode.ensures in
+    let inode_next : c.loop.inode + c.cpus-cpus.result ≡ number_in lay block (k + 1) = next_number lay block k l.inode c.cpus-cpus.ensures in
     elim c.if-found.branch [
       | then-found w ↦ (
           let kept = subst (KeepsFound R lay (number_in lay block k) c.loop.inodes c.scan_at.new.inodes own) w.if-found.true found in
@@ -121,7 +121,7 @@ overflow_add-inode g c =
     let small = small_block lay c.args.block.now c.requires.laid c.requires.block in
     let most = number_small lay c.args.block.now c.loop.counter small c.requires.laid (let below = c.loop-test.true in let few = small.few in omega (arith, below, few)) in
     let is = c.loop.invariant.inode in
-    let cpus = c.cpus-inode.ensures in
+    let cpus = c.cpus-cpus.ensures in
     let few = c.requires.laid.layout.areas.cpus_to in
     omega (arith, most, is, cpus, few)
 
