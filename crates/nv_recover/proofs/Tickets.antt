@@ -1,22 +1,32 @@
 -- The tickets, one after another.
-use Rattle.std.proofs.Common.{◌≡◌, ℕ, ◌+◌, List, [], ◌∷◌, ◌++◌, length, ap, sym, ◌∙◌, subst, append-nil, arith}
+use Rattle.std.proofs.Common.{◌≡◌, ◌<◌, ◌≤◌, ℕ, ◌+◌, ◌*◌, List, [], ◌∷◌, ◌++◌, length, ap, sym, ◌∙◌, subst, append-nil, arith}
 use Rattle.std.specs.Prelude.{Vec}
 use Rattle.std.specs.declared.alloc.Global.{Global}
 use Rattle.std.specs.List.{range_with_len}
+use Rattle.std.proofs.Math.Nat.{mul-le-mul, one-le-mul}
 use Rattle.std.proofs.lemmas.Grind.{flat_map-append}
 use Rattle.std.proofs.lemmas.List.{length-append}
 use Rattle.nv_region.specs.Region.{Region}
 use Rattle.nv_super.proofs.Ranges.{one_more}
 use Rattle.nv_super.specs.declared.superblock.Super.{Super}
-use Rattle.nv_super.specs.Layout.{fixed_layout}
+use Rattle.nv_super.specs.Layout.{IsLayout, fixed_layout}
+use Rattle.nv_inode.proofs.FixedLayout.{fixed_long}
 use Rattle.nv_super.specs.declared.owners.Owner.{Owner}
-use Rattle.nv_scan.specs.Tickets.{numbers_of}
+use Rattle.nv_scan.specs.Tickets.{numbers_of, ticket_count}
 use Rattle.nv_scan.specs.Work.{numbers_in, ArePiecesOf, AreNext}
 use Rattle.nv_scan.proofs.Work.{behind, claims_join, rows_join, faults_join, pieces_none, pieces_join}
 use Rattle.nv_outcome.specs.Parts.{rows_in, faults_in}
 use Rattle.nv_scan.specs.declared.inodes.Inodes.{Inodes}
 use Rattle.nv_scan.specs.declared.piece.Piece.{Piece}
 use Rattle.nv_recover.specs.Scanned.{AreFirst, AreOfTickets, all_claims}
+
+-- ---- how many there are
+
+pub tickets_some : (s : Super) → IsLayout s → 0 < ticket_count (fixed_layout s)
+tickets_some s layout = let all = fixed_long s in let some = one-le-mul layout.cpus_from layout.tables_from in omega (arith, all, some)
+
+pub tickets_few : (s : Super) → IsLayout s → ticket_count (fixed_layout s) ≤ 4096
+tickets_few s layout = let all = fixed_long s in let most : s.cpus * s.table_blocks ≤ 64 * 64 = mul-le-mul layout.areas.cpus_to layout.areas.tables_to in omega (arith, all, most)
 
 module _ {R : Region} {s : Super} where
   -- ---- the inodes of the tickets
