@@ -44,7 +44,7 @@ in_extra_block l c k b j i laid below has is =
 
 -- ---- which blocks there are
 
-fixed_case : (s : Super) (n : ℕ) (x : SlotBlock) → Contains (map (fixed_block s) (range_with_len 0 n)) x → (t : ℕ) × (t < n) × (x ≡ fixed_block s t)
+pub fixed_case : (s : Super) (n : ℕ) (x : SlotBlock) → Contains (map (fixed_block s) (range_with_len 0 n)) x → (t : ℕ) × (t < n) × (x ≡ fixed_block s t)
 fixed_case s n x has =
     let below : has.0 < n = (let long = length-map-range_with_len (fixed_block s) 0 n in let less = has.1 in omega (arith, long, less)) in
     (has.0, below, sym (sym (get_or-map-range_with_len (fixed_block s) 0 n has.0 has.0 x below (omega arith)) ∙ has.2))
@@ -56,7 +56,7 @@ chain_case s c from (b ∷ blocks) x (suc n, less, is) =
     let rest = chain_case s c (from + 1) blocks x (n, omega (arith, less), is) in
     (suc rest.0, rest.1, rest.2, rest.3 ∙ ap (λ (k : ℕ). extra_block s c k rest.1) (omega arith))
 
-extra_case : (s : Super) (from : ℕ) (chains : List (List ℕ)) (x : SlotBlock) → Contains (extra_blocks s from chains) x
+pub extra_case : (s : Super) (from : ℕ) (chains : List (List ℕ)) (x : SlotBlock) → Contains (extra_blocks s from chains) x
     → (c : ℕ) × (k : ℕ) × (b : ℕ) × (c < length chains) × (slice_get (unwrap_or (slice_get chains c) []) k ≡ Some b) × (x ≡ extra_block s (from + c) k b)
 extra_case s from [] x (n, less, is) = absurd (omega (arith, less))
 extra_case s from (chain ∷ chains) x has = elim (Contains-append_cases (chain_blocks s from 0 chain) (extra_blocks s (from + 1) chains) x has) [

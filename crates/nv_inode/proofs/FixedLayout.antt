@@ -1,5 +1,5 @@
 -- The layout of fixed tables is that of each region in version 1, and by it the same words are permitted.
-use Rattle.std.proofs.Common.{◌≡◌, ◌==◌, ◌&&◌, ◌||◌, ◌/◌, ◌%◌, ◌*◌, ◌+◌, nat_lt, ℕ, zero, suc, Bool, true, false, List, [], Some, nat_le, refl, ap, sym, subst, replicate, ne_eqb, eqb, ◌∙◌, arith}
+use Rattle.std.proofs.Common.{◌≡◌, ◌==◌, ◌&&◌, ◌||◌, ◌/◌, ◌%◌, ◌*◌, ◌+◌, nat_lt, ℕ, zero, suc, Bool, true, false, List, [], length, Some, nat_le, refl, ap, sym, subst, replicate, ne_eqb, eqb, ◌∙◌, arith}
 use Rattle.std.specs.Prelude.{slice_get}
 use Rattle.std.specs.List.{IsDistinct}
 use Rattle.std.proofs.lemmas.List.{length-replicate}
@@ -9,6 +9,8 @@ use Rattle.nv_super.specs.Layout.{IsLayout, fixed_layout, system_blocks}
 use Rattle.nv_super.proofs.Slots.{no_chain}
 use Rattle.nv_inode.specs.Chains.{IsLaid, chain_faults, in_chains, layout_of}
 use Rattle.nv_inode.specs.Permitted.{is_permitted, is_permitted_by, is_key_offset, in_extra}
+use Rattle.nv_inode.specs.SlotBlocks.{extra_blocks, slot_blocks}
+use Rattle.nv_inode.proofs.TicketBlocks.{all_long}
 use Rattle.nv_inode.proofs.ReadChains.{empty_chains, no_faults, none_once}
 
 -- no block stands in empty chains
@@ -55,3 +57,13 @@ no_extra s at = ap (λ (b : Bool). b && nat_le 128 (at % 4096)) (none_in s.cpus 
 
 pub same_words : (s : Super) (at : ℕ) → is_permitted_by (fixed_layout s) at ≡ is_permitted s at
 same_words s at = same_test (nat_le ((1 + s.cpus) * 4096 + 128) at) (nat_lt at (system_blocks s * 4096)) (is_key_offset at) (in_extra (fixed_layout s) at) (no_extra s at)
+
+-- ---- its blocks of slots
+
+no_blocks : (s : Super) (c n : ℕ) → extra_blocks s c (replicate n []) ≡ []
+no_blocks s c zero = refl
+no_blocks s c (suc n) = no_blocks s (c + 1) n
+
+-- they are the table blocks
+pub fixed_long : (s : Super) → length (slot_blocks (fixed_layout s)) ≡ s.cpus * s.table_blocks
+fixed_long s = let all = all_long (fixed_layout s) 0 in let none = ap length (no_blocks s 0 s.cpus) in omega (arith, all, none)

@@ -13,3 +13,4 @@ pub mod UpgradedTables
 pub mod TicketBlocks
 pub mod TicketsOnce
 pub mod NameNumbers
+pub mod BlockBounds

@@ -45,6 +45,10 @@ module _ (l : Layout) (t : ℕ) where
   pub extra_less : l.sup.cpus * l.sup.table_blocks ≤ t → t < length (slot_blocks l) → t - l.sup.cpus * l.sup.table_blocks < length (extra_blocks l.sup 0 l.chains)
   extra_less more less = let e = long in let all = length-append (map (fixed_block l.sup) (range_with_len 0 fixed)) (extra_blocks l.sup 0 l.chains) in omega (arith, e, all, more, less)
 
+  -- all of them, and those of the chains
+  pub all_long : length (slot_blocks l) ≡ l.sup.cpus * l.sup.table_blocks + length (extra_blocks l.sup 0 l.chains)
+  all_long = let e = long in let all = length-append (map (fixed_block l.sup) (range_with_len 0 fixed)) (extra_blocks l.sup 0 l.chains) in omega (arith, e, all)
+
 -- ---- chain after chain
 
 chain_long : (s : Super) (c from : ℕ) (blocks : List ℕ) → length (chain_blocks s c from blocks) ≡ length blocks
@@ -65,6 +69,9 @@ module _ (s : Super) (cpu left : ℕ) (chain : List ℕ) (rest : List (List ℕ)
 
   pub behind_less : length chain ≤ left → left < length (extra_blocks s cpu (chain ∷ rest)) → left - length chain < length (extra_blocks s (cpu + 1) rest)
   behind_less more less = let e = chain_long s cpu 0 chain in let all = length-append (chain_blocks s cpu 0 chain) (extra_blocks s (cpu + 1) rest) in omega (arith, e, all, more, less)
+
+  pub chain_counts : length (extra_blocks s cpu (chain ∷ rest)) ≡ length chain + length (extra_blocks s (cpu + 1) rest)
+  chain_counts = let e = chain_long s cpu 0 chain in let all = length-append (chain_blocks s cpu 0 chain) (extra_blocks s (cpu + 1) rest) in omega (arith, e, all)
 
 -- where none is left there is no block
 pub none_left : (s : Super) (cpu left : ℕ) (rest : List (List ℕ)) → rest ≡ [] → left < length (extra_blocks s cpu rest) → ⊥
@@ -99,7 +106,7 @@ get_at (x ∷ xs) zero b less is = ap Some (sym is)
 get_at (x ∷ xs) (suc k) b less is = get_at xs k b (omega (arith, less)) is
 
 module _ (l : Layout) (laid_so : IsLaid l) (cpu : ℕ) where
-  chain_small : length (chain_of l cpu) ≤ l.sup.blocks
+  pub chain_small : length (chain_of l cpu) ≤ l.sup.blocks
   chain_small = length-le_from_distinct_below (chain_of l cpu) l.sup.blocks (laid_so.once cpu) (λ q h. (let at = found_at (chain_of l cpu) q h in (laid_so.inside cpu at.0 q at.1).1))
 
   -- a place of a chain, and the block there, have small numbers

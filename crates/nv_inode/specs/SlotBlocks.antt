@@ -1,5 +1,5 @@
 -- The blocks in which slots stand.
-use Rattle.std.specs.Prelude.{◌≡◌, ℕ, ◌+◌, ◌*◌, ◌/◌, ◌%◌, ◌<◌, List, [], ◌∷◌, ◌++◌, map}
+use Rattle.std.specs.Prelude.{◌≡◌, ℕ, ◌+◌, ◌*◌, ◌/◌, ◌%◌, ◌<◌, ◌≤◌, List, [], ◌∷◌, ◌++◌, map}
 use Rattle.std.specs.List.{range_with_len}
 use Rattle.nv_super.specs.declared.superblock.Super.{Super}
 use Rattle.nv_super.specs.Layout.{Layout}
@@ -31,3 +31,10 @@ slot_blocks l = map (fixed_block l.sup) (range_with_len 0 (l.sup.cpus * l.sup.ta
 pub record IsIn (l : Layout) (x : SlotBlock) (j i : ℕ) : Type 0 where
   pub within : j < x.slots
   pub number : i ≡ x.first + j * l.sup.cpus
+
+-- A block of 32 slots at most, which are whole and lie within the region, with small numbers.
+pub record IsSmallBlock (s : Super) (x : SlotBlock) : Type 0 where
+  pub few : x.slots ≤ 32
+  pub whole : x.start % 128 ≡ 0
+  pub inside : x.start + 128 * x.slots ≤ 4096 * s.blocks
+  pub first : x.first < 1000000000

@@ -115,6 +115,17 @@ impl Tables {
         chain.get(place as usize).copied()
     }
 
+    /// How many blocks of slots there are: one for each ticket.
+    pub fn slot_block_count(&self) -> u64
+        ensures { result ≡ length (slot_blocks self.now.layout) }
+    {
+        let mut count = self.sup.cpus * self.sup.table_blocks;
+        for chain in &self.chains {
+            count += chain.len() as u64;
+        }
+        count
+    }
+
     /// The block of slots that a ticket stands for: a table block, or behind these a block of a chain.
     pub fn slot_block(&self, ticket: u64) -> SlotBlock
         requires { ticket < length (slot_blocks self.now.layout) }

@@ -25,4 +25,4 @@ pub use permitted::is_journal_word;
 pub use slot::{LINK, Slot, SlotState};
 pub use tables::{nth_slot, slot_start};
 pub use upgrading::upgrade_tables;
-pub use words::{put_slot, read_nth_slot, read_slot, set_word, store_slot};
+pub use words::{put_slot, read_slot, read_slot_at, set_word, store_slot};

@@ -5,11 +5,11 @@ ghost use Rattle.nv_super.specs.nv_region.Region.{HasBlocks, size, put};
 ghost use Rattle.nv_super.specs.nv_region.Stops.{One};
 ghost use Rattle.nv_super.specs.nv_region.Fuses.{KeepsFuse};
 ghost use Rattle.nv_super.specs.nv_region.Stored.{StoresOnly, Within};
-ghost use Rattle.nv_super.specs.Layout.{IsLayout, inode_limit, is_number, slot_address};
-ghost use Rattle.nv_inode.specs.Slot.{nth_slot, slot_at, with_slot};
+ghost use Rattle.nv_super.specs.Layout.{IsLayout, is_number, slot_address};
+ghost use Rattle.nv_inode.specs.Slot.{slot_at, with_slot};
 
 use crate::slot::{CREATED, HEAD, KIND, Slot, TAIL, VALID};
-use crate::tables::{nth_slot, slot_start};
+use crate::tables::slot_start;
 use nv_super::{Pmem, Stopped, Super};
 
 /// Reads the slot of an inode, in use or not.
@@ -19,21 +19,11 @@ pub fn read_slot<P: Pmem>(memory: &P, sup: &Super, inode: u64) -> Slot
     requires number { IsTrue (is_number sup.now inode) }
     ensures { result ≡ slot_at (P.region memory.now) (slot_address sup.now inode) }
 {
-    read_at(memory, slot_start(sup, inode))
+    read_slot_at(memory, slot_start(sup, inode))
 }
 
-/// Reads the slot at a place in the tables, in use or not.
-pub fn read_nth_slot<P: Pmem>(memory: &P, sup: &Super, place: u64) -> Slot
-    requires layout { IsLayout sup.now }
-    requires blocks { HasBlocks (P.region memory.now) sup.now.blocks }
-    requires place { place < inode_limit sup.now }
-    ensures { result ≡ slot_at (P.region memory.now) (nth_slot sup.now place) }
-{
-    read_at(memory, nth_slot(sup, place))
-}
-
-/// Reads the slot at an address.
-fn read_at<P: Pmem>(memory: &P, at: u64) -> Slot
+/// Reads the slot at a byte address, in use or not.
+pub fn read_slot_at<P: Pmem>(memory: &P, at: u64) -> Slot
     requires whole { at % 8 ≡ 0 }
     requires inside { at + 40 ≤ size (P.region memory.now) }
     requires small { at + 40 < 2 ^ 64 }

@@ -10,7 +10,7 @@ use Rattle.nv_super.specs.declared.owners.Owner.{Owner}
 use Rattle.nv_super.specs.declared.owners.Run.{Run}
 use Rattle.nv_super.specs.declared.faults.Fault.{Fault}
 use Rattle.nv_super.specs.declared.faults.Fault.TheVariants as faults
-use Rattle.nv_super.specs.Layout.{IsLayout, system_blocks, pool_start, inode_limit, is_number, fixed_layout, InPool}
+use Rattle.nv_super.specs.Layout.{IsLayout, system_blocks, pool_start, inode_limit, is_number, slot_address, fixed_layout, InPool}
 use Rattle.nv_super.specs.Order.{Rises, fault_key, claim_key}
 use Rattle.nv_super.specs.Runs.{AreRuns}
 use Rattle.nv_super.specs.Super.{IsSuper}
@@ -28,6 +28,7 @@ use Rattle.nv_check.specs.nv_scan.Rows.{IsRow}
 use Rattle.nv_check.specs.nv_scan.declared.piece.Row.{Row}
 use Rattle.nv_check.proofs.nv_scan.Existing.{slot_of_fault, inode_faults, row_or_none}
 use Rattle.nv_check.proofs.nv_scan.Only.{slot_in_use}
+use Rattle.nv_check.proofs.nv_scan.Pieces.{slot_is}
 use Rattle.nv_check.specs.Cross.{row_key}
 use Rattle.nv_outcome.specs.Outcome.{AreRows, IsFree, AreFreeLists, IsDoubled, IsCrossFault, IsFaulty, journal, inode, cross, double, Outcome, IsOutcome}
 use Rattle.nv_outcome.proofs.Finite.{Decided, both, not_so, told_as, number_is, Finite, only, numbers, by_name, either, over, those, some, in_order}
@@ -61,7 +62,7 @@ module _ (R : Region) (s : Super) (layout : IsLayout s) where
   row_at : (i : ℕ) → i < inode_limit s → HasRow i ⊎ (IsInUse R (fixed_layout s) i → ⊥)
   unfolding HasRow
   row_at zero below = inr (λ u. (let n = slot_number s 0 u.0 layout (slot_in_use u.2) in omega (arith, n.0)))
-  row_at (suc i) below = row_or_none R s (suc i) layout (is_one (suc i) (omega arith) below)
+  row_at (suc i) below = row_or_none R (fixed_layout s) (suc i) (slot_address s (suc i)) (slot_is s (suc i) layout (is_one (suc i) (omega arith) below))
 
   -- the rows of the inodes whose numbers are below this one
   record RowsBelow (n : ℕ) : Type 0 where
@@ -125,7 +126,7 @@ module _ (R : Region) (s : Super) (layout : IsLayout s) where
   faults_at : (i : ℕ) → Finite (IsFaultOf R (fixed_layout s) i)
   faults_at i = elim (cases_lt 0 i) [
     | inl some ↦ elim (cases_lt i (inode_limit s)) [
-      | inl below ↦ inode_faults R s i layout (is_one i some below)
+      | inl below ↦ inode_faults R (fixed_layout s) i (slot_address s i) (slot_is s i layout (is_one i some below))
       | inr past ↦ ([], record { each = λ f c. absurd (none_in f c); all = λ f h. absurd (let w = slot_of_fault h in let n = slot_number s i w.0 layout w.1 in omega (arith, n.1, past)) })
     ]
     | inr none ↦ ([], record { each = λ f c. absurd (none_in f c); all = λ f h. absurd (let w = slot_of_fault h in let n = slot_number s i w.0 layout w.1 in omega (arith, n.0, none)) })

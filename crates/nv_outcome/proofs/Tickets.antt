@@ -9,8 +9,9 @@ use Rattle.std.proofs.lemmas.List.{map-append}
 use Rattle.std.proofs.lemmas.List.Sorted.{Contains-permutation, IsPermutation-sym, sum_by-IsPermutation, IsNonDecreasingBy-from_sort, IsNonDecreasingBy-drop}
 use Rattle.nv_region.specs.Region.{Region}
 use Rattle.nv_super.specs.declared.superblock.Super.{Super}
-use Rattle.nv_super.specs.Layout.{IsLayout, fixed_layout, inode_limit, slot_of, slot_address, extra_slot, chain_of}
+use Rattle.nv_super.specs.Layout.{IsLayout, Layout, fixed_layout, inode_limit, slot_of, slot_address, extra_slot, chain_of}
 use Rattle.nv_super.specs.Order.{Rises}
+use Rattle.nv_journal.specs.Chains.{IsLaid}
 use Rattle.nv_super.proofs.Ranges.{one_more}
 use Rattle.nv_super.proofs.Slots.{none_behind}
 use Rattle.nv_super.proofs.Rising.{Contains-cons, Contains-head, Contains-tail, below_first}
@@ -60,15 +61,14 @@ pub of_each : {A : Type 0} (P : A → Type 0) (xs : List A) → AllByRecursion P
 of_each P [] all x c = absurd (none_in x c)
 of_each {A} P (y ∷ xs) all x c = elim (Contains-cons y xs x c) [ inl w ↦ (let Q : A → Type 0 = λ z. P z in subst Q (sym w) all.0) | inr w ↦ of_each P xs all.1 x w ]
 
--- where every inode's number stands, its piece is found
-pieces_cover : (R : Region) (s : Super) (ps : List Piece) → IsLayout s → Rises piece_key ps → ((p : Piece) → Contains ps p → IsPiece R (fixed_layout s) p)
-    → ((i : ℕ) → 0 < i → i < inode_limit s → Contains (map (λ (p : Piece). p.inode) ps) i) → ArePieces R (fixed_layout s) ps
-pieces_cover R s ps layout rising each numbers = record {
+-- where each number that has a slot stands, its piece is found
+pieces_cover : (R : Region) (l : Layout) (ps : List Piece) → Rises piece_key ps → ((p : Piece) → Contains ps p → IsPiece R l p)
+    → ((i a : ℕ) → slot_of l i ≡ Some a → Contains (map (λ (p : Piece). p.inode) ps) i) → ArePieces R l ps
+pieces_cover R l ps rising each numbers = record {
   rising = rising;
   each = each;
   all = λ i a slot. (
-      let number = slot_number s i a layout slot in
-      let w = from_map (λ (p : Piece). p.inode) ps i (numbers i number.0 number.1) in
+      let w = from_map (λ (p : Piece). p.inode) ps i (numbers i a slot) in
       (w.0, w.1, sym w.2));
 }
 
@@ -93,8 +93,8 @@ rises_in_order (x ∷ y ∷ ps) a (suc (suc n)) e =
 -- The pieces of the inodes 1, 2, and so on up to the last are those of a region.
 pub pieces_in_order : (R : Region) (s : Super) (ps : List Piece) → IsLayout s → map (λ (p : Piece). p.inode) ps ≡ range_with_len 1 (inode_limit s - 1) → AllByRecursion (IsPiece R (fixed_layout s)) ps
     → ArePieces R (fixed_layout s) ps
-pieces_in_order R s ps layout order all = pieces_cover R s ps layout (rises_in_order ps 1 (inode_limit s - 1) order) (of_each (IsPiece R (fixed_layout s)) ps all)
-    (λ i some less. (let P : List ℕ → Type 0 = λ numbers. Contains numbers i in subst P (sym order) (in_range 1 (inode_limit s - 1) i some (omega (arith, some, less)))))
+pieces_in_order R s ps layout order all = pieces_cover R (fixed_layout s) ps (rises_in_order ps 1 (inode_limit s - 1) order) (of_each (IsPiece R (fixed_layout s)) ps all)
+    (λ i a slot. (let number = slot_number s i a layout slot in let P : List ℕ → Type 0 = λ numbers. Contains numbers i in subst P (sym order) (in_range 1 (inode_limit s - 1) i number.0 (omega (arith, number.0, number.1)))))
 
 -- The piece of the next inode keeps that order.
 pub one_more_in_order : (R : Region) (s : Super) (ps : List Piece) (p : Piece) (n : ℕ) → map (λ (p : Piece). p.inode) ps ≡ range_with_len 1 n → AllByRecursion (IsPiece R (fixed_layout s)) ps → p.inode ≡ n + 1 → IsPiece R (fixed_layout s) p
@@ -141,21 +141,21 @@ pub claims_permute : (ps qs : List Piece) → IsPermutation ps qs → IsPermutat
 claims_permute ps qs p = IsPermutation-sym (claims_in ps) (claims_in qs) (flat_map_permutation (λ (p : Piece). p.claims.items) ps qs p)
 
 -- Where each ticket stands once, the pieces of their inodes are those of the region, once they are sorted.
-pub tickets_cover : (R : Region) (s : Super) (tickets : List ℕ) (pieces sorted : List Piece) → IsLayout s → ArePiecesOf R s (numbers_in s tickets) pieces → ((t : ℕ) → times t tickets ≡ below t (ticket_count s))
-    → IsPermutation pieces sorted → IsSortedByKey (λ (p : Piece). p.inode) nat_cmp sorted → ArePieces R (fixed_layout s) sorted
-tickets_cover R s tickets pieces sorted layout are drawn moved up =
-    pieces_cover R s sorted layout (rises_once (λ (p : Piece). p.inode) sorted (IsNonDecreasingBy-from_sort (λ (p : Piece). p.inode) sorted up) most) each numbers where
-      each : (p : Piece) → Contains sorted p → IsPiece R (fixed_layout s) p
-      each p c = of_each (IsPiece R (fixed_layout s)) pieces are.each p (Contains-permutation sorted pieces p (IsPermutation-sym pieces sorted moved) c)
+pub tickets_cover : (R : Region) (l : Layout) (tickets : List ℕ) (pieces sorted : List Piece) → IsLaid l → ArePiecesOf R l (numbers_in l tickets) pieces → ((t : ℕ) → times t tickets ≡ below t (ticket_count l))
+    → IsPermutation pieces sorted → IsSortedByKey (λ (p : Piece). p.inode) nat_cmp sorted → ArePieces R l sorted
+tickets_cover R l tickets pieces sorted laid are drawn moved up =
+    pieces_cover R l sorted (rises_once (λ (p : Piece). p.inode) sorted (IsNonDecreasingBy-from_sort (λ (p : Piece). p.inode) sorted up) most) each numbers where
+      each : (p : Piece) → Contains sorted p → IsPiece R l p
+      each p c = of_each (IsPiece R l) pieces are.each p (Contains-permutation sorted pieces p (IsPermutation-sym pieces sorted moved) c)
 
       most : (i : ℕ) → count_by (λ (p : Piece). p.inode == i) sorted ≤ 1
       most i =
           let same : count_by (λ (p : Piece). p.inode == i) sorted ≡ count_by (λ (p : Piece). p.inode == i) pieces = sum_by-IsPermutation (λ (p : Piece). cond (p.inode == i) 1 0) pieces sorted moved in
-          let its : count_by (λ (p : Piece). p.inode == i) pieces ≡ times i (numbers_in s tickets) = count_inodes i pieces ∙ ap (times i) are.order in
-          let all = once s layout tickets drawn i in
+          let its : count_by (λ (p : Piece). p.inode == i) pieces ≡ times i (numbers_in l tickets) = count_inodes i pieces ∙ ap (times i) are.order in
+          let all = once l laid tickets drawn i in
           omega (arith, same, its, all)
 
-      numbers : (i : ℕ) → 0 < i → i < inode_limit s → Contains (map (λ (p : Piece). p.inode) sorted) i
-      numbers i some less =
-          let w = from_map (λ (p : Piece). p.inode) pieces i (subst (λ (l : List ℕ). Contains l i) (sym are.order) (stands s layout tickets drawn i some less)) in
+      numbers : (i a : ℕ) → slot_of l i ≡ Some a → Contains (map (λ (p : Piece). p.inode) sorted) i
+      numbers i a slot =
+          let w = from_map (λ (p : Piece). p.inode) pieces i (subst (λ (ns : List ℕ). Contains ns i) (sym are.order) (stands l laid tickets drawn i a slot)) in
           subst (λ j. Contains (map (λ (p : Piece). p.inode) sorted) j) (sym w.2) (into_map (λ (p : Piece). p.inode) sorted w.0 (Contains-permutation pieces sorted w.0 moved w.1))

@@ -1,5 +1,5 @@
 -- What holds of an error that is handed on, or made of another.
-use Rattle.std.proofs.Common.{◌≡◌, ◌≢◌, ℕ, List, inl, inr, sym, subst, true≢false, Result, Ok, Err, IfErr, IsTrue}
+use Rattle.std.proofs.Common.{◌≡◌, ◌≢◌, ℕ, List, inl, inr, sym, subst, true≢false, Result, Ok, Err, IfErr, IsTrue, refl}
 use Rattle.std.specs.Prelude.{IsErrAnd, ⊤}
 use Rattle.nv_region.specs.Region.{Region}
 use Rattle.nv_super.specs.Super.{IsSuper}
@@ -53,6 +53,10 @@ module _ {A : Type 0} (r : Result A RecoverError) (is : IsErrAnd r (λ x. x ≡ 
 
   pub memory_not_burnt : (X : Type 0) → IfErr r (λ e. e ≡ Stopped → X)
   memory_not_burnt X = handed r Memory (λ (e : RecoverError). e ≡ Stopped → X) is (λ stopped. absurd (goes_on Memory tt stopped))
+
+  -- before anything is stored
+  pub memory_stays : (workers : ℕ) (schedule : List ℕ) (old : Region) (s : Super) → IsSuper old s → IfErr r (λ e. Fails workers schedule e old old)
+  memory_stays workers schedule old s its = handed r Memory (λ (e : RecoverError). Fails workers schedule e old old) is (s, its, inl refl)
 
   -- once the journals are rolled back
   pub memory_fails : (workers : ℕ) (schedule : List ℕ) (old new : Region) (s : Super) → IsSuper old s → new ≡ undone s old → IfErr r (λ e. Fails workers schedule e old new)

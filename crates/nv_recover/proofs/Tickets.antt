@@ -1,15 +1,18 @@
 -- The tickets, one after another.
-use Rattle.std.proofs.Common.{◌≡◌, ℕ, ◌+◌, List, [], ◌∷◌, ◌++◌, length, ap, sym, ◌∙◌, subst, append-nil, arith}
+use Rattle.std.proofs.Common.{◌≡◌, ◌<◌, ◌≤◌, ℕ, ◌+◌, ◌*◌, List, [], ◌∷◌, ◌++◌, length, ap, sym, ◌∙◌, subst, append-nil, arith}
 use Rattle.std.specs.Prelude.{Vec}
 use Rattle.std.specs.declared.alloc.Global.{Global}
 use Rattle.std.specs.List.{range_with_len}
+use Rattle.std.proofs.Math.Nat.{mul-le-mul, one-le-mul}
 use Rattle.std.proofs.lemmas.Grind.{flat_map-append}
 use Rattle.std.proofs.lemmas.List.{length-append}
 use Rattle.nv_region.specs.Region.{Region}
 use Rattle.nv_super.proofs.Ranges.{one_more}
 use Rattle.nv_super.specs.declared.superblock.Super.{Super}
+use Rattle.nv_super.specs.Layout.{IsLayout, fixed_layout}
+use Rattle.nv_inode.proofs.FixedLayout.{fixed_long}
 use Rattle.nv_super.specs.declared.owners.Owner.{Owner}
-use Rattle.nv_scan.specs.Tickets.{numbers_of}
+use Rattle.nv_scan.specs.Tickets.{numbers_of, ticket_count}
 use Rattle.nv_scan.specs.Work.{numbers_in, ArePiecesOf, AreNext}
 use Rattle.nv_scan.proofs.Work.{behind, claims_join, rows_join, faults_join, pieces_none, pieces_join}
 use Rattle.nv_outcome.specs.Parts.{rows_in, faults_in}
@@ -17,23 +20,31 @@ use Rattle.nv_scan.specs.declared.inodes.Inodes.{Inodes}
 use Rattle.nv_scan.specs.declared.piece.Piece.{Piece}
 use Rattle.nv_recover.specs.Scanned.{AreFirst, AreOfTickets, all_claims}
 
+-- ---- how many there are
+
+pub tickets_some : (s : Super) → IsLayout s → 0 < ticket_count (fixed_layout s)
+tickets_some s layout = let all = fixed_long s in let some = one-le-mul layout.cpus_from layout.tables_from in omega (arith, all, some)
+
+pub tickets_few : (s : Super) → IsLayout s → ticket_count (fixed_layout s) ≤ 4096
+tickets_few s layout = let all = fixed_long s in let most : s.cpus * s.table_blocks ≤ 64 * 64 = mul-le-mul layout.areas.cpus_to layout.areas.tables_to in omega (arith, all, most)
+
 module _ {R : Region} {s : Super} where
   -- ---- the inodes of the tickets
 
   pub first_none : {x : Inodes} → x.rows.items ≡ [] → x.faults.items ≡ [] → AreFirst R s 0 [] x
   first_none rows faults = record { are = pieces_none; rows = rows; faults = faults }
 
-  pub first_more : (t : ℕ) (ps : List Piece) {old new : Inodes} {claims : List (ℕ × Owner)} → AreFirst R s t ps old → (next : AreNext R s (numbers_of s t) old new claims) → AreFirst R s (t + 1) (ps ++ next.pieces) new
+  pub first_more : (t : ℕ) (ps : List Piece) {old new : Inodes} {claims : List (ℕ × Owner)} → AreFirst R s t ps old → (next : AreNext R (fixed_layout s) (numbers_of (fixed_layout s) t) old new claims) → AreFirst R s (t + 1) (ps ++ next.pieces) new
   first_more t ps {old} {new} first next = record {
-    are = subst (λ (ns : List ℕ). ArePiecesOf R s ns (ps ++ next.pieces)) numbers (pieces_join first.are next.are);
+    are = subst (λ (ns : List ℕ). ArePiecesOf R (fixed_layout s) ns (ps ++ next.pieces)) numbers (pieces_join first.are next.are);
     rows = behind [] (rows_in ps) (rows_in next.pieces) first.rows next.rows (rows_join ps next.pieces);
     faults = behind [] (faults_in ps) (faults_in next.pieces) first.faults next.faults (faults_join ps next.pieces);
   } where
-    numbers : numbers_in s (range_with_len 0 t) ++ numbers_of s t ≡ numbers_in s (range_with_len 0 (t + 1))
+    numbers : numbers_in (fixed_layout s) (range_with_len 0 t) ++ numbers_of (fixed_layout s) t ≡ numbers_in (fixed_layout s) (range_with_len 0 (t + 1))
     numbers =
-        let last : numbers_of s (0 + t) ++ [] ≡ numbers_of s t = append-nil (numbers_of s (0 + t)) ∙ ap (numbers_of s) (omega arith) in
-        let joined = flat_map-append (numbers_of s) (range_with_len 0 t) ((0 + t) ∷ []) ∙ ap (λ (ns : List ℕ). numbers_in s (range_with_len 0 t) ++ ns) last in
-        sym joined ∙ ap (numbers_in s) (one_more 0 t)
+        let last : numbers_of (fixed_layout s) (0 + t) ++ [] ≡ numbers_of (fixed_layout s) t = append-nil (numbers_of (fixed_layout s) (0 + t)) ∙ ap (numbers_of (fixed_layout s)) (omega arith) in
+        let joined = flat_map-append (numbers_of (fixed_layout s)) (range_with_len 0 t) ((0 + t) ∷ []) ∙ ap (λ (ns : List ℕ). numbers_in (fixed_layout s) (range_with_len 0 t) ++ ns) last in
+        sym joined ∙ ap (numbers_in (fixed_layout s)) (one_more 0 t)
 
   -- ---- and a list of claims for each
 
@@ -41,7 +52,7 @@ module _ {R : Region} {s : Super} where
   tickets_none rows faults none = record { pieces = []; first = first_none rows faults; lists_are = ap length none; claims_are = ap all_claims none }
 
   pub tickets_more : (t : ℕ) {old new : Inodes} {work all : List (Vec (ℕ × Owner) Global)} (list : Vec (ℕ × Owner) Global) → AreOfTickets R s t old work
-      → AreNext R s (numbers_of s t) old new list.items → all ≡ work ++ list ∷ [] → AreOfTickets R s (t + 1) new all
+      → AreNext R (fixed_layout s) (numbers_of (fixed_layout s) t) old new list.items → all ≡ work ++ list ∷ [] → AreOfTickets R s (t + 1) new all
   tickets_more t {old} {new} {work} {all} list so_far next is = record {
     pieces = so_far.pieces ++ next.pieces;
     first = first_more t so_far.pieces so_far.first next;

@@ -39,7 +39,7 @@ all_claims lists = flat_map (λ (v : Vec (ℕ × Owner) Global). v.items) lists
 
 -- The pieces are those of the inodes of the first tickets, so many; kept are their rows and their faults.
 pub record AreFirst (R : Region) (s : Super) (tickets : ℕ) (pieces : List Piece) (x : Inodes) : Type 0 where
-  pub are : ArePiecesOf R s (numbers_in s (range_with_len 0 tickets)) pieces
+  pub are : ArePiecesOf R (fixed_layout s) (numbers_in (fixed_layout s) (range_with_len 0 tickets)) pieces
   pub rows : x.rows.items ≡ rows_in pieces
   pub faults : x.faults.items ≡ faults_in pieces
 

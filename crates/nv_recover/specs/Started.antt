@@ -1,17 +1,18 @@
 -- What is known once the journals are rolled back.
 use Rattle.std.specs.Prelude.{◌≡◌}
 use Rattle.nv_region.specs.Region.{Region, HasBlocks}
-use Rattle.nv_super.specs.Layout.{IsLayout}
+use Rattle.nv_super.specs.Layout.{IsLayout, fixed_layout}
 use Rattle.nv_super.specs.Order.{fault_key, Lists}
 use Rattle.nv_super.specs.Super.{IsSuper}
 use Rattle.nv_journal.specs.Undo.{undone}
 use Rattle.nv_journal.specs.Faults.{HasFault}
 use Rattle.nv_recover.specs.declared.starting.Started.{Started}
 
--- The superblock of the old region and the faults of its journals; the new one is the old with its journals rolled back.
+-- The superblock of the old region, its tables, which have no chains, and the faults of its journals; the new one is the old with its journals rolled back.
 pub record IsStarted (old new : Region) (o : Started) : Type 0 where
   pub sup : IsSuper old o.sup
   pub layout : IsLayout o.sup
+  pub tables : o.tables.layout ≡ fixed_layout o.sup
   pub rolled_back : new ≡ undone o.sup old
   pub blocks : HasBlocks new o.sup.blocks
   pub in_journals : Lists fault_key (HasFault o.sup old) o.journal.items

@@ -5,7 +5,7 @@ ghost use Rattle.nv_region.specs.Region.{HasBlocks};
 ghost use Rattle.nv_region.specs.Fuses.{KeepsFuse};
 ghost use Rattle.nv_region.specs.Stops.{LeavesOnly, NothingPending};
 ghost use Rattle.nv_region.specs.Stored.{StoresOnly};
-ghost use Rattle.nv_super.specs.Layout.{IsLayout, system_blocks};
+ghost use Rattle.nv_super.specs.Layout.{IsLayout, fixed_layout, system_blocks};
 ghost use Rattle.nv_super.specs.Super.{IsSuper};
 ghost use Rattle.nv_super.specs.declared.superblock.Super.{Super as SuperValue};
 ghost use Rattle.nv_journal.specs.Undo.{undone};
@@ -25,6 +25,7 @@ use crate::finishing::finish;
 use crate::scanned::Scanned;
 use crate::sets::Sets;
 use crate::starting::start;
+use nv_inode::Tables;
 use nv_numbered::Chunks;
 use nv_outcome::{Recovered, cross_faults};
 use nv_region::Pmem;
@@ -69,17 +70,23 @@ pub fn recover_one<P: Pmem>(alloc: Global, memory: &mut P) -> Result<Recovered, 
     ensures any_stop { (s : SuperValue) → IsSuper (P.region memory.old) s → NothingPending (P.region memory.old) (P.may_hold memory.old) → LeavesOnly (P.region memory.new) (P.may_hold memory.new) (UndoesAsBefore (P.region memory.old)) }
 {
     let started = start(alloc, memory)?;
-    let scanned = scan_all(alloc, &*memory, &started.sup)?;
+    let scanned = scan_all(alloc, &*memory, &started.sup, &started.tables)?;
     Ok(finish(alloc, started, scanned)?)
 }
 
 // Scans all inodes. No list of all their claims is kept.
-fn scan_all<P: Pmem>(alloc: Global, memory: &P, sup: &Super) -> Result<Scanned, AllocError>
+fn scan_all<P: Pmem>(
+    alloc: Global,
+    memory: &P,
+    sup: &Super,
+    tables: &Tables,
+) -> Result<Scanned, AllocError>
     requires layout { IsLayout sup.now }
+    requires tables { tables.now.layout ≡ fixed_layout sup.now }
     requires blocks { HasBlocks (P.region memory.now) sup.now.blocks }
     ensures { IfOk result (IsScanned (P.region memory.now) sup.now) }
 {
-    let (inodes, sets) = scan_tickets(alloc, memory, sup)?;
+    let (inodes, sets) = scan_tickets(alloc, memory, sup, tables)?;
     let owned = sets.owned(alloc, sup, inodes.rows.as_rows())?;
     let cross = cross_faults(alloc, sup, &inodes.rows)?;
     Ok(Scanned {
@@ -94,8 +101,10 @@ fn scan_tickets<P: Pmem>(
     alloc: Global,
     memory: &P,
     sup: &Super,
+    tables: &Tables,
 ) -> Result<(ListedInodes, Sets), AllocError>
     requires layout { IsLayout sup.now }
+    requires tables { tables.now.layout ≡ fixed_layout sup.now }
     requires blocks { HasBlocks (P.region memory.now) sup.now.blocks }
     ensures { IfOk result (λ r. (pieces drawn : List Piece) × AreInodes (P.region memory.now) sup.now pieces r.0 × IsPermutation (claims_in pieces) (claims_in drawn) × AreSetsOf (P.region memory.now) sup.now drawn r.0.rows.items r.1.first.items r.1.second.items) }
 {
@@ -104,8 +113,8 @@ fn scan_tickets<P: Pmem>(
     let mut heads = Chunks::new(alloc);
     let mut each = room_for_ticket(alloc)?;
     let mut sets = Sets::new(alloc, sup)?;
-    for ticket in 0..ticket_count(sup) {
-        let count = scan_slots(memory, &mut scanner, &mut inodes, &mut each, ticket)?;
+    for ticket in 0..ticket_count(tables) {
+        let count = scan_slots(memory, tables, &mut scanner, &mut inodes, &mut each, ticket)?;
         push_heads(&mut heads, &inodes.rows)?;
         sets.claim_each(&each[..count]);
     }

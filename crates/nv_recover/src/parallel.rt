@@ -5,7 +5,7 @@ ghost use Rattle.nv_region.specs.Region.{HasBlocks};
 ghost use Rattle.nv_region.specs.Fuses.{KeepsFuse};
 ghost use Rattle.nv_region.specs.Stops.{LeavesOnly, NothingPending};
 ghost use Rattle.nv_region.specs.Stored.{StoresOnly};
-ghost use Rattle.nv_super.specs.Layout.{IsLayout, system_blocks};
+ghost use Rattle.nv_super.specs.Layout.{IsLayout, fixed_layout, system_blocks};
 ghost use Rattle.nv_super.specs.Super.{IsSuper};
 ghost use Rattle.nv_super.specs.declared.superblock.Super.{Super as SuperValue};
 ghost use Rattle.nv_journal.specs.Undo.{undone};
@@ -23,6 +23,7 @@ use crate::scanned::Scanned;
 use crate::sets::owned_of;
 use crate::starting::{is_worker_count, start};
 use crate::workers::scan_by_workers;
+use nv_inode::Tables;
 use nv_outcome::{Recovered, cross_faults};
 use nv_region::Pmem;
 use nv_scan::Gate;
@@ -70,7 +71,15 @@ pub fn recover<P: Pmem + Sync, G: Gate + Sync, H: Threads + Sync>(
         return Err(RecoverError::Workers);
     }
     let started = start(alloc, memory)?;
-    let scanned = scan_on_threads(rt, alloc, &*memory, &started.sup, workers, gate)?;
+    let scanned = scan_on_threads(
+        rt,
+        alloc,
+        &*memory,
+        &started.sup,
+        &started.tables,
+        workers,
+        gate,
+    )?;
     Ok(finish(alloc, started, scanned)?)
 }
 
@@ -80,15 +89,17 @@ fn scan_on_threads<P: Pmem + Sync, G: Gate + Sync, H: Threads + Sync>(
     alloc: Global,
     memory: &P,
     sup: &Super,
+    tables: &Tables,
     workers: u64,
     gate: &G,
 ) -> Result<Scanned, AllocError>
     requires layout { IsLayout sup.now }
+    requires tables { tables.now.layout ≡ fixed_layout sup.now }
     requires blocks { HasBlocks (P.region memory.now) sup.now.blocks }
     requires workers { (0 < workers) × (workers ≤ 64) }
     ensures { IfOk result (IsScanned (P.region memory.now) sup.now) }
 {
-    let (inodes, claimed) = scan_by_workers(rt, alloc, memory, sup, workers, gate)?;
+    let (inodes, claimed) = scan_by_workers(rt, alloc, memory, sup, tables, workers, gate)?;
     let owned = owned_of(alloc, claimed)?;
     let cross = cross_faults(alloc, sup, &inodes.rows)?;
     Ok(Scanned {

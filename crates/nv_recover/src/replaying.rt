@@ -6,7 +6,7 @@ ghost use Rattle.nv_region.specs.Region.{HasBlocks};
 ghost use Rattle.nv_region.specs.Fuses.{KeepsFuse};
 ghost use Rattle.nv_region.specs.Stops.{LeavesOnly, NothingPending};
 ghost use Rattle.nv_region.specs.Stored.{StoresOnly};
-ghost use Rattle.nv_super.specs.Layout.{IsLayout, system_blocks};
+ghost use Rattle.nv_super.specs.Layout.{IsLayout, fixed_layout, system_blocks};
 ghost use Rattle.nv_super.specs.Super.{IsSuper};
 ghost use Rattle.nv_super.specs.declared.superblock.Super.{Super as SuperValue};
 ghost use Rattle.nv_journal.specs.Undo.{undone};
@@ -29,6 +29,7 @@ use crate::sets::owned_of;
 use crate::starting::{is_worker_count, start};
 use nv_claimcore::{ClaimState, CoreRefusal, replay};
 use nv_claimmap::{Claimed, ClaimedRuns};
+use nv_inode::Tables;
 use nv_numbered::Chunks;
 use nv_outcome::{Recovered, cross_faults};
 use nv_region::Pmem;
@@ -80,7 +81,14 @@ pub fn recover_replay<P: Pmem>(
         return Err(RecoverError::Schedule(place));
     }
     let started = start(alloc, memory)?;
-    let scanned = scan_by_schedule(alloc, &*memory, &started.sup, workers as u32, schedule)?;
+    let scanned = scan_by_schedule(
+        alloc,
+        &*memory,
+        &started.sup,
+        &started.tables,
+        workers as u32,
+        schedule,
+    )?;
     Ok(finish(alloc, started, scanned)?)
 }
 
@@ -89,16 +97,18 @@ fn scan_by_schedule<P: Pmem>(
     alloc: Global,
     memory: &P,
     sup: &Super,
+    tables: &Tables,
     workers: u32,
     schedule: &[u32],
 ) -> Result<Scanned, AllocError>
     requires layout { IsLayout sup.now }
+    requires tables { tables.now.layout ≡ fixed_layout sup.now }
     requires blocks { HasBlocks (P.region memory.now) sup.now.blocks }
     requires workers { 0 < workers }
     requires named { first_stranger workers schedule.now ≡ None }
     ensures { IfOk result (IsScanned (P.region memory.now) sup.now) }
 {
-    let (inodes, work, claims) = scan_apart(alloc, memory, sup)?;
+    let (inodes, work, claims) = scan_apart(alloc, memory, sup, tables)?;
     let claimed = claim_all(alloc, sup, workers, schedule, work, claims)?;
     let owned = owned_of(alloc, claimed)?;
     let cross = cross_faults(alloc, sup, &inodes.rows)?;
@@ -114,11 +124,13 @@ fn scan_apart<P: Pmem>(
     alloc: Global,
     memory: &P,
     sup: &Super,
+    tables: &Tables,
 ) -> Result<(ListedInodes, Vec<Vec<(u64, Owner)>>, ClaimedRuns), AllocError>
     requires layout { IsLayout sup.now }
+    requires tables { tables.now.layout ≡ fixed_layout sup.now }
     requires blocks { HasBlocks (P.region memory.now) sup.now.blocks }
     ensures inodes { IfOk result (λ r. (pieces : List PieceValue) × AreInodes (P.region memory.now) sup.now pieces r.0 × IsPermutation (claims_in pieces) (all_claims r.1.items)) }
-    ensures tickets { IfOk result (λ r. length r.1.items ≡ ticket_count sup.now) }
+    ensures tickets { IfOk result (λ r. length r.1.items ≡ ticket_count tables.now.layout) }
     ensures claims { IfOk result (λ r. r.2.items ≡ all_claims r.1.items) }
 {
     let mut scanner = Scanner::new(alloc, sup);
@@ -127,8 +139,8 @@ fn scan_apart<P: Pmem>(
     let mut each = room_for_ticket(alloc)?;
     let mut work = Vec::new(alloc);
     let mut claims = ClaimedRuns::new(alloc);
-    for ticket in 0..ticket_count(sup) {
-        let count = scan_slots(memory, &mut scanner, &mut inodes, &mut each, ticket)?;
+    for ticket in 0..ticket_count(tables) {
+        let count = scan_slots(memory, tables, &mut scanner, &mut inodes, &mut each, ticket)?;
         push_heads(&mut heads, &inodes.rows)?;
         let mut runs = runs_of(alloc, &each[..count])?;
         work.push(runs.to_list(alloc)?)?;

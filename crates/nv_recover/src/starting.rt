@@ -1,4 +1,5 @@
-//! How each recovery begins: the number of workers is tested, the superblock is read, and the journals are rolled back.
+//! How each recovery begins: the number of workers is tested, the superblock and the tables are read, and
+//! the journals are rolled back.
 
 ghost use Rattle.std.specs.Prelude.{◌≡◌, ◌*◌, ◌≢◌, ◌<◌, ◌≤◌, ℕ, List, IfOk, IfErr, IsTrue, false};
 ghost use Rattle.nv_region.specs.Fuses.{KeepsFuse};
@@ -14,15 +15,17 @@ ghost use Rattle.nv_recover.specs.Behind.{BehindSystem, RecoveryStores};
 ghost use Rattle.nv_recover.specs.Started.{IsStarted};
 
 use crate::errors::{MOST_WORKERS, RecoverError};
-use nv_journal::undo;
+use nv_inode::{Tables, read_tables};
+use nv_journal::undo_by;
 use nv_region::Pmem;
 use nv_super::{Fault, Super, read_super};
 use std::alloc::Global;
 
-/// The superblock's numbers, and what is wrong with the journals as the region came.
+/// The superblock's numbers, the tables, and what is wrong with the journals as the region came.
 #[derive(Drop)]
 pub(crate) struct Started {
     pub sup: Super,
+    pub tables: Tables,
     pub journal: Vec<Fault>,
 }
 
@@ -35,7 +38,8 @@ pub(crate) fn is_worker_count(workers: u64) -> bool
     (1..=MOST_WORKERS).contains(&workers)
 }
 
-/// Reads the superblock and rolls the journals back. What comes after it only reads.
+/// Reads the superblock and the tables, and rolls the journals back, which leaves the tables as they are. What comes after
+/// it only reads.
 pub(crate) fn start<P: Pmem>(alloc: Global, memory: &mut P) -> Result<Started, RecoverError>
     ensures ok { IfOk result (λ started. IsStarted (P.region memory.old) (P.region memory.new) started) }
     // With nothing to roll back, the memory is as before, and it isn't stopped.
@@ -54,6 +58,11 @@ pub(crate) fn start<P: Pmem>(alloc: Global, memory: &mut P) -> Result<Started, R
     ensures any_stop { (s : SuperValue) → IsSuper (P.region memory.old) s → NothingPending (P.region memory.old) (P.may_hold memory.old) → LeavesOnly (P.region memory.new) (P.may_hold memory.new) (UndoesAsBefore (P.region memory.old)) }
 {
     let sup = read_super(memory)?;
-    let journal = undo(alloc, memory, &sup)?;
-    Ok(Started { sup, journal })
+    let tables = read_tables(alloc, memory, &sup)?;
+    let journal = undo_by(alloc, memory, &sup, &tables)?;
+    Ok(Started {
+        sup,
+        tables,
+        journal,
+    })
 }

@@ -3,7 +3,7 @@
 ghost use Rattle.std.specs.Prelude.{◌≡◌, ◌<◌, ◌≤◌, ◌++◌, List, IfOk, OnOk, false, vec_len};
 ghost use Rattle.std.specs.List.{All};
 ghost use Rattle.nv_region.specs.Region.{HasBlocks};
-ghost use Rattle.nv_super.specs.Layout.{IsLayout};
+ghost use Rattle.nv_super.specs.Layout.{IsLayout, fixed_layout};
 ghost use Rattle.nv_claimcore.specs.Claims.{nothing, both_views};
 ghost use Rattle.nv_claimmap.specs.Held.{Held};
 ghost use Rattle.nv_numbered.specs.Chunked.{by_chunks};
@@ -15,6 +15,7 @@ ghost use Rattle.nv_recover.specs.Workers.{IsBrought};
 
 use nv_claimcore::Sizes;
 use nv_claimmap::{ClaimMap, ClaimSeat, Claimed};
+use nv_inode::Tables;
 use nv_region::Pmem;
 use nv_scan::{Gate, ListedInodes, WorkerResult, ticket_count, worker};
 use nv_super::Super;
@@ -29,22 +30,24 @@ pub(crate) fn scan_by_workers<P: Pmem + Sync, G: Gate + Sync, H: Threads + Sync>
     alloc: Global,
     memory: &P,
     sup: &Super,
+    tables: &Tables,
     workers: u64,
     gate: &G,
 ) -> Result<(ListedInodes, Claimed), AllocError>
     requires layout { IsLayout sup.now }
+    requires tables { tables.now.layout ≡ fixed_layout sup.now }
     requires blocks { HasBlocks (P.region memory.now) sup.now.blocks }
     requires workers { (0 < workers) × (workers ≤ 64) }
     ensures { IfOk result (λ r. (pieces : List PieceValue) × AreInodes (P.region memory.now) sup.now pieces r.0 × AreClaimed sup.now pieces r.1) }
 {
-    let tickets = ticket_count(sup);
+    let tickets = ticket_count(tables);
     let sizes = Sizes {
         blocks: sup.blocks,
         tickets,
         workers: workers.min(tickets),
     };
     let (map, seats) = ClaimMap::open(alloc, sizes)?;
-    let brought = work_all(rt, alloc, memory, sup, &map, seats, gate)?;
+    let brought = work_all(rt, alloc, memory, tables, &map, seats, gate)?;
     Ok((brought.inodes, map.close(brought.seat)))
 }
 
@@ -53,27 +56,26 @@ fn work_all<P: Pmem + Sync, G: Gate + Sync, H: Threads + Sync>(
     rt: &H,
     alloc: Global,
     memory: &P,
-    sup: &Super,
+    tables: &Tables,
     map: &ClaimMap,
     seats: Vec<ClaimSeat>,
     gate: &G,
 ) -> Result<Brought, AllocError>
-    requires layout { IsLayout sup.now }
-    requires blocks { HasBlocks (P.region memory.now) sup.now.blocks }
-    requires sizes { (map.now.sizes.blocks ≡ sup.now.blocks) × (map.now.sizes.tickets ≡ ticket_count sup.now) }
+    requires blocks { HasBlocks (P.region memory.now) tables.now.layout.sup.blocks }
+    requires sizes { (map.now.sizes.blocks ≡ tables.now.layout.sup.blocks) × (map.now.sizes.tickets ≡ ticket_count tables.now.layout) }
     requires some { 0 < vec_len seats }
     requires fresh { All (λ (h : Held). (h.map ≡ map.now) × (h.view ≡ nothing 1)) seats.items }
-    ensures { IfOk result (IsBrought (P.region memory.now) sup.now map.now (vec_len seats)) }
+    ensures { IfOk result (IsBrought (P.region memory.now) tables.now.layout map.now (vec_len seats)) }
 {
     let results = thread::map_vec(
         rt,
         seats,
         &|seat: ClaimSeat| -> WorkerResult
-            requires { (seat.map ≡ map.now) × (seat.view ≡ nothing 1) × (map.now.sizes.blocks ≡ sup.now.blocks) × (map.now.sizes.tickets ≡ ticket_count sup.now) × IsLayout sup.now × HasBlocks (P.region memory.now) sup.now.blocks }
-            ensures { Returned (P.region memory.entry.now) sup.entry.now map.entry.now result }
-        { worker(alloc, memory, sup, map, seat, gate) },
+            requires { (seat.map ≡ map.now) × (seat.view ≡ nothing 1) × (map.now.sizes.blocks ≡ tables.now.layout.sup.blocks) × (map.now.sizes.tickets ≡ ticket_count tables.now.layout) × HasBlocks (P.region memory.now) tables.now.layout.sup.blocks }
+            ensures { Returned (P.region memory.entry.now) tables.entry.now.layout map.entry.now result }
+        { worker(alloc, memory, tables, map, seat, gate) },
     )?;
-    join_all(memory, sup, map, results)
+    join_all(memory, tables, map, results)
 }
 
 /// What all workers brought: the seat that was joined of theirs, and their inodes, the rows in no order.
@@ -86,13 +88,13 @@ pub(crate) struct Brought {
 // Joins the seats, and puts what was scanned together.
 fn join_all<P: Pmem>(
     _memory: &P,
-    _sup: &Super,
+    _tables: &Tables,
     map: &ClaimMap,
     mut results: Vec<WorkerResult>,
 ) -> Result<Brought, AllocError>
     requires some { 0 < vec_len results }
-    requires each { All (Returned (P.region _memory.now) _sup.now map.now) results.items }
-    ensures { IfOk result (IsBrought (P.region _memory.now) _sup.now map.now (vec_len results)) }
+    requires each { All (Returned (P.region _memory.now) _tables.now.layout map.now) results.items }
+    ensures { IfOk result (IsBrought (P.region _memory.now) _tables.now.layout map.now (vec_len results)) }
 {
     let Some(first) = results.pop() else {
         unreachable!()

@@ -9,12 +9,10 @@ use Rattle.nv_blockset.specs.BlockSet.{has, with_block, words_for}
 use Rattle.nv_blockset.specs.WordRuns.{without_block}
 use Rattle.nv_blockset.proofs.Sets.{has_same, has_other, has_none, with_block_long}
 use Rattle.nv_blockset.proofs.TakenOut.{without_same, without_other, without_long}
-use Rattle.nv_inode.proofs.Places.{place_below}
+use Rattle.nv_inode.proofs.Places.{one_place, place_below}
 use Rattle.nv_super.specs.declared.superblock.Super.{Super}
 use Rattle.nv_super.specs.Layout.{IsLayout, inode_limit}
 use Rattle.nv_scan.specs.declared.piece.Row.{Row}
-use Rattle.nv_scan.specs.Tickets.{number_at}
-use Rattle.nv_scan.proofs.Places.{number_place}
 use Rattle.nv_numbered.specs.Values.{AreNumbersBelow}
 use Rattle.nv_rows.specs.InUse.{place_of, used_at, HasUsed, TellsUsed}
 use Rattle.nv_rows.specs.Rows.{inodes_of}
@@ -36,8 +34,7 @@ below_front limit numbers n given le k inside =
 module _ (s : Super) (layout : IsLayout s) where
   -- numbers have places of their own
   pub apart : (i j : ℕ) → i < inode_limit s → j < inode_limit s → i ≢ j → place_of s i ≢ place_of s j
-  apart i j i_below j_below differ same =
-      differ (sym (number_place s layout i i_below) ∙ ap (number_at s) same ∙ number_place s layout j j_below)
+  apart i j i_below j_below differ same = differ (one_place s i j layout i_below j_below same)
 
   -- each place has its word
   pub word_there : (used : List ℕ) (i : ℕ) → inode_limit s ≤ 64 * length used → i < inode_limit s → place_of s i / 64 < length used

@@ -1,19 +1,23 @@
--- The tickets' inodes: where each ticket stands once, so does each number of an inode.
-use Rattle.std.proofs.Common.{◌≡◌, ℕ, zero, suc, ◌+◌, ◌*◌, ◌/◌, ◌<◌, ◌≤◌, ◌==◌, nat_lt, inl, inr, Bool, true, false, cond, IsTrue, List, [], ◌∷◌, ◌++◌, map, refl, ap, sym, ◌∙◌, subst, arith, eqb-true, eq-eqb}
+-- The tickets' inodes: where each ticket stands once, so does each number that has a slot.
+use Rattle.std.proofs.Common.{◌≡◌, ◌≢◌, ℕ, zero, suc, ◌+◌, ◌-◌, ◌*◌, ◌/◌, ◌<◌, ◌≤◌, ◌==◌, nat_lt, inl, inr, Bool, true, false, cond, Option, Some, None, List, [], ◌∷◌, ◌++◌, map, refl, ap, sym, ◌∙◌, subst, arith, eqb-true, eq-eqb}
 use Rattle.std.specs.List.{Contains, count_by, filter, range_with_len}
 use Rattle.std.proofs.lemmas.Bool.{cases_lt, cases_eq}
 use Rattle.std.proofs.lemmas.Bool.Decides.{nat_tests}
 use Rattle.std.proofs.lemmas.List.Sums.{sum_by-cons, sum_by-append}
-use Rattle.nv_super.specs.declared.superblock.Super.{Super}
-use Rattle.nv_super.specs.Layout.{IsLayout, inode_limit, is_number}
-use Rattle.nv_super.proofs.Members.{none_in, into_map, into_flat}
+use Rattle.std.specs.Prelude.{slice_get}
+use Rattle.std.proofs.lemmas.Nat.{div-mul-add}
+use Rattle.std.proofs.lemmas.Option.{slice_get-get_or}
+use Rattle.nv_super.specs.Layout.{Layout, slot_of}
+use Rattle.nv_super.proofs.Members.{none_in, into_map, from_map, into_flat, from_flat}
 use Rattle.nv_super.proofs.Rising.{Contains-cons, Contains-head, Contains-tail}
-use Rattle.nv_inode.proofs.Places.{place, place_below}
-use Rattle.nv_inode.proofs.Slots.{number_above, number_below}
+use Rattle.nv_inode.specs.declared.blocks.SlotBlock.{SlotBlock}
+use Rattle.nv_inode.specs.Chains.{IsLaid}
+use Rattle.nv_inode.specs.SlotBlocks.{slot_blocks, IsIn}
+use Rattle.nv_inode.proofs.BlocksOfSlots.{block_found}
+use Rattle.nv_inode.proofs.TicketsOnce.{tickets_once}
 use Rattle.nv_claimmap.specs.nv_claimcore.Claims.{times, below}
-use Rattle.nv_scan.specs.Tickets.{ticket_count, number_at, numbers_of}
+use Rattle.nv_scan.specs.Tickets.{ticket_count, number_in, numbers_to, numbers_by, numbers_of}
 use Rattle.nv_scan.specs.Work.{tickets_among, numbers_in}
-use Rattle.nv_scan.proofs.Places.{place_number, number_place}
 
 -- ---- how often a number stands in a list
 
@@ -117,61 +121,117 @@ all_times tickets t = let all = range_times t 0 tickets in omega (arith, all)
 
 -- ---- their inodes
 
-module _ (s : Super) (layout : IsLayout s) where
-  -- the ticket of an inode
-  abbrev pub ticket_of : ℕ → ℕ
-  ticket_of i = place s i / 32
+-- the number in a slot of a ticket's block of slots stands among the ticket's numbers
+pub number_there : (l : Layout) (t j : ℕ) (x : SlotBlock) → slice_get (slot_blocks l) t ≡ Some x → j < x.slots → number_in l x j ≢ 0 → Contains (numbers_of l t) (number_in l x j)
+unfolding numbers_of
+number_there l t j x at less some = subst (λ (o : Option SlotBlock). Contains (numbers_by l o) (number_in l x j)) (sym at) kept where
+  in_range : Contains (range_with_len 0 x.slots) j
+  in_range = some_stands j (range_with_len 0 x.slots) (let all = all_times x.slots j in omega (arith, all, less))
 
-  -- an inode stands in its own ticket's table block, once, and in no other
-  numbers_times : (i t : ℕ) → t < ticket_count s → times i (numbers_of s t) ≤ cond {A = ℕ} (t == ticket_of i) 1 0
+  there : 0 < times (number_in l x j) (map (number_in l x) (range_with_len 0 x.slots))
+  there = stands_some (number_in l x j) (map (number_in l x) (range_with_len 0 x.slots)) (into_map (number_in l x) (range_with_len 0 x.slots) j in_range)
+
+  passes : nat_lt 0 (number_in l x j) ≡ true
+  passes = grind (arith, nat_tests, some)
+
+  kept : Contains (numbers_to l x x.slots) (number_in l x j)
+  kept = some_stands (number_in l x j) (numbers_to l x x.slots) (let same = as_often (number_in l x j) (λ n. nat_lt 0 n) (map (number_in l x) (range_with_len 0 x.slots)) passes in let all = there in omega (arith, same, all))
+
+-- and each of its numbers is in a slot
+in_slot : (l : Layout) (x : SlotBlock) (i : ℕ) → Contains (numbers_to l x x.slots) i → (j : ℕ) × IsIn l x j i
+in_slot l x i c = at (from_map (number_in l x) (range_with_len 0 x.slots) i (some_stands i (map (number_in l x) (range_with_len 0 x.slots)) there)) where
+  there : 0 < times i (map (number_in l x) (range_with_len 0 x.slots))
+  there = let some = stands_some i (numbers_to l x x.slots) c in let less = fewer i (λ n. nat_lt 0 n) (map (number_in l x) (range_with_len 0 x.slots)) in omega (arith, some, less)
+
+  at : (j : ℕ) × Contains (range_with_len 0 x.slots) j × (i ≡ number_in l x j) → (j : ℕ) × IsIn l x j i
+  at (j, within, is) = (j, record { within = (let some = stands_some j (range_with_len 0 x.slots) within in let all = all_times x.slots j in omega (arith, some, all)); number = is })
+
+in_block : (l : Layout) (t i : ℕ) → Contains (numbers_of l t) i → (x : SlotBlock) × (slice_get (slot_blocks l) t ≡ Some x) × (j : ℕ) × IsIn l x j i
+unfolding numbers_of
+in_block l t i c = at (slice_get (slot_blocks l) t) refl c where
+  at : (o : Option SlotBlock) → slice_get (slot_blocks l) t ≡ o → Contains (numbers_by l o) i → (x : SlotBlock) × (slice_get (slot_blocks l) t ≡ Some x) × (j : ℕ) × IsIn l x j i
+  at None e c = absurd (none_in i c)
+  at (Some x) e c = let here = in_slot l x i c in (x, e, here.0, here.1)
+
+module _ (l : Layout) (laid : IsLaid l) where
+  cpus_some : 0 < l.sup.cpus
+  cpus_some = let from = laid.layout.cpus_from in omega (arith, from)
+
+  -- the slot of a number in a block of slots
+  abbrev slot_in : SlotBlock → ℕ → ℕ
+  slot_in x i = (i - x.first) / l.sup.cpus
+
+  slot_back : (x : SlotBlock) (j : ℕ) → slot_in x (number_in l x j) ≡ j
+  slot_back x j =
+      let rest : number_in l x j - x.first ≡ j * l.sup.cpus + 0 = omega arith in
+      ap (λ (n : ℕ). n / l.sup.cpus) rest ∙ div-mul-add j l.sup.cpus 0 cpus_some
+
+  -- a number stands in a block of slots once at most
+  once_in : (x : SlotBlock) (i : ℕ) → times i (numbers_to l x x.slots) ≤ 1
+  once_in x i =
+      let kept = fewer i (λ n. nat_lt 0 n) (map (number_in l x) (range_with_len 0 x.slots)) in
+      let slots = mapped_times (number_in l x) (slot_in x) x.slots (λ m less. slot_back x m) i 0 x.slots (omega arith) in
+      let all = all_times x.slots (slot_in x i) in
+      omega (arith, kept, slots, all)
+
+  once_of : (t i : ℕ) → times i (numbers_of l t) ≤ 1
   unfolding numbers_of
-  numbers_times i t low =
-      let kept = fewer i (λ n. nat_lt 0 n) (map (number_at s) (range_with_len (32 * t) 32)) in
-      let places = mapped_times (number_at s) (place s) (inode_limit s) (λ m less. place_number s layout m less) i (32 * t) 32 (omega (arith, low)) in
-      let range = range_times (place s i) (32 * t) 32 in
-      elim (cases_eq t (ticket_of i)) [
-        | inl is ↦ (let one = one_same t (ticket_of i) is in omega (arith, kept, places, range, one))
-        | inr other ↦ omega (arith, kept, places, range, other)
+  once_of t i = at (slice_get (slot_blocks l) t) where
+    at : (o : Option SlotBlock) → times i (numbers_by l o) ≤ 1
+    at None = omega arith
+    at (Some x) = once_in x i
+
+  -- and in that of one ticket
+  one_ticket : (t u i : ℕ) → Contains (numbers_of l t) i → Contains (numbers_of l u) i → t ≡ u
+  one_ticket t u i c d =
+      let here = in_block l t i c in
+      let there = in_block l u i d in
+      tickets_once l t u here.2 there.2 i here.0 there.0 laid here.1 there.1 here.3 there.3
+
+  not_of : (t u i : ℕ) → Contains (numbers_of l u) i → t ≢ u → times i (numbers_of l t) ≡ 0
+  not_of t u i c other = elim (cases_lt 0 (times i (numbers_of l t))) [
+    | inl some ↦ absurd (other (one_ticket t u i (some_stands i (numbers_of l t) some) c))
+    | inr none ↦ omega (arith, none)
+  ]
+
+  in_times : (u i : ℕ) (ts : List ℕ) → Contains (numbers_of l u) i → times i (numbers_in l ts) ≤ times u ts
+  in_times u i [] c = omega arith
+  in_times u i (t ∷ ts) c =
+      let both = count_append (λ j. j == i) (numbers_of l t) (numbers_in l ts) in
+      let rest = in_times u i ts c in
+      let all = count_cons (λ y. y == u) t ts in
+      elim (cases_eq t u) [
+        | inl is ↦ (let one = one_same t u is in let mine = once_of t i in omega (arith, both, mine, rest, all, one))
+        | inr other ↦ (let none = not_of t u i c other in omega (arith, both, none, rest, all))
       ]
 
-  in_times : (i : ℕ) (ts : List ℕ) → ((t : ℕ) → Contains ts t → t < ticket_count s) → times i (numbers_in s ts) ≤ times (ticket_of i) ts
-  in_times i [] low = omega arith
-  in_times i (t ∷ ts) low =
-      let both = count_append (λ j. j == i) (numbers_of s t) (numbers_in s ts) in
-      let mine = numbers_times i t (low t (Contains-head t ts)) in
-      let rest = in_times i ts (λ u c. low u (Contains-tail t ts u c)) in
-      let all = count_cons (λ y. y == ticket_of i) t ts in
-      omega (arith, both, mine, rest, all)
+  module _ (ts : List ℕ) (each : (t : ℕ) → times t ts ≡ below t (ticket_count l)) where
+    pub once : (i : ℕ) → times i (numbers_in l ts) ≤ 1
+    once i = elim (cases_lt 0 (times i (numbers_in l ts))) [
+      | inl some ↦ (
+          let w = from_flat (numbers_of l) ts i (some_stands i (numbers_in l ts) some) in
+          let most = in_times w.0 i ts w.2 in
+          let all = each w.0 in
+          omega (arith, most, all))
+      | inr none ↦ omega (arith, none)
+    ]
 
-  module _ (ts : List ℕ) (each : (t : ℕ) → times t ts ≡ below t (ticket_count s)) where
-    low : (t : ℕ) → Contains ts t → t < ticket_count s
-    low t c = let some = stands_some t ts c in let once = each t in omega (arith, some, once)
+    pub stands : (i a : ℕ) → slot_of l i ≡ Some a → Contains (numbers_in l ts) i
+    stands i a e = at (block_found l i a laid e) where
+      some : (n : ℕ) → slot_of l n ≡ Some a → n ≢ 0
+      some zero e = absurd (cc)
+      some (suc n) e = omega arith
 
-    pub once : (i : ℕ) → times i (numbers_in s ts) ≤ 1
-    once i = let most = in_times i ts low in let all = each (ticket_of i) in omega (arith, most, all)
+      at : (x : SlotBlock) × (j : ℕ) × Contains (slot_blocks l) x × IsIn l x j i × (a ≡ x.start + 128 * j) → Contains (numbers_in l ts) i
+      at (x, j, c, is, _) =
+          let there : slice_get (slot_blocks l) c.0 ≡ Some x = slice_get-get_or (slot_blocks l) c.0 x c.1 ∙ ap Some c.2 in
+          let above : number_in l x j ≢ 0 = subst (λ (n : ℕ). n ≢ 0) is.number (some i e) in
+          into_flat (numbers_of l) ts c.0 i (some_stands c.0 ts (let all = each c.0 in omega (arith, all, c.1))) (subst (Contains (numbers_of l c.0)) (sym is.number) (number_there l c.0 j x there is.within above))
 
-    pub stands : (i : ℕ) → 0 < i → i < inode_limit s → Contains (numbers_in s ts) i
-    unfolding numbers_of
-    stands i some less = into_flat (numbers_of s) ts (ticket_of i) i (some_stands (ticket_of i) ts (let all = each (ticket_of i) in omega (arith, all, here))) in_block where
-      there : place s i < inode_limit s
-      there = place_below s i layout less
-
-      here : ticket_of i < ticket_count s
-      here = omega (arith, there)
-
-      in_range : Contains (range_with_len (32 * ticket_of i) 32) (place s i)
-      in_range = some_stands (place s i) (range_with_len (32 * ticket_of i) 32) (let range = range_times (place s i) (32 * ticket_of i) 32 in omega (arith, range))
-
-      in_block : Contains (numbers_of s (ticket_of i)) i
-      in_block = some_stands i (numbers_of s (ticket_of i)) (
-          let kept = as_often i (λ n. nat_lt 0 n) (map (number_at s) (range_with_len (32 * ticket_of i) 32)) (grind (arith, nat_tests, some)) in
-          let mapped = subst (λ (j : ℕ). Contains (map (number_at s) (range_with_len (32 * ticket_of i) 32)) j) (number_place s layout i less) (into_map (number_at s) (range_with_len (32 * ticket_of i) 32) (place s i) in_range) in
-          let there = stands_some i (map (number_at s) (range_with_len (32 * ticket_of i) 32)) mapped in omega (arith, kept, there))
-
-  -- in the table blocks of all tickets each number of an inode stands once
-  pub each_once : (i : ℕ) → IsTrue (is_number s i) → times i (numbers_in s (range_with_len 0 (ticket_count s))) ≡ 1
-  each_once i number =
-      let ts = range_with_len 0 (ticket_count s) in
-      let most = once ts (all_times (ticket_count s)) i in
-      let some = stands_some i (numbers_in s ts) (stands ts (all_times (ticket_count s)) i (number_above s i number) (number_below s i number)) in
+  -- in the blocks of slots of all tickets each number that has a slot stands once
+  pub each_once : (i a : ℕ) → slot_of l i ≡ Some a → times i (numbers_in l (range_with_len 0 (ticket_count l))) ≡ 1
+  each_once i a e =
+      let ts = range_with_len 0 (ticket_count l) in
+      let most = once ts (all_times (ticket_count l)) i in
+      let some = stands_some i (numbers_in l ts) (stands ts (all_times (ticket_count l)) i a e) in
       omega (arith, most, some)

@@ -1,5 +1,5 @@
 -- What there is of each inode: its faults as a list, and its row, if it is in use.
-use Rattle.std.proofs.Common.{◌≡◌, ◌≢◌, ◌⊎◌, inl, inr, ◌==◌, nat_eq, ℕ, zero, suc, ◌+◌, ◌^◌, ◌<◌, ◌≤◌, Bool, true, false, cond, List, [], ◌∷◌, ◌++◌, map, length, Option, Some, None, IsTrue, refl, sym, ◌∙◌, ap, subst, append-nil, append_assoc, eqb-true, eq-eqb, arith}
+use Rattle.std.proofs.Common.{◌≡◌, ◌≢◌, ◌⊎◌, inl, inr, ◌==◌, nat_eq, ℕ, zero, suc, ◌+◌, ◌^◌, ◌<◌, ◌≤◌, Bool, true, false, cond, List, [], ◌∷◌, ◌++◌, map, length, Option, Some, None, refl, sym, ◌∙◌, ap, subst, append-nil, append_assoc, eqb-true, eq-eqb, arith}
 use Rattle.std.specs.Prelude.{Vec}
 use Rattle.std.specs.List.{Contains, cons_option}
 use Rattle.std.specs.Cmp.Lexicographic.{pointwise, nat_list_eq_equiv}
@@ -11,7 +11,7 @@ use Rattle.nv_super.specs.declared.superblock.Super.{Super}
 use Rattle.nv_super.specs.declared.kind.Kind.{Kind}
 use Rattle.nv_super.specs.declared.faults.Fault.{Fault}
 use Rattle.nv_super.specs.declared.faults.Fault.TheVariants as faults
-use Rattle.nv_super.specs.Layout.{Layout, IsLayout, is_number, slot_address, slot_of, fixed_layout}
+use Rattle.nv_super.specs.Layout.{Layout, slot_of}
 use Rattle.nv_super.proofs.Rising.{Contains-cons, Contains-head, Contains-tail}
 use Rattle.nv_super.proofs.Sorted.{same_keys}
 use Rattle.nv_super.proofs.Options.{some_is}
@@ -32,7 +32,7 @@ use Rattle.nv_scan.proofs.Blocks.{last_word-all, data_pages}
 use Rattle.nv_scan.proofs.EntryFaults.{fault_behind, found-more, found-none}
 use Rattle.nv_scan.proofs.InUse.{has_log}
 use Rattle.nv_scan.proofs.Only.{slot_in_use, kind_in_use}
-use Rattle.nv_scan.proofs.Pieces.{slot_is, faults_are, right_faults, wrong_faults, empty_piece}
+use Rattle.nv_scan.proofs.Pieces.{faults_are, right_faults, wrong_faults, empty_piece}
 
 -- ---- vectors
 
@@ -67,54 +67,50 @@ slot_of_fault (l3 {a = a} h e) = (a, slot_in_use h)
 slot_of_fault (l4 {a = a} h e) = (a, slot_in_use h)
 slot_of_fault (entry {a = a} h e) = (a, slot_in_use h)
 
-module _ (R : Region) (s : Super) (i : ℕ) (layout : IsLayout s) (number : IsTrue (is_number s i)) where
+module _ (R : Region) (l : Layout) (i a : ℕ) (here : slot_of l i ≡ Some a) where
   Found : Type 0
-  Found = (found : List Fault) × Has (IsFaultOf R (fixed_layout s) i) found
-
-  slot_here : slot_of (fixed_layout s) i ≡ Some (slot_address s i)
-  slot_here = slot_is s i layout number
+  Found = (found : List Fault) × Has (IsFaultOf R l i) found
 
   -- of an inode that isn't in use, by its valid word
-  of_unused : kind_at R (slot_address s i) ≡ None → (o : Option Fault) → ((f : Fault) → o ≡ Some f → IsFaultOf R (fixed_layout s) i f)
-      → (1 < word R (slot_address s i) → o ≡ Some (faults.I1 i)) → (word R (slot_address s i) ≡ 1 → o ≡ Some (faults.I2 i)) → Found
+  of_unused : kind_at R a ≡ None → (o : Option Fault) → ((f : Fault) → o ≡ Some f → IsFaultOf R l i f)
+      → (1 < word R a → o ≡ Some (faults.I1 i)) → (word R a ≡ 1 → o ≡ Some (faults.I2 i)) → Found
   unfolding Found
   of_unused no_kind o told one two =
       let small : length (cons_option o []) < 2 ^ 63 = few o in
       let p : Piece = record { inode = i; row = None; claims = record { items = [] }; faults = vec_of (cons_option o []) small } in
-      let is = empty_piece R s i o p layout number no_kind told one two (record { inode = refl; row = refl; claims = refl; faults = vec_items (cons_option o []) small }) in
-      (cons_option o [], subst (λ (fs : List Fault). Has (IsFaultOf R (fixed_layout s) i) fs) (vec_items (cons_option o []) small) is.faults.has) where
+      let is = empty_piece R l i a o p here no_kind told one two (record { inode = refl; row = refl; claims = refl; faults = vec_items (cons_option o []) small }) in
+      (cons_option o [], subst (λ (fs : List Fault). Has (IsFaultOf R l i) fs) (vec_items (cons_option o []) small) is.faults.has) where
         few : (o : Option Fault) → length (cons_option o []) < 2 ^ 63
         few None = omega arith
         few (Some f) = omega arith
 
-  unused_faults : kind_at R (slot_address s i) ≡ None → Found
-  unfolding slot_here
-  unused_faults no_kind = elim (cases_lt 1 (word R (slot_address s i))) [
-    | inl big ↦ of_unused no_kind (Some (faults.I1 i)) (λ f h. (let e : faults.I1 i ≡ f = cc in subst (IsFaultOf R (fixed_layout s) i) e (i1 slot_here big))) (λ _. refl) (λ one. absurd (omega (arith, one, big)))
-    | inr low ↦ elim (cases_eq (word R (slot_address s i)) 1) [
-      | inl one ↦ of_unused no_kind (Some (faults.I2 i)) (λ f h. (let e : faults.I2 i ≡ f = cc in subst (IsFaultOf R (fixed_layout s) i) e (i2 slot_here one no_kind))) (λ big. absurd (omega (arith, one, big))) (λ _. refl)
+  unused_faults : kind_at R a ≡ None → Found
+  unused_faults no_kind = elim (cases_lt 1 (word R a)) [
+    | inl big ↦ of_unused no_kind (Some (faults.I1 i)) (λ f h. (let e : faults.I1 i ≡ f = cc in subst (IsFaultOf R l i) e (i1 here big))) (λ _. refl) (λ one. absurd (omega (arith, one, big)))
+    | inr low ↦ elim (cases_eq (word R a) 1) [
+      | inl one ↦ of_unused no_kind (Some (faults.I2 i)) (λ f h. (let e : faults.I2 i ≡ f = cc in subst (IsFaultOf R l i) e (i2 here one no_kind))) (λ big. absurd (omega (arith, one, big))) (λ _. refl)
       | inr other ↦ of_unused no_kind None (λ f h. absurd (cc)) (λ big. absurd (omega (arith, low, big))) (λ one. absurd (other one))
     ]
   ]
 
   -- of an inode in use
-  used_faults : (kind : Kind) → kind_at R (slot_address s i) ≡ Some kind → Found
+  used_faults : (kind : Kind) → kind_at R a ≡ Some kind → Found
   unfolding Found
-  used_faults kind is_kind = by_test (is_right_log s (word R (slot_address s i + 16)) (word R (slot_address s i + 24))) refl where
-    by_test : (t : Bool) → is_right_log s (word R (slot_address s i + 16)) (word R (slot_address s i + 24)) ≡ t → (found : List Fault) × Has (IsFaultOf R (fixed_layout s) i) found
+  used_faults kind is_kind = by_test (is_right_log l.sup (word R (a + 16)) (word R (a + 24))) refl where
+    by_test : (t : Bool) → is_right_log l.sup (word R (a + 16)) (word R (a + 24)) ≡ t → (found : List Fault) × Has (IsFaultOf R l i) found
     by_test true t =
-        let h = has_log R (fixed_layout s) i (slot_address s i) kind slot_here is_kind in
-        let e = entry_faults s h.0.kind i [] h.0.entries [] (found-none s h.0.kind i) in
+        let h = has_log R l i a kind here is_kind in
+        let e = entry_faults l.sup h.0.kind i [] h.0.entries [] (found-none l.sup h.0.kind i) in
         (e.0 ++ cons_option (fault_of_end i h.0.fault) [], faults_are h.2 e.0 (fault_of_end i h.0.fault) (right_faults h.2 t) e.1)
     by_test false t =
-        let is : IsInode R (fixed_layout s) i (slot_address s i) (empty_log kind) = wrong slot_here is_kind t in
-        (faults.I3 i ∷ [], faults_are is [] (Some (faults.I3 i)) (wrong_faults is refl t) (found-none s kind i))
+        let is : IsInode R l i a (empty_log kind) = wrong here is_kind t in
+        (faults.I3 i ∷ [], faults_are is [] (Some (faults.I3 i)) (wrong_faults is refl t) (found-none l.sup kind i))
 
   -- The faults of an inode alone.
-  pub inode_faults : (found : List Fault) × Has (IsFaultOf R (fixed_layout s) i) found
+  pub inode_faults : (found : List Fault) × Has (IsFaultOf R l i) found
   unfolding Found
-  inode_faults = by_kind (kind_at R (slot_address s i)) refl where
-    by_kind : (o : Option Kind) → kind_at R (slot_address s i) ≡ o → (found : List Fault) × Has (IsFaultOf R (fixed_layout s) i) found
+  inode_faults = by_kind (kind_at R a) refl where
+    by_kind : (o : Option Kind) → kind_at R a ≡ o → (found : List Fault) × Has (IsFaultOf R l i) found
     by_kind None k = unused_faults k
     by_kind (Some kind) k = used_faults kind k
 
@@ -271,14 +267,14 @@ row_of_inode R l i a log is = (row, refl, is_row) where
   }
 
 -- Its row, or that an inode isn't in use.
-pub row_or_none : (R : Region) (s : Super) (i : ℕ) → IsLayout s → IsTrue (is_number s i) → ((row : Row) × (row.inode ≡ i) × ((a : ℕ) × (log : Log) × IsRow R (fixed_layout s) a log row)) ⊎ (IsInUse R (fixed_layout s) i → ⊥)
-row_or_none R s i layout number = by_kind (kind_at R (slot_address s i)) refl where
-  by_kind : (o : Option Kind) → kind_at R (slot_address s i) ≡ o → ((row : Row) × (row.inode ≡ i) × ((a : ℕ) × (log : Log) × IsRow R (fixed_layout s) a log row)) ⊎ (IsInUse R (fixed_layout s) i → ⊥)
+pub row_or_none : (R : Region) (l : Layout) (i a : ℕ) → slot_of l i ≡ Some a → ((row : Row) × (row.inode ≡ i) × ((a : ℕ) × (log : Log) × IsRow R l a log row)) ⊎ (IsInUse R l i → ⊥)
+row_or_none R l i a here = by_kind (kind_at R a) refl where
+  by_kind : (o : Option Kind) → kind_at R a ≡ o → ((row : Row) × (row.inode ≡ i) × ((a : ℕ) × (log : Log) × IsRow R l a log row)) ⊎ (IsInUse R l i → ⊥)
   by_kind None k = inr (λ u. (
-      let same = some_is u.0 (slot_address s i) (slot_of (fixed_layout s) i) (slot_in_use u.2) (slot_is s i layout number) in
+      let same = some_is u.0 a (slot_of l i) (slot_in_use u.2) here in
       let clash : None ≡ Some u.1.kind = sym k ∙ subst (λ (n : ℕ). kind_at R n ≡ Some u.1.kind) same (kind_in_use u.2) in
       cc))
   by_kind (Some kind) k =
-      let h = has_log R (fixed_layout s) i (slot_address s i) kind (slot_is s i layout number) k in
-      let r = row_of_inode R (fixed_layout s) i (slot_address s i) h.0 h.2 in
-      inl (r.0, r.1, (slot_address s i, h.0, r.2))
+      let h = has_log R l i a kind here k in
+      let r = row_of_inode R l i a h.0 h.2 in
+      inl (r.0, r.1, (a, h.0, r.2))

@@ -28,9 +28,9 @@ pub mod Owned
 pub mod KindsApart
 pub mod Runs
 pub mod Existing
-pub mod Places
 pub mod Told
 pub mod Drawn
+pub mod BlockSlots
 pub mod Work
 pub mod RowKeys
 pub mod RowClaims

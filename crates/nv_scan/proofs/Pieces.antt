@@ -222,55 +222,48 @@ wrong_faults {R} {l} {i} {a} {log} is none t = record {
     split f (entry h e) = inl (subst (λ (x : Log). IsEntryFault l.sup x.kind i x.entries f) (same_log is h) e)
 
 -- the piece of an inode whose head and tail are right
-pub right_piece : (R : Region) (s : Super) (i : ℕ) (kind : Kind) (slot : Slot) (fold : Fold) (pages : List ℕ) (end : Option LogEnd) (p : Piece) → IsLayout s → IsTrue (is_number s i)
-    → slot ≡ slot_at R (slot_address s i) → kind_of slot ≡ Some kind → is_right_log s slot.head slot.tail ≡ true → IsRead R s i kind slot fold pages end
-    → IsPieceOf i kind slot pages fold (fault_of_end i end) p → IsPiece R (fixed_layout s) p
-right_piece R s i kind slot fold pages end p layout number words is_kind is_right r of =
-    let l : Layout = fixed_layout s in
-    let a : ℕ = slot_address s i in
+pub right_piece : (R : Region) (l : Layout) (i a : ℕ) (kind : Kind) (slot : Slot) (fold : Fold) (pages : List ℕ) (end : Option LogEnd) (p : Piece) → slot_of l i ≡ Some a
+    → slot ≡ slot_at R a → kind_of slot ≡ Some kind → is_right_log l.sup slot.head slot.tail ≡ true → IsRead R l.sup i kind slot fold pages end
+    → IsPieceOf i kind slot pages fold (fault_of_end i end) p → IsPiece R l p
+right_piece R l i a kind slot fold pages end p here words is_kind is_right r of =
     let log : Log = record { kind = kind; entries = r.entries; pages = pages; fault = end } in
-    let right_at : is_right_log s (word R (a + 16)) (word R (a + 24)) ≡ true = subst (λ (t : Slot). is_right_log s t.head t.tail ≡ true) words is_right in
-    let is : IsInode R l i a log = right (slot_is s i layout number) (subst (λ (t : Slot). kind_of t ≡ Some kind) words is_kind) right_at
-    (subst (λ (t : Slot). Reads R s t.head t.tail r.entries pages end) words r.reads) in
+    let right_at : is_right_log l.sup (word R (a + 16)) (word R (a + 24)) ≡ true = subst (λ (t : Slot). is_right_log l.sup t.head t.tail ≡ true) words is_right in
+    let is : IsInode R l i a log = right here (subst (λ (t : Slot). kind_of t ≡ Some kind) words is_kind) right_at
+    (subst (λ (t : Slot). Reads R l.sup t.head t.tail r.entries pages end) words r.reads) in
     piece_is is kind slot pages fold (fault_of_end i end) p words refl refl r.holds (right_faults is right_at) of
 
 -- the piece of an inode whose head or tail isn't right
-pub wrong_piece : (R : Region) (s : Super) (i : ℕ) (kind : Kind) (slot : Slot) (fold : Fold) (p : Piece) → IsLayout s → IsTrue (is_number s i)
-    → slot ≡ slot_at R (slot_address s i) → kind_of slot ≡ Some kind → is_right_log s slot.head slot.tail ≡ false → Holds s kind i slot.created [] fold
-    → IsPieceOf i kind slot [] fold (Some (faults.I3 i)) p → IsPiece R (fixed_layout s) p
-wrong_piece R s i kind slot fold p layout number words is_kind is_wrong h of =
-    let l : Layout = fixed_layout s in
-    let a : ℕ = slot_address s i in
-    let wrong_at : is_right_log s (word R (a + 16)) (word R (a + 24)) ≡ false = subst (λ (t : Slot). is_right_log s t.head t.tail ≡ false) words is_wrong in
-    let is : IsInode R l i a (empty_log kind) = wrong (slot_is s i layout number) (subst (λ (t : Slot). kind_of t ≡ Some kind) words is_kind) wrong_at in
+pub wrong_piece : (R : Region) (l : Layout) (i a : ℕ) (kind : Kind) (slot : Slot) (fold : Fold) (p : Piece) → slot_of l i ≡ Some a
+    → slot ≡ slot_at R a → kind_of slot ≡ Some kind → is_right_log l.sup slot.head slot.tail ≡ false → Holds l.sup kind i slot.created [] fold
+    → IsPieceOf i kind slot [] fold (Some (faults.I3 i)) p → IsPiece R l p
+wrong_piece R l i a kind slot fold p here words is_kind is_wrong h of =
+    let wrong_at : is_right_log l.sup (word R (a + 16)) (word R (a + 24)) ≡ false = subst (λ (t : Slot). is_right_log l.sup t.head t.tail ≡ false) words is_wrong in
+    let is : IsInode R l i a (empty_log kind) = wrong here (subst (λ (t : Slot). kind_of t ≡ Some kind) words is_kind) wrong_at in
     piece_is is kind slot [] fold (Some (faults.I3 i)) p words refl refl h (wrong_faults is refl wrong_at) of
 
 -- the piece of an inode that isn't in use
-pub empty_piece : (R : Region) (s : Super) (i : ℕ) (fault : Option Fault) (p : Piece) → IsLayout s → IsTrue (is_number s i) → kind_of (slot_at R (slot_address s i)) ≡ None
-    → ((f : Fault) → fault ≡ Some f → IsFaultOf R (fixed_layout s) i f) → (1 < word R (slot_address s i) → fault ≡ Some (faults.I1 i)) → (word R (slot_address s i) ≡ 1 → fault ≡ Some (faults.I2 i))
-    → IsEmptyPiece i fault p → IsPiece R (fixed_layout s) p
-empty_piece R s i fault p layout number no_kind told one two e = record {
+pub empty_piece : (R : Region) (l : Layout) (i a : ℕ) (fault : Option Fault) (p : Piece) → slot_of l i ≡ Some a → kind_of (slot_at R a) ≡ None
+    → ((f : Fault) → fault ≡ Some f → IsFaultOf R l i f) → (1 < word R a → fault ≡ Some (faults.I1 i)) → (word R a ≡ 1 → fault ≡ Some (faults.I2 i))
+    → IsEmptyPiece i fault p → IsPiece R l p
+empty_piece R l i a fault p here no_kind told one two e = record {
   row = subst (λ (o : Option Row). MatchOption o (IsInUse R l p.inode → ⊥) (λ r. (r.inode ≡ p.inode) × (a : ℕ) × (log : Log) × IsRow R l a log r)) (sym e.row)
       (subst (λ (n : ℕ). IsInUse R l n → ⊥) (sym e.inode) (λ u. unused u.2));
   claims = subst (λ (n : ℕ). AreClaims R l n p.claims.items) (sym e.inode) (subst (λ (cs : List (ℕ × Owner)). AreClaims R l i cs) (sym e.claims) none);
   faults = subst (λ (n : ℕ). HasOnce (IsFaultOf R l n) p.faults.items) (sym e.inode) (subst (λ (fs : List Fault). HasOnce (IsFaultOf R l i) fs) (sym e.faults) (found fault told one two));
 }
   where
-    l : Layout
-    l = fixed_layout s
-
-    unused : {b : ℕ} {log : Log} → IsInode R (fixed_layout s) i b log → ⊥
+    unused : {b : ℕ} {log : Log} → IsInode R l i b log → ⊥
     unused {b} {log} h =
-        let same : b ≡ slot_address s i = some_is b (slot_address s i) (slot_of (fixed_layout s) i) (slot_in_use h) (slot_is s i layout number) in
+        let same : b ≡ a = some_is b a (slot_of l i) (slot_in_use h) here in
         let clash : Some log.kind ≡ None = sym (kind_in_use h) ∙ subst (λ (n : ℕ). kind_at R n ≡ None) (sym same) no_kind in
         cc
 
-    owns_none : (b : ℕ) (o : Owner) → Owns R (fixed_layout s) b o → inode_of o ≡ i → ⊥
+    owns_none : (b : ℕ) (o : Owner) → Owns R l b o → inode_of o ≡ i → ⊥
     owns_none b (owners.Table c k) h same = no_table h
-    owns_none b (owners.Log j k) h same = unused (owned_log (subst (λ (n : ℕ). Owns R (fixed_layout s) b (owners.Log n k)) same h)).is
-    owns_none b (owners.Data j q) h same = unused (owned_page (subst (λ (n : ℕ). Owns R (fixed_layout s) b (owners.Data n q)) same h)).is
+    owns_none b (owners.Log j k) h same = unused (owned_log (subst (λ (n : ℕ). Owns R l b (owners.Log n k)) same h)).is
+    owns_none b (owners.Data j q) h same = unused (owned_page (subst (λ (n : ℕ). Owns R l b (owners.Data n q)) same h)).is
 
-    none : AreClaims R (fixed_layout s) i []
+    none : AreClaims R l i []
     none = record {
       rising = tt;
       each = λ x c. absurd (omega (arith, c.1));
@@ -281,18 +274,18 @@ empty_piece R s i fault p layout number no_kind told one two e = record {
     first f None h = absurd (cc)
     first f (Some t) h = let g : t ≡ f = cc in subst (Contains (t ∷ [])) g (Contains-head t [])
 
-    at_slot : {b : ℕ} → slot_of (fixed_layout s) i ≡ Some b → b ≡ slot_address s i
-    at_slot {b} h = some_is b (slot_address s i) (slot_of (fixed_layout s) i) h (slot_is s i layout number)
+    at_slot : {b : ℕ} → slot_of l i ≡ Some b → b ≡ a
+    at_slot {b} h = some_is b a (slot_of l i) h here
 
-    found : (o : Option Fault) → ((f : Fault) → o ≡ Some f → IsFaultOf R (fixed_layout s) i f) → (1 < word R (slot_address s i) → o ≡ Some (faults.I1 i)) → (word R (slot_address s i) ≡ 1 → o ≡ Some (faults.I2 i))
-        → HasOnce (IsFaultOf R (fixed_layout s) i) (cons_option o [])
+    found : (o : Option Fault) → ((f : Fault) → o ≡ Some f → IsFaultOf R l i f) → (1 < word R a → o ≡ Some (faults.I1 i)) → (word R a ≡ 1 → o ≡ Some (faults.I2 i))
+        → HasOnce (IsFaultOf R l i) (cons_option o [])
     found o told one two = record { has = record { each = each o told; all = all }; once = IsOnce-option o }
       where
-        each : (o : Option Fault) → ((f : Fault) → o ≡ Some f → IsFaultOf R (fixed_layout s) i f) → (f : Fault) → Contains (cons_option o []) f → IsFaultOf R (fixed_layout s) i f
+        each : (o : Option Fault) → ((f : Fault) → o ≡ Some f → IsFaultOf R l i f) → (f : Fault) → Contains (cons_option o []) f → IsFaultOf R l i f
         each None told f c = absurd (omega (arith, c.1))
         each (Some t) told f c = elim (Contains-cons t [] f c) [ inl v ↦ told f (ap Some (sym v)) | inr v ↦ absurd (omega (arith, v.1)) ]
 
-        all : (f : Fault) → IsFaultOf R (fixed_layout s) i f → Contains (cons_option o []) f
+        all : (f : Fault) → IsFaultOf R l i f → Contains (cons_option o []) f
         all _ (i1 h big) = first (faults.I1 i) o (one (subst (λ (n : ℕ). 1 < word R n) (at_slot h) big))
         all _ (i2 h valid none) = first (faults.I2 i) o (two (subst (λ (n : ℕ). word R n ≡ 1) (at_slot h) valid))
         all _ (i3 h k t) = absurd (let clash = sym k ∙ subst (λ (n : ℕ). kind_at R n ≡ None) (sym (at_slot h)) no_kind in cc)

@@ -4,10 +4,9 @@ use Rattle.std.specs.Option.{MatchOption}
 use Rattle.std.specs.List.{All, AllByRecursion, cons_option}
 use Rattle.std.proofs.lemmas.List.Elements.{All-from_recursion}
 use Rattle.nv_region.specs.Region.{Region}
-use Rattle.nv_super.specs.declared.superblock.Super.{Super}
 use Rattle.nv_super.specs.declared.owners.Owner.{Owner}
 use Rattle.nv_super.specs.declared.owners.Owner.TheVariants as owners
-use Rattle.nv_super.specs.Layout.{IsLayout, Layout, fixed_layout}
+use Rattle.nv_super.specs.Layout.{IsLayout, Layout}
 use Rattle.nv_super.specs.Order.{owner_key}
 use Rattle.nv_super.proofs.Rising.{Lists-only}
 use Rattle.nv_radix.specs.Pages.{block_at}
@@ -68,15 +67,15 @@ module _ (R : Region) (l : Layout) where
 abbrev pub HasSmall : Row → Type 0
 HasSmall row = AreSmall (block_at row.index)
 
-small_first : (R : Region) (s : Super) (p : Piece) (o : Option Row) (rows : List Row) → IsLayout s → MatchOption o (IsInUse R (fixed_layout s) p.inode → ⊥) (λ row. (row.inode ≡ p.inode) × (a : ℕ) × (log : Log) × IsRow R (fixed_layout s) a log row)
+small_first : (R : Region) (l : Layout) (p : Piece) (o : Option Row) (rows : List Row) → IsLayout l.sup → MatchOption o (IsInUse R l p.inode → ⊥) (λ row. (row.inode ≡ p.inode) × (a : ℕ) × (log : Log) × IsRow R l a log row)
     → AllByRecursion HasSmall rows → AllByRecursion HasSmall (cons_option o rows)
-small_first R s p None rows layout unused others = others
-small_first R s p (Some row) rows layout (same, a, log, of) others =
-    (λ q b e. (let d = data_pages s log.kind log.entries q b (sym (of.index q) ∙ e) in let most = layout.blocks_to in (d.0, omega (arith, d.2, most))), others)
+small_first R l p None rows layout unused others = others
+small_first R l p (Some row) rows layout (same, a, log, of) others =
+    (λ q b e. (let d = data_pages l.sup log.kind log.entries q b (sym (of.index q) ∙ e) in let most = layout.blocks_to in (d.0, omega (arith, d.2, most))), others)
 
-rows_small : (R : Region) (s : Super) (pieces : List Piece) → IsLayout s → AllByRecursion (IsPiece R (fixed_layout s)) pieces → AllByRecursion HasSmall (rows_in pieces)
-rows_small R s [] layout each = tt
-rows_small R s (p ∷ ps) layout (here, each) = small_first R s p p.row (rows_in ps) layout here.row (rows_small R s ps layout each)
+rows_small : (R : Region) (l : Layout) (pieces : List Piece) → IsLayout l.sup → AllByRecursion (IsPiece R l) pieces → AllByRecursion HasSmall (rows_in pieces)
+rows_small R l [] layout each = tt
+rows_small R l (p ∷ ps) layout (here, each) = small_first R l p p.row (rows_in ps) layout here.row (rows_small R l ps layout each)
 
-pub all_small : (R : Region) (s : Super) (pieces : List Piece) (rows : List Row) → IsLayout s → AllByRecursion (IsPiece R (fixed_layout s)) pieces → rows ≡ rows_in pieces → All HasSmall rows
-all_small R s pieces rows layout each are = rw are (All-from_recursion HasSmall (rows_in pieces) (rows_small R s pieces layout each))
+pub all_small : (R : Region) (l : Layout) (pieces : List Piece) (rows : List Row) → IsLayout l.sup → AllByRecursion (IsPiece R l) pieces → rows ≡ rows_in pieces → All HasSmall rows
+all_small R l pieces rows layout each are = rw are (All-from_recursion HasSmall (rows_in pieces) (rows_small R l pieces layout each))

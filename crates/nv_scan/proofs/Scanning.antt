@@ -1,5 +1,5 @@
 -- The steps of a scan, with what is kept after each.
-use Rattle.std.proofs.Common.{◌≡◌, ◌∙◌, ℕ, ◌≢◌, ◌<◌, ◌-◌, ◌^◌, ◌++◌, length, slice_index_or, true, false, List, [], ◌∷◌, ap, refl, sym, subst, append-nil, Option, Some, None, IsSome, ◌↔◌, Result, IsTrue, arith, Ok, Err}
+use Rattle.std.proofs.Common.{◌≡◌, ◌∙◌, ℕ, ◌≢◌, ◌<◌, ◌-◌, ◌^◌, ◌++◌, length, slice_index_or, true, false, List, [], ◌∷◌, ap, refl, sym, subst, append-nil, Option, Some, None, IsSome, ◌↔◌, Result, arith, Ok, Err}
 use Rattle.std.specs.Result.{OnOk}
 use Rattle.std.specs.Option.{MatchOption}
 use Rattle.std.specs.List.{cons_option}
@@ -11,7 +11,7 @@ use Rattle.nv_super.specs.declared.superblock.Super.{Super}
 use Rattle.nv_super.specs.declared.kind.Kind.{Kind}
 use Rattle.nv_super.specs.declared.faults.Fault.{Fault}
 use Rattle.nv_super.specs.declared.faults.Fault.TheVariants as faults
-use Rattle.nv_super.specs.Layout.{Layout, IsLayout, HasAreas, is_number, slot_address, fixed_layout}
+use Rattle.nv_super.specs.Layout.{Layout, HasAreas}
 use Rattle.nv_inode.specs.declared.slot.Slot.{Slot}
 use Rattle.nv_inode.specs.Slot.{slot_at, kind_of, is_right_log}
 use Rattle.nv_logpage.specs.declared.found.LogEnd.{LogEnd}
@@ -25,7 +25,7 @@ use Rattle.nv_scan.specs.Claims.{AreSmall, IsClaim}
 use Rattle.nv_scan.specs.Faults.{HasOnce, IsFaultOf, i1, i2}
 use Rattle.nv_scan.specs.Fold.{Holds}
 use Rattle.nv_scan.specs.Inode.{Log, IsInUse}
-use Rattle.nv_scan.specs.Kept.{Keeps, IsPieceBy}
+use Rattle.nv_scan.specs.Kept.{IsSlotOf, Keeps, IsPieceBy}
 use Rattle.nv_scan.specs.Owners.{AreClaims}
 use Rattle.nv_scan.specs.Reading.{IsRead}
 use Rattle.nv_scan.specs.Rows.{IsRow, IsPiece}
@@ -36,7 +36,7 @@ use Rattle.nv_scan.specs.declared.piece.Row.{Row}
 use Rattle.nv_scan.specs.declared.piece.Piece.{Piece}
 use Rattle.nv_scan.proofs.Blocks.{data_pages}
 use Rattle.nv_scan.proofs.Existing.{vec_of, vec_items}
-use Rattle.nv_scan.proofs.Pieces.{slot_is, right_piece, wrong_piece, empty_piece}
+use Rattle.nv_scan.proofs.Pieces.{right_piece, wrong_piece, empty_piece}
 
 -- the pages and blocks of a file are small
 pub holds_small : (s : Super) (kind : Kind) (i created : ℕ) (entries : List Placed) (f : Fold) → HasAreas s → Holds s kind i created entries f → AreSmall (block_by f.extents)
@@ -47,42 +47,54 @@ holds_small s kind i created entries f areas h = λ p b e.
 
 -- ---- the piece of an inode with its number
 
-pub right_one : (R : Region) (s : Super) (i : ℕ) (kind : Kind) (slot : Slot) (fold : Fold) (pages : List ℕ) (end : Option LogEnd) (fault : Option Fault) → IsLayout s → IsTrue (is_number s i)
-    → slot ≡ slot_at R (slot_address s i) → kind_of slot ≡ Some kind → is_right_log s slot.head slot.tail ≡ true → IsRead R s i kind slot fold pages end → fault ≡ fault_of_end i end
-    → (p : Piece) → IsPieceOf i kind slot pages fold fault p → IsPieceBy R s i p
-right_one R s i kind slot fold pages end fault layout number words is_kind is_right r by p of =
-    (of.inode, right_piece R s i kind slot fold pages end p layout number words is_kind is_right r (subst (λ (f : Option Fault). IsPieceOf i kind slot pages fold f p) by of))
+module _ (R : Region) (s : Super) (l : Layout) (i : ℕ) (slot : Slot) (is_slot : IsSlotOf R s l i slot) where
+  pub right_one : (kind : Kind) (fold : Fold) (pages : List ℕ) (end : Option LogEnd) (fault : Option Fault) → kind_of slot ≡ Some kind → is_right_log s slot.head slot.tail ≡ true → IsRead R s i kind slot fold pages end
+      → fault ≡ fault_of_end i end → (p : Piece) → IsPieceOf i kind slot pages fold fault p → IsPieceBy R l i p
+  right_one kind fold pages end fault is_kind is_right r by p of = (
+    of.inode,
+    right_piece R l i is_slot.at kind slot fold pages end p is_slot.stands is_slot.words is_kind (subst (λ (x : Super). is_right_log x slot.head slot.tail ≡ true) (sym is_slot.sup) is_right)
+        (subst (λ (x : Super). IsRead R x i kind slot fold pages end) (sym is_slot.sup) r) (subst (λ (f : Option Fault). IsPieceOf i kind slot pages fold f p) by of),
+  )
 
-pub wrong_one : (R : Region) (s : Super) (i : ℕ) (kind : Kind) (slot : Slot) (fold : Fold) → IsLayout s → IsTrue (is_number s i)
-    → slot ≡ slot_at R (slot_address s i) → kind_of slot ≡ Some kind → is_right_log s slot.head slot.tail ≡ false → Holds s kind i slot.created [] fold
-    → (p : Piece) → IsPieceOf i kind slot [] fold (Some (faults.I3 i)) p → IsPieceBy R s i p
-wrong_one R s i kind slot fold layout number words is_kind is_wrong h p of = (of.inode, wrong_piece R s i kind slot fold p layout number words is_kind is_wrong h of)
+  pub wrong_one : (kind : Kind) (fold : Fold) → kind_of slot ≡ Some kind → is_right_log s slot.head slot.tail ≡ false → Holds s kind i slot.created [] fold
+      → (p : Piece) → IsPieceOf i kind slot [] fold (Some (faults.I3 i)) p → IsPieceBy R l i p
+  wrong_one kind fold is_kind is_wrong h p of = (
+    of.inode,
+    wrong_piece R l i is_slot.at kind slot fold p is_slot.stands is_slot.words is_kind (subst (λ (x : Super). is_right_log x slot.head slot.tail ≡ false) (sym is_slot.sup) is_wrong)
+        (subst (λ (x : Super). Holds x kind i slot.created [] fold) (sym is_slot.sup) h) of,
+  )
 
--- a slot that was never used
-pub unused_one : (R : Region) (s : Super) (i : ℕ) → IsLayout s → IsTrue (is_number s i) → kind_of (slot_at R (slot_address s i)) ≡ None → word R (slot_address s i) ≡ 0
-    → (p : Piece) → IsEmptyPiece i None p → IsPieceBy R s i p
-unused_one R s i layout number no_kind zero_word p e =
-    (e.inode, empty_piece R s i None p layout number no_kind (λ f e. absurd (cc)) (λ big. absurd (omega arith)) (λ one. absurd (omega arith)) e)
+  no_kind : kind_of slot ≡ None → kind_of (slot_at R is_slot.at) ≡ None
+  no_kind none = subst (λ (t : Slot). kind_of t ≡ None) is_slot.words none
 
--- a slot whose valid word is neither 0 nor 1
-pub bad_valid_one : (R : Region) (s : Super) (i : ℕ) → IsLayout s → IsTrue (is_number s i) → kind_of (slot_at R (slot_address s i)) ≡ None → word R (slot_address s i) ≢ 0 → word R (slot_address s i) ≢ 1
-    → (p : Piece) → IsEmptyPiece i (Some (faults.I1 i)) p → IsPieceBy R s i p
-bad_valid_one R s i layout number no_kind not_zero not_one p e = (
-  e.inode,
-  empty_piece R s i (Some (faults.I1 i)) p layout number no_kind
-      (λ f e. (let same : faults.I1 i ≡ f = cc in subst (IsFaultOf R (fixed_layout s) i) same (i1 (slot_is s i layout number) (omega (arith, not_zero, not_one)))))
-      (λ big. refl) (λ one. absurd (not_one one)) e,
-)
+  valid_is : slot.valid ≡ word R is_slot.at
+  valid_is = ap (λ (t : Slot). t.valid) is_slot.words
 
--- a valid slot of no kind
-pub bad_kind_one : (R : Region) (s : Super) (i : ℕ) → IsLayout s → IsTrue (is_number s i) → kind_of (slot_at R (slot_address s i)) ≡ None → word R (slot_address s i) ≡ 1
-    → (p : Piece) → IsEmptyPiece i (Some (faults.I2 i)) p → IsPieceBy R s i p
-bad_kind_one R s i layout number no_kind valid p e = (
-  e.inode,
-  empty_piece R s i (Some (faults.I2 i)) p layout number no_kind
-      (λ f e. (let same : faults.I2 i ≡ f = cc in subst (IsFaultOf R (fixed_layout s) i) same (i2 (slot_is s i layout number) valid no_kind)))
-      (λ big. absurd (omega arith)) (λ one. refl) e,
-)
+  -- a slot that was never used
+  pub unused_one : kind_of slot ≡ None → slot.valid ≡ 0 → (p : Piece) → IsEmptyPiece i None p → IsPieceBy R l i p
+  unused_one none zero_word p e =
+      let word_is = valid_is in
+      (e.inode, empty_piece R l i is_slot.at None p is_slot.stands (no_kind none) (λ f e. absurd (cc)) (λ big. absurd (omega (arith, big, zero_word, word_is))) (λ one. absurd (omega (arith, one, zero_word, word_is))) e)
+
+  -- a slot whose valid word is neither 0 nor 1
+  pub bad_valid_one : kind_of slot ≡ None → slot.valid ≢ 0 → slot.valid ≢ 1 → (p : Piece) → IsEmptyPiece i (Some (faults.I1 i)) p → IsPieceBy R l i p
+  bad_valid_one none not_zero not_one p e =
+      let word_is = valid_is in (
+        e.inode,
+        empty_piece R l i is_slot.at (Some (faults.I1 i)) p is_slot.stands (no_kind none)
+            (λ f e. (let same : faults.I1 i ≡ f = cc in subst (IsFaultOf R l i) same (i1 is_slot.stands (omega (arith, not_zero, not_one, word_is)))))
+            (λ big. refl) (λ one. absurd (not_one (word_is ∙ one))) e,
+      )
+
+  -- a valid slot of no kind
+  pub bad_kind_one : kind_of slot ≡ None → slot.valid ≡ 1 → (p : Piece) → IsEmptyPiece i (Some (faults.I2 i)) p → IsPieceBy R l i p
+  bad_kind_one none valid p e =
+      let word_is = valid_is in (
+        e.inode,
+        empty_piece R l i is_slot.at (Some (faults.I2 i)) p is_slot.stands (no_kind none)
+            (λ f e. (let same : faults.I2 i ≡ f = cc in subst (IsFaultOf R l i) same (i2 is_slot.stands (sym word_is ∙ valid) (no_kind none))))
+            (λ big. absurd (omega (arith, big, valid, word_is))) (λ one. refl) e,
+      )
 
 -- ---- what is kept of it
 

@@ -3,7 +3,9 @@ use Rattle.std.specs.Prelude.{◌≡◌, ℕ, ◌++◌, [], Bool, true, false, S
 use Rattle.std.specs.List.{cons_option}
 use Rattle.nv_region.specs.Region.{Region}
 use Rattle.nv_super.specs.declared.superblock.Super.{Super}
-use Rattle.nv_super.specs.Layout.{fixed_layout}
+use Rattle.nv_super.specs.Layout.{Layout, slot_of}
+use Rattle.nv_inode.specs.declared.slot.Slot.{Slot}
+use Rattle.nv_inode.specs.Slot.{slot_at}
 use Rattle.nv_scan.specs.ClaimList.{ClaimList}
 use Rattle.nv_scan.specs.Rows.{IsPiece}
 use Rattle.nv_scan.specs.Tickets.{IsFound}
@@ -18,14 +20,21 @@ pub record Keeps (holds : Piece → Type 0) (old new : Inodes) (claims : ClaimLi
   pub faults : new.faults.items ≡ old.faults.items ++ piece.faults.items
   pub claims_are : piece.claims ≡ claims
 
+-- The words of the slot of the inode with this number, by a layout of this superblock.
+pub record IsSlotOf (R : Region) (s : Super) (l : Layout) (i : ℕ) (slot : Slot) : Type 0 where
+  pub sup : l.sup ≡ s
+  pub at : ℕ
+  pub stands : slot_of l i ≡ Some at
+  pub words : slot ≡ slot_at R at
+
 -- the piece of the inode with this number
-abbrev pub IsPieceBy : Region → Super → ℕ → Piece → Type 0
-IsPieceBy R s i p = (p.inode ≡ i) × IsPiece R (fixed_layout s) p
+abbrev pub IsPieceBy : Region → Layout → ℕ → Piece → Type 0
+IsPieceBy R l i p = (p.inode ≡ i) × IsPiece R l p
 
 -- What is found of an inode by its slot is kept, if there is anything to tell of it.
-abbrev pub KeepsFound : Region → Super → ℕ → Inodes → Inodes → ClaimList → Bool → Type 0
-KeepsFound R s i old new claims true = Keeps (λ p. IsFound R s i (Some p)) old new claims
-KeepsFound R s i old new claims false = IsFound R s i None × (new ≡ old)
+abbrev pub KeepsFound : Region → Layout → ℕ → Inodes → Inodes → ClaimList → Bool → Type 0
+KeepsFound R l i old new claims true = Keeps (λ p. IsFound R l i (Some p)) old new claims
+KeepsFound R l i old new claims false = IsFound R l i None × (new ≡ old)
 
 -- the same rows and the same faults are kept
 abbrev pub SameInodes : Inodes → Inodes → Type 0

@@ -2,10 +2,9 @@
 use Rattle.std.specs.Prelude.{◌≡◌, ℕ, ◌<◌, nat_lt, false, List, ◌++◌, map}
 use Rattle.std.specs.List.{flat_map, filter, filter_map, AllByRecursion}
 use Rattle.nv_region.specs.Region.{Region}
-use Rattle.nv_super.specs.declared.superblock.Super.{Super}
 use Rattle.nv_super.specs.declared.owners.Owner.{Owner}
 use Rattle.nv_super.specs.declared.faults.Fault.{Fault}
-use Rattle.nv_super.specs.Layout.{fixed_layout}
+use Rattle.nv_super.specs.Layout.{Layout}
 use Rattle.nv_claimmap.specs.nv_claimcore.declared.view.View.{View}
 use Rattle.nv_claimmap.specs.nv_claimcore.Claims.{past}
 use Rattle.nv_claimmap.specs.nv_claimcore.Finished.{pair_of}
@@ -23,9 +22,9 @@ use Rattle.nv_scan.specs.declared.working.WorkerResult.{WorkerResult}
 abbrev pub tickets_among : ℕ → List ℕ → List ℕ
 tickets_among tickets numbers = filter (λ n. nat_lt n tickets) numbers
 
--- the numbers of the inodes of these tickets, one table block after the other
-abbrev pub numbers_in : Super → List ℕ → List ℕ
-numbers_in s tickets = flat_map (numbers_of s) tickets
+-- the numbers of the inodes of these tickets, one block of slots after the other
+abbrev pub numbers_in : Layout → List ℕ → List ℕ
+numbers_in l tickets = flat_map (numbers_of l) tickets
 
 -- the claims of these pieces, one piece after the other
 abbrev pub claims_in : List Piece → List (ℕ × Owner)
@@ -44,42 +43,42 @@ abbrev pub faults_in : List Piece → List Fault
 faults_in pieces = flat_map (λ (p : Piece). p.faults.items) pieces
 
 -- Pieces of the inodes with these numbers, in this order.
-pub record ArePiecesOf (R : Region) (s : Super) (numbers : List ℕ) (pieces : List Piece) : Type 0 where
-  pub each : AllByRecursion (IsPiece R (fixed_layout s)) pieces
+pub record ArePiecesOf (R : Region) (l : Layout) (numbers : List ℕ) (pieces : List Piece) : Type 0 where
+  pub each : AllByRecursion (IsPiece R l) pieces
   pub order : map (λ (p : Piece). p.inode) pieces ≡ numbers
 
 -- Pieces of the inodes with these numbers: their rows and faults were put behind the others, and these are their claims.
-pub record AreNext (R : Region) (s : Super) (numbers : List ℕ) (old new : Inodes) (claims : List (ℕ × Owner)) : Type 0 where
+pub record AreNext (R : Region) (l : Layout) (numbers : List ℕ) (old new : Inodes) (claims : List (ℕ × Owner)) : Type 0 where
   pub pieces : List Piece
-  pub are : ArePiecesOf R s numbers pieces
+  pub are : ArePiecesOf R l numbers pieces
   pub rows : new.rows.items ≡ old.rows.items ++ rows_in pieces
   pub faults : new.faults.items ≡ old.faults.items ++ faults_in pieces
   pub claims_are : claims ≡ claims_in pieces
 
 -- Pieces of all inodes of the tickets that were drawn, in that order; the blocks claimed are those of the pieces, and the rows and the faults are theirs.
-pub record IsWork (R : Region) (s : Super) (v : View) (rows : List Row) (faults : List Fault) : Type 0 where
+pub record IsWork (R : Region) (l : Layout) (v : View) (rows : List Row) (faults : List Fault) : Type 0 where
   pub pieces : List Piece
-  pub are : ArePiecesOf R s (numbers_in s (tickets_among (ticket_count s) v.numbers)) pieces
+  pub are : ArePiecesOf R l (numbers_in l (tickets_among (ticket_count l) v.numbers)) pieces
   pub claims : map pair_of v.records ≡ claims_in pieces
   pub rows_are : rows ≡ rows_in pieces
   pub faults_are : faults ≡ faults_in pieces
 
 -- The inodes with these numbers are done: the blocks that they own are claimed, and the rows and the faults of their pieces stand behind the others.
-pub record IsDone (R : Region) (s : Super) (numbers : List ℕ) (v w : View) (old_rows rows : List Row) (old_faults faults : List Fault) : Type 0 where
+pub record IsDone (R : Region) (l : Layout) (numbers : List ℕ) (v w : View) (old_rows rows : List Row) (old_faults faults : List Fault) : Type 0 where
   pub pieces : List Piece
-  pub are : ArePiecesOf R s numbers pieces
+  pub are : ArePiecesOf R l numbers pieces
   pub claims : Adds (claims_in pieces) v w
   pub rows_are : rows ≡ old_rows ++ rows_in pieces
   pub faults_are : faults ≡ old_faults ++ faults_in pieces
 
 -- The same of all tickets that were drawn, the last draw being past the end.
-pub record IsAllWork (R : Region) (s : Super) (v : View) (rows : List Row) (faults : List Fault) : Type 0 where
-  pub ended : 0 < past (ticket_count s) v.numbers
-  pub work : IsWork R s v rows faults
+pub record IsAllWork (R : Region) (l : Layout) (v : View) (rows : List Row) (faults : List Fault) : Type 0 where
+  pub ended : 0 < past (ticket_count l) v.numbers
+  pub work : IsWork R l v rows faults
 
 -- What a worker gives back: its seat; and, unless it was refused memory, the rows and the faults of all tickets that the seat drew, the last draw being past the end.
-pub record Returned (R : Region) (s : Super) (m : MapId) (r : WorkerResult) : Type 0 where
+pub record Returned (R : Region) (l : Layout) (m : MapId) (r : WorkerResult) : Type 0 where
   pub map : r.seat.map ≡ m
   pub seats : r.seat.view.seats ≡ 1
-  pub ended : r.refused ≡ false → 0 < past (ticket_count s) r.seat.view.numbers
-  pub work : r.refused ≡ false → IsWork R s r.seat.view r.rows.items r.faults.items
+  pub ended : r.refused ≡ false → 0 < past (ticket_count l) r.seat.view.numbers
+  pub work : r.refused ≡ false → IsWork R l r.seat.view r.rows.items r.faults.items

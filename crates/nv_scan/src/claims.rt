@@ -3,8 +3,7 @@
 ghost use Rattle.std.specs.Prelude.{◌≡◌, ◌*◌, ◌+◌, ◌<◌, ◌++◌, ℕ, List, [], None, IfOk, OnOk};
 ghost use Rattle.std.specs.List.{All, AllByRecursion};
 ghost use Rattle.nv_region.specs.Region.{Region};
-ghost use Rattle.nv_super.specs.declared.superblock.Super.{Super};
-ghost use Rattle.nv_super.specs.Layout.{IsLayout, Layout, fixed_layout};
+ghost use Rattle.nv_super.specs.Layout.{IsLayout, Layout};
 ghost use Rattle.nv_super.specs.Order.{Lists, owner_key};
 ghost use Rattle.nv_radix.specs.Pages.{block_at};
 ghost use Rattle.nv_radix.specs.Runs.{block_by};
@@ -141,7 +140,7 @@ impl Claims {
 ///
 /// Errors: `AllocError` where a growth was refused.
 pub fn claims_of_rows(alloc: Global, rows: &Chunks<Row>) -> Result<ClaimedRuns, AllocError>
-    requires scanned { (region : Region) × (s : Super) × IsLayout s × (pieces : List Piece) × AllByRecursion (IsPiece region (fixed_layout s)) pieces × (rows.now.items ≡ rows_in pieces) }
+    requires scanned { (region : Region) × (l : Layout) × IsLayout l.sup × (pieces : List Piece) × AllByRecursion (IsPiece region l) pieces × (rows.now.items ≡ rows_in pieces) }
     ensures { IfOk result (λ claims. (region : Region) (l : Layout) (pieces : List Piece) → AllByRecursion (IsPiece region l) pieces → rows.now.items ≡ rows_in pieces → claims.items ≡ claims_in pieces) }
 {
     let mut claims = ClaimedRuns::new(alloc);

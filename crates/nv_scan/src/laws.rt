@@ -1,9 +1,9 @@
 //! Laws of what a region holds of an inode.
 
-ghost use Rattle.std.specs.Prelude.{◌≡◌, ◌↔◌, ◌+◌, ◌*◌, ◌<◌, ◌≤◌, ℕ, IsTrue, List, Some, None};
+ghost use Rattle.std.specs.Prelude.{◌≡◌, ◌≢◌, ◌↔◌, ◌+◌, ◌*◌, ◌<◌, ◌≤◌, ℕ, List, Some, None, slice_get};
 ghost use Rattle.std.specs.List.{Contains, range_with_len};
 ghost use Rattle.nv_region.specs.Region.{Region, word};
-ghost use Rattle.nv_super.specs.Layout.{Layout, IsLayout, is_number, fixed_layout, slot_of, system_blocks};
+ghost use Rattle.nv_super.specs.Layout.{Layout, slot_of, system_blocks};
 ghost use Rattle.nv_super.specs.declared.owners.Owner.{Owner as OwnerValue};
 ghost use Rattle.nv_logpage.specs.ToTail.{SameToTail};
 ghost use Rattle.nv_super.specs.Order.{Lists};
@@ -17,11 +17,14 @@ ghost use Rattle.nv_scan.specs.Owners.{Owns};
 ghost use Rattle.nv_scan.specs.Scanned.{SameSlot};
 ghost use Rattle.nv_scan.specs.Rows.{IsRow};
 ghost use Rattle.nv_claimmap.specs.nv_claimcore.Claims.{times};
-ghost use Rattle.nv_scan.specs.Tickets.{ticket_count, number_at};
+ghost use Rattle.nv_scan.specs.Tickets.{ticket_count, number_in, numbers_of};
 ghost use Rattle.nv_scan.specs.Work.{numbers_in};
 ghost use Rattle.nv_scan.specs.declared.piece.Row.{Row as RowValue};
 ghost use Rattle.nv_super.specs.declared.kind.Kind.{Kind as KindValue};
 ghost use Rattle.nv_inode.specs.Slot.{kind_at};
+ghost use Rattle.nv_inode.specs.Chains.{IsLaid};
+ghost use Rattle.nv_inode.specs.SlotBlocks.{slot_blocks};
+ghost use Rattle.nv_inode.specs.declared.blocks.SlotBlock.{SlotBlock as SlotBlockValue};
 
 use nv_super::Kind;
 
@@ -43,11 +46,12 @@ pub fn in_use_by_the_slot()
     ensures log { (region : Region) (l : Layout) (i a : ℕ) (kind : KindValue) → slot_of l i ≡ Some a → kind_at region a ≡ Some kind → (log : Log) × (log.kind ≡ kind) × IsInode region l i a log }
 {}
 
-/// Each slot of a ticket's table block is that of the inode whose number stands at its place, but for the first of all.
-/// And the number of each inode stands once in the table blocks of all tickets.
-pub fn tickets_are_table_blocks()
-    ensures slots { (s : SuperValue) (ticket slot : ℕ) → IsLayout s → ticket < ticket_count s → slot < 32 → 0 < 32 * ticket + slot → slot_of (fixed_layout s) (number_at s (32 * ticket + slot)) ≡ Some ((1 + s.cpus + ticket) * 4096 + 128 * slot) }
-    ensures once { (s : SuperValue) (i : ℕ) → IsLayout s → IsTrue (is_number s i) → times i (numbers_in s (range_with_len 0 (ticket_count s))) ≡ 1 }
+/// Each slot of a ticket's block of slots is that of the inode with the number in it, but for number 0. And each number
+/// that has a slot stands once in the blocks of slots of all tickets.
+pub fn tickets_are_blocks_of_slots()
+    ensures slots { (l : Layout) (ticket slot : ℕ) (block : SlotBlockValue) → IsLaid l → slice_get (slot_blocks l) ticket ≡ Some block → slot < block.slots → number_in l block slot ≢ 0 → slot_of l (number_in l block slot) ≡ Some (block.start + 128 * slot) }
+    ensures numbers { (l : Layout) (ticket slot : ℕ) (block : SlotBlockValue) → slice_get (slot_blocks l) ticket ≡ Some block → slot < block.slots → number_in l block slot ≢ 0 → Contains (numbers_of l ticket) (number_in l block slot) }
+    ensures once { (l : Layout) (i a : ℕ) → IsLaid l → slot_of l i ≡ Some a → times i (numbers_in l (range_with_len 0 (ticket_count l))) ≡ 1 }
 {}
 
 /// Each owner has one block.

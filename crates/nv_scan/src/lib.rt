@@ -37,7 +37,7 @@ pub use inodes::{Inodes, ListedInodes};
 pub use laws::{
     directories_have_no_pages, files_have_no_names, in_use_by_the_slot, inode_alone,
     mapped_pages_begin_below_the_size, names_are_listed, one_block, one_inode,
-    owned_blocks_are_data_blocks, tickets_are_table_blocks,
+    owned_blocks_are_data_blocks, tickets_are_blocks_of_slots,
 };
 pub use numbers::Numbers;
 pub use piece::{LogPages, Piece, Row};

@@ -1,17 +1,17 @@
 //! One inode: its slot and its log become its row, the blocks that it claims and its faults.
 
-ghost use Rattle.std.specs.Prelude.{◌≡◌, ◌<◌, ◌++◌, [], ℕ, IfOk, IfSome, IsTrue, OnErr, OnOk, Some, false, true};
-ghost use Rattle.nv_region.specs.Region.{HasBlocks};
-ghost use Rattle.nv_super.specs.Layout.{IsLayout, HasAreas, inode_limit, is_number, slot_address, fixed_layout};
-ghost use Rattle.nv_inode.specs.Slot.{slot_at, kind_of, is_right_log};
+ghost use Rattle.std.specs.Prelude.{◌≡◌, ◌≢◌, ◌⊎◌, ◌≤◌, ◌+◌, ◌*◌, ◌%◌, ◌++◌, [], ℕ, IfOk, IfSome, IsSome, IsTrue, OnErr, OnOk, Some, false, true};
+ghost use Rattle.nv_region.specs.Region.{HasBlocks, size, word};
+ghost use Rattle.nv_super.specs.Layout.{Layout, IsLayout, HasAreas, slot_of};
+ghost use Rattle.nv_inode.specs.Slot.{kind_of, is_right_log};
 ghost use Rattle.nv_radix.specs.Pages.{block_at};
 ghost use Rattle.nv_radix.specs.Runs.{block_by};
 ghost use Rattle.nv_logpage.specs.Progress.{at_head};
 ghost use Rattle.nv_scan.specs.Claims.{AreSmall};
 ghost use Rattle.nv_scan.specs.Rows.{IsPiece};
 ghost use Rattle.nv_scan.specs.Scanned.{IsFilled, IsPieceOf, IsEmptyPiece, IsRowOf, fault_of_end};
-ghost use Rattle.nv_scan.specs.Tickets.{IsBlank, HasValidWord, number_at, ticket_count};
-ghost use Rattle.nv_scan.specs.Kept.{Keeps, KeepsFound, IsPieceBy, SameInodes};
+ghost use Rattle.nv_inode.specs.SlotBlocks.{IsSmallBlock};
+ghost use Rattle.nv_scan.specs.Kept.{IsSlotOf, Keeps, KeepsFound, IsPieceBy, SameInodes};
 
 use crate::claims::Claims;
 use crate::fold::{Fold, NameRoom, push_fault};
@@ -19,9 +19,8 @@ use crate::in_use::InUse;
 use crate::inodes::Inodes;
 use crate::piece::{LogPages, Piece, Row, extend_pages};
 use crate::reading::read_log;
-use crate::tickets::number_at;
-use crate::touching::touch_ticket;
-use nv_inode::{Slot, SlotState, nth_slot, read_nth_slot, read_slot};
+use crate::touching::touch_block;
+use nv_inode::{Slot, SlotBlock, SlotState, Tables, read_slot_at};
 use nv_logpage::{LogEnd, LogFault, LogReader};
 use nv_names::NameIndex;
 use nv_radix::{ExtentMap, FileIndex};
@@ -70,46 +69,47 @@ impl Scanner {
         }
     }
 
-    /// Touches the slots of a ticket's table block and the logs of their inodes, which are quicker to scan then. It changes
-    /// nothing.
+    /// Touches the slots of a block and the logs of their inodes, which are quicker to scan then. It changes nothing.
     // A caller that doesn't see into it can't leave the touching out.
     #[inline(never)]
-    pub(crate) fn touch<P: Pmem>(&mut self, memory: &P, ticket: u64)
+    pub(crate) fn touch<P: Pmem>(&mut self, memory: &P, block: &SlotBlock)
         requires blocks { HasBlocks (P.region memory.now) self.old.blocks }
-        requires ticket { ticket < ticket_count self.old }
+        requires block { IsSmallBlock self.old block.now }
         ensures { self.new ≡ self.old }
     {
-        self.touched = touch_ticket(memory, &self.sup, ticket);
+        self.touched = touch_block(memory, &self.sup, block);
     }
 
-    /// Scans the inode whose slot has this place in the tables: the words of its slot, and each page of its log once. Its
-    /// row, if it is in use, and its faults are put behind those that are kept. What it claims takes the place of what is in
-    /// `claims`, and its memory. More is taken for the pages, the indexes and the faults, and not for the entries; and, at
-    /// the first log, for the reader.
+    /// Scans the inode of this number, whose slot stands at this address: the words of its slot, and each page of its log
+    /// once. Its row, if it is in use, and its faults are put behind those that are kept. What it claims takes the place of
+    /// what is in `claims`, and its memory. More is taken for the pages, the indexes and the faults, and not for the entries;
+    /// and, at the first log, for the reader.
     ///
-    /// It answers false where nothing is to be told of it: at the place of number 0, and where the valid word is 0, which is
-    /// all that is read of it then.
+    /// It answers false where nothing is to be told of it: at number 0, and where the valid word is 0, which is all that is
+    /// read of it then.
     ///
     /// Errors: `AllocError` where a growth was refused. What is kept stays as it was, of the claims nothing is said, and the
     /// scanner can be used on.
-    pub fn scan_place<P: Pmem>(
+    pub fn scan_at<P: Pmem>(
         &mut self,
         memory: &P,
-        place: u64,
+        inode: u64,
+        at: u64,
         inodes: &mut Inodes,
         claims: &mut Claims,
     ) -> Result<bool, AllocError>
         requires blocks { HasBlocks (P.region memory.now) self.old.blocks }
-        requires place { place < inode_limit self.old }
+        requires whole { at % 128 ≡ 0 }
+        requires inside { at + 128 ≤ 4096 * self.old.blocks }
         ensures same { self.new ≡ self.old }
-        ensures kept { IfOk result (KeepsFound (P.region memory.now) self.old (number_at self.old place) inodes.old inodes.new claims.new) }
+        // By each layout of the superblock whose slot of the number stands there.
+        ensures kept { IfOk result (λ found. (l : Layout) → l.sup ≡ self.old → (inode ≢ 0 → slot_of l inode ≡ Some at) → KeepsFound (P.region memory.now) l inode inodes.old inodes.new claims.new found) }
         ensures refused { OnErr result (SameInodes inodes.old inodes.new) }
     {
-        if is_blank(memory, &self.sup, place) {
+        if is_blank(memory, inode, at) {
             return Ok(false);
         }
-        let inode = number_at(&self.sup, place);
-        let slot = read_nth_slot(memory, &self.sup, place);
+        let slot = read_slot_at(memory, at);
         self.scan_one(memory, inode, &slot, inodes, claims)?;
         Ok(true)
     }
@@ -124,10 +124,8 @@ impl Scanner {
         claims: &mut Claims,
     ) -> Result<(), AllocError>
         requires blocks { HasBlocks (P.region memory.now) self.old.blocks }
-        requires number { IsTrue (is_number self.old inode) }
-        requires slot { slot.now ≡ slot_at (P.region memory.now) (slot_address self.old inode) }
         ensures same { self.new ≡ self.old }
-        ensures kept { OnOk result (Keeps (IsPieceBy (P.region memory.now) self.old inode) inodes.old inodes.new claims.new) }
+        ensures kept { (l : Layout) → IsSlotOf (P.region memory.now) self.old l inode slot.now → OnOk result (Keeps (IsPieceBy (P.region memory.now) l inode) inodes.old inodes.new claims.new) }
         ensures refused { OnErr result (SameInodes inodes.old inodes.new) }
     {
         let alloc = self.alloc;
@@ -153,17 +151,16 @@ impl Scanner {
     }
 }
 
-/// Whether nothing is to be told of the inode whose slot has this place.
-fn is_blank<P: Pmem>(memory: &P, sup: &Super, place: u64) -> bool
-    requires layout { IsLayout sup.now }
-    requires blocks { HasBlocks (P.region memory.now) sup.now.blocks }
-    requires place { place < inode_limit sup.now }
-    ensures blank { IsTrue result → IsBlank (P.region memory.now) (fixed_layout sup.now) (number_at sup.now place) }
-    ensures told { result ≡ false → HasValidWord (P.region memory.now) sup.now (number_at sup.now place) }
+/// Whether nothing is to be told of the inode of this number, whose slot stands at this address.
+fn is_blank<P: Pmem>(memory: &P, inode: u64, at: u64) -> bool
+    requires whole { at % 128 ≡ 0 }
+    requires inside { at + 128 ≤ size (P.region memory.now) }
+    ensures blank { IsTrue result → (inode ≡ 0) ⊎ (word (P.region memory.now) at ≡ 0) }
+    ensures told { result ≡ false → (inode ≢ 0) × (word (P.region memory.now) at ≢ 0) }
 {
-    match place {
+    match inode {
         0 => true,
-        _ => memory.load(nth_slot(sup, place)) == 0,
+        _ => memory.load(at) == 0,
     }
 }
 
@@ -173,19 +170,22 @@ fn is_blank<P: Pmem>(memory: &P, sup: &Super, place: u64) -> bool
 pub fn scan_slot<P: Pmem>(
     alloc: Global,
     memory: &P,
-    sup: &Super,
+    tables: &Tables,
     inode: u64,
 ) -> Result<Piece, AllocError>
-    requires layout { IsLayout sup.now }
-    requires blocks { HasBlocks (P.region memory.now) sup.now.blocks }
-    requires number { IsTrue (is_number sup.now inode) }
+    requires blocks { HasBlocks (P.region memory.now) tables.now.layout.sup.blocks }
+    requires number { IsSome (slot_of tables.now.layout inode) }
     ensures number { IfOk result (λ piece. piece.inode ≡ inode) }
-    ensures piece { IfOk result (λ piece. IsPiece (P.region memory.now) (fixed_layout sup.now) piece) }
+    ensures piece { IfOk result (λ piece. IsPiece (P.region memory.now) tables.now.layout piece) }
 {
+    tables.are_laid();
     let mut inodes = Inodes::new(alloc);
     let mut claims = Claims::new(alloc);
-    let slot = read_slot(memory, sup, inode);
-    Scanner::new(alloc, sup).scan_one(memory, inode, &slot, &mut inodes, &mut claims)?;
+    let Some(at) = tables.slot_address(inode) else {
+        unreachable!()
+    };
+    let slot = read_slot_at(memory, at);
+    Scanner::new(alloc, tables.sup()).scan_one(memory, inode, &slot, &mut inodes, &mut claims)?;
     let Inodes { mut rows, faults } = inodes;
     Ok(Piece {
         inode,
@@ -209,12 +209,10 @@ fn scan_log<P: Pmem>(
 ) -> Result<(), AllocError>
     requires layout { IsLayout sup.now }
     requires blocks { HasBlocks (P.region memory.now) sup.now.blocks }
-    requires number { IsTrue (is_number sup.now used.now.inode) }
-    requires slot { used.now.slot ≡ slot_at (P.region memory.now) (slot_address sup.now used.now.inode) }
     requires kind { kind_of used.now.slot ≡ Some used.now.kind }
     requires reader { IfSome reader.old (λ r. r.sup ≡ sup.now) }
     ensures reader { IfSome reader.new (λ r. r.sup ≡ sup.now) }
-    ensures kept { OnOk result (Keeps (IsPieceBy (P.region memory.now) sup.now used.now.inode) inodes.old inodes.new claims.new) }
+    ensures kept { (l : Layout) → IsSlotOf (P.region memory.now) sup.now l used.now.inode used.now.slot → OnOk result (Keeps (IsPieceBy (P.region memory.now) l used.now.inode) inodes.old inodes.new claims.new) }
     ensures refused { OnErr result (SameInodes inodes.old inodes.new) }
 {
     if used.slot.has_right_log(sup) {
@@ -243,13 +241,11 @@ fn scan_from_head<P: Pmem>(
 ) -> Result<(), AllocError>
     requires layout { IsLayout sup.now }
     requires blocks { HasBlocks (P.region memory.now) sup.now.blocks }
-    requires number { IsTrue (is_number sup.now used.now.inode) }
-    requires slot { used.now.slot ≡ slot_at (P.region memory.now) (slot_address sup.now used.now.inode) }
     requires kind { kind_of used.now.slot ≡ Some used.now.kind }
     requires right { is_right_log sup.now used.now.slot.head used.now.slot.tail ≡ true }
     requires head { reader.old ≡ at_head sup.now used.now.slot.head used.now.slot.tail }
     ensures reader { reader.new.sup ≡ sup.now }
-    ensures kept { OnOk result (Keeps (IsPieceBy (P.region memory.now) sup.now used.now.inode) inodes.old inodes.new claims.new) }
+    ensures kept { (l : Layout) → IsSlotOf (P.region memory.now) sup.now l used.now.inode used.now.slot → OnOk result (Keeps (IsPieceBy (P.region memory.now) l used.now.inode) inodes.old inodes.new claims.new) }
     ensures refused { OnErr result (SameInodes inodes.old inodes.new) }
 {
     let mut fold = Fold::new(alloc, used.slot.created);

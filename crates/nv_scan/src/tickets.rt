@@ -1,29 +1,17 @@
-//! Tickets: each is a table block. Ticket t is block `1 + cpus + t`; its 32 slots stand behind those of the tickets
-//! before it, and it stands for their inodes.
+//! Tickets: each is a block of slots, by its place among all of them, and stands for the inodes of its slots.
 
-ghost use Rattle.std.specs.Prelude.{◌≡◌, ◌<◌};
-ghost use Rattle.nv_super.specs.Layout.{IsLayout, HasAreas, inode_limit};
-ghost use Rattle.nv_scan.specs.Tickets.{ticket_count, number_at};
+ghost use Rattle.std.specs.Prelude.{◌≡◌};
+ghost use Rattle.nv_scan.specs.Tickets.{ticket_count};
 
-use nv_super::{BLOCK_SIZE, SLOT_SIZE, Super};
+use nv_inode::Tables;
+use nv_super::{BLOCK_SIZE, SLOT_SIZE};
 
-/// How many slots a table block has.
+/// How many slots a block has at most: so many as a table block.
 pub const SLOTS: u64 = BLOCK_SIZE / SLOT_SIZE;
 
-/// How many tickets there are: one for each table block of each CPU.
-pub fn ticket_count(sup: &Super) -> u64
-    requires { HasAreas sup.now }
-    ensures { result ≡ ticket_count sup.now }
+/// How many tickets there are: one for each block of slots.
+pub fn ticket_count(tables: &Tables) -> u64
+    ensures { result ≡ ticket_count tables.now.layout }
 {
-    sup.cpus * sup.table_blocks
-}
-
-/// The number of the inode whose slot has this place in the tables: row r of the table of CPU c is inode `r * cpus + c`.
-pub(crate) fn number_at(sup: &Super, place: u64) -> u64
-    requires layout { IsLayout sup.now }
-    requires place { place < inode_limit sup.now }
-    ensures { result ≡ number_at sup.now place }
-{
-    let rows = SLOTS * sup.table_blocks;
-    place % rows * sup.cpus + place / rows
+    tables.slot_block_count()
 }

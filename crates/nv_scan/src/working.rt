@@ -1,11 +1,12 @@
 //! A worker of a recovery: it draws tickets until none is left, scans the inodes of each and claims what they own.
 
 ghost use Rattle.std.specs.Prelude.{◌≡◌, ◌<◌, ◌≤◌, ℕ, IsTrue, false, [], length, take, IfOk, OnOk};
-ghost use Rattle.std.specs.List.{All};
+ghost use Rattle.std.specs.List.{All, Contains};
 ghost use Rattle.nv_region.specs.Region.{HasBlocks};
-ghost use Rattle.nv_super.specs.Layout.{IsLayout};
+ghost use Rattle.nv_inode.specs.Chains.{IsLaid};
+ghost use Rattle.nv_inode.specs.SlotBlocks.{slot_blocks};
 ghost use Rattle.nv_claimmap.specs.nv_claimcore.Claims.{nothing};
-ghost use Rattle.nv_scan.specs.Tickets.{ticket_count, numbers_of};
+ghost use Rattle.nv_scan.specs.Tickets.{ticket_count, numbers_of, numbers_to};
 ghost use Rattle.nv_scan.specs.Work.{AreNext, IsAllWork, IsDone, Returned, claims_among, tickets_among};
 
 use crate::claiming::claim_each;
@@ -15,9 +16,10 @@ use crate::row_list::{RowList, push_heads};
 use crate::scan::Scanner;
 use crate::tickets::SLOTS;
 use nv_claimmap::{ClaimMap, ClaimSeat};
+use nv_inode::{SlotBlock, Tables};
 use nv_numbered::Chunks;
 use nv_region::Pmem;
-use nv_super::{Fault, Super};
+use nv_super::{Fault, SLOT_SIZE};
 use std::alloc::{AllocError, Global};
 
 /// What a worker passes between drawing a ticket and its work, so that a caller can watch or hold workers.
@@ -53,7 +55,7 @@ pub struct WorkerResult {
     pub refused: bool,
 }
 
-/// Draws tickets until none is left; a ticket is a table block. After each draw the gate is entered; then the inodes of
+/// Draws tickets until none is left; a ticket is a block of slots. After each draw the gate is entered; then the inodes of
 /// the block's slots are scanned one after another, and the blocks that they own are claimed for their owners. A block
 /// of unused slots costs a few loads for each, and no log.
 ///
@@ -61,23 +63,21 @@ pub struct WorkerResult {
 pub fn worker<P: Pmem, G: Gate>(
     alloc: Global,
     memory: &P,
-    sup: &Super,
+    tables: &Tables,
     map: &ClaimMap,
     mut seat: ClaimSeat,
     gate: &G,
 ) -> WorkerResult
-    requires layout { IsLayout sup.now }
-    requires blocks { HasBlocks (P.region memory.now) sup.now.blocks }
+    requires blocks { HasBlocks (P.region memory.now) tables.now.layout.sup.blocks }
     requires own { (seat.map ≡ map.now) × (seat.view ≡ nothing 1) }
-    requires sizes { (map.now.sizes.blocks ≡ sup.now.blocks) × (map.now.sizes.tickets ≡ ticket_count sup.now) }
-    ensures returned { Returned (P.region memory.now) sup.now map.now result }
+    requires sizes { (map.now.sizes.blocks ≡ tables.now.layout.sup.blocks) × (map.now.sizes.tickets ≡ ticket_count tables.now.layout) }
+    ensures returned { Returned (P.region memory.now) tables.now.layout map.now result }
     ensures number { result.seat.number ≡ seat.number }
     ensures refused { IsTrue result.refused → (result.rows.items ≡ []) × (result.faults.items ≡ []) }
     // It has entered the gate with each ticket that its seat drew, by the seat's number.
-    ensures entered { result.refused ≡ false → All (G.entered gate.now seat.number) (tickets_among (ticket_count sup.now) result.seat.view.numbers) }
+    ensures entered { result.refused ≡ false → All (G.entered gate.now seat.number) (tickets_among (ticket_count tables.now.layout) result.seat.view.numbers) }
 {
-    let mut scanner = Scanner::new(alloc, sup);
-    match draw_all(alloc, memory, &mut scanner, map, &mut seat, gate) {
+    match draw_all(alloc, memory, tables, map, &mut seat, gate) {
         Ok(inodes) => WorkerResult {
             seat,
             rows: inodes.rows,
@@ -97,19 +97,20 @@ pub fn worker<P: Pmem, G: Gate>(
 fn draw_all<P: Pmem, G: Gate>(
     alloc: Global,
     memory: &P,
-    scanner: &mut Scanner,
+    tables: &Tables,
     map: &ClaimMap,
     seat: &mut ClaimSeat,
     gate: &G,
 ) -> Result<ListedInodes, AllocError>
-    requires layout { IsLayout scanner.old }
-    requires blocks { HasBlocks (P.region memory.now) scanner.old.blocks }
+    requires blocks { HasBlocks (P.region memory.now) tables.now.layout.sup.blocks }
     requires own { (seat.old.map ≡ map.now) × (seat.old.view ≡ nothing 1) }
-    requires sizes { (map.now.sizes.blocks ≡ scanner.old.blocks) × (map.now.sizes.tickets ≡ ticket_count scanner.old) }
+    requires sizes { (map.now.sizes.blocks ≡ tables.now.layout.sup.blocks) × (map.now.sizes.tickets ≡ ticket_count tables.now.layout) }
     ensures seat { (seat.new.map ≡ map.now) × (seat.new.number ≡ seat.old.number) × (seat.new.view.seats ≡ 1) }
-    ensures done { IfOk result (λ inodes. IsAllWork (P.region memory.now) scanner.old seat.new.view inodes.rows.items inodes.faults.items) }
-    ensures entered { IfOk result (λ _. All (G.entered gate.now seat.old.number) (tickets_among (ticket_count scanner.old) seat.new.view.numbers)) }
+    ensures done { IfOk result (λ inodes. IsAllWork (P.region memory.now) tables.now.layout seat.new.view inodes.rows.items inodes.faults.items) }
+    ensures entered { IfOk result (λ _. All (G.entered gate.now seat.old.number) (tickets_among (ticket_count tables.now.layout) seat.new.view.numbers)) }
 {
+    tables.are_laid();
+    let mut scanner = Scanner::new(alloc, tables.sup());
     let mut inodes = Inodes::new(alloc);
     let mut heads = Chunks::new(alloc);
     let mut each = room_for_ticket(alloc)?;
@@ -117,7 +118,8 @@ fn draw_all<P: Pmem, G: Gate>(
         gate.enter(seat.number(), ticket);
         scan_ticket(
             memory,
-            scanner,
+            tables,
+            &mut scanner,
             map,
             seat,
             &mut inodes,
@@ -131,13 +133,14 @@ fn draw_all<P: Pmem, G: Gate>(
     Ok(inodes.with_heads(heads))
 }
 
-/// Does the work of one ticket: the inodes of its table block are scanned, their rows and faults are kept, and what they own
+/// Does the work of one ticket: the inodes of its block of slots are scanned, their rows and faults are kept, and what they own
 /// is claimed.
 ///
 /// All are scanned before the first is claimed. A step of the claim map waits for what was stored before it, and other
 /// workers want the same words: so the steps of a ticket come in a row. The gate has been entered with the ticket before.
 fn scan_ticket<P: Pmem, G: Gate>(
     memory: &P,
+    tables: &Tables,
     scanner: &mut Scanner,
     map: &ClaimMap,
     seat: &mut ClaimSeat,
@@ -147,48 +150,78 @@ fn scan_ticket<P: Pmem, G: Gate>(
     _gate: &G,
 ) -> Result<(), AllocError>
     requires entered { G.entered _gate.now seat.old.number ticket }
-    requires layout { IsLayout scanner.old }
-    requires blocks { HasBlocks (P.region memory.now) scanner.old.blocks }
+    requires tables { tables.now.layout.sup ≡ scanner.old }
+    requires blocks { HasBlocks (P.region memory.now) tables.now.layout.sup.blocks }
     requires own { seat.old.map ≡ map.now }
-    requires sizes { map.now.sizes.blocks ≡ scanner.old.blocks }
-    requires ticket { ticket < ticket_count scanner.old }
+    requires sizes { map.now.sizes.blocks ≡ tables.now.layout.sup.blocks }
+    requires ticket { ticket < ticket_count tables.now.layout }
     requires room { length each.old.items ≡ 32 }
     ensures scanner { scanner.new ≡ scanner.old }
     ensures seat { (seat.new.map ≡ seat.old.map) × (seat.new.number ≡ seat.old.number) × (seat.new.view.seats ≡ seat.old.view.seats) }
     ensures room { length each.new.items ≡ 32 }
-    ensures done { OnOk result (IsDone (P.region memory.now) scanner.old (numbers_of scanner.old ticket) seat.old.view seat.new.view inodes.old.rows.items inodes.new.rows.items inodes.old.faults.items inodes.new.faults.items) }
+    ensures done { OnOk result (IsDone (P.region memory.now) tables.now.layout (numbers_of tables.now.layout ticket) seat.old.view seat.new.view inodes.old.rows.items inodes.new.rows.items inodes.old.faults.items inodes.new.faults.items) }
 {
-    let count = scan_slots(memory, scanner, inodes, each, ticket)?;
+    let count = scan_slots(memory, tables, scanner, inodes, each, ticket)?;
     claim_each(map, seat, &each[..count])
 }
 
-/// Scans the inodes of a ticket's table block, and answers how many are told of. Their rows and faults are put behind those
-/// that are kept, and their claims take the first places of the room for a ticket's.
+/// Scans the inodes of a ticket's block of slots, and answers how many are told of. Their rows and faults are put behind
+/// those that are kept, and their claims take the first places of the room for a ticket's.
 ///
 /// Errors: `AllocError` where a growth was refused.
 pub fn scan_slots<P: Pmem>(
     memory: &P,
+    tables: &Tables,
     scanner: &mut Scanner,
     inodes: &mut Inodes,
     each: &mut Vec<Claims>,
     ticket: u64,
 ) -> Result<usize, AllocError>
-    requires layout { IsLayout scanner.old }
-    requires blocks { HasBlocks (P.region memory.now) scanner.old.blocks }
-    requires ticket { ticket < ticket_count scanner.old }
+    requires tables { tables.now.layout.sup ≡ scanner.old }
+    requires blocks { HasBlocks (P.region memory.now) tables.now.layout.sup.blocks }
+    requires ticket { ticket < ticket_count tables.now.layout }
     requires room { length each.old.items ≡ 32 }
     ensures scanner { scanner.new ≡ scanner.old }
     ensures room { length each.new.items ≡ 32 }
     ensures count { IfOk result (λ count. count ≤ 32) }
-    ensures next { IfOk result (λ count. AreNext (P.region memory.now) scanner.old (numbers_of scanner.old ticket) inodes.old inodes.new (claims_among (take count each.new.items))) }
+    ensures next { IfOk result (λ count. AreNext (P.region memory.now) tables.now.layout (numbers_of tables.now.layout ticket) inodes.old inodes.new (claims_among (take count each.new.items))) }
 {
-    scanner.touch(memory, ticket);
+    tables.are_laid();
+    let block = tables.slot_block(ticket);
+    scanner.touch(memory, &block);
+    scan_block(memory, tables, scanner, inodes, each, &block)
+}
+
+/// Scans the inodes of a block of slots, one after another.
+fn scan_block<P: Pmem>(
+    memory: &P,
+    tables: &Tables,
+    scanner: &mut Scanner,
+    inodes: &mut Inodes,
+    each: &mut Vec<Claims>,
+    block: &SlotBlock,
+) -> Result<usize, AllocError>
+    requires laid { IsLaid tables.now.layout }
+    requires tables { tables.now.layout.sup ≡ scanner.old }
+    requires blocks { HasBlocks (P.region memory.now) tables.now.layout.sup.blocks }
+    requires block { Contains (slot_blocks tables.now.layout) block.now }
+    requires room { length each.old.items ≡ 32 }
+    ensures scanner { scanner.new ≡ scanner.old }
+    ensures room { length each.new.items ≡ 32 }
+    ensures count { IfOk result (λ count. count ≤ 32) }
+    ensures next { IfOk result (λ count. AreNext (P.region memory.now) tables.now.layout (numbers_to tables.now.layout block.now block.now.slots) inodes.old inodes.new (claims_among (take count each.new.items))) }
+{
+    let cpus = tables.cpus();
     let mut count = 0;
-    for slot in 0..SLOTS {
-        let found = scanner.scan_place(memory, SLOTS * ticket + slot, inodes, &mut each[count])?;
+    let mut at = block.start;
+    let mut inode = block.first;
+    for _ in 0..block.slots {
+        let found = scanner.scan_at(memory, inode, at, inodes, &mut each[count])?;
         if found {
             count += 1;
         }
+        at += SLOT_SIZE;
+        inode += cpus;
     }
     Ok(count)
 }

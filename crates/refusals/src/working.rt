@@ -7,6 +7,7 @@ use crate::region::STOPPED;
 use crate::seats::{joined, opened};
 use nv_claimcore::Sizes;
 use nv_claimmap::{ClaimMap, ClaimSeat};
+use nv_inode::read_tables;
 use nv_region::MemRegion;
 use nv_scan::{NoGate, WorkerResult, worker};
 use std::alloc::{AllocError, Global};
@@ -89,8 +90,9 @@ pub(crate) fn work_in_turn(alloc: Global, memory: &MemRegion) -> Result<Work, Al
     requires { HasBlocks memory.now.region 16 }
 {
     let (map, one, two) = opened(alloc, SIZES)?;
-    let one = worker(alloc, memory, &STOPPED, &map, one, &NoGate);
-    let two = worker(alloc, memory, &STOPPED, &map, two, &NoGate);
+    let tables = read_tables(alloc, memory, &STOPPED)?;
+    let one = worker(alloc, memory, &tables, &map, one, &NoGate);
+    let two = worker(alloc, memory, &tables, &map, two, &NoGate);
     let (refused, whole) = given_apart(&one, &two);
     let claims = claims_of(alloc, map, seat_of(one), seat_of(two))?;
     Ok(Work {

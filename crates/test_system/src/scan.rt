@@ -3,7 +3,7 @@
 ghost use Rattle.std.specs.Prelude.{◌≡◌, ◌<◌};
 ghost use Rattle.nv_region.specs.Region.{HasBlocks};
 
-use crate::small::{DIRECTORY_MODE, SMALL, opened_for_one, small_region};
+use crate::small::{DIRECTORY_MODE, SMALL, opened_for_one, small_region, tables_of};
 use nv_claimmap::Claimed;
 use nv_names::Target;
 use nv_numbered::Chunks;
@@ -12,7 +12,7 @@ use nv_scan::{
     Claims, Inodes, NoGate, Numbers, Piece, Row, RowList, Scanner, directories_have_no_pages,
     files_have_no_names, in_use_by_the_slot, inode_alone, mapped_pages_begin_below_the_size,
     names_are_listed, one_block, one_inode, owned_blocks_are_data_blocks, scan_slot, ticket_count,
-    tickets_are_table_blocks, worker,
+    tickets_are_blocks_of_slots, worker,
 };
 use nv_super::{Fault, Kind, Owner};
 use std::alloc::{AllocError, Global};
@@ -267,7 +267,8 @@ fn is_scanned_in(
 ) -> Result<(), Fail>
     requires { HasBlocks memory.now.region 16 }
 {
-    let piece = scan_slot(alloc, memory, &SMALL, 1)?;
+    let tables = tables_of(alloc, memory, &SMALL)?;
+    let piece = scan_slot(alloc, memory, &tables, 1)?;
     assert_piece(rt, alloc, &piece, scanned);
     Ok(())
 }
@@ -298,7 +299,7 @@ fn reads_second(
 {
     let mut inodes = Inodes::new(alloc);
     let mut claims = Claims::new(alloc);
-    scanner.scan_place(memory, 2, &mut inodes, &mut claims)?;
+    scanner.scan_at(memory, 2, 8448, &mut inodes, &mut claims)?;
     assert_claims(rt, alloc, &claims, &OWNED_BY_FILE);
     Ok(())
 }
@@ -308,20 +309,21 @@ fn first_inode(rows: &Chunks<Row>) -> Option<u64> {
     Some(row.inode)
 }
 
-/// The inode that is found by the slot at a place, if any is.
+/// The inode that is found by the slot of its number, if any is.
 fn found_at(
     alloc: Global,
     scanner: &mut Scanner,
     memory: &MemRegion,
-    place: u64,
+    inode: u64,
 ) -> Result<Option<u64>, AllocError>
     requires scanner { scanner.old ≡ SMALL }
     requires blocks { HasBlocks memory.now.region 16 }
-    requires place { place < 32 }
+    requires inode { inode < 32 }
     ensures { scanner.new ≡ scanner.old }
 {
     let mut inodes = Inodes::new(alloc);
-    scanner.scan_place(memory, place, &mut inodes, &mut Claims::new(alloc))?;
+    let at = 8192 + 128 * inode;
+    scanner.scan_at(memory, inode, at, &mut inodes, &mut Claims::new(alloc))?;
     Ok(first_inode(&inodes.rows))
 }
 
@@ -356,7 +358,8 @@ fn reads_with_one(rt: &impl Abort, alloc: Global, memory: &MemRegion) -> Result<
 #[test]
 fn a_scanner_reads_a_log_again(rt: HostRuntime) -> Result<(), Fail> {
     let memory = small_region(rt.alloc(), &TWO_INODES)?;
-    assert!(rt; ticket_count(&SMALL) == 1);
+    let tables = tables_of(rt.alloc(), &memory, &SMALL)?;
+    assert!(rt; ticket_count(&tables) == 1);
     Ok(reads_with_one(&rt, rt.alloc(), &memory)?)
 }
 
@@ -379,7 +382,8 @@ fn works(rt: &impl Abort, alloc: Global, memory: &MemRegion) -> Result<(), Fail>
     requires { HasBlocks memory.now.region 16 }
 {
     let (map, seat) = opened_for_one(alloc)?;
-    let done = worker(alloc, memory, &SMALL, &map, seat, &NoGate);
+    let tables = tables_of(alloc, memory, &SMALL)?;
+    let done = worker(alloc, memory, &tables, &map, seat, &NoGate);
     assert!(rt; !done.refused && are_two(&done.rows));
     assert_closed(rt, alloc, &map.close(done.seat))
 }
@@ -410,6 +414,6 @@ fn the_laws_can_be_called(rt: HostRuntime) {
     files_have_no_names();
     directories_have_no_pages();
     mapped_pages_begin_below_the_size();
-    tickets_are_table_blocks();
+    tickets_are_blocks_of_slots();
     assert!(rt; true);
 }

@@ -2,10 +2,12 @@
 
 ghost use Rattle.std.specs.Prelude.{◌≡◌, IfOk};
 ghost use Rattle.nv_region.specs.Region.{HasBlocks};
+ghost use Rattle.nv_super.specs.Layout.{IsLayout, fixed_layout};
 ghost use Rattle.nv_claimcore.specs.Claims.{nothing};
 
 use nv_claimcore::Sizes;
 use nv_claimmap::{ClaimMap, ClaimSeat};
+use nv_inode::{Tables, read_tables};
 use nv_region::{MemRegion, Pmem, RegionRefusal};
 use nv_super::Super;
 use std::alloc::{AllocError, Global};
@@ -45,6 +47,17 @@ pub fn small_region(alloc: Global, words: &[Word]) -> Result<MemRegion, RegionRe
         }
     }
     Ok(memory)
+}
+
+/// The tables of a region in version 1.
+pub fn tables_of(alloc: Global, memory: &MemRegion, sup: &Super) -> Result<Tables, AllocError>
+    requires layout { IsLayout sup.now }
+    requires version { sup.now.version ≡ 1 }
+    requires blocks { HasBlocks memory.now.region sup.now.blocks }
+    ensures { IfOk result (λ t. t.layout ≡ fixed_layout sup.now) }
+{
+    let tables = read_tables(alloc, memory, sup)?;
+    Ok(tables)
 }
 
 /// A claim map of the small region for one worker, with its seat.

@@ -1,6 +1,6 @@
 //! A worker enters its gate once for each ticket, by its number, and before it loads a slot of the ticket's block.
 
-use crate::small::{TWO_TABLES, opened_for_two, small_region};
+use crate::small::{TWO_TABLES, opened_for_two, small_region, tables_of};
 use crate::watched::{Watch, WatchedRegion};
 use nv_scan::{Gate, SLOTS, worker};
 use std::sync::atomic::{AtomicBool, AtomicU64, Ordering};
@@ -91,7 +91,8 @@ fn the_gate_is_entered_once_for_each_ticket_before_its_slots_are_loaded(
         watch: Seen::new(),
     };
     let (map, seat) = opened_for_two(rt.alloc())?;
-    let done = worker(rt.alloc(), &region, &TWO_TABLES, &map, seat, &region.watch);
+    let tables = tables_of(rt.alloc(), &region.memory, &TWO_TABLES)?;
+    let done = worker(rt.alloc(), &region, &tables, &map, seat, &region.watch);
     assert!(rt; !done.refused);
     assert!(rt; region.watch.all_in_turn());
     Ok(())

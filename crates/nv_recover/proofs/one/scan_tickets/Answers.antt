@@ -1,9 +1,8 @@
 use Rattle.std.proofs.Common.{refl, ◌≤◌, ◌<◌, ◌*◌, ◌++◌, [], ℕ, List, take, sym, ap, ◌∙◌, subst}
 use Rattle.std.specs.List.{All}
 use Rattle.nv_region.specs.Region.{HasBlocks}
-use Rattle.nv_super.specs.declared.superblock.Super.{Super}
 use Rattle.nv_super.specs.declared.owners.Owner.{Owner}
-use Rattle.nv_super.specs.Layout.{IsLayout}
+use Rattle.nv_super.specs.Layout.{Layout}
 use Rattle.nv_scan.specs.ClaimList.{ClaimList}
 use Rattle.nv_scan.specs.Tickets.{ticket_count, numbers_of}
 use Rattle.nv_scan.specs.Work.{AreNext, claims_among, claims_in, rows_in}
@@ -27,16 +26,14 @@ loop-ticket-init g c = record {
   heads = rw (c.new-heads.ensures, c.new-inodes.ensures.rows) refl;
 }
 
-pub scan_slots-requires-clause-layout : goal.scan_slots-requires-clause-layout
-scan_slots-requires-clause-layout g c = subst IsLayout (sym c.loop-ticket.invariant.same) c.requires.layout
+pub scan_slots-requires-clause-tables : goal.scan_slots-requires-clause-tables
+scan_slots-requires-clause-tables g c = ap (λ (l : Layout). l.sup) c.requires.tables ∙ sym c.loop-ticket.invariant.same
 
 pub scan_slots-requires-clause-blocks : goal.scan_slots-requires-clause-blocks
-scan_slots-requires-clause-blocks g c = subst (λ (s : Super). HasBlocks (g.P.Pmem.region c.args.memory.now) s.blocks) (sym c.loop-ticket.invariant.same) c.requires.blocks
+scan_slots-requires-clause-blocks g c = subst (λ (l : Layout). HasBlocks (g.P.Pmem.region c.args.memory.now) l.sup.blocks) (sym c.requires.tables) c.requires.blocks
 
 pub scan_slots-requires-clause-ticket : goal.scan_slots-requires-clause-ticket
-scan_slots-requires-clause-ticket g c =
-    let t = c.loop-ticket.ticket in
-    subst (λ (s : Super). t < ticket_count s) (sym c.loop-ticket.invariant.same) (subst (λ (n : ℕ). t < n) c.ticket_count-ticket-end.ensures c.loop-ticket-test.true)
+scan_slots-requires-clause-ticket g c = let t = c.loop-ticket.ticket in subst (λ (n : ℕ). t < n) c.ticket_count-ticket-end.ensures c.loop-ticket-test.true
 
 pub push_heads-requires : goal.push_heads-requires
 push_heads-requires g c =
@@ -53,7 +50,7 @@ claim_each-requires g c =
     let first = l.sets.first.items in
     let second = l.sets.second.items in
     let own = claims_among (take n c.scan_slots.new.each.items) in
-    let next = subst (λ (x : Super). AreNext R x (numbers_of x l.ticket) l.inodes c.scan_slots.new.inodes own) l.invariant.same c.in_ok-count.ensures.next in
+    let next = subst (λ (x : Layout). AreNext R x (numbers_of x l.ticket) l.inodes c.scan_slots.new.inodes own) c.requires.tables c.in_ok-count.ensures.next in
     let within = subst (AreWithin s) (sym next.claims_are) (pieces_within R s next.pieces next.are.each) in
     record { within = subst (λ (each : List ClaimList). All (Fits first second) (claims_among (take n each))) (sym c.deref.ensures.value) (within_cover s.blocks own first second within l.invariant.cover.0 l.invariant.cover.1) }
 
@@ -64,7 +61,7 @@ loop-ticket-preserved g c =
     let l = c.loop-ticket in
     let n = c.in_ok-count.count in
     let own = claims_among (take n c.scan_slots.new.each.items) in
-    let next = subst (λ (x : Super). AreNext R x (numbers_of x l.ticket) l.inodes c.scan_slots.new.inodes own) l.invariant.same c.in_ok-count.ensures.next in
+    let next = subst (λ (x : Layout). AreNext R x (numbers_of x l.ticket) l.inodes c.scan_slots.new.inodes own) c.requires.tables c.in_ok-count.ensures.next in
     let pieces = l.invariant.first.0 in
     let claims = ap (λ (each : List ClaimList). claims_in pieces ++ claims_among (take n each)) c.deref.ensures.value ∙ ap (λ (cs : List (ℕ × Owner)). claims_in pieces ++ cs) next.claims_are ∙ sym (claims_join pieces next.pieces) in
     let long = c.claim_each.ensures.as_long in
@@ -84,5 +81,5 @@ pub returns : goal.returns
 returns g c =
     let l = c.loop-ticket in
     let first = l.invariant.first.1 in
-    let is = first_in_order c.requires.layout (ended_at c.ticket_count-ticket-end.ensures c.loop-ticket-test.false l.auto.ticket-end) first c.with_heads.ensures.rows c.with_heads.ensures.faults in
+    let is = first_in_order c.requires.layout (ended_at (c.ticket_count-ticket-end.ensures ∙ ap ticket_count c.requires.tables) c.loop-ticket-test.false l.auto.ticket-end) first c.with_heads.ensures.rows c.with_heads.ensures.faults in
     (is.0.sorted, l.invariant.first.0, is.1, is.0.claims, record { each = first.are.each; rows_are = c.with_heads.ensures.rows ∙ first.rows; maps = l.invariant.first.2; cover = l.invariant.cover })

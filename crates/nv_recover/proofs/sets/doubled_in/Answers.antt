@@ -1,6 +1,7 @@
 use Rattle.std.proofs.Common.{ℕ, List, arith, sym, subst}
 use Rattle.std.proofs.lemmas.Result.{IfOk-weaker}
 use Rattle.nv_super.specs.declared.owners.Owner.{Owner}
+use Rattle.nv_super.specs.Layout.{fixed_layout}
 use Rattle.nv_scan.specs.Work.{claims_in}
 use Rattle.nv_outcome.specs.nv_check.Doubled.{AreDoubled}
 use Rattle.nv_recover.proofs.Owned.{none_doubled, second_covers}
@@ -14,7 +15,7 @@ first_set-requires c = let most = c.requires.layout.blocks_to in record {
 }
 
 pub claims_of_rows-requires : goal.claims_of_rows-requires
-claims_of_rows-requires c = let given = c.requires.sets in record { scanned = (given.0, c.args.sup.now, c.requires.layout, given.1, given.3.each, given.3.rows_are) }
+claims_of_rows-requires c = let given = c.requires.sets in record { scanned = (given.0, fixed_layout c.args.sup.now, c.requires.layout, given.1, given.3.each, given.3.rows_are) }
 
 pub doubled-requires : goal.doubled-requires
 doubled-requires c = let given = c.requires.sets in record { covers = second_covers given.3 (c.in_ok-claims.ensures given.0 _ given.1 given.3.each given.3.rows_are) }

@@ -10,9 +10,9 @@ abbrev pub invariant-loop-next : goal.invariant-loop-next
 invariant-loop-next g l = record {
   map : l.seat.map ≡ l.map;
   seats : l.seat.view.seats + vec_len l.results ≡ vec_len l.fn.results;
-  rest : All (Returned (g.P.Pmem.region l._memory) l._sup l.map) l.results.items;
-  ended : 0 < past (ticket_count l._sup) l.seat.view.numbers;
-  work : IsKeptWork (g.P.Pmem.region l._memory) l._sup l.seat.view l.inodes.rows.items l.inodes.faults.items;
+  rest : All (Returned (g.P.Pmem.region l._memory) l._tables.layout l.map) l.results.items;
+  ended : 0 < past (ticket_count l._tables.layout) l.seat.view.numbers;
+  work : IsKeptWork (g.P.Pmem.region l._memory) l._tables.layout l.seat.view l.inodes.rows.items l.inodes.faults.items;
 }
 
 abbrev pub decreases-loop-next : goal.decreases-loop-next

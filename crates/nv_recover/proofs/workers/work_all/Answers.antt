@@ -10,9 +10,8 @@ map_vec-requires-after_bounds g c κs within = λ i x l is.
       ap (λ (h : Held). h.view) is ∙ here.1,
       c.requires.sizes.0,
       c.requires.sizes.1,
-      c.requires.layout,
       c.requires.blocks,
     )
 
 pub returns : goal.returns
-returns g c = subst (λ (n : ℕ). IfOk c.join_all.result (IsBrought (g.P.Pmem.region c.args.memory.now) c.args.sup.now c.args.map.now n)) c.in_ok-results.ensures.len c.join_all.ensures
+returns g c = subst (λ (n : ℕ). IfOk c.join_all.result (IsBrought (g.P.Pmem.region c.args.memory.now) c.args.tables.now.layout c.args.map.now n)) c.in_ok-results.ensures.len c.join_all.ensures

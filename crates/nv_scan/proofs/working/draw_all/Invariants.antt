@@ -8,14 +8,14 @@ use Rattle.nv_scan.proofs.working.draw_all.Given as goal
 
 abbrev pub invariant-loop-ticket : goal.invariant-loop-ticket
 invariant-loop-ticket g l = record {
-  scanner : l.scanner ≡ l.fn.scanner;
+  scanner : l.tables.layout.sup ≡ l.scanner;
   map : l.seat.map ≡ l.map;
   number : l.seat.number ≡ l.fn.seat.number;
   seats : l.seat.view.seats ≡ 1;
   room : length l.each.items ≡ 32;
   heads : l.heads.items ≡ heads_of l.inodes.rows.items;
-  work : IsWork (g.P.Pmem.region l.memory) l.fn.scanner l.seat.view l.inodes.rows.items l.inodes.faults.items;
-  entered : All (g.G.Gate.entered l.gate l.fn.seat.number) (tickets_among (ticket_count l.fn.scanner) l.seat.view.numbers);
+  work : IsWork (g.P.Pmem.region l.memory) l.tables.layout l.seat.view l.inodes.rows.items l.inodes.faults.items;
+  entered : All (g.G.Gate.entered l.gate l.fn.seat.number) (tickets_among (ticket_count l.tables.layout) l.seat.view.numbers);
 }
 
 abbrev pub decreases-loop-ticket : goal.decreases-loop-ticket
