@@ -1,5 +1,5 @@
 -- What is known of an archive of what is chosen, by that of an archive.
-use Rattle.std.proofs.Common.{◌≡◌, ◌+◌, ◌<◌, ◌≤◌, ◌^◌, inl, inr, ℕ, Bool, All, List, [], ◌∷◌, length, Option, ap, subst, arith}
+use Rattle.std.proofs.Common.{◌+◌, ◌<◌, ◌≤◌, ◌^◌, inl, inr, ℕ, Bool, All, List, [], ◌∷◌, length, Option, ap, subst, arith}
 use Rattle.std.specs.Prelude.{codes}
 use Rattle.std.proofs.lemmas.List.Elements.{All-head, All-tail}
 use Rattle.nv_stream.specs.declared.fault.ScriptError.TheVariants as errors

@@ -1,5 +1,5 @@
 -- What rows show over the bytes of a reader.
-use Rattle.std.specs.Prelude.{◌≡◌, ℕ, ◌<◌, ◌≤◌, ◌^◌, IsTrue, is_some, List, [], Option, Some, None}
+use Rattle.std.specs.Prelude.{ℕ, ◌<◌, ◌≤◌, ◌^◌, IsTrue, is_some, List, [], Option, Some, None}
 use Rattle.std.specs.List.{Contains}
 use Rattle.nv_region.specs.Region.{region_of}
 use Rattle.nv_bytes.specs.Bytes.{LieInside}

@@ -51,7 +51,7 @@ named_of t path (Some names) says none = (names, says)
 module _ (t : Tree) where
   -- it has tests
   pub tests_of : (chosen : ChosenValue) → (tests : Tests) × AreTests t chosen tests
-  tests_of (ByPath path) = let p = text_says path.now in (stat_tests t p.0, p.0, p.1, refl)
+  tests_of (ByPath path) = let p = text_says path.now in (stat_tests t p.0, (p.0, p.1, refl))
   tests_of (ByNumber i) = (stat_inode_tests t i, refl)
 
   pub is_chosen : (chosen : ChosenValue) (tests : Tests) → AreTests t chosen tests → first_refusal tests ≡ None → (i : ℕ) (base : List ℕ) → IsFoundBy t chosen i → IsBase chosen base → IsChosen t chosen i base
@@ -71,23 +71,29 @@ module _ (t : Tree) (chosen : ChosenValue) (all : Bool) (i : ℕ) (found : IsFou
   gives base text is archive =
       let tests = tests_of t chosen in
       let none = allowed tests.0 tests.1 in
-      (tests.0, tests.1, sym (ap call_status none), inr (none, i, base, is_chosen t chosen tests.0 tests.1 none i base found is, archive))
+      (tests.0, tests.1, sym (ap call_status none), inr (none, (i, base, is_chosen t chosen tests.0 tests.1 none i base found is, archive)))
 
-  pub archive_ok : (r : Result (Unit {0}) TarError) → OnOk r (WritesArchiveOf t chosen i all old new) → IfOk (archive_status r) (λ status. WritesTold (GivesArchive chosen all) t (written old other) (written new other) status)
-  archive_ok (Ok done) w = let (base, is, text, archive, adds) = w in (text, gives base text is archive, inl (refl, adds, Keeps-refl other))
-  archive_ok (Err (tars.Read e)) w = tt
-  archive_ok (Err (tars.Answer e)) w = tt
+  archive_of : (r : Result (Unit {0}) TarError) → OnOk r (WritesArchiveOf t chosen i all old new) → IfOk (archive_status r) (λ status. WritesTold (GivesArchive chosen all) t (written old other) (written new other) status)
+  archive_of (Ok done) w = let (base, is, (text, archive, adds)) = w in (text, gives base text is archive, inl (refl, adds, Keeps-refl other))
+  archive_of (Err (tars.Read e)) w = tt
+  archive_of (Err (tars.Answer e)) w = tt
+
+  pub archive_ok : (r : Result (Unit {0}) TarError) (s : Result ℕ BlocksError) → s ≡ archive_status r → OnOk r (WritesArchiveOf t chosen i all old new) → IfOk s (λ status. WritesTold (GivesArchive chosen all) t (written old other) (written new other) status)
+  archive_ok r s is w = subst (λ (x : Result ℕ BlocksError). IfOk x (λ status. WritesTold (GivesArchive chosen all) t (written old other) (written new other) status)) (sym is) (archive_of r w)
 
   front : WritesFrontOf t chosen i all old new → WritesToldFront (GivesArchive chosen all) t (written old other) (written new other)
-  front f = let (base, is, text, archive, adds) = f in (text, 0, gives base text is archive, inl (refl, adds, Keeps-refl other))
+  front f = let (base, is, (text, archive, adds)) = f in (text, 0, gives base text is archive, inl (refl, adds, Keeps-refl other))
 
-  pub archive_err : (r : Result (Unit {0}) TarError) → IfErr r (λ e. FailsArchiveOf t chosen i all e old new) → IfErr (archive_status r) (λ e. FailsTold (GivesArchive chosen all) t e (written old other) (written new other))
-  archive_err (Ok done) f = tt
-  archive_err (Err (tars.Read e)) f = f
-  archive_err (Err (tars.Answer errors.Read)) f = f
-  archive_err (Err (tars.Answer errors.Write)) f = front f
-  archive_err (Err (tars.Answer errors.Memory)) (inl kept) = inl (kept, Keeps-refl other)
-  archive_err (Err (tars.Answer errors.Memory)) (inr f) = inr (front f)
+  failed_of : (r : Result (Unit {0}) TarError) → IfErr r (λ e. FailsArchiveOf t chosen i all e old new) → IfErr (archive_status r) (λ e. FailsTold (GivesArchive chosen all) t e (written old other) (written new other))
+  failed_of (Ok done) f = tt
+  failed_of (Err (tars.Read e)) f = f
+  failed_of (Err (tars.Answer errors.Read)) f = f
+  failed_of (Err (tars.Answer errors.Write)) f = front f
+  failed_of (Err (tars.Answer errors.Memory)) (inl kept) = inl (kept, Keeps-refl other)
+  failed_of (Err (tars.Answer errors.Memory)) (inr f) = inr (front f)
+
+  pub archive_err : (r : Result (Unit {0}) TarError) (s : Result ℕ BlocksError) → s ≡ archive_status r → IfErr r (λ e. FailsArchiveOf t chosen i all e old new) → IfErr s (λ e. FailsTold (GivesArchive chosen all) t e (written old other) (written new other))
+  archive_err r s is f = subst (λ (x : Result ℕ BlocksError). IfErr x (λ e. FailsTold (GivesArchive chosen all) t e (written old other) (written new other))) (sym is) (failed_of r f)
 
 -- ---- a refusal
 

@@ -1,5 +1,5 @@
 -- The rows of an outcome, and the tree that they show where the journals are rolled back and where they aren't.
-use Rattle.std.proofs.Common.{◌≡◌, ◌/◌, ◌<◌, ◌^◌, ℕ, List, Option, Some, None, refl, sym, ap, subst, arith}
+use Rattle.std.proofs.Common.{◌≡◌, ◌/◌, ℕ, List, Option, Some, None, refl, sym, ap, subst, arith}
 use Rattle.std.specs.List.{Contains}
 use Rattle.std.specs.Option.{option_map}
 use Rattle.nv_region.specs.Region.{Region}

@@ -1,4 +1,4 @@
-use Rattle.std.proofs.Common.{ℕ, List, refl, sym, ◌∙◌}
+use Rattle.std.proofs.Common.{refl, sym, ◌∙◌}
 use Rattle.nv_tree.proofs.Spelled.{has_bytes}
 use Rattle.nv_paths.proofs.Walks.{cut, no_names, some_names, same_last}
 use Rattle.nv_archive.proofs.chosen.last_name.Goals as goal

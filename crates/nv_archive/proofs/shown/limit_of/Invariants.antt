@@ -1,4 +1,4 @@
-use Rattle.std.proofs.Common.{List, map}
+use Rattle.std.proofs.Common.{map}
 use Rattle.std.specs.List.{Contains}
 use Rattle.nv_scan.specs.declared.piece.Row.{Row}
 use Rattle.nv_archive.proofs.Shows.{IsLeft}

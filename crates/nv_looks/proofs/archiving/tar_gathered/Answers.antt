@@ -16,10 +16,11 @@ use Rattle.nv_looks.proofs.archiving.tar_gathered.Goals as goal
 
 pub tar_rows-requires : goal.tar_rows-requires
 tar_rows-requires g c =
-    let is = subst (IsOpenedOf c.args.gathered) c.in-Mounted.is c.in_ok-opened.ensures in (
-      subst AreSmallRows (sym c.rows.ensures) (opened_small c.args.gathered c.in-Mounted.mount is),
-      subst AreLowRows (sym c.rows.ensures) (opened_low c.args.gathered c.in-Mounted.mount is),
-    )
+    let is = subst (IsOpenedOf c.args.gathered) c.in-Mounted.is c.in_ok-opened.ensures in
+    record {
+      small = subst AreSmallRows (sym c.rows.ensures) (opened_small c.args.gathered c.in-Mounted.mount is);
+      low = subst AreLowRows (sym c.rows.ensures) (opened_low c.args.gathered c.in-Mounted.mount is);
+    }
 
 pub returns-in_ok-status-in-Mounted-clause-ok : goal.returns-in_ok-status-in-Mounted-clause-ok
 returns-in_ok-status-in-Mounted-clause-ok g c bytes known are =

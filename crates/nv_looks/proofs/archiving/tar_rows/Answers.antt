@@ -1,11 +1,8 @@
-use Rattle.std.proofs.Common.{ℕ, [], Ok, Err, subst, sym}
-use Rattle.std.specs.Prelude.{Result, IfOk, IfErr}
+use Rattle.std.proofs.Common.{[], Ok}
 use Rattle.std.proofs.lemmas.Result.{err_from_is_err_and}
 use Rattle.nv_region.specs.Region.{region_of}
 use Rattle.nv_session.specs.nv_paths.Seen.{tree_of}
 use Rattle.nv_archive.specs.Shown.{bytes_or_none}
-use Rattle.nv_checking.specs.declared.gathered.BlocksError.{BlocksError}
-use Rattle.nv_looks.specs.Archiving.{FailsTold, GivesArchive, WritesTold}
 use Rattle.nv_looks.proofs.Archived.{archive_ok, archive_err, is_named, refused_ok, refused_err, tests_of}
 use Rattle.nv_looks.proofs.archiving.tar_rows.Goals as goal
 
@@ -14,21 +11,24 @@ write_archive-requires g c =
     let R = region_of [] in
     let t = tree_of R c.args.rows.now.items in
     let tests = tests_of t c.args.chosen in
-    (c.requires.small, (c.requires.low, (c.in-Ok.ensures.used, is_named t c.args.chosen tests.0 tests.1 (c.in-Ok.ensures.tests R tests.0 tests.1) c.in-Ok.inode (c.in-Ok.ensures.found R))))
+    record {
+      small = c.requires.small;
+      low = c.requires.low;
+      used = c.in-Ok.ensures.used;
+      named = is_named t c.args.chosen tests.0 tests.1 (c.in-Ok.ensures.tests R tests.0 tests.1) c.in-Ok.inode (c.in-Ok.ensures.found R);
+    }
 
 pub returns-in-Ok-clause-ok : goal.returns-in-Ok-clause-ok
 returns-in-Ok-clause-ok g c = λ known.
     let R = region_of (bytes_or_none (g.B.Blocks.bytes c.args.source.now)) in
     let t = tree_of R c.args.rows.now.items in
-    subst (λ (r : Result ℕ BlocksError). IfOk r (λ status. WritesTold (GivesArchive c.args.chosen c.args.all) t _ _ status)) (sym c.told.ensures)
-    (archive_ok t c.args.chosen c.args.all c.in-Ok.inode (c.in-Ok.ensures.found R) (c.in-Ok.ensures.tests R) _ _ _ c.write_archive.result (c.write_archive.ensures.ok known))
+    archive_ok t c.args.chosen c.args.all c.in-Ok.inode (c.in-Ok.ensures.found R) (c.in-Ok.ensures.tests R) _ _ _ c.write_archive.result c.told.result c.told.ensures (c.write_archive.ensures.ok known)
 
 pub returns-in-Ok-clause-err : goal.returns-in-Ok-clause-err
 returns-in-Ok-clause-err g c = λ known.
     let R = region_of (bytes_or_none (g.B.Blocks.bytes c.args.source.now)) in
     let t = tree_of R c.args.rows.now.items in
-    subst (λ (r : Result ℕ BlocksError). IfErr r (λ e. FailsTold (GivesArchive c.args.chosen c.args.all) t e _ _)) (sym c.told.ensures)
-    (archive_err t c.args.chosen c.args.all c.in-Ok.inode (c.in-Ok.ensures.found R) (c.in-Ok.ensures.tests R) _ _ _ c.write_archive.result (c.write_archive.ensures.err known))
+    archive_err t c.args.chosen c.args.all c.in-Ok.inode (c.in-Ok.ensures.found R) (c.in-Ok.ensures.tests R) _ _ _ c.write_archive.result c.told.result c.told.ensures (c.write_archive.ensures.err known)
 
 pub returns-in_ok-status-in-Err-clause-ok : goal.returns-in_ok-status-in-Err-clause-ok
 returns-in_ok-status-in-Err-clause-ok g c = λ known.
