@@ -10,6 +10,7 @@
 //! can't be read or written, and output or memory that is refused end it with status 2 and a text on standard error.
 #![tactic(auto)]
 
+mod archiving;
 mod cleaning;
 mod hints;
 mod names;
@@ -18,6 +19,7 @@ mod saving;
 mod shell;
 mod show;
 
+use archiving::archive;
 use cleaning::clean;
 use nv_args::{CheckOutput, Todo, VERSION, read_words};
 use nv_checking::{Blocks, Output, check_file, check_files, explain_file, map_file};
@@ -115,6 +117,7 @@ where
         Todo::Ls { image, which } => show(rt, &mut errors, image, which, Shown::Names),
         Todo::Stat { image, which } => show(rt, &mut errors, image, which, Shown::Attributes),
         Todo::Cat { image, which } => show(rt, &mut errors, image, which, Shown::Bytes),
+        Todo::Tar { image, which, lost } => archive(rt, &mut errors, image, which, lost),
         Todo::Map { image, svg, force } => {
             map_file(rt, image, svg.map(|path| Target { path, force }))
         }
