@@ -69,6 +69,10 @@ may_path_app name = command name (needed_rule (codes "image") ∷ place_rule (co
 abbrev pub path_app : Text → App
 path_app name = command name (needed_rule (codes "image") ∷ needed_rule (codes "path") ∷ [])
 
+-- `tar`: an image's file, what is put into the archive, and whether all else that is in use is too
+abbrev pub tar_app : App
+tar_app = command (codes "tar") (needed_rule (codes "image") ∷ place_rule (codes "path") ∷ flag_rule (codes "lost-found") ∷ [])
+
 -- `explain`: a class of faults
 abbrev pub explain_app : App
 explain_app = command (codes "explain") (needed_rule (codes "class") ∷ [])
@@ -87,7 +91,7 @@ with_commands program apps = fold (λ app sub. with_subcommand app sub.top) prog
 
 -- the commands that read an image, or write one
 abbrev pub image_apps : List App
-image_apps = mkfs_app ∷ may_path_app (codes "clean") ∷ may_path_app (codes "ls") ∷ path_app (codes "stat") ∷ path_app (codes "cat") ∷ explain_app ∷ map_app ∷ []
+image_apps = mkfs_app ∷ may_path_app (codes "clean") ∷ may_path_app (codes "ls") ∷ path_app (codes "stat") ∷ path_app (codes "cat") ∷ tar_app ∷ explain_app ∷ map_app ∷ []
 
 -- the program with its commands
 abbrev pub nova_app : App

@@ -55,7 +55,7 @@ struct CommandForm<'a> {
 }
 
 // In the order in which help lists them.
-const COMMANDS: [CommandForm<'static>; 10] = [
+const COMMANDS: [CommandForm<'static>; 11] = [
     CommandForm {
         name: "run",
         about: "Runs a script and prints its answers",
@@ -244,6 +244,28 @@ const COMMANDS: [CommandForm<'static>; 10] = [
                 written: Written::Needed,
                 name: "path",
                 help: "The path in the image, or a number of an inode: 12 or <12>",
+            },
+        ],
+    },
+    CommandForm {
+        name: "tar",
+        about: "Writes the files of an image as a tar archive to standard output",
+        notes: NOTES,
+        arguments: &[
+            Argument {
+                written: Written::Needed,
+                name: "image",
+                help: IMAGE,
+            },
+            Argument {
+                written: Written::ByPlace,
+                name: "path",
+                help: "The path or the number of what is written; / if left out",
+            },
+            Argument {
+                written: Written::Flag,
+                name: "lost-found",
+                help: "Put all else that is in use under lost+found",
             },
         ],
     },

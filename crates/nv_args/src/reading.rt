@@ -274,6 +274,16 @@ fn cat_of<'a>(values: &ArgMatches<'a>) -> Option<Todo<'a>>
     Some(Todo::Cat { image, which })
 }
 
+fn tar_of<'a>(values: &ArgMatches<'a>) -> Option<Todo<'a>>
+    ensures some { IfSome result (λ todo. Asks (codes "tar") (rows_of (found_of values.now)) todo) }
+    ensures none { IsNone result → (todo : Todo) → ¬ Asks (codes "tar") (rows_of (found_of values.now)) todo }
+{
+    let image = text_of(values, "image")?;
+    let which = which_of(text_of(values, "path").unwrap_or("/"));
+    let lost = is_given(values, "lost-found");
+    Some(Todo::Tar { image, which, lost })
+}
+
 fn explain_of<'a>(values: &ArgMatches<'a>) -> Option<Todo<'a>>
     ensures some { IfSome result (λ todo. Asks (codes "explain") (rows_of (found_of values.now)) todo) }
     ensures none { IsNone result → (todo : Todo) → ¬ Asks (codes "explain") (rows_of (found_of values.now)) todo }
@@ -316,6 +326,7 @@ fn command_of<'a>(name: &str, values: &ArgMatches<'a>) -> Option<Todo<'a>>
         "ls" => ls_of(values),
         "stat" => stat_of(values),
         "cat" => cat_of(values),
+        "tar" => tar_of(values),
         "explain" => explain_of(values),
         "map" => map_of(values),
         _ => None,

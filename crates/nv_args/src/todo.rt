@@ -57,6 +57,12 @@ pub enum Todo<'a> {
         image: &'a str,
         which: Which<'a>,
     },
+    /// Write an archive of what an inode of an image holds, and of all else that is in use if `lost` says so.
+    Tar {
+        image: &'a str,
+        which: Which<'a>,
+        lost: bool,
+    },
     /// Tell what a class of faults means.
     Explain {
         class: &'a str,
