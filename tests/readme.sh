@@ -69,7 +69,7 @@ for words in "check --help" "run --help" "--help" ""; do
     same "status of nova $words" 2 $?
     same "standard output of nova $words" "" "$(cat "$folder/said")"
 done
-for command in run shell check mkfs clean ls stat cat tar map explain; do
+for command in run shell check mkfs clean ls stat cat tar log map explain; do
     same "usage of nova $command" "Usage: nova $command" "$("$program" $command --help 2>&1 | grep -o "^Usage: nova $command")"
     # The page has what the help says of the command and of its arguments.
     while IFS= read -r line; do

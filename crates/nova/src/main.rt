@@ -1,7 +1,8 @@
 //! The program `nova`: it makes, checks, cleans and shows images of the NOVA file system, and runs scripts on them.
 //!
 //! `run` runs a script, on the region of an image or on none, and saves the region that it leaves. `shell` runs the commands that
-//! are typed. `show` shows what is in an image, `cleaning` shortens its logs, `names` reads paths in it, and `saving` makes one.
+//! are typed. `show` shows what is in an image, `logs` the log of an inode, `cleaning` shortens logs, `names` reads paths in it, and
+//! `saving` makes one.
 //! Checks and maps of images are those of `nova_check`.
 //!
 //! Behind a bad line, and a region that is refused for its length, a line on standard error says more.
@@ -13,6 +14,7 @@
 mod archiving;
 mod cleaning;
 mod hints;
+mod logs;
 mod names;
 mod run;
 mod saving;
@@ -21,6 +23,7 @@ mod show;
 
 use archiving::archive;
 use cleaning::clean;
+use logs::show_log;
 use nv_args::{CheckOutput, Todo, VERSION, read_words};
 use nv_checking::{Blocks, Output, check_file, check_files, explain_file, map_file};
 use nv_cli::suiting_areas;
@@ -121,6 +124,7 @@ where
         Todo::Map { image, svg, force } => {
             map_file(rt, image, svg.map(|path| Target { path, force }))
         }
+        Todo::Log { image, which } => show_log(rt, &mut errors, image, which),
         Todo::Explain { class } => explain(rt, class),
     }
 }

@@ -65,7 +65,7 @@ mkfs_app = command (codes "mkfs") (needed_rule (codes "image") ∷ number_rule (
 abbrev pub may_path_app : Text → App
 may_path_app name = command name (needed_rule (codes "image") ∷ place_rule (codes "path") ∷ [])
 
--- a command on one inode of an image: `stat` and `cat`
+-- a command on one inode of an image: `stat`, `cat` and `log`
 abbrev pub path_app : Text → App
 path_app name = command name (needed_rule (codes "image") ∷ needed_rule (codes "path") ∷ [])
 
@@ -91,7 +91,7 @@ with_commands program apps = fold (λ app sub. with_subcommand app sub.top) prog
 
 -- the commands that read an image, or write one
 abbrev pub image_apps : List App
-image_apps = mkfs_app ∷ may_path_app (codes "clean") ∷ may_path_app (codes "ls") ∷ path_app (codes "stat") ∷ path_app (codes "cat") ∷ tar_app ∷ explain_app ∷ map_app ∷ []
+image_apps = mkfs_app ∷ may_path_app (codes "clean") ∷ may_path_app (codes "ls") ∷ path_app (codes "stat") ∷ path_app (codes "cat") ∷ tar_app ∷ path_app (codes "log") ∷ explain_app ∷ map_app ∷ []
 
 -- the program with its commands
 abbrev pub nova_app : App

@@ -9,7 +9,7 @@ use Rattle.nv_args.specs.CommandLine.{nova_app}
 use Rattle.nv_args.specs.declared.todo.CheckOutput.{CheckOutput}
 use Rattle.nv_args.specs.declared.todo.CheckOutput.TheVariants.{Report, Summary, OnlyFaults, Json, Explained}
 use Rattle.nv_args.specs.declared.todo.Todo.{Todo}
-use Rattle.nv_args.specs.declared.todo.Todo.TheVariants.{Version, Run, Shell, Check, Mkfs, Clean, Ls, Stat, Cat, Tar, Explain, Map}
+use Rattle.nv_args.specs.declared.todo.Todo.TheVariants.{Version, Run, Shell, Check, Mkfs, Clean, Ls, Stat, Cat, Tar, Log, Explain, Map}
 use Rattle.nv_args.specs.declared.todo.Which.{Which}
 use Rattle.nv_args.specs.declared.todo.Which.TheVariants.{Path, Number}
 use Rattle.nv_args.specs.UsageValue.{UsageTold}
@@ -108,6 +108,7 @@ command_of (Ls image which) = codes "ls"
 command_of (Stat image which) = codes "stat"
 command_of (Cat image which) = codes "cat"
 command_of (Tar image which lost) = codes "tar"
+command_of (Log image which) = codes "log"
 command_of (Explain class) = codes "explain"
 command_of (Map image svg force) = codes "map"
 
@@ -142,6 +143,7 @@ HasValues values (Stat image which) = (first_of (codes "image") values ≡ Some 
 HasValues values (Cat image which) = (first_of (codes "image") values ≡ Some image.now) × IsNamed (first_of (codes "path") values) which
 HasValues values (Tar image which lost) = (first_of (codes "image") values ≡ Some image.now)
     × Names (unwrap_or (first_of (codes "path") values) (codes "/")) which × (IsTrue lost ↔ IsGiven (codes "lost-found") values)
+HasValues values (Log image which) = (first_of (codes "image") values ≡ Some image.now) × IsNamed (first_of (codes "path") values) which
 HasValues values (Explain class) = first_of (codes "class") values ≡ Some class.now
 HasValues values (Map image svg force) = (first_of (codes "image") values ≡ Some image.now)
     × (first_of (codes "svg") values ≡ option_map (λ text. text.now) svg) × (IsTrue force ↔ IsGiven (codes "force") values)

@@ -55,7 +55,7 @@ struct CommandForm<'a> {
 }
 
 // In the order in which help lists them.
-const COMMANDS: [CommandForm<'static>; 11] = [
+const COMMANDS: [CommandForm<'static>; 12] = [
     CommandForm {
         name: "run",
         about: "Runs a script and prints its answers",
@@ -266,6 +266,23 @@ const COMMANDS: [CommandForm<'static>; 11] = [
                 written: Written::Flag,
                 name: "lost-found",
                 help: "Put all else that is in use under lost+found",
+            },
+        ],
+    },
+    CommandForm {
+        name: "log",
+        about: "Prints the log of a file or directory of an image, entry by entry",
+        notes: NOTES,
+        arguments: &[
+            Argument {
+                written: Written::Needed,
+                name: "image",
+                help: IMAGE,
+            },
+            Argument {
+                written: Written::Needed,
+                name: "path",
+                help: "The path in the image, or a number of an inode: 12 or <12>",
             },
         ],
     },

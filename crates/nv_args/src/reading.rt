@@ -284,6 +284,15 @@ fn tar_of<'a>(values: &ArgMatches<'a>) -> Option<Todo<'a>>
     Some(Todo::Tar { image, which, lost })
 }
 
+fn log_of<'a>(values: &ArgMatches<'a>) -> Option<Todo<'a>>
+    ensures some { IfSome result (λ todo. Asks (codes "log") (rows_of (found_of values.now)) todo) }
+    ensures none { IsNone result → (todo : Todo) → ¬ Asks (codes "log") (rows_of (found_of values.now)) todo }
+{
+    let image = text_of(values, "image")?;
+    let which = which_of(text_of(values, "path")?);
+    Some(Todo::Log { image, which })
+}
+
 fn explain_of<'a>(values: &ArgMatches<'a>) -> Option<Todo<'a>>
     ensures some { IfSome result (λ todo. Asks (codes "explain") (rows_of (found_of values.now)) todo) }
     ensures none { IsNone result → (todo : Todo) → ¬ Asks (codes "explain") (rows_of (found_of values.now)) todo }
@@ -327,6 +336,7 @@ fn command_of<'a>(name: &str, values: &ArgMatches<'a>) -> Option<Todo<'a>>
         "stat" => stat_of(values),
         "cat" => cat_of(values),
         "tar" => tar_of(values),
+        "log" => log_of(values),
         "explain" => explain_of(values),
         "map" => map_of(values),
         _ => None,

@@ -63,6 +63,11 @@ pub enum Todo<'a> {
         which: Which<'a>,
         lost: bool,
     },
+    /// Print the log of an inode of an image, entry by entry.
+    Log {
+        image: &'a str,
+        which: Which<'a>,
+    },
     /// Tell what a class of faults means.
     Explain {
         class: &'a str,

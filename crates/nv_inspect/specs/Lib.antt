@@ -1,0 +1,3 @@
+pub mod Entry
+pub mod Log
+pub use Rattle.nv_scan.specs as nv_scan

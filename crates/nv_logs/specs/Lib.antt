@@ -1,0 +1,3 @@
+pub mod Asking
+pub mod Looking
+pub mod Writing
