@@ -12,6 +12,7 @@ pub mod PiecesByNumber
 pub mod Looks
 pub mod Opens
 pub mod Cats
+pub mod FileAnswers
 pub mod Bare
 pub mod Opened
 pub mod Filed

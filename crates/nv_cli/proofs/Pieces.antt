@@ -9,6 +9,7 @@ use Rattle.nv_tree.specs.Tree.{Tree, Node}
 use Rattle.nv_tree.specs.Calls.{bytes_read}
 use Rattle.nv_session.specs.nv_paths.Seen.{LeadsTo}
 use Rattle.nv_session.specs.nv_calls.Reading.{IsRead}
+use Rattle.nv_session.proofs.FileParts.{a_piece, one_node}
 use Rattle.nv_stream.specs.Streams.{AppendsFront}
 use Rattle.nv_stream.proofs.StreamLemmas.{appends_none, appends_both, appends_front, front_of_whole}
 use Rattle.nv_cli.specs.Looking.{IsSized, IsWholeFile, WritesFile, FailsFile}
@@ -27,9 +28,6 @@ first_bytes node count = map node.bytes (range_with_len 0 count)
 pub all_bytes : (node : Node) → bytes_read 0 node.size node ≡ first_bytes node node.size
 all_bytes node = ap (λ n. map node.bytes (range_with_len 0 n)) (let same : min node.size (node.size - 0) ≡ node.size = omega arith in same)
 
-pub a_piece : (node : Node) (at count : ℕ) → at + count ≤ node.size → bytes_read at count node ≡ map node.bytes (range_with_len at count)
-a_piece node at count within = ap (λ n. map node.bytes (range_with_len at n)) (let same : min count (node.size - at) ≡ count = omega arith in same)
-
 -- the first bytes of a node are a front of all
 pub front_of_node : (node : Node) (size : ℕ) → size ≡ node.size → (old now : Option (List ℕ)) (at : ℕ) → at ≤ size → AppendsFront old now (first_bytes node at)
     → AppendsFront old now (bytes_read 0 node.size node)
@@ -40,14 +38,6 @@ front_of_node node size is old now at within (n, added) =
     let all : take (min n at) (bytes_read 0 node.size node) ≡ first_bytes node (min n at) =
     ap (take (min n at)) (all_bytes node) ∙ take-map-range_with_len node.bytes 0 node.size (min n at) (omega (arith, is)) in
     (min n at, subst (λ xs. Appends old now xs) (cut ∙ sym all) added)
-
--- a path leads to one inode
-one_node : (t : Tree) (names : List (List ℕ)) (i j : ℕ) (a b : Node) → LeadsTo t names i a → LeadsTo t names j b → a ≡ b
-one_node t names i j a b p q =
-    let number : i ≡ j = (let first = p.leads in let second = q.leads in cc) in
-    let first = p.shows in
-    let second : t i ≡ Some b = rw number q.shows in
-    cc
 
 module _ (t : Tree) (names : List (List ℕ)) (size : ℕ) (s : IsSized t names size) where
   read_piece : (at count : ℕ) (piece : List ℕ) → IsRead t names at count piece → at + count ≤ size → piece ≡ map s.node.bytes (range_with_len at count)

@@ -8,7 +8,8 @@ use Rattle.nv_session.specs.nv_calls.ByNumber.{IsInodeRead}
 use Rattle.nv_stream.specs.Streams.{AppendsFront}
 use Rattle.nv_stream.proofs.StreamLemmas.{appends_both, appends_front, front_of_whole}
 use Rattle.nv_cli.specs.LookingByNumber.{IsInodeSized, IsWholeInode, WritesInode, FailsInode}
-use Rattle.nv_cli.proofs.Pieces.{first_bytes, front_of_node, joins, all_bytes, a_piece}
+use Rattle.nv_session.proofs.FileParts.{a_piece}
+use Rattle.nv_cli.proofs.Pieces.{first_bytes, front_of_node, joins, all_bytes}
 use Rattle.nv_stream.specs.declared.fault.ScriptError.TheVariants as errors
 
 one_node : (t : Tree) (i : ℕ) (a b : Node) → t i ≡ Some a → t i ≡ Some b → a ≡ b
