@@ -7,6 +7,7 @@ pub mod HintReplies
 pub mod Ending
 pub mod Kept
 pub mod ShellLines
+pub mod FileAnswers
 pub mod FreedPages
 pub mod Cleanings
 pub mod CleanedImage

@@ -1,8 +1,6 @@
 -- What the answer to a line of a shell says of the lines that are reached: `number` is the line's number, and `state` and `mid`
 -- are the states before and after it.
-use Rattle.std.proofs.Common.{◌≡◌, ◌+◌, ◌++◌, ℕ, List, [], ◌∷◌, Option, Some, None, refl, inl, inr, ap, sym, ◌∙◌, append_assoc, append-nil, string_bytes}
-use Rattle.std.specs.Prelude.{String}
-use Rattle.std.specs.declared.alloc.Global.{Global}
+use Rattle.std.proofs.Common.{◌≡◌, ◌+◌, ◌++◌, ℕ, List, [], ◌∷◌, Option, Some, None, refl, inl, inr, ap, sym, ◌∙◌, append_assoc, append-nil}
 use Rattle.std.specs.Io.KnownBytes.{Appends, Keeps}
 use Rattle.nv_region.specs.Region.{Region}
 use Rattle.nv_stream.specs.Known.{IfKnown}
@@ -16,6 +14,7 @@ use Rattle.nv_stream.proofs.StreamLemmas.{appends_none, appends_both, appends_sh
 use Rattle.nv_text.specs.Answers.{bad_line}
 use Rattle.nv_report.specs.Last.{status_of}
 use Rattle.nv_line.specs.Request.{Recover}
+use Rattle.nv_session.specs.declared.printed.Printed.{Printed}
 use Rattle.nv_session.specs.Machine.{State, Step, state_with}
 use Rattle.nv_cli.specs.Transcript.{WritesAll, WritesShort, WritesWhole, FailsScript}
 use Rattle.nv_cli.specs.Shell.{Kept, ShowsLinesEnd, ShowsAnyLines, ShowsShell, ShowsAnyShell, Answers, KnownAnswers, AnswersLine}
@@ -24,19 +23,19 @@ use Rattle.nv_cli.specs.declared.shell.Answer.TheVariants.{End, Text, TooLong}
 use Rattle.nv_cli.proofs.Ending.{Weaker}
 use Rattle.nv_cli.proofs.KnownProgress.{KnownProgress, GoesOn, Ends, EndsInside, known_on}
 
-module _ (left after now then : Option (List ℕ)) (number : ℕ) (state mid : State) (here : List Kept) where
+module _ (left after now then : Option (List ℕ)) (number : ℕ) (state mid : State) (text : List ℕ) (here : List Kept) where
   module _ (region : Option Region) where
-    shell_goes_on : (later : List Kept) (text : String Global) → KnownAnswers number left after state (Text text) here mid → Appends now then (string_bytes text)
+    shell_goes_on : (later : List Kept) (printed : Printed) → KnownAnswers number left after state (Text printed) text here mid → Appends now then text
         → IfKnown left after (λ input rest. GoesOn (ShowsLinesEnd number state (here ++ later) region) (ShowsLinesEnd (number + 1) mid later region) now then input rest)
-    shell_goes_on later text answers added = known_map left after _ _ (λ input rest (r : Answers number input rest state (Text text) here mid). record {
+    shell_goes_on later printed answers added = known_map left after _ _ (λ input rest (r : Answers number input rest state (Text printed) text here mid). record {
       line = r.0;
-      first = string_bytes text;
+      first = text;
       read = r.1;
       added = added;
-      step = λ more others status shown. (shown.0, inr (inr (r.2, string_bytes text, others, here, later, mid, r.3, shown.1, refl, refl)), shown.2);
+      step = λ more others status shown. (shown.0, inr (inr (r.2, text, others, here, later, mid, r.3, shown.1, refl, refl)), shown.2);
     }) answers
 
-    ends_with : (status : ℕ) (input rest : List ℕ) → Answers number input rest state End here mid → status ≡ status_of mid.last → mid.region ≡ region → Ends (ShowsLinesEnd number state here region) now now input status
+    ends_with : (status : ℕ) (input rest : List ℕ) → Answers number input rest state End text here mid → status ≡ status_of mid.last → mid.region ≡ region → Ends (ShowsLinesEnd number state here region) now now input status
     ends_with status input rest (inl none, kept, same) is there =
         let lines : lines_of input ≡ [] = ap lines_of none in
         let last : status ≡ status_of state.last = is ∙ ap (λ (s : State). status_of s.last) same in
@@ -47,36 +46,36 @@ module _ (left after now then : Option (List ℕ)) (number : ℕ) (state mid : S
         let ended : state.region ≡ region = ap (λ (s : State). s.region) (sym same) ∙ there in
         record { text = []; added = appends_none now; shown = rw quit.1 (state, inl (refl, kept, refl, last, refl), ended) }
 
-    pub shell_ends : (status : ℕ) → KnownAnswers number left after state End here mid → status ≡ status_of mid.last → mid.region ≡ region → IfKnown left after (λ input rest. Ends (ShowsLinesEnd number state here region) now now input status)
-    shell_ends status answers is there = known_map left after _ _ (λ input rest (r : Answers number input rest state End here mid). ends_with status input rest r is there) answers
+    pub shell_ends : (status : ℕ) → KnownAnswers number left after state End text here mid → status ≡ status_of mid.last → mid.region ≡ region → IfKnown left after (λ input rest. Ends (ShowsLinesEnd number state here region) now now input status)
+    shell_ends status answers is there = known_map left after _ _ (λ input rest (r : Answers number input rest state End text here mid). ends_with status input rest r is there) answers
 
-    pub too_long_ends : KnownAnswers number left after state TooLong here mid → Appends now then (bad_line number) → mid.region ≡ region → IfKnown left after (λ input rest. Ends (ShowsLinesEnd number state here region) now then input 2)
-    too_long_ends answers added there = known_map left after _ _ (λ input rest (r : Answers number input rest state TooLong here mid).
+    pub too_long_ends : KnownAnswers number left after state TooLong text here mid → Appends now then (bad_line number) → mid.region ≡ region → IfKnown left after (λ input rest. Ends (ShowsLinesEnd number state here region) now then input 2)
+    too_long_ends answers added there = known_map left after _ _ (λ input rest (r : Answers number input rest state TooLong text here mid).
         let ended : state.region ≡ region = ap (λ (s : State). s.region) (sym r.5) ∙ there in
         record { text = bad_line number; added = added; shown = rw r.2 (state, inr (inl (r.3, r.4, refl, refl, refl)), ended) }) answers
 
     -- how far the lines have come after one more
-    pub line_on : (begin : State) (given later : List Kept) (known old : Option (List ℕ)) (text : String Global)
+    pub line_on : (begin : State) (given later : List Kept) (known old : Option (List ℕ)) (printed : Printed)
         → KnownProgress (ShowsLinesEnd 1 begin (given ++ (here ++ later)) region) (ShowsLinesEnd number state (here ++ later) region) known left old now
-        → KnownAnswers number left after state (Text text) here mid → Appends now then (string_bytes text)
+        → KnownAnswers number left after state (Text printed) text here mid → Appends now then text
         → KnownProgress (ShowsLinesEnd 1 begin ((given ++ here) ++ later) region) (ShowsLinesEnd (number + 1) mid later region) known after old then
-    line_on begin given later known old text p answers added = rw (append_assoc given here later)
+    line_on begin given later known old printed p answers added = rw (append_assoc given here later)
         (known_on (ShowsLinesEnd 1 begin (given ++ (here ++ later)) region) old (ShowsLinesEnd number state (here ++ later) region) now (ShowsLinesEnd (number + 1) mid later region) known left after then p
-        (shell_goes_on later text answers added))
+        (shell_goes_on later printed answers added))
 
-  pub shell_ends_inside : (text : String Global) → KnownAnswers number left after state (Text text) here mid → AppendsShort now then (string_bytes text) → IfKnown left after (λ input rest. EndsInside (ShowsLinesEnd number state here mid.region) now then input)
-  shell_ends_inside text answers added = known_map left after _ _ (λ input rest (r : Answers number input rest state (Text text) here mid). record {
+  pub shell_ends_inside : (printed : Printed) → KnownAnswers number left after state (Text printed) text here mid → AppendsShort now then text → IfKnown left after (λ input rest. EndsInside (ShowsLinesEnd number state here mid.region) now then input)
+  shell_ends_inside printed answers added = known_map left after _ _ (λ input rest (r : Answers number input rest state (Text printed) text here mid). record {
     line = r.0;
     behind = lines_of rest;
-    text = string_bytes text;
+    text = text;
     status = status_of mid.last;
     read = r.1;
     added = added;
-    shown = (mid, inr (inr (r.2, string_bytes text, [], here, [], mid, r.3, (refl, refl, refl, refl), sym (append-nil (string_bytes text)), sym (append-nil here))), refl);
+    shown = (mid, inr (inr (r.2, text, [], here, [], mid, r.3, (refl, refl, refl, refl), sym (append-nil text), sym (append-nil here))), refl);
   }) answers
 
-  pub too_long_ends_inside : KnownAnswers number left after state TooLong here mid → AppendsShort now then (bad_line number) → IfKnown left after (λ input rest. EndsInside (ShowsLinesEnd number state here state.region) now then input)
-  too_long_ends_inside answers added = known_map left after _ _ (λ input rest (r : Answers number input rest state TooLong here mid). record {
+  pub too_long_ends_inside : KnownAnswers number left after state TooLong text here mid → AppendsShort now then (bad_line number) → IfKnown left after (λ input rest. EndsInside (ShowsLinesEnd number state here state.region) now then input)
+  too_long_ends_inside answers added = known_map left after _ _ (λ input rest (r : Answers number input rest state TooLong text here mid). record {
     line = r.0;
     behind = r.1;
     text = bad_line number;
@@ -88,16 +87,16 @@ module _ (left after now then : Option (List ℕ)) (number : ℕ) (state mid : S
 
 -- ---- a line that was read
 
-pub long_line : (number : ℕ) (left after : Option (List ℕ)) (line : List ℕ) (state : State) → TakesKnownLine left after nexts.TooLong line → KnownAnswers number left after state TooLong [] state
-long_line number left after line state taken = known_map left after _ _ (λ input rest (t : TakesLine input rest nexts.TooLong line). (t.0, t.1, t.2, t.3, refl, refl)) taken
+pub long_line : (number : ℕ) (left after : Option (List ℕ)) (line text : List ℕ) (state : State) → TakesKnownLine left after nexts.TooLong line → KnownAnswers number left after state TooLong text [] state
+long_line number left after line text state taken = known_map left after _ _ (λ input rest (t : TakesLine input rest nexts.TooLong line). (t.0, t.1, t.2, t.3, refl, refl)) taken
 
-pub no_line : (number : ℕ) (left after : Option (List ℕ)) (line : List ℕ) (state : State) → TakesKnownLine left after nexts.End line → KnownAnswers number left after state End [] state
-no_line number left after line state taken = known_map left after _ _ (λ input rest (t : TakesLine input rest nexts.End line). (inl t, refl, refl)) taken
+pub no_line : (number : ℕ) (left after : Option (List ℕ)) (line text : List ℕ) (state : State) → TakesKnownLine left after nexts.End line → KnownAnswers number left after state End text [] state
+no_line number left after line text state taken = known_map left after _ _ (λ input rest (t : TakesLine input rest nexts.End line). (inl t, refl, refl)) taken
 
-pub line_answers : (number : ℕ) (left after : Option (List ℕ)) (line : List ℕ) (old new : State) (answer : Answer) (kept : List Kept) → TakesKnownLine left after nexts.Line line → AnswersLine number line old answer kept new → KnownAnswers number left after old answer kept new
-line_answers number left after line old new End kept taken answers = known_map left after _ _ (λ input rest (t : TakesLine input rest nexts.Line line). (inr (lines_of rest, t.0 ∙ ap (λ x. x ∷ lines_of rest) answers.0), answers.1, answers.2)) taken
-line_answers number left after line old new (Text text) kept taken answers = known_map left after _ _ (λ input rest (t : TakesLine input rest nexts.Line line). (line, t.0, t.1, answers)) taken
-line_answers number left after line old new TooLong kept taken answers = absurd answers
+pub line_answers : (number : ℕ) (left after : Option (List ℕ)) (line text : List ℕ) (old new : State) (answer : Answer) (kept : List Kept) → TakesKnownLine left after nexts.Line line → AnswersLine number line old answer text kept new → KnownAnswers number left after old answer text kept new
+line_answers number left after line text old new End kept taken answers = known_map left after _ _ (λ input rest (t : TakesLine input rest nexts.Line line). (inr (lines_of rest, t.0 ∙ ap (λ x. x ∷ lines_of rest) answers.0), answers.1, answers.2)) taken
+line_answers number left after line text old new (Text printed) kept taken answers = known_map left after _ _ (λ input rest (t : TakesLine input rest nexts.Line line). (line, t.0, t.1, answers)) taken
+line_answers number left after line text old new TooLong kept taken answers = absurd answers
 
 -- ---- behind the first answer
 

@@ -1,5 +1,5 @@
 -- What a shell may print: it runs the commands of scripts and a few of its own, and a bad line doesn't end it.
-use Rattle.std.specs.Prelude.{◌≡◌, ◌⊎◌, ◌≤◌, ◌<◌, ◌+◌, ℕ, List, [], ◌∷◌, ◌++◌, length, Bool, true, false, Option, Some, None, codes, string_bytes, ⊤}
+use Rattle.std.specs.Prelude.{◌≡◌, ◌⊎◌, ◌≤◌, ◌<◌, ◌+◌, ℕ, List, [], ◌∷◌, ◌++◌, length, Bool, true, false, Option, Some, None, codes, ⊤}
 use Rattle.std.specs.Io.KnownBytes.{Keeps}
 use Rattle.nv_region.specs.Region.{Region}
 use Rattle.nv_stream.specs.Known.{IfKnown}
@@ -11,6 +11,8 @@ use Rattle.nv_line.specs.Request.{Recover}
 use Rattle.nv_text.specs.Answers.{line, ok_line, bad_line}
 use Rattle.nv_report.specs.Last.{status_of}
 use Rattle.nv_session.specs.Machine.{State, state_with, Step}
+use Rattle.nv_session.specs.Printed.{Prints}
+use Rattle.nv_session.specs.declared.session.Session.{Session}
 use Rattle.nv_cli.specs.Script.{Runs}
 use Rattle.nv_cli.specs.Transcript.{FailsScript}
 use Rattle.nv_cli.specs.declared.shell.Own.{Own}
@@ -125,21 +127,26 @@ Asks said (SaveAs path) = said ≡ codes "save " ++ path.now
 
 -- nothing is kept for a line that prints nothing, or that is too long
 abbrev pub KeepsFor : Answer → List Kept → Type 0
-KeepsFor (Text text) kept = ⊤
+KeepsFor (Text printed) kept = ⊤
 KeepsFor _ kept = kept ≡ []
 
--- what becomes of a line, what is kept for it, and the state after it
-abbrev pub AnswersLine : ℕ → List ℕ → State → Answer → List Kept → State → Type 0
-AnswersLine number said old End kept new = (said ≡ codes "quit") × (kept ≡ []) × (new ≡ old)
-AnswersLine number said old (Text text) kept new = Does number old said (string_bytes text) kept new
-AnswersLine number said old TooLong kept new = ⊥
+-- the text of an answer that has one is this, as the session prints it
+abbrev pub PrintsAnswer : Session → Answer → List ℕ → Type 0
+PrintsAnswer s (Text printed) said = Prints s printed said
+PrintsAnswer s _ said = ⊤
+
+-- what becomes of a line, the text of that, what is kept for it, and the state after it
+abbrev pub AnswersLine : ℕ → List ℕ → State → Answer → List ℕ → List Kept → State → Type 0
+AnswersLine number said old End text kept new = (said ≡ codes "quit") × (kept ≡ []) × (new ≡ old)
+AnswersLine number said old (Text printed) text kept new = Does number old said text kept new
+AnswersLine number said old TooLong text kept new = ⊥
 
 -- from the input to what is left of it, and from a state to the next
-abbrev pub Answers : ℕ → List ℕ → List ℕ → State → Answer → List Kept → State → Type 0
-Answers number input left old End kept new = ((input ≡ []) ⊎ ((more : List (List ℕ)) × (lines_of input ≡ codes "quit" ∷ more))) × (kept ≡ []) × (new ≡ old)
-Answers number input left old (Text text) kept new = (said : List ℕ) × (lines_of input ≡ said ∷ lines_of left) × (length said ≤ line_limit) × Does number old said (string_bytes text) kept new
-Answers number input left old TooLong kept new = (said : List ℕ) × (more : List (List ℕ)) × (lines_of input ≡ said ∷ more) × (line_limit < length said) × (kept ≡ []) × (new ≡ old)
+abbrev pub Answers : ℕ → List ℕ → List ℕ → State → Answer → List ℕ → List Kept → State → Type 0
+Answers number input left old End text kept new = ((input ≡ []) ⊎ ((more : List (List ℕ)) × (lines_of input ≡ codes "quit" ∷ more))) × (kept ≡ []) × (new ≡ old)
+Answers number input left old (Text printed) text kept new = (said : List ℕ) × (lines_of input ≡ said ∷ lines_of left) × (length said ≤ line_limit) × Does number old said text kept new
+Answers number input left old TooLong text kept new = (said : List ℕ) × (more : List (List ℕ)) × (lines_of input ≡ said ∷ more) × (line_limit < length said) × (kept ≡ []) × (new ≡ old)
 
 -- the same, where the input is known
-abbrev pub KnownAnswers : ℕ → Option (List ℕ) → Option (List ℕ) → State → Answer → List Kept → State → Type 0
-KnownAnswers number known left old answer kept new = IfKnown known left (λ input rest. Answers number input rest old answer kept new)
+abbrev pub KnownAnswers : ℕ → Option (List ℕ) → Option (List ℕ) → State → Answer → List ℕ → List Kept → State → Type 0
+KnownAnswers number known left old answer text kept new = IfKnown known left (λ input rest. Answers number input rest old answer text kept new)

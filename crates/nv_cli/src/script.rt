@@ -1,8 +1,9 @@
 //! A script: its lines are read, run and answered, one after another.
 //!
-//! Each line's whole text is made before a byte of it is written, so a line for which memory is wanted prints nothing.
+//! Each line's whole text is made before a byte of it is written, or all room for it is there. So a line for which memory is wanted
+//! prints nothing.
 
-ghost use Rattle.std.specs.Prelude.{◌≡◌, ◌≢◌, IfOk, IfErr, IfSome, OnErr, MatchBool, option_map, bytes_eq, string_bytes};
+ghost use Rattle.std.specs.Prelude.{◌≡◌, ◌≢◌, ℕ, List, IfOk, IfErr, IfSome, OnErr, MatchBool, option_map, bytes_eq, string_bytes};
 ghost use Rattle.std.specs.Io.KnownBytes.{Appends};
 ghost use Rattle.nv_super.specs.declared.superblock.SuperFault.TheVariants as SuperFault;
 ghost use Rattle.nv_text.specs.Answers.{bad_line, refused_line};
@@ -10,7 +11,8 @@ ghost use Rattle.nv_super.specs.FaultText.{super_fault_name};
 ghost use Rattle.nv_cli.specs.Script.{ShowsScript, ShowsFrom, ShowsEnd, FromEach};
 ghost use Rattle.nv_cli.specs.Strict.{IsLast, ShowsEndBy, ShowsFromBy, HintsFromBy, ShowsStrictEnd, ShowsStrictFrom, HintsStrictFrom, state_from};
 ghost use Rattle.nv_cli.specs.Hints.{HintsScript, HintsFrom, answer_hint};
-ghost use Rattle.nv_cli.specs.Replies.{KnownReplies, RepliesTo};
+ghost use Rattle.nv_cli.specs.Replies.{KnownReplies, PrintsReply, RepliesTo};
+ghost use Rattle.nv_session.specs.Printed.{Prints};
 ghost use Rattle.nv_session.specs.Machine.{State, first_state, state_with};
 ghost use Rattle.nv_session.specs.Sessions.{IsSettled, Leads, StandsFor, region_in};
 ghost use Rattle.nv_cli.specs.Transcript.{WritesAll, WritesWhole, FailsScript};
@@ -19,7 +21,7 @@ use crate::hinting::{Hint, Hints, LENGTH_REFUSED, NoHints};
 use nv_line::{Line, Reason, classify, why_bad};
 use nv_region::MemRegion;
 use nv_report::BadLength;
-use nv_session::Session;
+use nv_session::{Printed, Session};
 use nv_stream::{Next, ScriptError, read_line, write_text};
 use nv_text::{is_refusal_line, push_bad_line};
 use std::alloc::{AllocError, Global};
@@ -49,7 +51,7 @@ enum Reply {
     /// It is a comment, or empty.
     Skipped,
     /// It is a command, which prints this.
-    Text(String),
+    Text(Printed),
     /// It is no command, for this reason, and the last line.
     Bad(Reason),
 }
@@ -199,10 +201,11 @@ fn run_lines<H: Threads + Sync, R: Read, W: Write, N: Hints>(
         match next_reply(rt, alloc, session, line, reader)? {
             Reply::End => return Ok(session.status()),
             Reply::Skipped => {}
-            Reply::Text(text) => {
-                let ends = is_last(rule, &text);
-                write_text(writer, text.as_bytes())?;
-                hint_length(session, &text, hints);
+            Reply::Text(printed) => {
+                let ends = ends_script(rule, &printed);
+                let is_length = refuses_length(&printed);
+                session.print(printed, writer)?;
+                hint_length(session, is_length, hints);
                 if ends {
                     return Ok(REFUSED_STATUS);
                 }
@@ -225,7 +228,7 @@ fn next_reply<H: Threads + Sync, R: Read>(
     line: &mut Vec<u8>,
     reader: &mut R,
 ) -> Result<Reply, ScriptError>
-    ensures replies { IfOk result (λ reply. Leads (λ old new. KnownReplies (R.remaining reader.old) (R.remaining reader.new) old reply new) session.old session.new) }
+    ensures replies { IfOk result (λ reply. (said : List ℕ) × PrintsReply session.new reply said × Leads (λ old new. KnownReplies (R.remaining reader.old) (R.remaining reader.new) old reply said new) session.old session.new) }
     ensures kind { IfErr result (λ e. e ≢ ScriptError.Write) }
 {
     match read_line(reader, line)? {
@@ -241,13 +244,24 @@ fn answer_line<H: Threads + Sync>(
     session: &mut Session,
     line: &[u8],
 ) -> Result<Reply, ScriptError>
-    ensures replies { IfOk result (λ reply. Leads (λ old new. RepliesTo line.now old reply new) session.old session.new) }
+    ensures replies { IfOk result (λ reply. (said : List ℕ) × PrintsReply session.new reply said × Leads (λ old new. RepliesTo line.now old reply said new) session.old session.new) }
     ensures kind { IfErr result (λ e. e ≡ ScriptError.Memory) }
 {
     match classify(alloc, line)? {
         Line::Skipped => Ok(Reply::Skipped),
-        Line::Command(command) => Ok(Reply::Text(session.execute(rt, alloc, command)?)),
+        Line::Command(command) => Ok(Reply::Text(session.answer(rt, alloc, command)?)),
         Line::Bad => Ok(Reply::Bad(why_bad(alloc, line)?)),
+    }
+}
+
+// Whether a command that prints this is the last line of the script.
+fn ends_script(rule: Rule, printed: &Printed) -> bool
+    ensures { (s : Session) (said : List ℕ) → Prints s printed.now said → MatchBool result (IsLast rule said) (IsLast rule said → ⊥) }
+{
+    match printed {
+        Printed::Text(text) => is_last(rule, text),
+        // The bytes of a file are no refusal.
+        Printed::Part(_) => false,
     }
 }
 
@@ -269,15 +283,25 @@ pub(crate) fn bad_line_text(alloc: Global, number: u64) -> Result<String, AllocE
     Ok(text)
 }
 
-// Tells the region's length behind a refusal for it.
-fn hint_length<N: Hints>(session: &Session, text: &str, hints: &mut N)
-    ensures { (state : State) → StandsFor session.now state → Appends (N.told hints.old) (N.told hints.new) (answer_hint text.now state) }
+// Tells the region's length behind an answer that is a refusal for it.
+fn hint_length<N: Hints>(session: &Session, is_refusal: bool, hints: &mut N)
+    ensures { (state : State) (said : List ℕ) → StandsFor session.now state → is_refusal ≡ bytes_eq said (refused_line (super_fault_name SuperFault.Length)) → Appends (N.told hints.old) (N.told hints.new) (answer_hint said state) }
 {
-    if !is_length_refusal(text) {
+    if !is_refusal {
         return;
     }
     if let Some(length) = session.region_length() {
         hints.give(Hint::Length(BadLength::Bytes(length)));
+    }
+}
+
+// Whether a command that prints this was refused for the region's length.
+fn refuses_length(printed: &Printed) -> bool
+    ensures { (s : Session) (said : List ℕ) → Prints s printed.now said → result ≡ bytes_eq said (refused_line (super_fault_name SuperFault.Length)) }
+{
+    match printed {
+        Printed::Text(text) => is_length_refusal(text),
+        Printed::Part(_) => false,
     }
 }
 

@@ -1,18 +1,21 @@
 //! A shell: the commands of scripts, one line after another, where a bad line doesn't end what was made.
 //!
-//! As in a script, a line's whole text is made before a byte of it is written.
+//! As in a script, a line's whole text is made, or all room for it is there, before a byte of it is written.
 
-ghost use Rattle.std.specs.Prelude.{◌≡◌, ◌≢◌, ◌++◌, IfOk, IfErr, IfSome, IfNone, OnErr, List, Option, None, [], option_map, string_bytes};
+ghost use Rattle.std.specs.Prelude.{◌≡◌, ◌≢◌, ◌++◌, ℕ, IfOk, IfErr, IfSome, IfNone, OnErr, List, Option, None, [], option_map, string_bytes};
 ghost use Rattle.nv_session.specs.Sessions.{IsSettled, Leads, Moves, region_in};
+ghost use Rattle.nv_session.specs.Printed.{Prints};
+ghost use Rattle.nv_session.specs.declared.printed.Printed.TheVariants as printeds;
+ghost use Rattle.nv_cli.specs.declared.shell.Answer.TheVariants as answers;
 ghost use Rattle.nv_cli.specs.Script.{FromEach};
-ghost use Rattle.nv_cli.specs.Shell.{Kept, Grows, GrowsBy, kept_by, IsOwn, IsSaveAnswer, Tells, ShowsLinesEnd, ShowsAnyLines, ShowsShell, FailsShell, Asks, KeepsFor, AnswersLine, KnownAnswers, help_text};
+ghost use Rattle.nv_cli.specs.Shell.{Kept, Grows, GrowsBy, kept_by, IsOwn, IsSaveAnswer, Tells, PrintsAnswer, ShowsLinesEnd, ShowsAnyLines, ShowsShell, FailsShell, Asks, KeepsFor, AnswersLine, KnownAnswers, help_text};
 ghost use Rattle.nv_cli.specs.Transcript.{WritesAll, FailsScript};
 
 use crate::hinting::Hint;
 use crate::script::{Ended, bad_line_text};
 use nv_line::{Command, Line, Reason, classify, why_bad};
 use nv_region::MemRegion;
-use nv_session::Session;
+use nv_session::{Printed, Session};
 use nv_stream::{Next, ScriptError, read_line, write_text};
 use std::alloc::{AllocError, Global};
 use std::io::{BufReader, Read, Write};
@@ -105,7 +108,7 @@ enum Answer {
     /// There is no line any more, or it asks for the end.
     End,
     /// It prints this.
-    Text(String),
+    Text(Printed),
     /// It is too long, and the last line.
     TooLong,
 }
@@ -127,7 +130,7 @@ fn run_lines<H: Threads + Sync, R: Read, W: Write, P: Host>(
         host.prompt();
         match next_answer(rt, alloc, session, number, line, reader, host)? {
             Answer::End => return Ok(session.status()),
-            Answer::Text(text) => write_text(writer, text.as_bytes())?,
+            Answer::Text(printed) => session.print(printed, writer)?,
             Answer::TooLong => {
                 let text = bad_line_text(alloc, number)?;
                 write_text(writer, text.as_bytes())?;
@@ -148,7 +151,7 @@ fn next_answer<H: Threads + Sync, R: Read, P: Host>(
     reader: &mut R,
     host: &mut P,
 ) -> Result<Answer, ScriptError>
-    ensures answers { IfOk result (λ answer. GrowsBy (P.kept host.old) (P.kept host.new) (λ kept. KeepsFor answer kept × Leads (λ old new. KnownAnswers number (R.remaining reader.old) (R.remaining reader.new) old answer kept new) session.old session.new)) }
+    ensures answers { IfOk result (λ answer. (text : List ℕ) × PrintsAnswer session.new answer text × GrowsBy (P.kept host.old) (P.kept host.new) (λ kept. KeepsFor answer kept × Leads (λ old new. KnownAnswers number (R.remaining reader.old) (R.remaining reader.new) old answer text kept new) session.old session.new)) }
     ensures none_kept { OnErr result (Grows (P.kept host.old) (P.kept host.new) []) }
     ensures kind { IfErr result (λ e. e ≢ ScriptError.Write) }
 {
@@ -167,16 +170,22 @@ fn answer_line<H: Threads + Sync, P: Host>(
     line: &[u8],
     host: &mut P,
 ) -> Result<Answer, AllocError>
-    ensures answers { IfOk result (λ answer. GrowsBy (P.kept host.old) (P.kept host.new) (λ kept. KeepsFor answer kept × Leads (λ old new. AnswersLine number line.now old answer kept new) session.old session.new)) }
+    ensures answers { IfOk result (λ answer. (text : List ℕ) × PrintsAnswer session.new answer text × GrowsBy (P.kept host.old) (P.kept host.new) (λ kept. KeepsFor answer kept × Leads (λ old new. AnswersLine number line.now old answer text kept new) session.old session.new)) }
     ensures none_kept { OnErr result (Grows (P.kept host.old) (P.kept host.new) []) }
 {
     match own_command(line) {
         Some(Own::Quit) => Ok(Answer::End),
-        Some(Own::Help) => Ok(Answer::Text(owned(alloc, HELP)?)),
-        Some(Own::Save) => Ok(Answer::Text(save_text(alloc, session, None, host)?)),
-        Some(Own::SaveAs(path)) => Ok(Answer::Text(save_text(alloc, session, Some(path), host)?)),
-        None => Ok(Answer::Text(script_text(rt, alloc, session, number, line, host)?)),
+        Some(Own::Help) => Ok(text_answer(owned(alloc, HELP)?)),
+        Some(Own::Save) => Ok(text_answer(save_text(alloc, session, None, host)?)),
+        Some(Own::SaveAs(path)) => Ok(text_answer(save_text(alloc, session, Some(path), host)?)),
+        None => Ok(Answer::Text(script_answer(rt, alloc, session, number, line, host)?)),
     }
+}
+
+fn text_answer(text: String) -> Answer
+    ensures { result ≡ answers.Text (printeds.Text text) }
+{
+    Answer::Text(Printed::Text(text))
 }
 
 /// A command of the shell's own.
@@ -202,24 +211,24 @@ fn own_command(line: &[u8]) -> Option<Own<'_>>
 }
 
 // What a line prints that is no command of the shell's own.
-fn script_text<H: Threads + Sync, P: Host>(
+fn script_answer<H: Threads + Sync, P: Host>(
     rt: &H,
     alloc: Global,
     session: &mut Session,
     number: u64,
     line: &[u8],
     host: &mut P,
-) -> Result<String, AllocError>
+) -> Result<Printed, AllocError>
     requires { IsOwn line.now → ⊥ }
-    ensures tells { IfOk result (λ text. Moves (λ old said new. Tells number old line.now said new) session.old (string_bytes text) session.new) }
+    ensures tells { IfOk result (λ printed. (text : List ℕ) × Prints session.new printed text × Moves (λ old said new. Tells number old line.now said new) session.old text session.new) }
     ensures none_kept { Grows (P.kept host.old) (P.kept host.new) [] }
 {
     match classify(alloc, line)? {
-        Line::Skipped => Ok(String::new(alloc)),
-        Line::Command(command) => session.execute(rt, alloc, command),
+        Line::Skipped => Ok(Printed::Text(String::new(alloc))),
+        Line::Command(command) => session.answer(rt, alloc, command),
         Line::Bad => {
             host.give(Hint::BadLine(number, why_bad(alloc, line)?));
-            bad_line_text(alloc, number)
+            Ok(Printed::Text(bad_line_text(alloc, number)?))
         }
     }
 }

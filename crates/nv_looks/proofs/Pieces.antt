@@ -6,19 +6,13 @@ use Rattle.nv_tree.specs.Tree.{Tree, Node}
 use Rattle.nv_tree.specs.Calls.{bytes_read}
 use Rattle.nv_session.specs.nv_paths.Seen.{LeadsTo}
 use Rattle.nv_session.specs.nv_calls.Reading.{IsRead}
+use Rattle.nv_session.proofs.FileParts.{one_node}
 use Rattle.nv_stream.specs.Streams.{AppendsFront}
 use Rattle.nv_stream.proofs.StreamLemmas.{appends_none, appends_both, appends_front, front_of_whole}
 use Rattle.nv_tar.proofs.FileFronts.{a_piece, all_bytes, first_bytes, front_of_node, joins}
 use Rattle.nv_looks.specs.Looking.{IsSized, IsWholeFile, WritesFile, FailsFile}
 use Rattle.nv_stream.specs.declared.fault.ScriptError.TheVariants as errors
 
--- a path leads to one inode
-one_node : (t : Tree) (names : List (List ℕ)) (i j : ℕ) (a b : Node) → LeadsTo t names i a → LeadsTo t names j b → a ≡ b
-one_node t names i j a b p q =
-    let number : i ≡ j = (let first = p.leads in let second = q.leads in cc) in
-    let first = p.shows in
-    let second : t i ≡ Some b = rw number q.shows in
-    cc
 
 module _ (t : Tree) (names : List (List ℕ)) (size : ℕ) (s : IsSized t names size) where
   read_piece : (at count : ℕ) (piece : List ℕ) → IsRead t names at count piece → at + count ≤ size → piece ≡ map s.node.bytes (range_with_len at count)

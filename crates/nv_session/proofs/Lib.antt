@@ -1,3 +1,4 @@
+pub mod FileParts
 pub mod Moved
 pub mod Told
 pub mod Alike

@@ -2,6 +2,7 @@ pub mod Calls
 pub mod Machine
 pub mod Sessions
 pub mod Made
+pub mod Printed
 pub mod ByNumber
 pub mod Alike
 pub use Rattle.nv_region.specs.Region

@@ -3,7 +3,8 @@
 //! `session` has a method for each command, which answers the text that the command prints; those of the file calls that write
 //! stand in `calls`. `making` makes a region, `store` keeps it, alone or mounted, and `stop` is a stop that is set for the next
 //! command. `files` has what the file calls that read print, `by_number` the same of an inode that its number names, and `texts`
-//! the answers that tell of no recovery.
+//! the answers that tell of no recovery. `printed` is what a command prints, and `parts` writes long parts of files a piece at a
+//! time.
 #![tactic(auto)]
 
 mod by_number;
@@ -11,6 +12,8 @@ mod calls;
 mod files;
 mod laws;
 mod making;
+mod parts;
+mod printed;
 mod session;
 mod stop;
 mod store;
@@ -22,6 +25,7 @@ pub use laws::{alike_states_answer_alike, one_step};
 pub use making::{Made, new_region};
 pub use nv_calls::{FormatRefusal, Fs};
 pub use nv_tree::Refusal as CallRefusal;
+pub use printed::{FilePart, Printed};
 pub use session::Session;
 pub use stop::Stop;
 pub use store::keep_all;

@@ -1,14 +1,17 @@
 //! A session: what the commands of a script have made so far, and a method for each command.
 //!
-//! A method answers the text that its command prints, whole, and leaves what the command leaves. After want of memory the
-//! script ends, and what the session holds is of no use.
+//! A method answers the text that its command prints, whole, and leaves what the command leaves. Only `answer` leaves the text of
+//! a long part of a file to `print`. After want of memory the script ends, and what the session holds is of no use.
 
-ghost use Rattle.std.specs.Prelude.{◌≡◌, ◌≤◌, IfOk, IfSome, OnSome, None, Some, [], option_map, false};
+ghost use Rattle.std.specs.Prelude.{◌≡◌, ◌≤◌, ℕ, List, IfOk, IfErr, IfSome, OnOk, OnErr, OnSome, None, Some, [], option_map, false};
+ghost use Rattle.std.specs.Io.KnownBytes.{Appends};
 ghost use Rattle.nv_calls.specs.Mount.{told};
 ghost use Rattle.nv_report.specs.Shown.{shown_of};
 
 use crate::files::{list_text, read_text, stat_text};
 use crate::making::{Made, new_region};
+use crate::parts::{long_part, write_part};
+use crate::printed::Printed;
 use crate::stop::Stop;
 use crate::store::{Store, has_word, keep_all, poked};
 use crate::texts::{ok_text, refused_format_text, stopped_text, word_text};
@@ -19,8 +22,10 @@ use nv_region::{Keep, MemRegion, Pmem};
 use nv_report::{
     Last, Part, Recovered, Shown, how_it_went, recovered_text, refused_text, shown_text,
 };
+use nv_stream::{ScriptError, write_text};
 use nv_text::Refusal;
 use std::alloc::{AllocError, Global};
+use std::io::Write;
 use std::thread::Threads;
 
 /// What a script has made so far.
@@ -45,6 +50,8 @@ impl Session {
     ghost use Rattle.nv_region.specs.Region.{size};
     ghost use Rattle.nv_region.specs.RegionState.{RegionState};
     ghost use Rattle.nv_text.specs.Answers.{ok_line};
+    ghost use Rattle.nv_stream.specs.Streams.{AppendsShort};
+    ghost use Rattle.nv_session.specs.Printed.{Prints};
 
     /// Nothing made yet, at time 0.
     pub fn new() -> Session
@@ -102,6 +109,66 @@ impl Session {
     {
         let stop = self.disarm();
         self.run(rt, alloc, command, stop)
+    }
+
+    /// `execute`, where a long part of a file is answered before its text is made. The room to write it is taken here.
+    ///
+    /// Errors: `AllocError` where a growth was refused; of the session nothing is said then.
+    pub fn answer<H: Threads + Sync>(
+        &mut self,
+        rt: &H,
+        alloc: Global,
+        command: Command<'_>,
+    ) -> Result<Printed, AllocError>
+        ensures { IfOk result (λ printed. (said : List ℕ) × Prints self.new printed said × Moves (λ old said new. Step old (view command.entry) said new) self.old said self.new) }
+    {
+        match command {
+            Command::Read {
+                path,
+                offset,
+                count,
+            } => {
+                self.disarm();
+                self.answer_read(alloc, path, offset, count)
+            }
+            command => Ok(Printed::Text(self.execute(rt, alloc, command)?)),
+        }
+    }
+
+    // What a read prints.
+    fn answer_read(
+        &self,
+        alloc: Global,
+        path: &[u8],
+        offset: u64,
+        count: u64,
+    ) -> Result<Printed, AllocError>
+        ensures { IfOk result (λ printed. (said : List ℕ) × Prints self.now printed said × Moves (Reads (TellsBytes offset count) path.now) self.now said self.now) }
+    {
+        if let Some(mount) = self.mount() {
+            if let Some(part) = long_part(alloc, mount, path, offset, count)? {
+                return Ok(Printed::Part(part));
+            }
+        }
+        Ok(Printed::Text(self.read(alloc, path, offset, count)?))
+    }
+
+    /// Writes what the last command has printed. It takes no memory.
+    ///
+    /// Errors: `Write` where the writer failed; a front was written then, and not all.
+    pub fn print<W: Write>(&self, printed: Printed, writer: &mut W) -> Result<(), ScriptError>
+        requires { (said : List ℕ) × Prints self.now printed said }
+        ensures ok { (said : List ℕ) → Prints self.now printed said → OnOk result (Appends (W.contents writer.old) (W.contents writer.new) said) }
+        ensures short { (said : List ℕ) → Prints self.now printed said → OnErr result (AppendsShort (W.contents writer.old) (W.contents writer.new) said) }
+        ensures kind { IfErr result (λ e. e ≡ ScriptError.Write) }
+    {
+        match printed {
+            Printed::Text(text) => write_text(writer, text.as_bytes()),
+            Printed::Part(part) => match self.mount() {
+                Some(mount) => write_part(mount, part, writer),
+                None => unreachable!(),
+            },
+        }
     }
 
     // Takes the stop that was set, if one was.

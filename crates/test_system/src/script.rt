@@ -430,6 +430,25 @@ fn a_line_of_more_than_4096_bytes_is_bad(rt: HostRuntime) -> Result<(), Fail> {
     check_row(&rt, &long_script(rt.alloc(), 4097)?, "bad line 1\n", 2)
 }
 
+/// What a script prints that reads two A's behind so many zeros.
+fn long_output(alloc: Global, zeros: usize) -> Result<String, AllocError> {
+    let mut output = String::new(alloc);
+    output.push_str("ok\nrecovered inodes 1 free 12 faults 0\nok\nok\ndata ")?;
+    for _ in 0..zeros {
+        output.push_str("00")?;
+    }
+    output.push_str("4141\n")?;
+    Ok(output)
+}
+
+// It is read a piece at a time; the first has all bytes but the last.
+#[test]
+fn a_long_read_prints_each_byte_once(rt: HostRuntime) -> Result<(), Fail> {
+    const SCRIPT: &[u8] =
+        b"format 1 16 1\nrecover 1\ncreate 0 /a\nwrite 0 /a 131071 2 65\nread /a 0 200000\n";
+    check_row(&rt, SCRIPT, &long_output(rt.alloc(), 131_071)?, 0)
+}
+
 #[test]
 fn a_reader_that_fails_keeps_the_output_of_the_lines_before(rt: HostRuntime) {
     let reader = Failing::new(b"time 1\nformat 1 16 1\nrecov");
@@ -456,8 +475,8 @@ const FRONTS: [&str; 4] = [
     "ok\nrecovered inodes 1 free 58 faults 0\nfree 0 6-33\nfree 1 34-63\n",
 ];
 
-fn is_front(out: &[u8]) -> bool {
-    for front in FRONTS.iter() {
+fn is_one_of(out: &[u8], fronts: &[&str]) -> bool {
+    for front in fronts {
         if out == front.as_bytes() {
             return true;
         }
@@ -469,7 +488,7 @@ fn is_front(out: &[u8]) -> bool {
 fn assert_whole(rt: &impl Abort, answer: Result<u8, ScriptError>, out: &[u8]) {
     match answer {
         Ok(status) => assert!(rt; status == 0 && out == FRONTS[3].as_bytes()),
-        Err(error) => assert!(rt; error == ScriptError::Memory && is_front(out)),
+        Err(error) => assert!(rt; error == ScriptError::Memory && is_one_of(out, &FRONTS)),
     }
 }
 
@@ -482,4 +501,29 @@ fn want_of_memory_prints_whole_answers_alone(rt: HostRuntime) {
     let script = b"format 2 64 1\nrecover 1\nfree\n".as_slice();
     let answer = run_script(&rt, rt.alloc(), script, &mut out);
     assert_whole(&rt, answer, &out);
+}
+
+// What the lines before a long read print, for each number of lines.
+const BEFORE_READING: [&str; 5] = [
+    "",
+    "ok\n",
+    "ok\nrecovered inodes 1 free 12 faults 0\n",
+    "ok\nrecovered inodes 1 free 12 faults 0\nok\n",
+    "ok\nrecovered inodes 1 free 12 faults 0\nok\nok\n",
+];
+
+#[test]
+fn want_of_memory_prints_nothing_of_a_long_read(rt: HostRuntime) {
+    // Room for all that is printed, so that the writer wants no memory.
+    let Ok(mut out) = Vec::with_capacity(rt.alloc(), 300_000) else {
+        return;
+    };
+    let script =
+        b"format 1 16 1\nrecover 1\ncreate 0 /a\nsize 0 /a 131073\nread /a 0 131073\n".as_slice();
+    match run_script(&rt, rt.alloc(), script, &mut out) {
+        Ok(status) => assert!(rt; status == 0 && out.len() == 45 + 5 + 262_146 + 1),
+        Err(error) => {
+            assert!(rt; error == ScriptError::Memory && is_one_of(&out, &BEFORE_READING));
+        }
+    }
 }

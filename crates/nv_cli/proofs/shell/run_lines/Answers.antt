@@ -12,6 +12,11 @@ use Rattle.nv_cli.proofs.shell.run_lines.Goals as goal
 pub lines-init : goal.lines-init
 lines-init g c = ([], grows_none _, λ begin stands. (begin, stands, (λ later region. known_begins (ShowsLinesEnd 1 begin later region) _ _)))
 
+pub print-requires : goal.print-requires
+print-requires g c =
+    let (text, prints, answers) = c.in_ok-next_answer.ensures.answers in
+    (text, rw c.in-Text.is at prints)
+
 pub returns-in_err-next_answer-clause-err : goal.returns-in_err-next_answer-clause-err
 returns-in_err-next_answer-clause-err g c =
     let r = err_from_is_err_and c.from_residual.result c.from_residual.ensures.1 in
@@ -28,7 +33,7 @@ returns-in_err-next_answer-clause-err g c =
 pub returns-in-End-clause-ok : goal.returns-in-End-clause-ok
 returns-in-End-clause-ok g c =
     let (given, grown, so_far) = c.lines.invariant in
-    let (here, more, (none, leads)) = c.in_ok-next_answer.ensures.answers in (
+    let (text, prints, (here, more, (none, leads))) = c.in_ok-next_answer.ensures.answers in (
       given ++ here,
       grows_both _ _ _ given here grown (grows_then _ _ _ here c.prompt.ensures more),
       λ begin stands.
@@ -36,14 +41,14 @@ returns-in-End-clause-ok g c =
           let next = leads at.0 at.1 in
           let region = region_in c.next_answer.new.session.store in
           known_all (ShowsLinesEnd 1 begin (given ++ here) region) _ (ShowsLinesEnd c.lines.number at.0 here region) _ _ _ _ _ _ (at.2 here region)
-          (shell_ends _ _ (g.W.Write.contents c.lines.writer) (g.W.Write.contents c.lines.writer) c.lines.number at.0 next.0 here region _ (rw c.in-End.is at next.1) (c.status.ensures next.0 next.2) next.2.region),
+          (shell_ends _ _ (g.W.Write.contents c.lines.writer) (g.W.Write.contents c.lines.writer) c.lines.number at.0 next.0 text here region _ (rw c.in-End.is at next.1) (c.status.ensures next.0 next.2) next.2.region),
     )
 
-pub returns-in_err-write_text-in-Text-clause-err : goal.returns-in_err-write_text-in-Text-clause-err
-returns-in_err-write_text-in-Text-clause-err g c =
-    let r = err_from_is_err_and c.from_residual-in_err-write_text-in-Text.result c.from_residual-in_err-write_text-in-Text.ensures.1 in
+pub returns-in_err-print-in-Text-clause-err : goal.returns-in_err-print-in-Text-clause-err
+returns-in_err-print-in-Text-clause-err g c =
+    let r = err_from_is_err_and c.from_residual-in_err-print-in-Text.result c.from_residual-in_err-print-in-Text.ensures.1 in
     let (given, grown, so_far) = c.lines.invariant in
-    let (here, more, (none, leads)) = c.in_ok-next_answer.ensures.answers in
+    let (text, prints, (here, more, (none, leads))) = c.in_ok-next_answer.ensures.answers in
     let kept = given ++ here in
     rw r.1 (
       kept,
@@ -51,17 +56,17 @@ returns-in_err-write_text-in-Text-clause-err g c =
       λ begin stands.
           let at = so_far begin stands in
           let next = leads at.0 at.1 in
-          fails_short (ShowsAnyLines 1 begin kept) r.0 c.in_err-write_text-in-Text.field-0.0 _ _ _ r.2 c.in_err-write_text-in-Text.ensures.kind
+          fails_short (ShowsAnyLines 1 begin kept) r.0 c.in_err-print-in-Text.field-0.0 _ _ _ r.2 c.in_err-print-in-Text.ensures.kind
           (short_so_far (ShowsLinesEnd 1 begin kept) (ShowsLinesEnd c.lines.number at.0 here) (ShowsAnyLines 1 begin kept) (any_lines begin kept) _ _ _ _ (at.2 here) next.0.region _ _
-          (shell_ends_inside _ _ _ _ c.lines.number at.0 next.0 here c.in-Text.text (rw c.in-Text.is at next.1)
-          (rw c.as_bytes.ensures.value at c.in_err-write_text-in-Text.ensures.short))),
+          (shell_ends_inside _ _ _ _ c.lines.number at.0 next.0 text here c.in-Text.printed (rw c.in-Text.is at next.1)
+          (c.in_err-print-in-Text.ensures.short text (rw c.in-Text.is at prints)))),
     )
 
 pub returns-in_err-text-in-TooLong-clause-err : goal.returns-in_err-text-in-TooLong-clause-err
 returns-in_err-text-in-TooLong-clause-err g c =
     let r = err_from_is_err_and c.from_residual-in_err-text-in-TooLong.result c.from_residual-in_err-text-in-TooLong.ensures.1 in
     let (given, grown, so_far) = c.lines.invariant in
-    let (here, more, (none, leads)) = c.in_ok-next_answer.ensures.answers in
+    let (text, prints, (here, more, (none, leads))) = c.in_ok-next_answer.ensures.answers in
     let kept = given ++ here in
     rw (r.1, r.2) (
       kept,
@@ -75,7 +80,7 @@ pub returns-in_err-write_text-in-TooLong-clause-err : goal.returns-in_err-write_
 returns-in_err-write_text-in-TooLong-clause-err g c =
     let r = err_from_is_err_and c.from_residual-in_err-write_text-in-TooLong.result c.from_residual-in_err-write_text-in-TooLong.ensures.1 in
     let (given, grown, so_far) = c.lines.invariant in
-    let (here, more, (none, leads)) = c.in_ok-next_answer.ensures.answers in
+    let (text, prints, (here, more, (none, leads))) = c.in_ok-next_answer.ensures.answers in
     let kept = given ++ here in
     rw r.1 (
       kept,
@@ -85,14 +90,14 @@ returns-in_err-write_text-in-TooLong-clause-err g c =
           let next = leads at.0 at.1 in
           fails_short (ShowsAnyLines 1 begin kept) r.0 c.in_err-write_text-in-TooLong.field-0.0 _ _ _ r.2 c.in_err-write_text-in-TooLong.ensures.kind
           (short_so_far (ShowsLinesEnd 1 begin kept) (ShowsLinesEnd c.lines.number at.0 here) (ShowsAnyLines 1 begin kept) (any_lines begin kept) _ _ _ _ (at.2 here) at.0.region _ _
-          (too_long_ends_inside _ _ _ _ c.lines.number at.0 next.0 here (rw c.in-TooLong.is at next.1)
+          (too_long_ends_inside _ _ _ _ c.lines.number at.0 next.0 text here (rw c.in-TooLong.is at next.1)
           (rw (c.as_bytes-in-TooLong.ensures.value, c.in_ok-text-in-TooLong.ensures) at c.in_err-write_text-in-TooLong.ensures.short))),
     )
 
 pub returns-in-TooLong-clause-ok : goal.returns-in-TooLong-clause-ok
 returns-in-TooLong-clause-ok g c =
     let (given, grown, so_far) = c.lines.invariant in
-    let (here, more, (none, leads)) = c.in_ok-next_answer.ensures.answers in (
+    let (text, prints, (here, more, (none, leads))) = c.in_ok-next_answer.ensures.answers in (
       given ++ here,
       grows_still _ _ _ (given ++ here) (grows_both _ _ _ given here grown (grows_then _ _ _ here c.prompt.ensures more)) c.give.ensures,
       λ begin stands.
@@ -100,14 +105,14 @@ returns-in-TooLong-clause-ok g c =
           let next = leads at.0 at.1 in
           let region = region_in c.next_answer.new.session.store in
           known_all (ShowsLinesEnd 1 begin (given ++ here) region) _ (ShowsLinesEnd c.lines.number at.0 here region) _ _ _ _ _ 2 (at.2 here region)
-          (too_long_ends _ _ _ _ c.lines.number at.0 next.0 here region (rw c.in-TooLong.is at next.1)
+          (too_long_ends _ _ _ _ c.lines.number at.0 next.0 text here region (rw c.in-TooLong.is at next.1)
           (rw (c.as_bytes-in-TooLong.ensures.value, c.in_ok-text-in-TooLong.ensures) at c.in_ok-write_text-in-TooLong.ensures.ok) next.2.region),
     )
 
 pub lines-preserved : goal.lines-preserved
 lines-preserved g c =
     let (given, grown, so_far) = c.lines.invariant in
-    let (here, more, (none, leads)) = c.in_ok-next_answer.ensures.answers in (
+    let (text, prints, (here, more, (none, leads))) = c.in_ok-next_answer.ensures.answers in (
       given ++ here,
       grows_both _ _ _ given here grown (grows_then _ _ _ here c.prompt.ensures more),
       λ begin stands.
@@ -115,8 +120,8 @@ lines-preserved g c =
           let next = leads at.0 at.1 in (
             next.0,
             next.2,
-            (λ later region. line_on _ _ _ _ c.lines.number at.0 next.0 here region begin given later _ _ c.in-Text.text (at.2 (here ++ later) region) (rw c.in-Text.is at next.1)
-                (rw c.as_bytes.ensures.value at c.in_ok-write_text-in-Text.ensures.ok)),
+            (λ later region. line_on _ _ _ _ c.lines.number at.0 next.0 text here region begin given later _ _ c.in-Text.printed (at.2 (here ++ later) region) (rw c.in-Text.is at next.1)
+                (c.in_ok-print-in-Text.ensures.ok text (rw c.in-Text.is at prints))),
           ),
     )
 
