@@ -2,7 +2,7 @@
 
 use crate::names::path_of;
 use nv_args::Which;
-use nv_checking::{Blocks, BlocksError, gather_plain, see_unchanged};
+use nv_checking::{Blocks, BlocksError, READERS, gather_plain, see_unchanged};
 use nv_images::{
     Failure, Image, ImageFile, Reason, open_image, read_image, refuse_length, tell_faults,
     tell_length, tell_refused,
@@ -12,11 +12,12 @@ use nv_metadata::HeldBytes;
 use std::io;
 use std::io::Write;
 use std::rt::Files;
+use std::thread::Threads;
 
 /// Recovers the image in a file in memory, and writes an archive of what is chosen there, and with `all` of all else that is in use,
 /// or says among the errors why there is none. Answers the exit status, 0 or 2. Of a plain file whose superblock is accepted the
 /// metadata alone are read, and then the blocks of its files; else the image is read whole.
-pub(crate) fn archive<'a, H: Files + AllocGlobal + Print + Eprint, E: Write>(
+pub(crate) fn archive<'a, H: Files + AllocGlobal + Print + Eprint + Threads + Sync, E: Write>(
     rt: &H,
     errors: &mut E,
     image: &'a str,
@@ -24,7 +25,7 @@ pub(crate) fn archive<'a, H: Files + AllocGlobal + Print + Eprint, E: Write>(
     all: bool,
 ) -> Result<u8, Failure<'a>>
 where
-    H::File: Blocks,
+    H::File: Blocks + Sync,
 {
     match which {
         Which::Path(word) => {
@@ -35,7 +36,7 @@ where
     }
 }
 
-fn archive_chosen<'a, H: Files + AllocGlobal + Print + Eprint, E: Write>(
+fn archive_chosen<'a, H: Files + AllocGlobal + Print + Eprint + Threads + Sync, E: Write>(
     rt: &H,
     errors: &mut E,
     image: &'a str,
@@ -43,11 +44,11 @@ fn archive_chosen<'a, H: Files + AllocGlobal + Print + Eprint, E: Write>(
     all: bool,
 ) -> Result<u8, Failure<'a>>
 where
-    H::File: Blocks,
+    H::File: Blocks + Sync,
 {
     let file = open_image(rt, image)?;
     let alloc = rt.alloc();
-    match gather_plain(alloc, &file)? {
+    match gather_plain(rt, alloc, &file, READERS)? {
         Some(gathered) => {
             let source = &file.opened.file;
             let mut output = io::writer(rt);

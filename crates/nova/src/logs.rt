@@ -2,7 +2,7 @@
 
 use crate::names::path_of;
 use nv_args::Which;
-use nv_checking::{Blocks, gather_plain};
+use nv_checking::{Blocks, READERS, gather_plain};
 use nv_images::{
     Failure, Image, ImageFile, open_image, read_image, refuse_length, tell_faults, tell_length,
     tell_refused,
@@ -12,22 +12,23 @@ use std::alloc::Global;
 use std::io;
 use std::io::{Read, Write};
 use std::rt::Files;
+use std::thread::Threads;
 
 /// Recovers the image in a file in memory, and prints the log of an inode there entry by entry, or says among the errors why it
 /// can't be shown. Answers the exit status, 0 or 2. An image with faults is shown all the same, and a line says that it has some.
 /// Of a plain file whose superblock is accepted the metadata alone are read; else the image is read whole.
-pub(crate) fn show_log<'a, H: Files + AllocGlobal + Print + Eprint, E: Write>(
+pub(crate) fn show_log<'a, H: Files + AllocGlobal + Print + Eprint + Threads + Sync, E: Write>(
     rt: &H,
     errors: &mut E,
     image: &'a str,
     which: Which<'a>,
 ) -> Result<u8, Failure<'a>>
 where
-    H::File: Blocks,
+    H::File: Blocks + Sync,
 {
     let inode = inode_of(rt.alloc(), which)?;
     let file = open_image(rt, image)?;
-    match gather_plain(rt.alloc(), &file)? {
+    match gather_plain(rt, rt.alloc(), &file, READERS)? {
         Some(gathered) => {
             let out = &mut io::writer(rt);
             let answered = log_gathered(rt.alloc(), gathered, &inode, out, errors)?;

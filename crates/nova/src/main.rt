@@ -54,7 +54,7 @@ fn act<
     E: Write + Drop,
 >(rt: &H, input: R, errors: E) -> Result<ExitCode, AllocError>
 where
-    H::File: Blocks + Lock,
+    H::File: Blocks + Lock + Sync,
 {
     let alloc = rt.alloc();
     let words = words_of(rt, alloc)?;
@@ -74,7 +74,7 @@ fn answer<
     E: Write + Drop,
 >(rt: &H, input: R, mut errors: E, todo: Todo<'a>) -> Result<u8, Failure<'a>>
 where
-    H::File: Blocks + Lock,
+    H::File: Blocks + Lock + Sync,
 {
     match todo {
         Todo::Version => print_line(rt, VERSION),

@@ -4,7 +4,7 @@ ghost use Rattle.nv_metadata.specs.Gathered.{IsOpen};
 
 use crate::names::path_of;
 use nv_args::Which;
-use nv_checking::{Blocks, BlocksError, Gathered, gather_plain, see_unchanged};
+use nv_checking::{Blocks, BlocksError, Gathered, READERS, gather_plain, see_unchanged};
 use nv_images::{
     Failure, Image, ImageFile, Reason, open_image, read_image, refuse_length, tell_faults,
     tell_length, tell_refused,
@@ -19,6 +19,7 @@ use std::fs::OpenFile;
 use std::io;
 use std::io::Write;
 use std::rt::Files;
+use std::thread::Threads;
 
 /// What is shown of an image.
 #[derive(Clone, Copy, Debug)]
@@ -42,7 +43,7 @@ enum Inode {
 /// can't be shown. Answers the exit status, 0 or 2. An image with faults is shown all the same, and a line says that it has some.
 /// For a path in a plain file whose superblock is accepted the metadata alone are read, and the blocks of a file whose bytes are
 /// shown; else the image is read whole.
-pub(crate) fn show<'a, H: Files + AllocGlobal + Print + Eprint, E: Write>(
+pub(crate) fn show<'a, H: Files + AllocGlobal + Print + Eprint + Threads + Sync, E: Write>(
     rt: &H,
     errors: &mut E,
     image: &'a str,
@@ -50,7 +51,7 @@ pub(crate) fn show<'a, H: Files + AllocGlobal + Print + Eprint, E: Write>(
     what: Shown,
 ) -> Result<u8, Failure<'a>>
 where
-    H::File: Blocks,
+    H::File: Blocks + Sync,
 {
     let inode = inode_of(rt.alloc(), which)?;
     let file = open_image(rt, image)?;
@@ -58,7 +59,7 @@ where
         Inode::Path(path) => path,
         Inode::Number(_) => return show_whole(rt, errors, file, &inode, what),
     };
-    match gather_plain(rt.alloc(), &file)? {
+    match gather_plain(rt, rt.alloc(), &file, READERS)? {
         Some(gathered) => {
             let answered = show_plain(rt, errors, &file, gathered, path, what)?;
             tell_faults(rt, image, answered.faults);

@@ -30,7 +30,7 @@ fn act<H: Files + AllocGlobal + Print + Eprint + Env + Threads + Sync>(
     rt: &H,
 ) -> Result<ExitCode, AllocError>
 where
-    H::File: Blocks + Lock,
+    H::File: Blocks + Lock + Sync,
 {
     let alloc = rt.alloc();
     let words = words_of(rt, alloc)?;
@@ -48,7 +48,7 @@ fn answer<'a, H: Files + AllocGlobal + Print + Eprint + Threads + Sync>(
     todo: Todo<'a>,
 ) -> Result<u8, Failure<'a>>
 where
-    H::File: Blocks + Lock,
+    H::File: Blocks + Lock + Sync,
 {
     match todo {
         Todo::Version => print_line(rt, VERSION),

@@ -97,6 +97,8 @@ impl<P: Pmem + Drop> Fs<P> {
 
     /// Writes data, bytes or one byte many times, into the file that a path leads to, from an offset on. It is `write` of the
     /// bytes that they are, and takes no memory for them; where no fuse is set, it keeps no more than a page of what it stores.
+    ///
+    /// Errors: those of `write`.
     pub fn write_data(
         &mut self,
         cpu: u64,

@@ -120,7 +120,7 @@ pub(crate) fn check_memory<P: Pmem + Sync, H: Threads + Sync>(
     let answer = recover_region(rt, alloc, memory, workers)?;
     match answer {
         Answer::Recovered(recovered) => Ok(Checked {
-            text: output_text(alloc, &recovered, output)?,
+            text: output_text(rt, alloc, &recovered, output, workers)?,
             status: status_of(&recovered.faults),
         }),
         Answer::Refused(refusal) => refused(alloc, refusal),

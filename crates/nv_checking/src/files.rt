@@ -12,7 +12,7 @@ use crate::explained::explain_region;
 use crate::gathered::check_gathered;
 use crate::mapping::{Mapped, answered, map_cells, map_gathered, write_map};
 use crate::output::Output;
-use crate::plain::gather_plain;
+use crate::plain::{READERS, gather_plain};
 use nv_images::{
     Failure, Held, Image, ImageFile, Lock, Stamp, Target, hold, image_at, open_image, read_image,
     refuse_length, save_file, see_ready, svg_text, tell_explain, tell_faults, tell_length,
@@ -45,14 +45,14 @@ pub fn check_file<'a, H: Files + AllocGlobal + Print + Eprint + Threads + Sync>(
     output: Output,
 ) -> Result<u8, Failure<'a>>
 where
-    H::File: Blocks,
+    H::File: Blocks + Sync,
     ensures status { IfOk result (λ status. status ≤ 2) }
     ensures error { IfErr result (IsUnchecked path.entry) }
 {
     let file = open_image(rt, path)?;
     let workers = u64::from(workers);
     let writer = &mut io::writer(rt);
-    let status = match gather_plain(rt.alloc(), &file)? {
+    let status = match gather_plain(rt, rt.alloc(), &file, workers)? {
         Some(gathered) => check_gathered(rt, rt.alloc(), gathered, workers, output, writer)?,
         None => {
             let image = read_image(rt.alloc(), file)?;
@@ -113,13 +113,13 @@ fn explain_image<H: AllocGlobal + Threads + Sync, W: Write>(
 /// there alone. Answers the exit status, 0 or 2. The file is read as `check_file` reads it.
 ///
 /// Errors: a file that can't be read or written, and want of memory or of a place to write to.
-pub fn map_file<'a, H: Files + AllocGlobal + Print + Eprint>(
+pub fn map_file<'a, H: Files + AllocGlobal + Print + Eprint + Threads + Sync>(
     rt: &H,
     path: &'a str,
     svg: Option<Target<'a>>,
 ) -> Result<u8, Failure<'a>>
 where
-    H::File: Blocks + Lock,
+    H::File: Blocks + Lock + Sync,
     ensures status { IfOk result (λ status. (status ≡ 0) ⊎ (status ≡ 2)) }
     ensures error { IfErr result (IsUnmapped path.entry svg.entry) }
 {
@@ -128,7 +128,7 @@ where
         Some(target) => Some(hold_drawing(rt, target, file.opened.stamp)?),
         None => None,
     };
-    let mapped = match gather_plain(rt.alloc(), &file)? {
+    let mapped = match gather_plain(rt, rt.alloc(), &file, READERS)? {
         Some(gathered) => map_gathered(rt.alloc(), gathered, MOST_CELLS)?,
         None => map_whole(rt, file)?,
     };

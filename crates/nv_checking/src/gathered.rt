@@ -14,7 +14,7 @@ ghost use Rattle.nv_checking.specs.declared.output.Output.{Output as OutputValue
 
 use crate::checking::{Checked, check_memory, is_worker_count, refused};
 use crate::output::Output;
-use nv_metadata::{Blocks, GatherError, Gathered, gather};
+use nv_metadata::{Blocks, GatherError, Gathered, gather_on};
 use nv_stream::{ScriptError, write_text};
 use nv_super::SuperFault;
 use nv_text::Refusal;
@@ -71,7 +71,7 @@ impl From<AllocError> for BlocksError {
 ///
 /// Errors: `Read` where the length isn't told or bytes can't be read, which doesn't happen where they are known, and nothing was
 /// written then; `Answer` as of `check_region_as`.
-pub fn check_blocks<B: Blocks, H: Threads + Sync, W: Write>(
+pub fn check_blocks<B: Blocks + Sync, H: Threads + Sync, W: Write>(
     rt: &H,
     alloc: Global,
     source: &B,
@@ -84,7 +84,7 @@ pub fn check_blocks<B: Blocks, H: Threads + Sync, W: Write>(
     ensures err { (bytes : List ℕ) → B.bytes source.now ≡ Some bytes → IfErr result (λ e. FailsBlocksCheck output bytes workers e (W.contents writer.old) (W.contents writer.new)) }
     ensures unread { IfErr result (λ e. KeepsUnread e (W.contents writer.old) (W.contents writer.new)) }
 {
-    let gathered = gather(alloc, source)?;
+    let gathered = gather_on(rt, alloc, source, workers)?;
     let status = check_gathered(rt, alloc, gathered, workers, output, writer)?;
     Ok(status)
 }

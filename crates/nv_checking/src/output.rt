@@ -7,8 +7,9 @@ ghost use Rattle.nv_checking.specs.Checking.{IsOutputText};
 ghost use Rattle.nv_checking.specs.declared.output.Output.TheVariants as outputs;
 
 use nv_json::report_json;
-use nv_report::{Part, Recovered, Shown, part_text, summary_text};
+use nv_report::{Part, Recovered, Shown, part_text, report_text, summary_text};
 use std::alloc::{AllocError, Global};
+use std::thread::Threads;
 
 /// What a check writes.
 #[derive(Clone, Copy, Debug, PartialEq, Eq)]
@@ -23,17 +24,21 @@ pub enum Output {
     Json,
 }
 
-/// The text of a recovery for such an output.
-pub fn output_text(
+/// The text of a recovery for such an output. So many threads write a report.
+///
+/// Errors: `AllocError` where a growth was refused.
+pub fn output_text<H: Threads + Sync>(
+    rt: &H,
     alloc: Global,
     recovered: &Recovered,
     output: Output,
+    threads: u64,
 ) -> Result<String, AllocError>
     requires { HasAreas recovered.now.sup }
     ensures { IfOk result (λ text. IsOutputText output (outcome_of recovered.now) (string_bytes text)) }
 {
     match output {
-        Output::Report => part_text(alloc, recovered, Part::Report),
+        Output::Report => report_text(rt, alloc, recovered, threads),
         Output::Summary => summary_text(alloc, recovered),
         Output::OnlyFaults => part_text(alloc, recovered, Part::Faults),
         Output::Json => json_text(alloc, recovered),

@@ -37,7 +37,7 @@ pub fn check_files<'a, H: Files + AllocGlobal + Print + Eprint + Threads + Sync>
     output: Output,
 ) -> Result<u8, Failure<'a>>
 where
-    H::File: Blocks,
+    H::File: Blocks + Sync,
     ensures status { IfOk result (λ status. status ≤ 2) }
     ensures error { IfErr result IsUnanswered }
 {
@@ -68,7 +68,7 @@ fn check_path<'a, H: Files + AllocGlobal + Print + Eprint + Threads + Sync>(
     output: Output,
 ) -> Result<u8, Failure<'a>>
 where
-    H::File: Blocks,
+    H::File: Blocks + Sync,
     ensures status { IfOk result (λ status. status ≤ 2) }
     ensures error { IfErr result IsUnanswered }
 {
@@ -90,7 +90,7 @@ fn check_readable<'a, H: Files + AllocGlobal + Print + Eprint + Threads + Sync>(
     output: Output,
 ) -> Result<u8, Failure<'a>>
 where
-    H::File: Blocks,
+    H::File: Blocks + Sync,
     ensures status { IfOk result (λ status. status ≤ 2) }
     ensures error { IfErr result (IsUnchecked path.entry) }
 {
@@ -98,8 +98,9 @@ where
     let name = format!(in alloc; "{}: ", Shown(path))?;
     let writer = &mut io::writer(rt);
     let file = open_image(rt, path)?;
-    if let Some(gathered) = gather_plain(alloc, &file)? {
-        let checked = check_metadata(rt, alloc, gathered, u64::from(workers), output)?;
+    let threads = u64::from(workers);
+    if let Some(gathered) = gather_plain(rt, alloc, &file, threads)? {
+        let checked = check_metadata(rt, alloc, gathered, threads, output)?;
         return Ok(write_named(alloc, &name, &checked, writer)?);
     }
     let image = read_image(alloc, file)?;

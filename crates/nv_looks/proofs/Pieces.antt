@@ -13,7 +13,6 @@ use Rattle.nv_tar.proofs.FileFronts.{a_piece, all_bytes, first_bytes, front_of_n
 use Rattle.nv_looks.specs.Looking.{IsSized, IsWholeFile, WritesFile, FailsFile}
 use Rattle.nv_stream.specs.declared.fault.ScriptError.TheVariants as errors
 
-
 module _ (t : Tree) (names : List (List ℕ)) (size : ℕ) (s : IsSized t names size) where
   read_piece : (at count : ℕ) (piece : List ℕ) → IsRead t names at count piece → at + count ≤ size → piece ≡ map s.node.bytes (range_with_len at count)
   read_piece at count piece read within =
