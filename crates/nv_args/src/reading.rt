@@ -279,7 +279,8 @@ fn tar_of<'a>(values: &ArgMatches<'a>) -> Option<Todo<'a>>
     ensures none { IsNone result → (todo : Todo) → ¬ Asks (codes "tar") (rows_of (found_of values.now)) todo }
 {
     let image = text_of(values, "image")?;
-    let which = which_of(text_of(values, "path").unwrap_or("/"));
+    let path = text_of(values, "path").unwrap_or("/");
+    let which = which_of(path);
     let lost = is_given(values, "lost-found");
     Some(Todo::Tar { image, which, lost })
 }
