@@ -175,7 +175,12 @@ fn stand_far(rt: &impl Abort, values: &mut Numbered<u64>) -> Result<(), AllocErr
     assert_removed(rt, values, 12_288, Some(122_880));
     assert_removed(rt, values, 4096, Some(40_960));
     assert_listed(rt, values, &[FAR[0], FAR[2]]);
-    assert_values(rt, values, 2, &[(4096, None), (12_288, None), (8191, Some(81_910))]);
+    assert_values(
+        rt,
+        values,
+        2,
+        &[(4096, None), (12_288, None), (8191, Some(81_910))],
+    );
     Ok(())
 }
 

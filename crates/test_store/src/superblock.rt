@@ -123,7 +123,11 @@ fn names() -> [bool; 5] {
 
 #[test]
 fn names_may_say_what_chains_could_have(rt: HostRuntime) {
-    check(&rt, names() == [true, false, false, true, false], "the names");
+    check(
+        &rt,
+        names() == [true, false, false, true, false],
+        "the names",
+    );
 }
 
 #[test]
