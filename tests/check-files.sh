@@ -1,6 +1,6 @@
 #!/usr/bin/env bash
-# Runs `nova check` on files that hold no region, or that can't be read, and scripts with a bad line or a cut region, and
-# compares what they write, what they say on standard error, and their exit status.
+# Runs `nova check` on files that hold no region, or that can't be read, and scripts with a bad line, a cut region or a long
+# read, and compares what they write, what they say on standard error, and their exit status.
 # Needs the built program (`./nova` builds it). The file without permission needs root, and is left out for others.
 # Prints a line for each difference, and closes with 'N passed, M failed'.
 set -u
@@ -310,4 +310,42 @@ expect_script "a number of 65 bits" 2 "bad line 1" "line 1: word 2 is above 1844
 expect_script "a number of 65 bits as a name" 0 "refused NotMounted" "" 'list 18446744073709551616\n'
 expect_script "a large number and a word too many" 2 "bad line 1" "line 1: expected time T, $words" 'time 18446744073709551616 7\n'
 expect_script "a line of 4097 bytes" 2 "bad line 1" "line 1: it has more than 4096 bytes" '#%4096d\n'
+
+# A long read is printed as the file is read, in less memory than its text has.
+before="ok${newline}recovered inodes 1 free 60 faults 0${newline}ok${newline}ok${newline}ok"
+printf 'format 1 64 1\nrecover 1\ncreate 0 /f\nwrite 0 /f 131071 2 65\nsize 0 /f 268435456\n' >"$folder/writing"
+{ cat "$folder/writing" && echo 'read /f 0 268435456'; } >"$folder/reading"
+zeros() {
+    head -c "$1" /dev/zero | tr '\0' 0
+}
+found=$(
+    ulimit -v 400000
+    "$program" run "$folder/reading" | cksum
+)
+same "a long read" "$({ printf '%s\ndata ' "$before" && zeros 262142 && printf 4141 && zeros 536608766 && echo; } | cksum)" "$found"
+
+# in_so_much KIB SCRIPT: how many bytes it prints in so much memory, its status, and what it says.
+in_so_much() {
+    (
+        ulimit -v "$1"
+        exec "$program" run "$2" >"$folder/out" 2>"$folder/error"
+    ) 2>/dev/null
+    local status=$?
+    echo "$(wc -c <"$folder/out") $status $(cat "$folder/error")"
+}
+
+# Where memory is wanted for a long read, nothing of its line is printed. The least memory is looked for, in steps of 64 KiB, in
+# which the lines before it run.
+{ cat "$folder/writing" && echo 'read /f 0 131073'; } >"$folder/reading"
+none=0
+least=6400
+while [ $((least - none)) -gt 1 ]; do
+    half=$(((none + least) / 2))
+    case $(in_so_much $((64 * half)) "$folder/writing") in
+        "48 0 ") least=$half ;;
+        *) none=$half ;;
+    esac
+done
+same "want of memory for a long read" "262200 0 ${newline}48 2 failed Memory" \
+    "$(for more in 0 1 2 3 4 5 6 7 8 9 10 11 12; do in_so_much $((64 * (least + more))) "$folder/reading"; done | sort -u)"
 close

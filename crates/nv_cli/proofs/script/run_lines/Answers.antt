@@ -43,7 +43,7 @@ returns-in_err-print-in-Text-clause-err g c =
     let next = leads at.0 at.1 in
     fails_short (ShowsFromBy c.args.rule begin) r.0 c.in_err-print-in-Text.field-0.0 _ _ _ r.2 c.in_err-print-in-Text.ensures.kind
     (so_far_short c.args.rule begin at.0 c.lines.number _ _ _ _ at.2 next.0.region _ _
-    (text_ends_inside c.args.rule _ _ _ _ c.lines.number at.0 next.0 said c.in-Text.printed (rw c.in-Text.is at next.1) (may_be_last c.args.rule _ c.ends_script-ends.result (c.ends_script-ends.ensures _ said (rw c.in-Text.is at prints)))
+    (text_ends_inside c.args.rule _ _ _ _ c.lines.number at.0 next.0 said c.in-Text.printed (rw c.in-Text.is at next.1) (may_be_last c.args.rule _ c.ends_script-ends.result (c.ends_script-ends.ensures c.next_reply.new.session said (rw c.in-Text.is at prints)))
     (c.in_err-print-in-Text.ensures.short said (rw c.in-Text.is at prints)))))
 
 pub returns-in_err-text-in-Bad-clause-err : goal.returns-in_err-text-in-Bad-clause-err
@@ -61,7 +61,7 @@ returns-in_err-write_text-in-Bad-clause-err g c =
     fails_short (ShowsFromBy c.args.rule begin) r.0 c.in_err-write_text-in-Bad.field-0.0 _ _ _ r.2 c.in_err-write_text-in-Bad.ensures.kind
     (so_far_short c.args.rule begin at.0 c.lines.number _ _ _ _ at.2 at.0.region _ _
     (bad_ends_inside c.args.rule _ _ _ _ c.lines.number at.0 next.0 said c.in-Bad.reason (rw c.in-Bad.is at next.1)
-    (rw (c.as_bytes-in-Bad.ensures.value, c.in_ok-text-in-Bad.ensures) at c.in_err-write_text-in-Bad.ensures.short))))
+    (rw (c.as_bytes.ensures.value, c.in_ok-text-in-Bad.ensures) at c.in_err-write_text-in-Bad.ensures.short))))
 
 pub returns-in-Bad-clause-ok : goal.returns-in-Bad-clause-ok
 returns-in-Bad-clause-ok g c = λ begin stands.
@@ -71,7 +71,7 @@ returns-in-Bad-clause-ok g c = λ begin stands.
     let region = region_in c.next_reply.new.session.store in
     known_all (ShowsEndBy c.args.rule begin region) _ (ShowsByFrom c.args.rule c.lines.number at.0 region) _ _ _ _ _ 2 (at.2 region)
     (bad_ends c.args.rule _ _ _ _ c.lines.number at.0 next.0 said region c.in-Bad.reason (rw c.in-Bad.is at next.1)
-    (rw (c.as_bytes-in-Bad.ensures.value, c.in_ok-text-in-Bad.ensures) at c.in_ok-write_text-in-Bad.ensures.ok) next.2.region)
+    (rw (c.as_bytes.ensures.value, c.in_ok-text-in-Bad.ensures) at c.in_ok-write_text-in-Bad.ensures.ok) next.2.region)
 
 pub lines-preserved : goal.lines-preserved
 lines-preserved g c = λ begin stands.
@@ -85,7 +85,7 @@ lines-preserved g c = λ begin stands.
             (skipped_goes_on c.args.rule _ _ (g.W.Write.contents c.lines.writer) (g.W.Write.contents c.lines.writer) c.lines.number at.0 next.0 said region (rw w.in-Skipped.is at next.1)))
         | in-Text+in_ok-print-in-Text+else-ends w ↦ rw w.writer-is (known_on (ShowsEndBy c.args.rule begin region) _ (ShowsByFrom c.args.rule c.lines.number at.0 region) _ (ShowsByFrom c.args.rule (c.lines.number + 1) next.0 region) _ _ _ _ (at.2 region)
             (text_goes_on c.args.rule _ _ _ _ c.lines.number at.0 next.0 said region w.in-Text.printed (rw w.in-Text.is at next.1)
-            (goes_on_behind c.args.rule _ w.ends_script-ends.result w.if-ends.false (w.ends_script-ends.ensures _ said (rw w.in-Text.is at prints)))
+            (goes_on_behind c.args.rule _ w.ends_script-ends.result w.if-ends.false (w.ends_script-ends.ensures c.next_reply.new.session said (rw w.in-Text.is at prints)))
             (w.in_ok-print-in-Text.ensures.ok said (rw w.in-Text.is at prints))))
       ]),
       elim c.match-branch-2.branch [
@@ -93,8 +93,8 @@ lines-preserved g c = λ begin stands.
             (skipped_hints_nothing c.args.rule _ _ (g.N.Hints.told c.lines.hints) (g.N.Hints.told c.lines.hints) c.lines.number at.0 next.0 said (rw w.in-Skipped.is at next.1)))
         | in-Text+in_ok-print-in-Text+else-ends w ↦ rw w.hints-is (known_on (HintsFromBy c.args.rule begin) _ (hints_from c.args.rule c.lines.number at.0) _ (hints_from c.args.rule (c.lines.number + 1) next.0) _ _ _ _ at.3
             (text_hints c.args.rule _ _ _ _ c.lines.number at.0 next.0 said w.in-Text.printed (rw w.in-Text.is at next.1)
-            (goes_on_behind c.args.rule _ w.ends_script-ends.result w.if-ends.false (w.ends_script-ends.ensures _ said (rw w.in-Text.is at prints)))
-            (w.hint_length.ensures next.0 said next.2 (w.refuses_length-is_length.ensures _ said (rw w.in-Text.is at prints)))))
+            (goes_on_behind c.args.rule _ w.ends_script-ends.result w.if-ends.false (w.ends_script-ends.ensures c.next_reply.new.session said (rw w.in-Text.is at prints)))
+            (w.hint_length.ensures next.0 said next.2 (w.refuses_length-is_length.ensures c.next_reply.new.session said (rw w.in-Text.is at prints)))))
       ],
     )
 
@@ -152,7 +152,7 @@ returns-then-ends-clause-ok g c = λ begin stands.
     let region = region_in c.next_reply.new.session.store in
     known_all (ShowsEndBy c.args.rule begin region) _ (ShowsByFrom c.args.rule c.lines.number at.0 region) _ _ _ _ _ 2 (at.2 region)
     (last_ends c.args.rule _ _ _ _ c.lines.number at.0 next.0 said region c.in-Text.printed (rw c.in-Text.is at next.1)
-    (is_last_behind c.args.rule _ c.ends_script-ends.result c.if-ends.true (c.ends_script-ends.ensures _ said (rw c.in-Text.is at prints)))
+    (is_last_behind c.args.rule _ c.ends_script-ends.result c.if-ends.true (c.ends_script-ends.ensures c.next_reply.new.session said (rw c.in-Text.is at prints)))
     (c.in_ok-print-in-Text.ensures.ok said (rw c.in-Text.is at prints)) next.2.region)
 
 pub returns-then-ends-clause-hints : goal.returns-then-ends-clause-hints
@@ -162,5 +162,5 @@ returns-then-ends-clause-hints g c = λ begin stands.
     let next = leads at.0 at.1 in
     known_all (HintsFromBy c.args.rule begin) _ (hints_from c.args.rule c.lines.number at.0) _ _ _ _ _ 2 at.3
     (last_hints c.args.rule _ _ _ _ c.lines.number at.0 next.0 said c.in-Text.printed (rw c.in-Text.is at next.1)
-    (is_last_behind c.args.rule _ c.ends_script-ends.result c.if-ends.true (c.ends_script-ends.ensures _ said (rw c.in-Text.is at prints)))
-    (c.hint_length.ensures next.0 said next.2 (c.refuses_length-is_length.ensures _ said (rw c.in-Text.is at prints))))
+    (is_last_behind c.args.rule _ c.ends_script-ends.result c.if-ends.true (c.ends_script-ends.ensures c.next_reply.new.session said (rw c.in-Text.is at prints)))
+    (c.hint_length.ensures next.0 said next.2 (c.refuses_length-is_length.ensures c.next_reply.new.session said (rw c.in-Text.is at prints))))

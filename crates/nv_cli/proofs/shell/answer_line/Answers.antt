@@ -3,7 +3,7 @@ use Rattle.nv_cli.proofs.Kept.{grows_none}
 use Rattle.nv_cli.proofs.shell.answer_line.Goals as goal
 
 pub returns-in_ok-owned-in-Some-Help-clause-answers : goal.returns-in_ok-owned-in-Some-Help-clause-answers
-returns-in_ok-owned-in-Some-Help-clause-answers g c = rw c.text_answer-in-Some-Help.ensures (_, refl, ([], grows_none _, (tt, λ state stands. (state, inr (inl (rw c.in-Some-Help.field-0-is at c.in-Some-Help.ensures.found, c.in_ok-owned-in-Some-Help.ensures, refl), refl), stands))))
+returns-in_ok-owned-in-Some-Help-clause-answers g c = rw c.text_answer.ensures (_, refl, ([], grows_none _, (tt, λ state stands. (state, inr (inl (rw c.in-Some-Help.field-0-is at c.in-Some-Help.ensures.found, c.in_ok-owned-in-Some-Help.ensures, refl), refl), stands))))
 
 pub returns-in_ok-script_answer-in-None-clause-answers : goal.returns-in_ok-script_answer-in-None-clause-answers
 returns-in_ok-script_answer-in-None-clause-answers g c =

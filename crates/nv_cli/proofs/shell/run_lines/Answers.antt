@@ -91,7 +91,7 @@ returns-in_err-write_text-in-TooLong-clause-err g c =
           fails_short (ShowsAnyLines 1 begin kept) r.0 c.in_err-write_text-in-TooLong.field-0.0 _ _ _ r.2 c.in_err-write_text-in-TooLong.ensures.kind
           (short_so_far (ShowsLinesEnd 1 begin kept) (ShowsLinesEnd c.lines.number at.0 here) (ShowsAnyLines 1 begin kept) (any_lines begin kept) _ _ _ _ (at.2 here) at.0.region _ _
           (too_long_ends_inside _ _ _ _ c.lines.number at.0 next.0 text here (rw c.in-TooLong.is at next.1)
-          (rw (c.as_bytes-in-TooLong.ensures.value, c.in_ok-text-in-TooLong.ensures) at c.in_err-write_text-in-TooLong.ensures.short))),
+          (rw (c.as_bytes.ensures.value, c.in_ok-text-in-TooLong.ensures) at c.in_err-write_text-in-TooLong.ensures.short))),
     )
 
 pub returns-in-TooLong-clause-ok : goal.returns-in-TooLong-clause-ok
@@ -106,7 +106,7 @@ returns-in-TooLong-clause-ok g c =
           let region = region_in c.next_answer.new.session.store in
           known_all (ShowsLinesEnd 1 begin (given ++ here) region) _ (ShowsLinesEnd c.lines.number at.0 here region) _ _ _ _ _ 2 (at.2 here region)
           (too_long_ends _ _ _ _ c.lines.number at.0 next.0 text here region (rw c.in-TooLong.is at next.1)
-          (rw (c.as_bytes-in-TooLong.ensures.value, c.in_ok-text-in-TooLong.ensures) at c.in_ok-write_text-in-TooLong.ensures.ok) next.2.region),
+          (rw (c.as_bytes.ensures.value, c.in_ok-text-in-TooLong.ensures) at c.in_ok-write_text-in-TooLong.ensures.ok) next.2.region),
     )
 
 pub lines-preserved : goal.lines-preserved
