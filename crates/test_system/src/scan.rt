@@ -5,16 +5,17 @@ ghost use Rattle.nv_region.specs.Region.{HasBlocks};
 
 use crate::small::{DIRECTORY_MODE, SMALL, opened_for_one, small_region, tables_of};
 use nv_claimmap::Claimed;
+use nv_inode::{Tables, read_tables};
 use nv_names::Target;
 use nv_numbered::Chunks;
 use nv_region::MemRegion;
 use nv_scan::{
     Claims, Inodes, NoGate, Numbers, Piece, Row, RowList, Scanner, directories_have_no_pages,
     files_have_no_names, in_use_by_the_slot, inode_alone, mapped_pages_begin_below_the_size,
-    names_are_listed, one_block, one_inode, owned_blocks_are_data_blocks, scan_slot, ticket_count,
-    tickets_are_blocks_of_slots, worker,
+    names_are_listed, one_block, one_inode, owned_blocks_are_data_blocks, room_for_ticket,
+    scan_slot, scan_slots, ticket_count, tickets_are_blocks_of_slots, worker,
 };
-use nv_super::{Fault, Kind, Owner};
+use nv_super::{Fault, Kind, Owner, Super};
 use std::alloc::{AllocError, Global};
 use std::process::Abort;
 use std::test::Fail;
@@ -361,6 +362,50 @@ fn a_scanner_reads_a_log_again(rt: HostRuntime) -> Result<(), Fail> {
     let tables = tables_of(rt.alloc(), &memory, &SMALL)?;
     assert!(rt; ticket_count(&tables) == 1);
     Ok(reads_with_one(&rt, rt.alloc(), &memory)?)
+}
+
+/// The small region in version 2. Its table goes on in block 10, where inode 34 is a directory with its log in block 3.
+const CHAINED: Super = Super {
+    version: 2,
+    ..SMALL
+};
+
+const IN_A_CHAIN: [(u64, u64); 6] = [
+    (4112, 40960),
+    (41344, 1),
+    (41352, 2),
+    (41360, 12288),
+    (41368, 12320),
+    (12288, DIRECTORY_MODE),
+];
+
+/// The second ticket stands for the block of the chain.
+fn finds_in_a_chain(
+    rt: &impl Abort,
+    alloc: Global,
+    memory: &MemRegion,
+    tables: &Tables,
+) -> Result<(), AllocError>
+    requires sup { tables.now.layout.sup.blocks ≡ 16 }
+    requires blocks { HasBlocks memory.now.region 16 }
+{
+    tables.are_laid();
+    let mut scanner = Scanner::new(alloc, tables.sup());
+    let mut inodes = Inodes::new(alloc);
+    let mut each = room_for_ticket(alloc)?;
+    let tickets = ticket_count(tables);
+    assert!(rt; tickets == 2);
+    let count = scan_slots(memory, tables, &mut scanner, &mut inodes, &mut each, 1)?;
+    assert!(rt; count == 1);
+    assert!(rt; first_inode(&inodes.rows) == Some(34));
+    Ok(())
+}
+
+#[test]
+fn a_block_of_a_chain_has_a_ticket(rt: HostRuntime) -> Result<(), Fail> {
+    let memory = small_region(rt.alloc(), &IN_A_CHAIN)?;
+    let tables = read_tables(rt.alloc(), &memory, &CHAINED)?;
+    Ok(finds_in_a_chain(&rt, rt.alloc(), &memory, &tables)?)
 }
 
 /// The rows of inodes 1 and 2.
