@@ -4,7 +4,7 @@ use Rattle.std.specs.List.{All, Contains}
 use Rattle.nv_region.specs.Region.{Region}
 use Rattle.nv_super.specs.declared.superblock.Super.{Super}
 use Rattle.nv_super.specs.declared.kind.Kind.{Kind}
-use Rattle.nv_super.specs.Layout.{Layout, is_number, slot_of}
+use Rattle.nv_super.specs.Layout.{Layout, is_name_number, slot_of}
 use Rattle.nv_entry.specs.Content.{has_bad_byte, is_dots}
 use Rattle.nv_entry.specs.declared.entry.Operation.{Operation}
 use Rattle.nv_entry.specs.declared.entry.Operation.TheVariants.{Add, Remove}
@@ -25,9 +25,9 @@ name_entry at operation i name time = record { at = at; entry = entries.Name (re
 abbrev pub links_entry : ℕ → ℕ → ℕ → Placed
 links_entry at count time = record { at = at; entry = entries.Links (record { count = count; time = time }) }
 
--- a name that a path can say, and a number that an inode can have
+-- a name that a path can say, and a number that a name may say
 abbrev pub IsGoodName : Super → ℕ → List ℕ → Type 0
-IsGoodName s i name = (has_bad_byte name || is_dots name || not (is_number s i)) ≡ false
+IsGoodName s i name = (has_bad_byte name || is_dots name || not (is_name_number s i)) ≡ false
 
 -- inode j is read the same in both regions
 abbrev pub SameInode : Region → Region → Layout → ℕ → Type 0

@@ -5,6 +5,7 @@ use Rattle.std.proofs.lemmas.List.Elements.{All-head, All-tail}
 use Rattle.nv_region.specs.Region.{Region}
 use Rattle.nv_super.specs.declared.superblock.Super.{Super}
 use Rattle.nv_super.specs.Layout.{is_number}
+use Rattle.nv_super.proofs.Names.{number_named}
 use Rattle.nv_super.specs.declared.kind.Kind.TheVariants.{Directory}
 use Rattle.nv_names.specs.Names.{name_at}
 use Rattle.nv_scan.specs.declared.piece.Row.{Row}
@@ -94,7 +95,7 @@ last_is_name name [] good = All-head IsPathName name [] good
 last_is_name name (next ∷ names) good = last_is_name next names (All-tail IsPathName name (next ∷ names) good)
 
 pub good_name : (s : Super) (j : ℕ) (name : List ℕ) → IsPathName name → IsTrue (is_number s j) → IsGoodName s j name
-good_name s j name good number = rw (good.bytes, good.no_dots, number) refl
+good_name s j name good number = rw (good.bytes, good.no_dots, number_named s j number) refl
 
 module _ (R : Region) (rows : List Row) (text name : List ℕ) (d : ℕ) (used : IsInUse rows d) (o : Option (Bor Row)) (long : length text ≡ 1 → ⊥)
     (directory : (names : List (List ℕ)) → Spells text names → (row : Row) → row_of rows d ≡ Some row → (walk (tree_of R rows) 1 names ≡ Ok row.inode) × (row.kind ≡ Directory)) (last : (names : List (List ℕ)) → Spells text names → name ≡ last_name names)
