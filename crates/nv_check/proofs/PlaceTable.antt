@@ -1,6 +1,6 @@
 -- A table of the places of inodes.
 use Rattle.std.proofs.Common.{◌≡◌, ◌≢◌, ℕ, zero, suc, ◌+◌, ◌*◌, ◌^◌, ◌<◌, ◌≤◌, ◌⊎◌, inl, inr, eqb, Option, Some, None, List, ◌∷◌, length, get_or, replicate, refl, ap, sym, ◌∙◌, subst, arith, add-one, get_or-set_same, get_or-set_other, mul-le-mul_right}
-use Rattle.std.proofs.Math.ListN.{set}
+use Rattle.std.proofs.Math.ListN.{set, get_or-map as get_or-map_default}
 use Rattle.std.proofs.lemmas.Bool.{cases_order, cases_lt, ne_eqb, eqb-true}
 use Rattle.std.proofs.lemmas.List.{get_or_default, length-map, map-set}
 use Rattle.std.proofs.lemmas.Map.Keys.{IsDistinct-from_apart}
@@ -87,3 +87,11 @@ small_place sup numbers place areas apart within =
     let few = few_numbers (inode_limit sup) numbers apart in
     let most : 32 * sup.cpus * sup.table_blocks ≤ 2048 * sup.table_blocks = mul-le-mul_right sup.table_blocks (omega (arith, areas.cpus_to)) in
     omega (arith, few, most, areas.tables_to, within)
+
+-- the next inode has no place yet
+pub vacant_next : (inodes : List ℕ) (n : ℕ) (words : List ℕ) → ((j k : ℕ) → j < k → k < length inodes → get_or inodes j 0 ≢ get_or inodes k 0) → n < length inodes → ArePlacesTo inodes n (places_in words) → get_or words (get_or inodes n 0) 0 ≡ 0
+vacant_next inodes n words once lt h = by (get_or words (get_or inodes n 0) 0) refl
+  where
+    by : (w : ℕ) → get_or words (get_or inodes n 0) 0 ≡ w → w ≡ 0
+    by zero is = refl
+    by (suc p) is = absurd (let at = h.at (get_or inodes n 0) p (get_or-map_default place_in words (get_or inodes n 0) 0 ∙ ap place_in is) in once p n at.0 lt at.1)

@@ -7,15 +7,17 @@ ghost use Rattle.nv_check.specs.Listings.{inodes_of};
 ghost use Rattle.nv_check.specs.Steps.{place_of, ArePlaces};
 
 use crate::listing::Listings;
+use nv_numbered::Leaves;
 use nv_super::Super;
 use std::alloc::{AllocError, Global};
 use std::marker::Model;
 
-/// The place of each inode's row, by the inode's number: four bytes for a place, since a region has fewer inodes.
+/// The place of each inode's row, by the inode's number: four bytes for a place, since a region has fewer inodes, and
+/// none for 4,096 numbers of which none has a row.
 #[derive(Drop)]
 pub(crate) struct Places {
     // Of each number, one more than the place of its row, and 0 where it has none.
-    words: Vec<u32>,
+    words: Leaves,
 }
 
 impl Model for Places {
@@ -33,7 +35,7 @@ impl Places {
     pub(crate) fn find(&self, inode: u64) -> Option<usize>
         ensures { result ≡ place_of self.now inode }
     {
-        let word = self.words.get(inode as usize).copied().unwrap_or(0);
+        let word = self.words.get(inode);
         if word == 0 {
             return None;
         }
@@ -51,9 +53,9 @@ pub(crate) fn places_of(
     requires apart { AreNumbersBelow (inode_limit sup.now) (inodes_of listings.now) }
     ensures { IfOk result (λ places. ArePlaces listings.now places) }
 {
-    let mut words = vec![in alloc; 0; sup.inode_limit() as usize]?;
+    let mut words = Leaves::new(alloc, sup.inode_limit(), listings.len())?;
     for place in 0..listings.len() {
-        words[listings.head(place).inode as usize] = place as u32 + 1;
+        words.insert(listings.head(place).inode, place as u32 + 1);
     }
     Ok(Places { words })
 }

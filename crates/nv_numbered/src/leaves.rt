@@ -13,8 +13,8 @@ const LEAF: u64 = 4096;
 
 /// Words by number, from 0 on.
 ///
-/// A leaf of 4,096 words takes memory where one of them isn't 0, and so do as many leaves more as there is room for
-/// words. No more leaves have memory than there are places for.
+/// As many leaves have memory as there are words that aren't 0 and room for more, so that each may stand anywhere, but
+/// never more than the places fill. A leaf whose words are all 0 again serves for others.
 #[derive(Drop)]
 pub struct Leaves {
     // The words of each leaf, and none where all of them are 0.
@@ -116,6 +116,7 @@ impl Leaves {
     }
 
     /// The word at a place, and 0 where there is none.
+    #[inline]
     pub fn get(&self, place: u64) -> u32
         ensures { result ≡ slice_index self.now.items place }
     {

@@ -16,10 +16,9 @@ use std::marker::Model;
 
 /// Values, each under a number below a limit.
 ///
-/// Each value takes four bytes more than its own, and 4,096 numbers, from a multiple of it on, take 16 KiB where one of
-/// them has a value. As much more memory is kept as the room for further values asks for, whatever their numbers are,
-/// but never more than all numbers below the limit take. Removing a value moves the last one into its place, so the
-/// values lie in no order.
+/// Each value takes four bytes more than its own. Numbers stand in leaves of 4,096, of 16 KiB each: as many leaves have
+/// memory as there are values and room for more, but never more than the numbers below the limit fill. Removing a value
+/// moves the last one into its place, so the values lie in no order.
 #[derive(Drop)]
 pub struct Numbered<T> {
     // Of each number, one more than the index of its value, and 0 where it has none.

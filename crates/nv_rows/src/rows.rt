@@ -140,7 +140,7 @@ impl Rows {
         self.rows.len()
     }
 
-    /// The rows with their numbers, rising. It looks at every number that an inode can have.
+    /// The rows with their numbers, rising. It looks at all those of 4,096 numbers of which one is in use.
     pub fn iter(&self) -> Iter<'_, Row>
         ensures rows { map (λ entry. entry.1) result ≡ self.now.items }
         ensures numbers { map (λ entry. entry.0) result ≡ inodes_of self.now.items }
