@@ -156,6 +156,40 @@ fn a_value_is_inserted_found_and_removed(rt: HostRuntime) -> Result<(), AllocErr
     are_inserted(&rt, &mut values)
 }
 
+const FAR: [(u64, u64); 4] = [
+    (4095, 40_950),
+    (4096, 40_960),
+    (8191, 81_910),
+    (12_288, 122_880),
+];
+
+/// Numbers in four leaves. The one that is alone in its leaf goes.
+fn stand_far(rt: &impl Abort, values: &mut Numbered<u64>) -> Result<(), AllocError>
+    requires { limit_of values.old ≡ 12289 }
+{
+    insert_new(values, 12_288, 122_880)?;
+    insert_new(values, 8191, 81_910)?;
+    insert_new(values, 4095, 40_950)?;
+    insert_new(values, 4096, 40_960)?;
+    assert_listed(rt, values, &FAR);
+    assert_removed(rt, values, 12_288, Some(122_880));
+    assert_removed(rt, values, 4096, Some(40_960));
+    assert_listed(rt, values, &[FAR[0], FAR[2]]);
+    assert_values(
+        rt,
+        values,
+        2,
+        &[(4096, None), (12_288, None), (8191, Some(81_910))],
+    );
+    Ok(())
+}
+
+#[test]
+fn numbers_stand_in_leaves(rt: HostRuntime) -> Result<(), AllocError> {
+    let mut values = Numbered::<u64>::new(rt.alloc(), 12_289)?;
+    stand_far(&rt, &mut values)
+}
+
 const WRITTEN: [(u64, Option<u64>); 4] = [(0, Some(1)), (1, None), (5, Some(50)), (7, Some(70))];
 
 fn assert_writes(rt: &impl Abort, values: &mut Numbered<u64>) {

@@ -108,6 +108,28 @@ fn areas_lie_where_the_layout_says(rt: HostRuntime) {
     check(&rt, areas() == wanted, "the areas");
 }
 
+/// The last number that a name may say and the one behind it, in version 1 and 2.
+fn names() -> [bool; 5] {
+    let old = TWO_CPUS;
+    let new = Super { version: 2, ..old };
+    [
+        old.is_name_number(63),
+        old.is_name_number(64),
+        new.is_name_number(0),
+        new.is_name_number(3721),
+        new.is_name_number(3722),
+    ]
+}
+
+#[test]
+fn names_may_say_what_chains_could_have(rt: HostRuntime) {
+    check(
+        &rt,
+        names() == [true, false, false, true, false],
+        "the names",
+    );
+}
+
 #[test]
 fn numbers_and_pages_are_told_from_others(rt: HostRuntime) {
     let sup = TWO_CPUS;
