@@ -1,6 +1,6 @@
 -- A part of a file that is written in pieces: what was written so far is a front of its line.
 use Rattle.std.proofs.Common.{◌≡◌, ◌≤◌, ◌<◌, ◌+◌, ◌-◌, ℕ, Bool, true, IsTrue, Result, Ok, Err, List, [], ◌∷◌, ◌++◌, map, take, drop, min, length, Option, Some, None, false, inr, refl, sym, ap, subst, ◌∙◌, arith, append_assoc, append-nil, length-append, length-take, length-drop}
-use Rattle.std.specs.Prelude.{OnOk, OnErr, codes}
+use Rattle.std.specs.Prelude.{codes}
 use Rattle.std.specs.Option.{option_map}
 use Rattle.std.specs.Io.KnownBytes.{Appends}
 use Rattle.std.specs.List.{range_with_len}
