@@ -9,7 +9,7 @@ import re
 from documents import documents, without_blocks
 from sources import ROOT
 
-MOST_WORDS = 20_000
+MOST_WORDS = 20_250
 MOST_IN_README = 1_300
 MOST_IN_SENTENCE = 40
 MADE = re.compile(r"<!-- The table of \w+ is made by (?s:.*?)<!-- Here the table ends. -->|^## [A-Z]\d: .*\n\n`fault .*$", re.M)

@@ -11,6 +11,7 @@
 //! can't be read or written, and output or memory that is refused end it with status 2 and a text on standard error.
 #![tactic(auto)]
 
+mod archiving;
 mod cleaning;
 mod hints;
 mod logs;
@@ -20,6 +21,7 @@ mod saving;
 mod shell;
 mod show;
 
+use archiving::archive;
 use cleaning::clean;
 use logs::show_log;
 use nv_args::{CheckOutput, Todo, VERSION, read_words};
@@ -118,6 +120,7 @@ where
         Todo::Ls { image, which } => show(rt, &mut errors, image, which, Shown::Names),
         Todo::Stat { image, which } => show(rt, &mut errors, image, which, Shown::Attributes),
         Todo::Cat { image, which } => show(rt, &mut errors, image, which, Shown::Bytes),
+        Todo::Tar { image, which, lost } => archive(rt, &mut errors, image, which, lost),
         Todo::Map { image, svg, force } => {
             map_file(rt, image, svg.map(|path| Target { path, force }))
         }

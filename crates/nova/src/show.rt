@@ -5,14 +5,15 @@ ghost use Rattle.nv_metadata.specs.Gathered.{IsOpen};
 use crate::names::path_of;
 use nv_args::Which;
 use nv_checking::{Blocks, BlocksError, Gathered, gather_plain, see_unchanged};
-use nv_cli::{
-    Answered, ScriptError, cat_gathered, cat_image, cat_inode_image, list_gathered, list_image,
-    list_inode_image, stat_gathered, stat_image, stat_inode_image,
-};
 use nv_images::{
     Failure, Image, ImageFile, Reason, open_image, read_image, refuse_length, tell_faults,
     tell_length, tell_refused,
 };
+use nv_looks::{
+    Answered, cat_gathered, cat_image, cat_inode_image, list_gathered, list_image,
+    list_inode_image, stat_gathered, stat_image, stat_inode_image,
+};
+use nv_stream::ScriptError;
 use std::alloc::Global;
 use std::fs::OpenFile;
 use std::io;

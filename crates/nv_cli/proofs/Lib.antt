@@ -7,15 +7,6 @@ pub mod HintReplies
 pub mod Ending
 pub mod Kept
 pub mod ShellLines
-pub mod Pieces
-pub mod PiecesByNumber
-pub mod Looks
-pub mod Opens
-pub mod Cats
-pub mod Bare
-pub mod Opened
-pub mod Filed
-pub mod CatsByNumber
 pub mod FreedPages
 pub mod Cleanings
 pub mod CleanedImage

@@ -3,11 +3,6 @@ pub mod Transcript
 pub mod Strict
 pub mod Shell
 pub mod Replies
-pub mod Sent
-pub mod Looking
-pub mod Gathered
-pub mod Catting
-pub mod LookingByNumber
 pub mod Formatting
 pub mod Suiting
 pub mod Cleaning

@@ -3,9 +3,11 @@
 use crate::broken_streams::Closing;
 use crate::checking::clear;
 use nv_cli::{
-    Answered, Hint, Hints, MemRegion, Output, ScriptError, cat_image, check_region_as, list_image,
-    map_cells, region_of_file, run_script_on, stat_image, write_map,
+    Answered, Hint, Hints, MemRegion, Output, ScriptError, check_region_as, map_cells,
+    region_of_file, run_script_on, write_map,
 };
+use nv_looks::{Chosen, cat_image, list_image, stat_image, tar_blocks};
+use nv_metadata::HeldBytes;
 use std::alloc::Global;
 use std::process::Abort;
 use std::test::Fail;
@@ -246,5 +248,28 @@ fn closes(rt: &impl Abort, alloc: Global, made: &[u8]) {
 fn a_closed_writer_has_the_front_of_a_file(rt: HostRuntime) -> Result<(), Fail> {
     let made = run_on(&rt, b"", MAKING, MADE)?;
     closes(&rt, rt.alloc(), &made);
+    Ok(())
+}
+
+// The headers of the directory and of its file, the file's block, and the two that end an archive.
+fn archives(rt: &impl Abort, alloc: Global, made: &[u8]) {
+    let mut out = Vec::new(alloc);
+    let mut errors = Vec::new(alloc);
+    let source = HeldBytes::new(made);
+    let chosen = Chosen::Path(b"/d");
+    let told = match tar_blocks(alloc, &source, chosen, false, &mut out, &mut errors) {
+        Ok(answered) => answered == FOUND,
+        Err(_) => false,
+    };
+    assert!(rt; told);
+    assert!(rt; out.len() == 5 * 512);
+    assert!(rt; out.starts_with(b"d/\0"));
+    assert!(rt; errors.is_empty());
+}
+
+#[test]
+fn an_archive_has_a_directory_and_its_file(rt: HostRuntime) -> Result<(), Fail> {
+    let made = run_on(&rt, b"", MAKING, MADE)?;
+    archives(&rt, rt.alloc(), &made);
     Ok(())
 }

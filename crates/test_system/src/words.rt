@@ -3,7 +3,7 @@
 use nv_args::{CheckOutput, Todo, Which, read_words};
 use std::alloc::Global;
 
-const REFUSED: [&[&str]; 23] = [
+const REFUSED: [&[&str]; 25] = [
     &["--version", "-V"],
     &["version"],
     &["check", "a", "--workers", "65"],
@@ -32,6 +32,8 @@ const REFUSED: [&[&str]; 23] = [
     ],
     &["ls", "i", "/", "/"],
     &["cat", "i"],
+    &["tar"],
+    &["tar", "i", "/", "--lost"],
     &["map", "i", "s"],
     &["shell", "i", "/"],
     &["explain"],
@@ -39,7 +41,7 @@ const REFUSED: [&[&str]; 23] = [
 ];
 
 /// Words, and what they ask for.
-const ASKED: [(&[&str], Todo<'static>); 23] = [
+const ASKED: [(&[&str], Todo<'static>); 25] = [
     (&["--version"], Todo::Version),
     (&["-V"], Todo::Version),
     (
@@ -166,6 +168,22 @@ const ASKED: [(&[&str], Todo<'static>); 23] = [
         Todo::Cat {
             image: "i",
             which: Which::Path("18446744073709551616"),
+        },
+    ),
+    (
+        &["tar", "i"],
+        Todo::Tar {
+            image: "i",
+            which: Which::Path("/"),
+            lost: false,
+        },
+    ),
+    (
+        &["tar", "--lost-found", "i", "12"],
+        Todo::Tar {
+            image: "i",
+            which: Which::Number(12),
+            lost: true,
         },
     ),
     (

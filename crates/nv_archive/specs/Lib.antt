@@ -1,0 +1,3 @@
+pub mod Chosen
+pub mod Shown
+pub mod Archiving

@@ -1,0 +1,11 @@
+pub mod Pieces
+pub mod PiecesByNumber
+pub mod Looks
+pub mod Opens
+pub mod Cats
+pub mod CatsByNumber
+pub mod Bare
+pub mod Opened
+pub mod Filed
+pub mod ShownRows
+pub mod Archived

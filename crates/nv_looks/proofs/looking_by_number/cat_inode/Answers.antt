@@ -1,0 +1,23 @@
+use Rattle.nv_session.specs.nv_paths.Seen.{tree_of}
+use Rattle.nv_looks.proofs.CatsByNumber.{file_ok, file_err, refusal_ok, refusal_err}
+use Rattle.nv_looks.proofs.looking_by_number.cat_inode.Goals as goal
+
+pub returns-in-Ok-clause-ok : goal.returns-in-Ok-clause-ok
+returns-in-Ok-clause-ok g c =
+    file_ok (tree_of (g.P.Pmem.region c.args.mount.now.memory) c.args.mount.now.rows) c.args.inode _ _ _ c.in-Ok.ensures.allowed c.write_inode.result
+    c.write_inode.ensures.ok c.write_inode.ensures.status
+
+pub returns-in-Ok-clause-err : goal.returns-in-Ok-clause-err
+returns-in-Ok-clause-err g c =
+    file_err (tree_of (g.P.Pmem.region c.args.mount.now.memory) c.args.mount.now.rows) c.args.inode _ _ _ c.in-Ok.ensures.allowed c.write_inode.result
+    c.write_inode.ensures.err
+
+pub returns-in-Err-clause-ok : goal.returns-in-Err-clause-ok
+returns-in-Err-clause-ok g c =
+    refusal_ok (tree_of (g.P.Pmem.region c.args.mount.now.memory) c.args.mount.now.rows) c.args.inode _ _ _ c.in-Err.refusal
+    (c.in-Err.ensures.refused c.requires) c.write_refusal.result c.write_refusal.ensures.ok
+
+pub returns-in-Err-clause-err : goal.returns-in-Err-clause-err
+returns-in-Err-clause-err g c =
+    refusal_err (tree_of (g.P.Pmem.region c.args.mount.now.memory) c.args.mount.now.rows) c.args.inode _ _ _ c.in-Err.refusal
+    (c.in-Err.ensures.refused c.requires) c.write_refusal.result c.write_refusal.ensures.err
