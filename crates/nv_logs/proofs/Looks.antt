@@ -1,5 +1,6 @@
 -- What a look at a log tells, by what was recovered.
-use Rattle.std.proofs.Common.{◌≡◌, ◌∙◌, ℕ, inl, inr, List, length, Some, refl, sym, ap, subst}
+use Rattle.std.proofs.Common.{◌≡◌, ℕ, inl, inr, List, length, Result, Ok, Err, sym, subst, string_bytes}
+use Rattle.std.specs.Prelude.{IfOk}
 use Rattle.nv_region.specs.Region.{Region, HasBlocks, region_of}
 use Rattle.nv_region.specs.ImageState.{ImageState}
 use Rattle.nv_region.proofs.Fronted.{short_rest}
@@ -8,7 +9,6 @@ use Rattle.nv_super.specs.Layout.{HasAreas, fixed_layout}
 use Rattle.nv_scan.specs.declared.piece.Row.{Row}
 use Rattle.nv_outcome.specs.nv_journal.Undo.{undone}
 use Rattle.nv_outcome.specs.Answer.{outcome_of}
-use Rattle.nv_outcome.specs.Outcome.{Outcome, IsOutcome}
 use Rattle.nv_outcome.specs.declared.recovered.Recovered.{Recovered}
 use Rattle.nv_outcome.proofs.SuperOf.{layout_of_super, one_super}
 use Rattle.nv_outcome.proofs.Metadata.{same_inodes}
@@ -32,6 +32,8 @@ use Rattle.nv_checking.proofs.Gathering.{found_refused}
 use Rattle.nv_inspect.specs.Log.{IsLogText}
 use Rattle.nv_logs.specs.declared.inode.Inode.{Inode}
 use Rattle.nv_logs.specs.Looking.{IsLogLook, TellsLog}
+use Rattle.nv_logs.specs.Asking.{IsAsked}
+use Rattle.nv_logs.specs.declared.looking.Look.{Look}
 use Rattle.nv_logs.proofs.Asked.{asked_there}
 use Rattle.nv_logs.proofs.Regions.{blocks_of, blocks_undone, same_text}
 
@@ -49,11 +51,17 @@ module _ (bytes : List ℕ) (memory : ImageState) (r : Recovered) (is : IsRecove
   pub image_blocks : HasBlocks memory.region r.sup.blocks
   image_blocks = subst (λ (Q : Region). HasBlocks Q r.sup.blocks) (sym is.1) (blocks_undone (region_of bytes) r.sup r.sup.blocks (blocks_of (region_of bytes) r.sup is.0.sup (short_rest bytes)))
 
-  pub image_look : (inode : Inode) (text : List ℕ) (answered : Answered) → ((Q : Region) → TellsLog (tree_of Q r.rows.items) memory.region r.sup r.rows.items inode text answered.status) → answered.faults ≡ length r.faults.items
+  image_look : (inode : Inode) (text : List ℕ) (answered : Answered) → ((Q : Region) → TellsLog (tree_of Q r.rows.items) memory.region r.sup r.rows.items inode text answered.status) → answered.faults ≡ length r.faults.items
       → IsLogLook inode (region_of bytes) text answered
   image_look inode text answered told faults =
       let U = undone r.sup (region_of bytes) in
       inr (outcome_of r, is.0, subst (λ (Q : Region). TellsLog (tree_of U r.rows.items) Q r.sup r.rows.items inode text answered.status) is.1 (told U), faults)
+
+  -- the same of what was made
+  pub image_answer : {E : Type 0} (inode : Inode) (result : Result Look E) → ((Q : Region) → IfOk result (λ look. TellsLog (tree_of Q r.rows.items) memory.region r.sup r.rows.items inode (string_bytes look.text) look.answered.status))
+      → IfOk result (λ look. look.answered.faults ≡ length r.faults.items) → IfOk result (λ look. IsLogLook inode (region_of bytes) (string_bytes look.text) look.answered)
+  image_answer inode (Ok look) told faults = image_look inode (string_bytes look.text) look.answered told faults
+  image_answer inode (Err e) told faults = tt
 
 -- ---- what was gathered
 
@@ -70,7 +78,7 @@ found_blocks (gatherings.Metadata s memory) m r ready found =
 found_blocks (gatherings.Refused fault) m r ready found = absurd found
 
 module _ (R : Region) (inode : Inode) (text : List ℕ) (answered : Answered) where
-  pub found_look : (g : Gathered) → AreGathered R g → (m : MetadataState) (r : Recovered) → IsFoundIn g (gathered_images.Recovered m r)
+  found_look : (g : Gathered) → AreGathered R g → (m : MetadataState) (r : Recovered) → IsFoundIn g (gathered_images.Recovered m r)
       → ((Q : Region) → TellsLog (tree_of Q r.rows.items) m.memory.region r.sup r.rows.items inode text answered.status) → answered.faults ≡ length r.faults.items → IsLogLook inode R text answered
   found_look (gatherings.Metadata s memory) are m r found told faults =
       let S = memory.memory.region in
@@ -92,3 +100,18 @@ module _ (R : Region) (inode : Inode) (text : List ℕ) (answered : Answered) wh
 
   pub unfound_look : (g : Gathered) → AreGathered R g → (refusal : texts.Refusal) → IsFoundIn g (gathered_images.Refused refusal) → IsRefusal (refusal_name refusal) text answered.status × (answered.faults ≡ 0) → IsLogLook inode R text answered
   unfound_look g are refusal found said = refused_look inode R refusal text answered (found_refused R g are refusal found) said
+
+module _ {E : Type 0} (R : Region) (inode : Inode) (g : Gathered) (are : AreGathered R g) where
+  pub found_answer : (m : MetadataState) (r : Recovered) → IsFoundIn g (gathered_images.Recovered m r) → (result : Result Look E)
+      → ((Q : Region) → IfOk result (λ look. TellsLog (tree_of Q r.rows.items) m.memory.region r.sup r.rows.items inode (string_bytes look.text) look.answered.status))
+      → IfOk result (λ look. look.answered.faults ≡ length r.faults.items) → IfOk result (λ look. IsLogLook inode R (string_bytes look.text) look.answered)
+  found_answer m r found (Ok look) told faults = found_look R inode (string_bytes look.text) look.answered g are m r found told faults
+  found_answer m r found (Err e) told faults = tt
+
+-- ---- one row
+
+-- its log is told
+pub shown_told : {E : Type 0} (t : Tree) (R : Region) (s : Super) (rows : List Row) (inode : Inode) (row : Row) → IsAsked t rows inode row → (result : Result Look E) → IfOk result (λ look. IsLogText R s row (string_bytes look.text))
+    → IfOk result (λ look. look.answered.status ≡ 0) → IfOk result (λ look. TellsLog t R s rows inode (string_bytes look.text) look.answered.status)
+shown_told t R s rows inode row asked (Ok look) text status = inl (row, asked, text, status)
+shown_told t R s rows inode row asked (Err e) text status = tt

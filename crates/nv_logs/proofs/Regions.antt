@@ -1,5 +1,5 @@
 -- The log of a row in a region that was recovered, and in what was gathered of it.
-use Rattle.std.proofs.Common.{◌≡◌, ◌∙◌, ℕ, ◌+◌, ◌*◌, ◌%◌, ◌<◌, inl, Bool, true, false, List, length, Option, Some, refl, sym, ap, subst, true≢false, arith}
+use Rattle.std.proofs.Common.{◌≡◌, ◌∙◌, ℕ, ◌+◌, ◌%◌, ◌<◌, inl, Bool, true, false, List, length, Option, refl, sym, true≢false, arith}
 use Rattle.std.specs.Prelude.{MatchBool, codes}
 use Rattle.std.proofs.lemmas.List.FromFn.{length-map-range_with_len}
 use Rattle.nv_region.specs.Region.{Region, HasBlocks, size, word}
