@@ -34,7 +34,7 @@ pub fn output_text<H: Threads + Sync>(
     output: Output,
     threads: u64,
 ) -> Result<String, AllocError>
-    requires { HasAreas recovered.now.sup }
+    requires areas { HasAreas recovered.now.sup }
     ensures { IfOk result (λ text. IsOutputText output (outcome_of recovered.now) (string_bytes text)) }
 {
     match output {
