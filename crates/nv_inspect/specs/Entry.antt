@@ -114,7 +114,7 @@ lasts_of s kind es = lasts_from s kind (record { attributes = None; links = None
 
 -- ---- what became of it
 
--- the page lies in this block
+-- what was looked up is there, and is this: the block of a page, or the place of an entry
 abbrev pub lies_in : Option ℕ → ℕ → Bool
 lies_in None b = false
 lies_in (Some block) b = block == b
