@@ -29,6 +29,9 @@ use std::thread::Threads;
 // More threads than these wait for one another, and each holds tables with a place for every block.
 const MOST_THREADS: u64 = 8;
 
+// Fewer logs than these are read sooner than another thread's tables are made.
+const FEW_LOGS: usize = 1024;
+
 /// What was read of an image.
 #[derive(Drop)]
 pub enum Gathered {
@@ -69,7 +72,8 @@ pub fn gather<B: Blocks>(alloc: Global, source: &B) -> Result<Gathered, GatherEr
     }
 }
 
-/// `gather`, where so many threads read the pages of logs, and eight at most. What is gathered is the same.
+/// `gather`, where so many threads read the pages of logs: eight at most, and one where the logs are few. What is gathered is
+/// the same.
 ///
 /// Errors: those of `gather`.
 pub fn gather_on<B: Blocks + Sync, H: Threads + Sync>(
@@ -85,12 +89,20 @@ pub fn gather_on<B: Blocks + Sync, H: Threads + Sync>(
     match read_front(alloc, source)? {
         Front::Accepted(sup, front) => {
             let logs = logs_rolled_back(alloc, &sup, &front)?;
-            let threads = threads.min(MOST_THREADS);
+            let threads = worth(threads, logs.len());
             let memory = fetch_apart(rt, alloc, source, &sup, &front, &logs, threads)?;
             Ok(Gathered::Metadata(sup, memory))
         }
         Front::Refused(fault) => Ok(Gathered::Refused(fault)),
     }
+}
+
+// How many of so many threads are worth their tables.
+fn worth(threads: u64, logs: usize) -> u64 {
+    if logs < FEW_LOGS {
+        return 1;
+    }
+    threads.min(MOST_THREADS)
 }
 
 // The bytes of an image in front of its data blocks, or the first fault of its superblock, for which no more than the first

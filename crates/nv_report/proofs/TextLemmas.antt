@@ -26,7 +26,7 @@ tree_both (row ∷ rows) more text rest is others = (is.0, is.1 ++ rest, is.2, t
 pub tree_next : {X : Type 0} (row_of : X → Row) (list : List X) (k : ℕ) (x : X) (old new : List ℕ) → k < length list → x ≡ get_or list k x → IsTreeText (map row_of (take k list)) old → AddsText (IsRowText (row_of x)) old new → IsTreeText (map row_of (take (k + 1) list)) new
 tree_next row_of list k x old new below is texts adds =
     let rows : map row_of (take (k + 1) list) ≡ map row_of (take k list) ++ row_of x ∷ [] =
-        ap (λ (n : ℕ). map row_of (take n list)) (add-one k) ∙ ap (map row_of) (take-suc list k x below) ∙ map-append row_of (take k list) (get_or list k x ∷ []) ∙ ap (λ y. map row_of (take k list) ++ row_of y ∷ []) (sym is) in
+    ap (λ (n : ℕ). map row_of (take n list)) (add-one k) ∙ ap (map row_of) (take-suc list k x below) ∙ map-append row_of (take k list) (get_or list k x ∷ []) ∙ ap (λ y. map row_of (take k list) ++ row_of y ∷ []) (sym is) in
     subst (λ (l : List Row). IsTreeText l new) (sym rows) (subst (λ (t : List ℕ). IsTreeText (map row_of (take k list) ++ row_of x ∷ []) t) (sym adds.2) (tree_snoc (map row_of (take k list)) (row_of x) old adds.0 texts adds.1))
 
 -- the texts of two halves of a list

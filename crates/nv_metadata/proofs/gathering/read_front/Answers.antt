@@ -28,8 +28,7 @@ returns-in_ok-front-in-Ok-clause-sound g c =
     let s = c.in-Ok.sup in
     let count = c.in_ok-front-in-Ok.ensures.count in
     let first_says : SaysSuper c.in_ok-first.first.items s = says s c.in_ok-first.first.items c.in_ok-alone.alone.memory.region c.in_ok-first.ensures.count c.in-Ok.ensures.blocks
-        (λ at aligned within. made.front at aligned (omega (arith, within, ap length items)) ∙ ap (λ (l : List ℕ). little_number 8 (drop at l)) items) c.in-Ok.ensures.accepted in
-    (
+    (λ at aligned within. made.front at aligned (omega (arith, within, ap length items)) ∙ ap (λ (l : List ℕ). little_number 8 (drop at l)) items) c.in-Ok.ensures.accepted in (
       c.in-Ok.ensures.layout,
       version_of_super c.in_ok-alone.alone.memory.region s c.in-Ok.ensures.accepted,
       record {
