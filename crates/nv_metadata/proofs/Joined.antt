@@ -1,5 +1,5 @@
 -- What is fetched by several threads is put together.
-use Rattle.std.proofs.Common.{Result, Err, IsTrue, ◌≡◌, ◌≢◌, ◌≤◌, ◌<◌, ◌⊎◌, inl, inr, ◌+◌, ◌*◌, ◌/◌, ◌%◌, ℕ, List, ◌++◌, length, drop, refl, sym, ap, ◌∙◌, subst, arith}
+use Rattle.std.proofs.Common.{Result, Err, IsTrue, ◌≡◌, ◌≢◌, ◌≤◌, ◌<◌, inl, inr, ◌+◌, ◌*◌, ◌/◌, ◌%◌, ℕ, List, ◌++◌, length, drop, refl, sym, ap, ◌∙◌, subst, arith}
 use Rattle.std.proofs.lemmas.Bool.{cases_eq, cases_lt}
 use Rattle.std.specs.List.{Contains}
 use Rattle.std.proofs.lemmas.List.Elements.{Contains-append_left, Contains-append_right, Contains-append_cases}
@@ -9,9 +9,9 @@ use Rattle.nv_super.specs.declared.superblock.Super.{Super}
 use Rattle.nv_super.specs.Layout.{system_blocks}
 use Rattle.nv_inode.specs.Slot.{is_right_log}
 use Rattle.nv_logpage.proofs.Steps.{start_inside}
-use Rattle.nv_metadata.specs.Linked.{IsLinked, first, next, link_in, wanted}
-use Rattle.nv_metadata.specs.Memory.{MetadataState, Shows, held}
-use Rattle.nv_metadata.specs.Walk.{AreFetched, IsLinkedIn}
+use Rattle.nv_metadata.specs.Linked.{IsLinked, first, next, link_in}
+use Rattle.nv_metadata.specs.Memory.{MetadataState, held}
+use Rattle.nv_metadata.specs.Walk.{AreFetched}
 use Rattle.nv_metadata.specs.Parts.{HasFetched, IsJoined, IsPart}
 use Rattle.nv_metadata.specs.declared.errors.GatherError.{GatherError}
 use Rattle.nv_metadata.specs.declared.errors.GatherError.TheVariants.{Memory}

@@ -1,7 +1,6 @@
 -- What is read first of an image: the bytes in front of its data blocks.
 use Rattle.std.specs.Prelude.{◌≡◌, ◌*◌, ℕ, List, length}
 use Rattle.nv_region.specs.Region.{region_of}
-use Rattle.nv_super.specs.declared.superblock.Super.{Super}
 use Rattle.nv_super.specs.Layout.{IsLayout, system_blocks}
 use Rattle.nv_super.specs.Super.{IsRefused}
 use Rattle.nv_metadata.specs.Blocks.{AreBytesAt}

@@ -1,4 +1,4 @@
-use Rattle.std.proofs.Common.{◌≡◌, ◌*◌, ◌∙◌, ℕ, List, length, ap, sym, subst}
+use Rattle.std.proofs.Common.{◌∙◌, ℕ, List, length, ap, sym, subst}
 use Rattle.nv_region.specs.Region.{region_of}
 use Rattle.nv_journal.specs.Undo.{undone}
 use Rattle.nv_metadata.specs.Blocks.{AreBytesAt}

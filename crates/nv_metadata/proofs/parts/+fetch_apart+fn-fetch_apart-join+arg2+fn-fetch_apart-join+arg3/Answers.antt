@@ -1,10 +1,8 @@
-use Rattle.std.proofs.Common.{◌≡◌, ◌∙◌, ◌++◌, List, Result, Ok, Some, ℕ, subst, sym}
+use Rattle.std.proofs.Common.{◌≡◌, ◌∙◌, List, Ok, Some, ℕ, subst, sym}
 use Rattle.std.proofs.lemmas.Result.{err_from_is_err_and}
 use Rattle.nv_region.specs.Region.{region_of}
 use Rattle.nv_metadata.specs.Blocks.{AreBytesAt}
-use Rattle.nv_metadata.specs.Memory.{MetadataState}
 use Rattle.nv_metadata.specs.Parts.{HasFetched, IsPart}
-use Rattle.nv_metadata.specs.declared.errors.GatherError.{GatherError}
 use Rattle.nv_metadata.specs.declared.logs.LogEnds.{LogEnds}
 use Rattle.nv_metadata.proofs.Joined.{fetched_both, linked_inside, part_failed}
 use Rattle.nv_metadata.proofs.Ready.{read_first}

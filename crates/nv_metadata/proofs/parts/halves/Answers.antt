@@ -1,4 +1,4 @@
-use Rattle.std.proofs.Common.{subst, sym, ap₂, ◌∙◌, ◌++◌, List}
+use Rattle.std.proofs.Common.{subst, ap₂, ◌∙◌, ◌++◌, List}
 use Rattle.std.proofs.lemmas.List.{take-append-drop}
 use Rattle.std.specs.List.{Contains}
 use Rattle.std.proofs.lemmas.List.Elements.{Contains-append_left, Contains-append_right}

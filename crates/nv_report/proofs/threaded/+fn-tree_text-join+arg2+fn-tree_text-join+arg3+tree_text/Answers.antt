@@ -1,4 +1,4 @@
-use Rattle.std.proofs.Common.{ℕ, List, map, string_bytes, ap, sym, subst, ◌∙◌, ◌++◌, ◌≡◌}
+use Rattle.std.proofs.Common.{ℕ, List, map, string_bytes, ap, sym, subst, ◌∙◌, ◌++◌}
 use Rattle.std.specs.Result.{IfOk}
 use Rattle.nv_report.specs.Texts.{IsTreeText}
 use Rattle.nv_report.proofs.TextLemmas.{tree_halves}

@@ -1,2 +1,0 @@
-use Rattle.std.proofs.Common.{string_bytes, ap, ◌∙◌}
-use Rattle.nv_report.proofs.threaded.report_text.Goals as goal
