@@ -88,7 +88,7 @@ expect "a report with a fault as JSON" 1 "1 5 11 L2 of 1 at 20448" "nova explain
 expect "a sound report as JSON" 0 "1 4 12" "" bash -c "$with_json" bash "$program" "$folder/region" "$read_json"
 expect "a refused image as JSON" 2 "refused S1" "it has 100 bytes; $lengths" "$program" check "$folder/short" --json
 expect "two outputs at once" 2 "" \
-    "error: only one of the arguments '--summary', '--only-faults', '--json' and '--explain' can be used, and '--explain' with one path alone${newline}${newline}Usage: nova check [OPTIONS] <path>${newline}${newline}For more information, try '--help'." \
+    "error: only one of the arguments '--summary', '--only-faults', '--json', '--explain' and '--journal' can be used, and '--explain' and '--journal' with one path alone${newline}${newline}Usage: nova check [OPTIONS] <path>${newline}${newline}For more information, try '--help'." \
     "$program" check "$folder/region" --json --summary
 # A report with a sentence for each fault.
 with_sentences="nova explain CLASS says what a fault means, as nova explain L2 does for L2"
@@ -100,7 +100,7 @@ expect "a refused image and sentences" 2 "refused S1" "it has 100 bytes; $length
 for others in "$folder/region --json" "$folder/region --summary" "$folder/region $folder/short"; do
     # shellcheck disable=SC2086
     "$program" check $others --explain >"$folder/out" 2>"$folder/said"
-    same "sentences of $others" "2  error: only one of the arguments '--summary', '--only-faults', '--json' and '--explain' can be used, and '--explain' with one path alone" \
+    same "sentences of $others" "2  error: only one of the arguments '--summary', '--only-faults', '--json', '--explain' and '--journal' can be used, and '--explain' and '--journal' with one path alone" \
         "$? $(cat "$folder/out") $(head -n 1 "$folder/said")"
 done
 # word AT VALUE: the region, with this word of less than 256 there.

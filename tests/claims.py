@@ -115,12 +115,75 @@ def check_limits(report):
         report(f"{number:,}" in text_of("docs/LAYOUT.md"), f"docs/LAYOUT.md doesn't name the limit {number:,}")
 
 
+# Where a number is a limit, by what stands around it, and which limit it is. Most of these are texts, attributes or constants of
+# crates that stand below the limits' own, which can't be made from them.
+LIMIT_PHRASES = (
+    (r"MOST_BLOCKS(?:: u64)? = ([\d_]+)", "blocks"),
+    (r"(?:MAX|MOST)_FILE_PAGES: u64 = ([\d_]+)", "pages"),
+    (r"`most_blocks` is ([\d,]+)", "blocks"),
+    (r"\b[18] to ([\d,]+\d) blocks", "blocks"),
+    (r"from 8 to ([\d,]+\d)", "blocks"),
+    (r"(?:or|No block,) more than ([\d,]+\d)(?: blocks|; )", "blocks"),
+    (r"\((\d+) < blocks\)", "blocks"),
+    (r"from 32768 to ([\d,]+\d)", "bytes"),
+    (r"(?:up to|or more than) ([\d,]+\d{3}) bytes", "bytes"),
+    (r"the ([\d,]+\d) (?:of a file|that a file can have)", "pages"),
+    (r"^/// ([\d,]{7,}) pages\.$", "pages"),
+    (r"would have more than ([\d,]+\d) bytes", "size"),
+    (r"size above ([\d,]+\d)|size is above ([\d,]+\d)|UpTo (\d{8,})|Some (10\d{8})", "size"),
+)
+# Files that name a limit at least.
+LIMIT_FILES = (
+    "crates/nv_region/src/memory.rt",
+    "crates/nv_lent/src/words.rt",
+    "crates/nv_super/src/superblock.rt",
+    "crates/nv_format/src/formatting.rt",
+    "crates/nv_format/specs/Sentences.antt",
+    "crates/nv_tree/src/refusal.rt",
+    "crates/nv_tree/specs/Sentences.antt",
+    "crates/nv_radix/src/lib.rt",
+    "crates/nv_radix/src/row.rt",
+    "crates/nv_args/src/command_line.rt",
+    "crates/nv_cli/src/formatting.rt",
+    "crates/nv_cli/specs/Formatting.antt",
+    "crates/nv_report/src/lengths.rt",
+    "crates/nv_report/specs/Lengths.antt",
+    "crates/nv_line/specs/Table.antt",
+    "crates/nv_line/specs/Excess.antt",
+    "crates/nova_c/src/opening.rt",
+    "bindings/c/nova.h",
+    "bindings/python/nova.py",
+    "docs/LAYOUT.md",
+    "docs/SCRIPT.md",
+    "docs/TRUST.md",
+    "tests/rows-on-workers.py",
+    "tests/check-files.sh",
+    "tests/save-files.sh",
+)
+
+
+def check_limit_texts(report):
+    """Each number that stands as a limit in sources, texts and documents is that of the definitions."""
+    blocks = limit("nv_super", "Layout.antt", "most_blocks")
+    limits = {"blocks": blocks, "bytes": 4096 * blocks, "pages": limit("nv_entry", "Content.antt", "most_pages"), "size": limit("nv_entry", "Content.antt", "most_size")}
+    for name in LIMIT_FILES:
+        lines, found = text_of(name).splitlines(), 0
+        for phrase, which in LIMIT_PHRASES:
+            for line in lines:
+                for match in re.finditer(phrase, line):
+                    number = next(group for group in match.groups() if group)
+                    found += 1
+                    report(int(re.sub("[_,]", "", number)) == limits[which], f"{name}: {match[0]} isn't the limit {limits[which]}")
+        report(found, f"{name} names no limit")
+
+
 # ---- commands and refusals
 
 
 def program_commands():
     """The commands of the program."""
-    return re.findall(r'CommandForm \{\s+name: "(\w+)"', text_of("crates/nv_args/src/command_line.rt"))
+    tables = text_of("crates/nv_args/src/command_line.rt") + text_of("crates/nv_args/src/change_forms.rt")
+    return re.findall(r'CommandForm \{\s+name: "(\w+)"', tables)
 
 
 def script_commands():
@@ -173,6 +236,7 @@ def check_claims(crates, report):
     check_crates(report)
     check_counts(report)
     check_limits(report)
+    check_limit_texts(report)
     check_commands(report)
     check_refusals(report)
     check_spellings(report)

@@ -214,14 +214,14 @@ same "with the image as the last word" "${tried% -- *} -- check --workers 4 imag
 same "an image that isn't there" "nova_check: rt try -- check none status 2" "$(cd "$folder" && TRIED=2 run try check none | xargs)"
 same "a try that fails itself" "status 2" "$(run try check none | tail -n 1)"
 same "a try of another command" "status 2" "$(run try run)"
-same "says what can be tried" "usage: ./nova try check IMAGE [--workers N] [--summary | --only-faults | --json | --explain]" "$(cat "$folder/said")"
+same "says what can be tried" "usage: ./nova try check IMAGE [--workers N] [--summary | --only-faults | --json | --explain | --journal]" "$(cat "$folder/said")"
 same "and nothing is proved" "" "$(cat "$log")"
 
 # Words that name no program, and help.
 same "no program is named so" "status 1" "$("$copy/prove.py" novel 2>"$folder/said"; echo "status $?")"
-same "which ones there are" "nova: no program is named novel; there are nova_c, nova_check, nova, first_program, mount_and_list, refusals, bench" "$(cat "$folder/said")"
+same "which ones there are" "nova: no program is named novel; there are nova_c, nova_check, nova, first_program, mount_and_list, each_call, lent_words, refusals, bench" "$(cat "$folder/said")"
 same "no words" "status 1" "$("$copy/prove.py" 2>"$folder/said"; echo "status $?")"
-same "what to name" "nova: name one program, as in ./prove.py nova; there are nova_c, nova_check, nova, first_program, mount_and_list, refusals, bench" "$(cat "$folder/said")"
+same "what to name" "nova: name one program, as in ./prove.py nova; there are nova_c, nova_check, nova, first_program, mount_and_list, each_call, lent_words, refusals, bench" "$(cat "$folder/said")"
 same "help" "usage: ./prove.py PROGRAM status 0" "$("$copy/prove.py" --help | grep usage: | xargs) status $?"
 
 # Where all is built, the kit isn't needed, also in a copy whose sources are newer than the build; the verdicts stay.

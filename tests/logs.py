@@ -1,12 +1,13 @@
 #!/usr/bin/env python3
-"""Compares what `nova log` prints with texts that are written here by hand.
+"""Compares what `nova log`, `nova block`, `nova ls --long` and `nova du` print with texts that are written here by hand.
 
 usage: tests/logs.py [PROGRAM]
 
 The images are written byte by byte, so that each entry stands at a known place: a file that is overwritten, cut and linked, a
 directory whose names go and come back, logs of two and three pages, entries that don't count, and a log for each fault that ends
-its reading. A log is asked for by path and by number, of a plain file and through a pipe. The last line counts the cases, and the
-status is 1 where one was wrong. The format is told in docs/LAYOUT.md.
+its reading. A log is asked for by path and by number, of a plain file and through a pipe, and all logs at once. Of such images
+blocks are shown, the names of the root with their attributes, and counts of blocks. The last line counts the cases, and the status
+is 1 where one was wrong. The format is told in docs/LAYOUT.md.
 """
 
 import struct
@@ -273,6 +274,63 @@ CASES = [
 ]
 
 
+# The root of the images has these entries, unless it is written otherwise.
+ROOT = """\
+inode 1 dir
+  log 3 tail 12352
+  block 3 offset 0 stands attributes mode 493 owner 0 group 0 size 0 time 0
+  block 3 offset 32 stands add time 0 name a 2
+  ends at its tail
+"""
+SECOND = """\
+inode 5 file
+  log 6 tail 24608
+  block 6 offset 0 stands attributes mode 420 owner 0 group 0 size 0 time 0
+  ends at its tail
+"""
+FIRST = SECOND.replace("inode 5", "inode 2").replace("block 6", "block 4").replace("log 6 tail 24608", "log 4 tail 16416")
+
+
+def shared():
+    """Block 10 is page 0 and page 2 of the file, and block 4 is page 1 of it and its log."""
+    return file(attributes(420, 0, 1), write(0, 1, 10, 4096, 2), write(1, 1, 4, 8192, 3), write(2, 1, 10, 12288, 4))
+
+
+BLOCKS_OF = [
+    (two_pages, 0, "superblock"),
+    (two_pages, 1, "journal 0"),
+    (two_pages, 2, "table 0 0"),
+    (two_pages, 3, "log 1 0"),
+    (two_pages, 4, "log 2 0"),
+    (two_pages, 8, "log 2 1"),
+    (two_pages, 10, "free"),
+    (two_pages, 11, "data 2 0"),
+    (two_pages, 31, "free"),
+    (overwritten, 11, "data 2 1"),
+    (overwritten, 12, "free"),
+    (shared, 4, "log 2 0", "data 2 1"),
+    (shared, 10, "data 2 0", "data 2 2"),
+]
+
+
+def rows_of(image, block):
+    """The bytes of a block, 16 in a row."""
+    starts = range(block * BLOCK, (block + 1) * BLOCK, 16)
+    return "".join(f"{at:08x}  {image.bytes[at : at + 16].hex(' ')}\n" for at in starts)
+
+
+def unused():
+    """The root has `a` and a name whose inode isn't in use."""
+    image = file(attributes(384, 0, 1, 7, 8), write(0, 1, 10, 9, 2), links(2, 3))
+    return image.log(1, DIRECTORY, [(3, [attributes(493, 0, 0), add(b"b c", 9, 0), add(b"a", 2, 0)])])
+
+
+UNUSED = """\
+file 384 2 7 8 9 3 a 2
+unused b\\x20c 9
+"""
+
+
 # ---- what is tried
 
 
@@ -291,9 +349,55 @@ class Counts:
         self.same(case, (2, "", f"refused {why}"), (status, output, errors.split("\n")[0]))
 
 
-def run(*words, image=None):
-    ended = subprocess.run([PROGRAM, "log", *words], input=image, capture_output=True, check=False)
+def run(*words, image=None, command="log"):
+    ended = subprocess.run([PROGRAM, command, *map(str, words)], input=image, capture_output=True, check=False)
     return ended.returncode, ended.stdout.decode(), ended.stderr.decode()
+
+
+def try_all_logs(counts, path):
+    for case, image, text in (("two logs", two_pages(), ROOT + TWO_PAGES), ("three logs", removals(), REMOVALS + FIRST + SECOND)):
+        path.write_bytes(image.bytes)
+        counts.same(f"{case} at once", (0, text), run("--all", path)[:2])
+        counts.same(f"{case} at once, through a pipe", (0, text), run("--all", "-", image=bytes(image.bytes))[:2])
+
+
+def try_blocks(counts, path):
+    for make, block, *told in BLOCKS_OF:
+        image = make()
+        path.write_bytes(image.bytes)
+        lines = "".join(f"block {block} {it}\n" for it in told)
+        case = f"block {block} of {make.__name__}"
+        counts.same(case, (0, lines), run(path, block, command="block")[:2])
+        counts.same(f"{case}, with its bytes", (0, lines + rows_of(image, block)), run("--hex", path, block, command="block")[:2])
+    counts.refused("a block behind the last", "NotFound", run(path, BLOCKS, command="block"))
+    counts.same("a word for a block", 2, run(path, "x", command="block")[0])
+
+
+def try_names(counts, path):
+    path.write_bytes(unused().bytes)
+    for words in (("-l", path), ("--long", path, "/"), ("-l", path, "1"), ("-l", path, "<1>")):
+        counts.same(f"names with attributes, {words[1:]}", (0, UNUSED), run(*words, command="ls")[:2])
+    counts.same("the same through a pipe", (0, UNUSED), run("-l", "-", image=bytes(unused().bytes), command="ls")[:2])
+    counts.refused("the names of a file", "NotDirectory", run("-l", path, "/a", command="ls"))
+    counts.refused("the names of a name without an inode", "NotFound", run("-l", path, "9", command="ls"))
+
+
+def tree():
+    """The file `a` has a second name in the directory `d`, which leads back to the root, and inode 7 has no name."""
+    image = file(attributes(420, 0, 1), write(0, 3, 10, 12288, 2), links(2, 3))
+    image.log(3, DIRECTORY, [(5, [attributes(493, 0, 0), add(b"b", 2, 0), add(b"up", 1, 0), add(b"e", 4, 0)])])
+    image.log(4, DIRECTORY, [(6, [attributes(493, 0, 0)])])
+    image.log(7, FILE, [(8, [attributes(420, 0, 0), write(0, 2, 20, 8192, 1)])])
+    return image.log(1, DIRECTORY, [(3, [attributes(493, 0, 0), add(b"a", 2, 0), add(b"d", 3, 0), add(b"gone", 9, 0)])])
+
+
+def try_counts(counts, path):
+    path.write_bytes(tree().bytes)
+    # Logs of one block each, and three blocks of the file `a`.
+    for which, blocks in (((), 7), (("/",), 7), (("/a",), 4), (("2",), 4), (("/d",), 7), (("/d/e",), 1), (("7",), 3)):
+        counts.same(f"blocks of {which}", (0, f"blocks {blocks}\n"), run(path, *which, command="du")[:2])
+    counts.same("blocks through a pipe", (0, "blocks 7\n"), run("-", image=bytes(tree().bytes), command="du")[:2])
+    counts.refused("blocks of nothing", "NotFound", run(path, "/gone", command="du"))
 
 
 def main():
@@ -314,6 +418,16 @@ def main():
         counts.refused("a word that is no path", "BadName", run(path, "a"))
         path.write_bytes(b"\0" * BLOCK * BLOCKS)
         counts.refused("no superblock", "S2", run(path, "1"))
+        counts.refused("no superblock, and all logs", "S2", run("--all", path))
+        counts.refused("no superblock, and a block", "S2", run(path, "3", command="block"))
+        counts.refused("no superblock, and blocks", "S2", run(path, command="du"))
+        counts.refused("no superblock, and names", "S2", run("-l", path, command="ls"))
+        counts.same("no inode and not all", 2, run(path)[0])
+        counts.same("an inode and all", 2, run("--all", path, "1")[0])
+        try_all_logs(counts, path)
+        try_blocks(counts, path)
+        try_names(counts, path)
+        try_counts(counts, path)
     print(f"{counts.passed} passed, {counts.failed} failed")
     return 1 if counts.failed else 0
 

@@ -1,6 +1,6 @@
 //! The calls that are measured.
 
-use nv_calls::Fs;
+use nv_calls::{Cpu, Fs, Time};
 use nv_region::MemRegion;
 
 #[derive(Clone, Copy)]
@@ -30,13 +30,13 @@ pub(crate) fn make(
     bytes: &[u8],
 ) -> bool {
     match call {
-        Call::Create => fs.create(cpu, path, 420, 1).is_ok(),
-        Call::Mkdir => fs.mkdir(cpu, path, 493, 1).is_ok(),
-        Call::Link => fs.link(cpu, path, other, 2).is_ok(),
-        Call::Unlink => fs.unlink(cpu, path, 3).is_ok(),
-        Call::Rename => fs.rename(cpu, path, other, 4).is_ok(),
-        Call::SetAttr => fs.set_attr(cpu, path, 384, 7, 8, 3).is_ok(),
-        Call::Write => fs.write(cpu, path, offset, bytes, 2).is_ok(),
+        Call::Create => fs.create(Cpu(cpu), path, 420, Time(1)).is_ok(),
+        Call::Mkdir => fs.mkdir(Cpu(cpu), path, 493, Time(1)).is_ok(),
+        Call::Link => fs.link(Cpu(cpu), path, other, Time(2)).is_ok(),
+        Call::Unlink => fs.unlink(Cpu(cpu), path, Time(3)).is_ok(),
+        Call::Rename => fs.rename(Cpu(cpu), path, other, Time(4)).is_ok(),
+        Call::SetAttr => fs.set_attr(Cpu(cpu), path, 384, 7, 8, Time(3)).is_ok(),
+        Call::Write => fs.write(Cpu(cpu), path, offset, bytes, Time(2)).is_ok(),
         Call::Read => fs.read(path, offset, bytes.len() as u64).is_ok(),
         Call::Stat => fs.stat(path).is_ok(),
         Call::List => fs.list(path).is_ok(),

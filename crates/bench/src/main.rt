@@ -1,21 +1,16 @@
-//! Measures what the project stands for, and what that stands on: recovery (`recovery`), the calls of a mounted file system
-//! (`calls`), and the allocator (`blocks`).
+//! Measures what the project stands for: recovery (`recovery`), and the calls of a mounted file system (`calls`).
 //!
 //! The first word names one of them, and the others are its numbers, and for recovery the path of an image. Without any, each
 //! runs on a little.
 #![tactic(auto)]
 
-mod blocks;
 mod calls;
 mod entries;
-mod hold;
 mod measuring;
 mod mounting;
 mod recovery;
 mod shapes;
-mod times;
 
-use blocks::measure_blocks;
 use measuring::measure_calls;
 use recovery::measure_recovery;
 use std::rt::{Clock, Files};
@@ -28,9 +23,7 @@ fn number_at(words: &[String], at: usize) -> Option<u64> {
 }
 
 fn tell_usage<R: Eprint>(rt: &R) -> io::Result<()> {
-    eprintln!(rt;
-        "usage: bench [recovery RUNS [PATH] | calls BLOCKS FILES NAMES | blocks BLOCKS CPUS]"
-    )
+    eprintln!(rt; "usage: bench [recovery RUNS [PATH] | calls BLOCKS FILES NAMES]")
 }
 
 fn measure_calls_by<R: AllocGlobal + Print + Eprint + Clock>(
@@ -48,16 +41,6 @@ fn measure_calls_by<R: AllocGlobal + Print + Eprint + Clock>(
     }
 }
 
-fn measure_blocks_by<R: AllocGlobal + Print + Eprint + Clock>(
-    rt: &R,
-    words: &[String],
-) -> io::Result<()> {
-    match (number_at(words, 1), number_at(words, 2)) {
-        (Some(blocks), Some(cpus)) => measure_blocks(rt, blocks, cpus),
-        _ => tell_usage(rt),
-    }
-}
-
 fn measure_recovery_by<R: AllocGlobal + Print + Eprint + Clock + Files + Threads + Sync>(
     rt: &R,
     words: &[String],
@@ -71,7 +54,6 @@ fn measure_recovery_by<R: AllocGlobal + Print + Eprint + Clock + Files + Threads
 fn measure_all<R: AllocGlobal + Print + Eprint + Clock + Files + Threads + Sync>(
     rt: &R,
 ) -> io::Result<()> {
-    measure_blocks(rt, 1000, 4)?;
     measure_recovery(rt, 1, None)?;
     measure_calls(rt, 8192, 8, 42)
 }
@@ -86,7 +68,6 @@ fn measure_by<R: AllocGlobal + Print + Eprint + Clock + Files + Threads + Sync>(
     match part.as_str() {
         "recovery" => measure_recovery_by(rt, words),
         "calls" => measure_calls_by(rt, words),
-        "blocks" => measure_blocks_by(rt, words),
         _ => tell_usage(rt),
     }
 }

@@ -1,8 +1,10 @@
 pub use Rattle.nv_region.specs as nv_region
+pub use Rattle.nv_lent.specs as nv_lent
 pub use Rattle.nv_super.specs as nv_super
 pub use Rattle.nv_journal.specs as nv_journal
 pub use Rattle.nv_format.specs as nv_format
 pub use Rattle.nv_scan.specs as nv_scan
+pub use Rattle.nv_deadpages.specs as nv_deadpages
 pub use Rattle.nv_rows.specs as nv_rows
 pub use Rattle.nv_alloc.specs as nv_alloc
 pub use Rattle.nv_outcome.specs as nv_outcome

@@ -2,7 +2,8 @@
 #![tactic(auto)]
 
 use indiumlark::{
-    FormatRefusal, Fs, Fuse, Keep, MemRegion, RecoverError, Refusal, RegionRefusal, format,
+    Cpu, FormatRefusal, Fs, Fuse, Keep, MemRegion, RecoverError, Refusal, RegionRefusal, Time,
+    format,
 };
 use std::alloc::Global;
 use std::io;
@@ -10,7 +11,7 @@ use thiserror::Error;
 
 #[derive(Debug, Drop, Error)]
 enum Failure {
-    #[error("no region was made: {0:?}")]
+    #[error("no region was made: {0}")]
     Region(#[from] RegionRefusal),
     #[error("it was not formatted: {0}")]
     Format(#[from] FormatRefusal),
@@ -26,9 +27,9 @@ fn made(alloc: Global) -> Result<Fs<MemRegion>, Failure> {
     let mut memory = MemRegion::new(alloc, 64)?;
     format(&mut memory, 2, 1, 0)?;
     let mut fs = Fs::mount(alloc, memory).map_err(|(_memory, error)| error)?;
-    fs.mkdir(0, b"/notes", 493, 1)?;
-    fs.create(0, b"/notes/first", 420, 2)?;
-    fs.write(0, b"/notes/first", 0, b"hi there\n", 3)?;
+    fs.mkdir(Cpu(0), b"/notes", 493, Time(1))?;
+    fs.create(Cpu(0), b"/notes/first", 420, Time(2))?;
+    fs.write(Cpu(0), b"/notes/first", 0, b"hi there\n", Time(3))?;
     Ok(fs)
 }
 
@@ -44,10 +45,10 @@ fn run<R: Print>(rt: &R, alloc: Global) -> Result<(), Failure> {
     let mut fs = made(alloc)?;
     list(rt, &fs)?;
     fs.set_fuse(Fuse::After(2));
-    if let Err(refusal) = fs.rename(0, b"/notes/first", b"/second", 4) {
+    if let Err(refusal) = fs.rename(Cpu(0), b"/notes/first", b"/second", Time(4)) {
         println!(rt; "rename: {refusal}")?;
     }
-    let left = fs.into_region().after_stop(Keep::Alternate);
+    let left = fs.into_memory().after_stop(Keep::Alternate);
     let fs = Fs::mount(alloc, left).map_err(|(_memory, error)| error)?;
     list(rt, &fs)
 }

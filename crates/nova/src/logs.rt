@@ -1,49 +1,82 @@
-//! Showing the log of an inode of the image in a file: `log`.
+//! Showing the log of an inode of the image in a file, or those of all inodes in use: `log`.
+
+ghost use Rattle.nv_metadata.specs.Gathered.{IsOpen};
 
 use crate::names::path_of;
 use nv_args::Which;
-use nv_checking::{Blocks, READERS, gather_plain};
+use nv_checking::{Answered, Blocks, Gathered, READERS, gather_plain};
 use nv_images::{
     Failure, Image, ImageFile, open_image, read_image, refuse_length, tell_faults, tell_length,
     tell_refused,
 };
-use nv_logs::{Inode, log_gathered, log_image};
+use nv_logs::{Inode, log_gathered, log_image, logs_gathered, logs_image};
+use nv_stream::ScriptError;
 use std::alloc::Global;
 use std::io;
 use std::io::{Read, Write};
 use std::rt::Files;
 use std::thread::Threads;
 
-/// Recovers the image in a file in memory, and prints the log of an inode there entry by entry, or says among the errors why it
-/// can't be shown. Answers the exit status, 0 or 2. An image with faults is shown all the same, and a line says that it has some.
+/// Whose log is shown: that of one inode, or those of all in use.
+#[derive(Drop)]
+enum Whose {
+    One(Inode),
+    All,
+}
+
+/// Recovers the image in a file in memory, and prints the log of an inode there entry by entry, or where none is named those of all
+/// inodes in use; or says among the errors why it can't be shown. Answers the exit status, 0 or 2. An image with faults is shown all the same, and a line says that it has some.
 /// Of a plain file whose superblock is accepted the metadata alone are read; else the image is read whole.
 pub(crate) fn show_log<'a, H: Files + AllocGlobal + Print + Eprint + Threads + Sync, E: Write>(
     rt: &H,
     errors: &mut E,
     image: &'a str,
-    which: Which<'a>,
+    which: Option<Which<'a>>,
 ) -> Result<u8, Failure<'a>>
 where
     H::File: Blocks + Sync,
 {
-    let inode = inode_of(rt.alloc(), which)?;
+    let whose = whose_of(rt.alloc(), which)?;
     let file = open_image(rt, image)?;
     match gather_plain(rt, rt.alloc(), &file, READERS)? {
         Some(gathered) => {
-            let out = &mut io::writer(rt);
-            let answered = log_gathered(rt.alloc(), gathered, &inode, out, errors)?;
+            let answered = show_gathered(rt, errors, gathered, &whose)?;
             tell_faults(rt, image, answered.faults);
             Ok(answered.status)
         }
-        None => show_whole(rt, errors, file, &inode),
+        None => show_whole(rt, errors, file, &whose),
     }
 }
 
-fn inode_of<'a>(alloc: Global, which: Which<'a>) -> Result<Inode, Failure<'a>> {
+fn whose_of<'a>(alloc: Global, which: Option<Which<'a>>) -> Result<Whose, Failure<'a>> {
+    Ok(match which {
+        Some(which) => Whose::One(inode_of(alloc, which)?),
+        None => Whose::All,
+    })
+}
+
+/// The inode that a word names: at a path, whose escapes are read, or of a number.
+pub(crate) fn inode_of<'a>(alloc: Global, which: Which<'a>) -> Result<Inode, Failure<'a>> {
     Ok(match which {
         Which::Path(word) => Inode::Path(path_of(alloc, word)?),
         Which::Number(number) => Inode::Number(number),
     })
+}
+
+// Shows it in a plain file of which this was gathered.
+fn show_gathered<H: AllocGlobal + Print, E: Write>(
+    rt: &H,
+    errors: &mut E,
+    gathered: Gathered,
+    whose: &Whose,
+) -> Result<Answered, ScriptError>
+    requires { IsOpen gathered }
+{
+    let out = &mut io::writer(rt);
+    match whose {
+        Whose::One(inode) => log_gathered(rt.alloc(), gathered, inode, out, errors),
+        Whose::All => logs_gathered(rt.alloc(), gathered, out, errors),
+    }
 }
 
 // Shows it in an image that is read whole.
@@ -51,13 +84,12 @@ fn show_whole<'a, H: AllocGlobal + Print + Eprint, F: Read + Drop, E: Write>(
     rt: &H,
     errors: &mut E,
     file: ImageFile<'a, F>,
-    inode: &Inode,
+    whose: &Whose,
 ) -> Result<u8, Failure<'a>> {
     let place = file.path;
     match read_image(rt.alloc(), file)? {
         Image::Bytes(bytes) => {
-            let out = &mut io::writer(rt);
-            let answered = log_image(rt.alloc(), &bytes, inode, out, errors)?;
+            let answered = show_bytes(rt, errors, &bytes, whose)?;
             tell_refused(rt, answered.status, &bytes);
             tell_faults(rt, place, answered.faults);
             Ok(answered.status)
@@ -67,5 +99,18 @@ fn show_whole<'a, H: AllocGlobal + Print + Eprint, F: Read + Drop, E: Write>(
             tell_length(rt, length);
             Ok(status)
         }
+    }
+}
+
+fn show_bytes<H: AllocGlobal + Print, E: Write>(
+    rt: &H,
+    errors: &mut E,
+    bytes: &[u8],
+    whose: &Whose,
+) -> Result<Answered, ScriptError> {
+    let out = &mut io::writer(rt);
+    match whose {
+        Whose::One(inode) => log_image(rt.alloc(), bytes, inode, out, errors),
+        Whose::All => logs_image(rt.alloc(), bytes, out, errors),
     }
 }

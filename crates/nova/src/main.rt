@@ -1,8 +1,9 @@
-//! The program `nova`: it makes, checks, cleans and shows images of the NOVA file system, and runs scripts on them.
+//! The program `nova`: it makes, checks, changes, cleans and shows images of the NOVA file system, and runs scripts on them.
 //!
 //! `run` runs a script, on the region of an image or on none, and saves the region that it leaves. `shell` runs the commands that
-//! are typed. `show` shows what is in an image, `logs` the log of an inode, `cleaning` shortens logs, `names` reads paths in it, and
-//! `saving` makes one.
+//! are typed. `show` shows what is in an image, `listing` names with the numbers of their inodes and counts of blocks, `logs` the
+//! logs of inodes, `blocks` what a block is, and `views` both. `cleaning` shortens logs, `changing` changes an image by one call,
+//! `recovering` rolls its journals back, `names` reads paths in it, and `saving` makes one.
 //! Checks and maps of images are those of `nova_check`.
 //!
 //! Behind a bad line, and a region that is refused for its length, a line on standard error says more.
@@ -12,22 +13,31 @@
 #![tactic(auto)]
 
 mod archiving;
+mod blocks;
+mod changing;
 mod cleaning;
 mod hints;
+mod listing;
 mod logs;
 mod names;
+mod recovering;
 mod run;
 mod saving;
 mod shell;
 mod show;
+mod views;
 
 use archiving::archive;
+use changing::{Asked, change};
 use cleaning::clean;
+use listing::{Told, tell};
 use logs::show_log;
 use nv_args::{CheckOutput, Todo, VERSION, read_words};
 use nv_checking::{Blocks, Output, check_file, check_files, explain_file, map_file};
 use nv_cli::suiting_areas;
 use nv_images::{Failure, Lock, Target, ended, explain, print_line, refuse_words, words_of};
+use nv_pending::check_journals;
+use recovering::{recover, show_pending};
 use run::{Images, run, script_at, script_on};
 use saving::mkfs;
 use shell::shell;
@@ -38,6 +48,8 @@ use std::io::{IsTerminal, Read, Write};
 use std::process::ExitCode;
 use std::rt::Files;
 use std::thread::Threads;
+use std::time::Clock;
+use views::show_view;
 
 fn main(rt: HostRuntime) -> ExitCode {
     match act(&rt, rt.stdin(), rt.stderr()) {
@@ -49,7 +61,7 @@ fn main(rt: HostRuntime) -> ExitCode {
 // Does what the words ask for, and ends the program. The input is that of a script with no file, and refusals go to the errors.
 // Fails where memory is refused for the words.
 fn act<
-    H: Files + AllocGlobal + Print + Eprint + Env + Threads + Sync,
+    H: Files + AllocGlobal + Clock + Print + Eprint + Env + Threads + Sync,
     R: Read + IsTerminal + Drop,
     E: Write + Drop,
 >(rt: &H, input: R, errors: E) -> Result<ExitCode, AllocError>
@@ -69,7 +81,7 @@ where
 // Does what is asked for, and answers the exit status.
 fn answer<
     'a,
-    H: Files + AllocGlobal + Print + Eprint + Threads + Sync,
+    H: Files + AllocGlobal + Clock + Print + Eprint + Threads + Sync,
     R: Read + IsTerminal + Drop,
     E: Write + Drop,
 >(rt: &H, input: R, mut errors: E, todo: Todo<'a>) -> Result<u8, Failure<'a>>
@@ -103,6 +115,7 @@ where
             output,
         } => match paths.as_slice() {
             [path] if output == CheckOutput::Explained => explain_file(rt, path, workers),
+            [path] if output == CheckOutput::Journal => check_journals(rt, path, workers),
             [path] => check_file(rt, path, workers, output_of(output)),
             paths => check_files(rt, paths, workers, output_of(output)),
         },
@@ -117,21 +130,52 @@ where
             mkfs(rt, target, blocks, suiting_areas(blocks, cpus, tables))
         }
         Todo::Clean { image, path } => clean(rt, &mut errors, image, path),
-        Todo::Ls { image, which } => show(rt, &mut errors, image, which, Shown::Names),
+        Todo::Change {
+            image,
+            change: named,
+            cpu,
+            time,
+        } => {
+            let asked = Asked {
+                change: named,
+                cpu,
+                time,
+            };
+            change(rt, &mut errors, image, asked)
+        }
+        Todo::Recover {
+            image,
+            dry_run: true,
+        } => show_pending(rt, &mut errors, image),
+        Todo::Recover {
+            image,
+            dry_run: false,
+        } => recover(rt, &mut errors, image),
+        Todo::Ls {
+            image,
+            which,
+            long: false,
+        } => show(rt, &mut errors, image, which, Shown::Names),
+        Todo::Ls {
+            image,
+            which,
+            long: true,
+        } => tell(rt, &mut errors, image, which, Told::Names),
         Todo::Stat { image, which } => show(rt, &mut errors, image, which, Shown::Attributes),
         Todo::Cat { image, which } => show(rt, &mut errors, image, which, Shown::Bytes),
         Todo::Tar { image, which, lost } => archive(rt, &mut errors, image, which, lost),
         Todo::Map { image, svg, force } => {
             map_file(rt, image, svg.map(|path| Target { path, force }))
         }
-        Todo::Log { image, which } => show_log(rt, &mut errors, image, which),
+        Todo::Log { image, which } => show_log(rt, &mut errors, image, Some(which)),
+        Todo::View(view) => show_view(rt, &mut errors, view),
         Todo::Explain { class } => explain(rt, class),
     }
 }
 
 fn output_of(output: CheckOutput) -> Output {
     match output {
-        CheckOutput::Report | CheckOutput::Explained => Output::Report,
+        CheckOutput::Report | CheckOutput::Explained | CheckOutput::Journal => Output::Report,
         CheckOutput::Summary => Output::Summary,
         CheckOutput::OnlyFaults => Output::OnlyFaults,
         CheckOutput::Json => Output::Json,

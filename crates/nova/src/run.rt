@@ -25,7 +25,7 @@ pub(crate) struct Script<R: Drop> {
 }
 
 /// What a script begins and ends with.
-#[derive(Clone, Copy, Debug)]
+#[derive(Clone, Copy)]
 pub(crate) struct Images<'a> {
     /// The file whose region it begins with; without one there is none.
     pub image: Option<&'a str>,

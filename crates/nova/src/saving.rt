@@ -26,7 +26,7 @@ where
             Ok(0)
         }
         Formatted::Refused(refusal) => {
-            let _ = eprintln!(rt; "refused {refusal}\n{}", format_limits(refusal));
+            let _ = eprintln!(rt; "refused {}\n{}", refusal.name(), format_limits(refusal));
             Ok(REFUSED_STATUS)
         }
     }

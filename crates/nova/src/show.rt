@@ -22,7 +22,7 @@ use std::rt::Files;
 use std::thread::Threads;
 
 /// What is shown of an image.
-#[derive(Clone, Copy, Debug)]
+#[derive(Clone, Copy)]
 pub(crate) enum Shown {
     /// The names of a directory.
     Names,

@@ -63,7 +63,8 @@ pub extern "C" fn nova_clean(
     ensures untouched { result ≢ 0 → out.new ≡ out.old }
     ensures runs { IsRunning fs.old → IsRunning fs.new × (result ≢ 15) }
     ensures keeps { IsOpen fs.old → IsOpen fs.new × KeepsMount fs.old.mount fs.new.mount }
-    ensures any_stop { IsRunning fs.old → fs.old.mount.read_only ≡ false → (names : List (List ℕ)) → IsPath path.now names → LeavesOnly fs.new.mount.memory (as_it_reads fs.new.mount.memory) (LeavesCall makes_no_change logs_page_less fs.old.mount.memory fs.old.mount names) }
+    ensures any_stop { IsRunning fs.old → fs.old.mount.read_only ≡ false → (names : List (List ℕ)) → IsPath path.now names
+        → LeavesOnly fs.new.mount.memory (as_it_reads fs.new.mount.memory) (LeavesCall makes_no_change logs_page_less fs.old.mount.memory fs.old.mount names) }
     ensures closed { IsClosed fs.old → TellsClosed fs.new result }
 {
     match fs.take(alloc) {

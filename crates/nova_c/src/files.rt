@@ -16,6 +16,7 @@ ghost use Rattle.nv_calls.specs.WriteCall.{WriteNeeds};
 
 use crate::codes::{CLOSED, DONE, code};
 use crate::handle::NovaFs;
+use nv_calls::{Cpu, Time};
 use std::alloc::Global;
 
 /// Writes bytes into a file, from an offset on. A gap between the old end and the offset is zeros. No bytes change nothing.
@@ -34,20 +35,25 @@ pub extern "C" fn nova_write(
     bytes: &[u8],
     time: u64,
 ) -> u32
-    ensures allowed { IsOpen fs.old → result ≡ 0 → (p : Path) (blocks : ℕ) → Says path.now p → WriteNeeds fs.old.mount.memory fs.old.mount cpu p offset (length bytes.now) time blocks → write_refusal fs.old.mount cpu p (offset + length bytes.now) blocks ≡ Option.None }
-    ensures refused { IsRunning fs.old → result ≢ 0 → (p : Path) (blocks : ℕ) → Says path.now p → WriteNeeds fs.old.mount.memory fs.old.mount cpu p offset (length bytes.now) time blocks → TellsRefusal (IsRefusedBy (write_refusal fs.old.mount cpu p (offset + length bytes.now) blocks)) result }
-    ensures changed { IsOpen fs.old → result ≡ 0 → (names : List (List ℕ)) → IsPath path.now names → SameTree (shown fs.new.mount) (makes_bytes offset bytes.now time fs.old.mount.memory fs.old.mount names) }
-    ensures logs { IsOpen fs.old → result ≡ 0 → (names : List (List ℕ)) → IsPath path.now names → LogsBytes cpu offset (length bytes.now) time fs.old.mount.memory fs.old.mount names fs.new.mount.memory }
+    ensures allowed { IsOpen fs.old → result ≡ 0 → (p : Path) (blocks : ℕ) → Says path.now p → WriteNeeds fs.old.mount.memory fs.old.mount cpu p offset (length bytes.now) time blocks
+        → write_refusal fs.old.mount cpu p (offset + length bytes.now) blocks ≡ Option.None }
+    ensures refused { IsRunning fs.old → result ≢ 0 → (p : Path) (blocks : ℕ) → Says path.now p → WriteNeeds fs.old.mount.memory fs.old.mount cpu p offset (length bytes.now) time blocks
+        → TellsRefusal (IsRefusedBy (write_refusal fs.old.mount cpu p (offset + length bytes.now) blocks)) result }
+    ensures changed { IsOpen fs.old → result ≡ 0 → (names : List (List ℕ)) → IsPath path.now names
+        → SameTree (shown fs.new.mount) (makes_bytes offset bytes.now time fs.old.mount.memory fs.old.mount names) }
+    ensures logs { IsOpen fs.old → result ≡ 0 → (names : List (List ℕ)) → IsPath path.now names
+        → LogsBytes cpu offset (length bytes.now) time fs.old.mount.memory fs.old.mount names fs.new.mount.memory }
     ensures unchanged { IsOpen fs.old → result ≢ 0 → SameMount fs.old.mount fs.new.mount }
     ensures runs { IsRunning fs.old → IsRunning fs.new × (result ≢ 15) }
     ensures keeps { IsOpen fs.old → IsOpen fs.new × KeepsMount fs.old.mount fs.new.mount }
-    ensures any_stop { IsRunning fs.old → fs.old.mount.read_only ≡ false → (names : List (List ℕ)) → IsPath path.now names → LeavesOnly fs.new.mount.memory (as_it_reads fs.new.mount.memory) (LeavesCall (makes_bytes offset bytes.now time) (LogsBytes cpu offset (length bytes.now) time) fs.old.mount.memory fs.old.mount names) }
+    ensures any_stop { IsRunning fs.old → fs.old.mount.read_only ≡ false → (names : List (List ℕ)) → IsPath path.now names
+        → LeavesOnly fs.new.mount.memory (as_it_reads fs.new.mount.memory) (LeavesCall (makes_bytes offset bytes.now time) (LogsBytes cpu offset (length bytes.now) time) fs.old.mount.memory fs.old.mount names) }
     ensures closed { IsClosed fs.old → TellsClosed fs.new result }
 {
     match fs.take(alloc) {
         Some(mount) => {
             let mut mount = mount;
-            let done = mount.write(cpu, path, offset, bytes, time);
+            let done = mount.write(Cpu(cpu), path, offset, bytes, Time(time));
             fs.put(mount);
             match done {
                 Ok(()) => DONE,
@@ -80,13 +86,14 @@ pub extern "C" fn nova_set_size(
     ensures unchanged { IsOpen fs.old → result ≢ 0 → SameMount fs.old.mount fs.new.mount }
     ensures runs { IsRunning fs.old → IsRunning fs.new × (result ≢ 15) }
     ensures keeps { IsOpen fs.old → IsOpen fs.new × KeepsMount fs.old.mount fs.new.mount }
-    ensures any_stop { IsRunning fs.old → fs.old.mount.read_only ≡ false → (names : List (List ℕ)) → IsPath path.now names → LeavesOnly fs.new.mount.memory (as_it_reads fs.new.mount.memory) (LeavesCall (makes_size size time) (logs_size cpu size time) fs.old.mount.memory fs.old.mount names) }
+    ensures any_stop { IsRunning fs.old → fs.old.mount.read_only ≡ false → (names : List (List ℕ)) → IsPath path.now names
+        → LeavesOnly fs.new.mount.memory (as_it_reads fs.new.mount.memory) (LeavesCall (makes_size size time) (logs_size cpu size time) fs.old.mount.memory fs.old.mount names) }
     ensures closed { IsClosed fs.old → TellsClosed fs.new result }
 {
     match fs.take(alloc) {
         Some(mount) => {
             let mut mount = mount;
-            let done = mount.set_size(cpu, path, size, time);
+            let done = mount.set_size(Cpu(cpu), path, size, Time(time));
             fs.put(mount);
             match done {
                 Ok(()) => DONE,
@@ -115,18 +122,20 @@ pub extern "C" fn nova_set_attr(
 ) -> u32
     ensures allowed { IsOpen fs.old → result ≡ 0 → (p : Path) → Says path.now p → set_attr_refusal fs.old.mount cpu p ≡ Option.None }
     ensures refused { IsRunning fs.old → result ≢ 0 → (p : Path) → Says path.now p → TellsRefusal (IsRefusedBy (set_attr_refusal fs.old.mount cpu p)) result }
-    ensures changed { IsOpen fs.old → result ≡ 0 → (names : List (List ℕ)) → IsPath path.now names → SameTree (shown fs.new.mount) (makes_attributes mode owner group time fs.old.mount.memory fs.old.mount names) }
+    ensures changed { IsOpen fs.old → result ≡ 0 → (names : List (List ℕ)) → IsPath path.now names
+        → SameTree (shown fs.new.mount) (makes_attributes mode owner group time fs.old.mount.memory fs.old.mount names) }
     ensures logs { IsOpen fs.old → result ≡ 0 → (names : List (List ℕ)) → IsPath path.now names → logs_attributes cpu mode owner group time fs.old.mount.memory fs.old.mount names fs.new.mount.memory }
     ensures unchanged { IsOpen fs.old → result ≢ 0 → SameMount fs.old.mount fs.new.mount }
     ensures runs { IsRunning fs.old → IsRunning fs.new × (result ≢ 15) }
     ensures keeps { IsOpen fs.old → IsOpen fs.new × KeepsMount fs.old.mount fs.new.mount }
-    ensures any_stop { IsRunning fs.old → fs.old.mount.read_only ≡ false → (names : List (List ℕ)) → IsPath path.now names → LeavesOnly fs.new.mount.memory (as_it_reads fs.new.mount.memory) (LeavesCall (makes_attributes mode owner group time) (logs_attributes cpu mode owner group time) fs.old.mount.memory fs.old.mount names) }
+    ensures any_stop { IsRunning fs.old → fs.old.mount.read_only ≡ false → (names : List (List ℕ)) → IsPath path.now names
+        → LeavesOnly fs.new.mount.memory (as_it_reads fs.new.mount.memory) (LeavesCall (makes_attributes mode owner group time) (logs_attributes cpu mode owner group time) fs.old.mount.memory fs.old.mount names) }
     ensures closed { IsClosed fs.old → TellsClosed fs.new result }
 {
     match fs.take(alloc) {
         Some(mount) => {
             let mut mount = mount;
-            let done = mount.set_attr(cpu, path, mode, owner, group, time);
+            let done = mount.set_attr(Cpu(cpu), path, mode, owner, group, Time(time));
             fs.put(mount);
             match done {
                 Ok(()) => DONE,

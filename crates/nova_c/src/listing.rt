@@ -90,7 +90,8 @@ pub extern "C" fn nova_list(
 ) -> u32
     ensures found { IsOpen fs.old → result ≡ 0 → (places : List (List ℕ)) → IsPath path.now places → TellsNames (shown fs.old.mount) places (λ bytes. PutsBytes bytes names.old used.new names.new) }
     // A list that is cut off says so.
-    ensures too_small { IsOpen fs.old → result ≡ 18 → (places : List (List ℕ)) → IsPath path.now places → TellsNames (shown fs.old.mount) places (λ bytes. LacksRoom bytes names.old used.new names.new) }
+    ensures too_small { IsOpen fs.old → result ≡ 18 → (places : List (List ℕ)) → IsPath path.now places
+        → TellsNames (shown fs.old.mount) places (λ bytes. LacksRoom bytes names.old used.new names.new) }
     ensures allowed { IsOpen fs.old → (result ≡ 0) ⊎ (result ≡ 18) → (p : Path) → Says path.now p → list_refusal fs.old.mount p ≡ Option.None }
     ensures refused { IsRunning fs.old → result ≢ 0 → result ≢ 18 → (p : Path) → Says path.now p → TellsRefusal (IsReadRefusedBy (list_refusal fs.old.mount p)) result }
     ensures untouched { result ≢ 0 → names.new ≡ names.old }
@@ -115,7 +116,7 @@ fn report_of(alloc: Global, mount: &Mounted) -> Result<String, AllocError>
     ensures { IfOk result (λ text. TellsReport mount.now (λ bytes. string_bytes text ≡ bytes)) }
 {
     let shown = Shown {
-        sup: mount.sup(),
+        sup: mount.superblock(),
         rows: mount.rows(),
         free: mount.free(),
         faults: mount.faults(),

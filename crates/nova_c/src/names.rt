@@ -16,6 +16,7 @@ ghost use Rattle.nv_calls.specs.Effects.{LogsUnlink, logs_inode, logs_link, logs
 
 use crate::codes::{CLOSED, DONE, code};
 use crate::handle::NovaFs;
+use nv_calls::{Cpu, Time};
 use std::alloc::Global;
 
 /// Makes a file of this mode, of which the low 12 bits are kept, with one name.
@@ -35,18 +36,20 @@ pub extern "C" fn nova_create(
 ) -> u32
     ensures allowed { IsOpen fs.old → result ≡ 0 → (p : Path) → Says path.now p → create_refusal fs.old.mount cpu p ≡ Option.None }
     ensures refused { IsRunning fs.old → result ≢ 0 → (p : Path) → Says path.now p → TellsRefusal (IsRefusedBy (create_refusal fs.old.mount cpu p)) result }
-    ensures changed { IsOpen fs.old → result ≡ 0 → (names : List (List ℕ)) → IsPath path.now names → SameTree (shown fs.new.mount) (makes_inode File cpu mode time fs.old.mount.memory fs.old.mount names) }
+    ensures changed { IsOpen fs.old → result ≡ 0 → (names : List (List ℕ)) → IsPath path.now names
+        → SameTree (shown fs.new.mount) (makes_inode File cpu mode time fs.old.mount.memory fs.old.mount names) }
     ensures logs { IsOpen fs.old → result ≡ 0 → (names : List (List ℕ)) → IsPath path.now names → logs_inode File cpu mode time fs.old.mount.memory fs.old.mount names fs.new.mount.memory }
     ensures unchanged { IsOpen fs.old → result ≢ 0 → SameMount fs.old.mount fs.new.mount }
     ensures runs { IsRunning fs.old → IsRunning fs.new × (result ≢ 15) }
     ensures keeps { IsOpen fs.old → IsOpen fs.new × KeepsMount fs.old.mount fs.new.mount }
-    ensures any_stop { IsRunning fs.old → fs.old.mount.read_only ≡ false → (names : List (List ℕ)) → IsPath path.now names → LeavesOnly fs.new.mount.memory (as_it_reads fs.new.mount.memory) (LeavesCall (makes_inode File cpu mode time) (logs_inode File cpu mode time) fs.old.mount.memory fs.old.mount names) }
+    ensures any_stop { IsRunning fs.old → fs.old.mount.read_only ≡ false → (names : List (List ℕ)) → IsPath path.now names
+        → LeavesOnly fs.new.mount.memory (as_it_reads fs.new.mount.memory) (LeavesCall (makes_inode File cpu mode time) (logs_inode File cpu mode time) fs.old.mount.memory fs.old.mount names) }
     ensures closed { IsClosed fs.old → TellsClosed fs.new result }
 {
     match fs.take(alloc) {
         Some(mount) => {
             let mut mount = mount;
-            let done = mount.create(cpu, path, mode, time);
+            let done = mount.create(Cpu(cpu), path, mode, Time(time));
             fs.put(mount);
             match done {
                 Ok(()) => DONE,
@@ -74,18 +77,20 @@ pub extern "C" fn nova_mkdir(
 ) -> u32
     ensures allowed { IsOpen fs.old → result ≡ 0 → (p : Path) → Says path.now p → create_refusal fs.old.mount cpu p ≡ Option.None }
     ensures refused { IsRunning fs.old → result ≢ 0 → (p : Path) → Says path.now p → TellsRefusal (IsRefusedBy (create_refusal fs.old.mount cpu p)) result }
-    ensures changed { IsOpen fs.old → result ≡ 0 → (names : List (List ℕ)) → IsPath path.now names → SameTree (shown fs.new.mount) (makes_inode Directory cpu mode time fs.old.mount.memory fs.old.mount names) }
+    ensures changed { IsOpen fs.old → result ≡ 0 → (names : List (List ℕ)) → IsPath path.now names
+        → SameTree (shown fs.new.mount) (makes_inode Directory cpu mode time fs.old.mount.memory fs.old.mount names) }
     ensures logs { IsOpen fs.old → result ≡ 0 → (names : List (List ℕ)) → IsPath path.now names → logs_inode Directory cpu mode time fs.old.mount.memory fs.old.mount names fs.new.mount.memory }
     ensures unchanged { IsOpen fs.old → result ≢ 0 → SameMount fs.old.mount fs.new.mount }
     ensures runs { IsRunning fs.old → IsRunning fs.new × (result ≢ 15) }
     ensures keeps { IsOpen fs.old → IsOpen fs.new × KeepsMount fs.old.mount fs.new.mount }
-    ensures any_stop { IsRunning fs.old → fs.old.mount.read_only ≡ false → (names : List (List ℕ)) → IsPath path.now names → LeavesOnly fs.new.mount.memory (as_it_reads fs.new.mount.memory) (LeavesCall (makes_inode Directory cpu mode time) (logs_inode Directory cpu mode time) fs.old.mount.memory fs.old.mount names) }
+    ensures any_stop { IsRunning fs.old → fs.old.mount.read_only ≡ false → (names : List (List ℕ)) → IsPath path.now names
+        → LeavesOnly fs.new.mount.memory (as_it_reads fs.new.mount.memory) (LeavesCall (makes_inode Directory cpu mode time) (logs_inode Directory cpu mode time) fs.old.mount.memory fs.old.mount names) }
     ensures closed { IsClosed fs.old → TellsClosed fs.new result }
 {
     match fs.take(alloc) {
         Some(mount) => {
             let mut mount = mount;
-            let done = mount.mkdir(cpu, path, mode, time);
+            let done = mount.mkdir(Cpu(cpu), path, mode, Time(time));
             fs.put(mount);
             match done {
                 Ok(()) => DONE,
@@ -114,18 +119,21 @@ pub extern "C" fn nova_link(
 ) -> u32
     ensures allowed { IsOpen fs.old → result ≡ 0 → (p q : Path) → Says path.now p → Says other.now q → link_refusal fs.old.mount cpu p q ≡ Option.None }
     ensures refused { IsRunning fs.old → result ≢ 0 → (p q : Path) → Says path.now p → Says other.now q → TellsRefusal (IsRefusedBy (link_refusal fs.old.mount cpu p q)) result }
-    ensures changed { IsOpen fs.old → result ≡ 0 → (names others : List (List ℕ)) → IsPath path.now names → IsPath other.now others → SameTree (shown fs.new.mount) (makes_link time (Option.Some others) fs.old.mount.memory fs.old.mount names) }
-    ensures logs { IsOpen fs.old → result ≡ 0 → (names others : List (List ℕ)) → IsPath path.now names → IsPath other.now others → logs_link cpu time (Option.Some others) fs.old.mount.memory fs.old.mount names fs.new.mount.memory }
+    ensures changed { IsOpen fs.old → result ≡ 0 → (names others : List (List ℕ)) → IsPath path.now names → IsPath other.now others
+        → SameTree (shown fs.new.mount) (makes_link time (Option.Some others) fs.old.mount.memory fs.old.mount names) }
+    ensures logs { IsOpen fs.old → result ≡ 0 → (names others : List (List ℕ)) → IsPath path.now names → IsPath other.now others
+        → logs_link cpu time (Option.Some others) fs.old.mount.memory fs.old.mount names fs.new.mount.memory }
     ensures unchanged { IsOpen fs.old → result ≢ 0 → SameMount fs.old.mount fs.new.mount }
     ensures runs { IsRunning fs.old → IsRunning fs.new × (result ≢ 15) }
     ensures keeps { IsOpen fs.old → IsOpen fs.new × KeepsMount fs.old.mount fs.new.mount }
-    ensures any_stop { IsRunning fs.old → fs.old.mount.read_only ≡ false → (names others : List (List ℕ)) → IsPath path.now names → IsPath other.now others → LeavesOnly fs.new.mount.memory (as_it_reads fs.new.mount.memory) (LeavesCall (makes_link time (Option.Some others)) (logs_link cpu time (Option.Some others)) fs.old.mount.memory fs.old.mount names) }
+    ensures any_stop { IsRunning fs.old → fs.old.mount.read_only ≡ false → (names others : List (List ℕ)) → IsPath path.now names → IsPath other.now others
+        → LeavesOnly fs.new.mount.memory (as_it_reads fs.new.mount.memory) (LeavesCall (makes_link time (Option.Some others)) (logs_link cpu time (Option.Some others)) fs.old.mount.memory fs.old.mount names) }
     ensures closed { IsClosed fs.old → TellsClosed fs.new result }
 {
     match fs.take(alloc) {
         Some(mount) => {
             let mut mount = mount;
-            let done = mount.link(cpu, path, other, time);
+            let done = mount.link(Cpu(cpu), path, other, Time(time));
             fs.put(mount);
             match done {
                 Ok(()) => DONE,
@@ -156,13 +164,14 @@ pub extern "C" fn nova_unlink(
     ensures unchanged { IsOpen fs.old → result ≢ 0 → SameMount fs.old.mount fs.new.mount }
     ensures runs { IsRunning fs.old → IsRunning fs.new × (result ≢ 15) }
     ensures keeps { IsOpen fs.old → IsOpen fs.new × KeepsMount fs.old.mount fs.new.mount }
-    ensures any_stop { IsRunning fs.old → fs.old.mount.read_only ≡ false → (names : List (List ℕ)) → IsPath path.now names → LeavesOnly fs.new.mount.memory (as_it_reads fs.new.mount.memory) (LeavesCall (makes_unlink time) (LogsUnlink cpu time) fs.old.mount.memory fs.old.mount names) }
+    ensures any_stop { IsRunning fs.old → fs.old.mount.read_only ≡ false → (names : List (List ℕ)) → IsPath path.now names
+        → LeavesOnly fs.new.mount.memory (as_it_reads fs.new.mount.memory) (LeavesCall (makes_unlink time) (LogsUnlink cpu time) fs.old.mount.memory fs.old.mount names) }
     ensures closed { IsClosed fs.old → TellsClosed fs.new result }
 {
     match fs.take(alloc) {
         Some(mount) => {
             let mut mount = mount;
-            let done = mount.unlink(cpu, path, time);
+            let done = mount.unlink(Cpu(cpu), path, Time(time));
             fs.put(mount);
             match done {
                 Ok(()) => DONE,
@@ -193,13 +202,14 @@ pub extern "C" fn nova_rmdir(
     ensures unchanged { IsOpen fs.old → result ≢ 0 → SameMount fs.old.mount fs.new.mount }
     ensures runs { IsRunning fs.old → IsRunning fs.new × (result ≢ 15) }
     ensures keeps { IsOpen fs.old → IsOpen fs.new × KeepsMount fs.old.mount fs.new.mount }
-    ensures any_stop { IsRunning fs.old → fs.old.mount.read_only ≡ false → (names : List (List ℕ)) → IsPath path.now names → LeavesOnly fs.new.mount.memory (as_it_reads fs.new.mount.memory) (LeavesCall (makes_removal time) (logs_removal cpu time) fs.old.mount.memory fs.old.mount names) }
+    ensures any_stop { IsRunning fs.old → fs.old.mount.read_only ≡ false → (names : List (List ℕ)) → IsPath path.now names
+        → LeavesOnly fs.new.mount.memory (as_it_reads fs.new.mount.memory) (LeavesCall (makes_removal time) (logs_removal cpu time) fs.old.mount.memory fs.old.mount names) }
     ensures closed { IsClosed fs.old → TellsClosed fs.new result }
 {
     match fs.take(alloc) {
         Some(mount) => {
             let mut mount = mount;
-            let done = mount.rmdir(cpu, path, time);
+            let done = mount.rmdir(Cpu(cpu), path, Time(time));
             fs.put(mount);
             match done {
                 Ok(()) => DONE,
@@ -227,18 +237,21 @@ pub extern "C" fn nova_rename(
 ) -> u32
     ensures allowed { IsOpen fs.old → result ≡ 0 → (p q : Path) → Says path.now p → Says other.now q → rename_refusal fs.old.mount cpu p q ≡ Option.None }
     ensures refused { IsRunning fs.old → result ≢ 0 → (p q : Path) → Says path.now p → Says other.now q → TellsRefusal (IsRefusedBy (rename_refusal fs.old.mount cpu p q)) result }
-    ensures changed { IsOpen fs.old → result ≡ 0 → (names others : List (List ℕ)) → IsPath path.now names → IsPath other.now others → SameTree (shown fs.new.mount) (makes_rename time (Option.Some others) fs.old.mount.memory fs.old.mount names) }
-    ensures logs { IsOpen fs.old → result ≡ 0 → (names others : List (List ℕ)) → IsPath path.now names → IsPath other.now others → logs_rename cpu time (Option.Some others) fs.old.mount.memory fs.old.mount names fs.new.mount.memory }
+    ensures changed { IsOpen fs.old → result ≡ 0 → (names others : List (List ℕ)) → IsPath path.now names → IsPath other.now others
+        → SameTree (shown fs.new.mount) (makes_rename time (Option.Some others) fs.old.mount.memory fs.old.mount names) }
+    ensures logs { IsOpen fs.old → result ≡ 0 → (names others : List (List ℕ)) → IsPath path.now names → IsPath other.now others
+        → logs_rename cpu time (Option.Some others) fs.old.mount.memory fs.old.mount names fs.new.mount.memory }
     ensures unchanged { IsOpen fs.old → result ≢ 0 → SameMount fs.old.mount fs.new.mount }
     ensures runs { IsRunning fs.old → IsRunning fs.new × (result ≢ 15) }
     ensures keeps { IsOpen fs.old → IsOpen fs.new × KeepsMount fs.old.mount fs.new.mount }
-    ensures any_stop { IsRunning fs.old → fs.old.mount.read_only ≡ false → (names others : List (List ℕ)) → IsPath path.now names → IsPath other.now others → LeavesOnly fs.new.mount.memory (as_it_reads fs.new.mount.memory) (LeavesCall (makes_rename time (Option.Some others)) (logs_rename cpu time (Option.Some others)) fs.old.mount.memory fs.old.mount names) }
+    ensures any_stop { IsRunning fs.old → fs.old.mount.read_only ≡ false → (names others : List (List ℕ)) → IsPath path.now names → IsPath other.now others
+        → LeavesOnly fs.new.mount.memory (as_it_reads fs.new.mount.memory) (LeavesCall (makes_rename time (Option.Some others)) (logs_rename cpu time (Option.Some others)) fs.old.mount.memory fs.old.mount names) }
     ensures closed { IsClosed fs.old → TellsClosed fs.new result }
 {
     match fs.take(alloc) {
         Some(mount) => {
             let mut mount = mount;
-            let done = mount.rename(cpu, path, other, time);
+            let done = mount.rename(Cpu(cpu), path, other, Time(time));
             fs.put(mount);
             match done {
                 Ok(()) => DONE,

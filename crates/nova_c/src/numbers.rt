@@ -101,7 +101,7 @@ pub extern "C" fn nova_stat(
 fn space_of(mount: &Mounted) -> NovaSpace
     ensures { TellsSpace mount.now result }
 {
-    let sup = mount.sup();
+    let sup = mount.superblock();
     NovaSpace {
         blocks: sup.blocks,
         free_blocks: mount.free().free_blocks(),

@@ -14,7 +14,7 @@ fn save(mount: &Mounted, image: &mut [u8]) -> u32
     ensures saved { length image.old ≡ size mount.now.memory → (result ≡ 0) × (image.new ≡ bytes_of mount.now.memory) }
     ensures too_small { length image.old ≢ size mount.now.memory → (result ≡ 18) × (image.new ≡ image.old) }
 {
-    let memory = mount.region();
+    let memory = mount.memory();
     if memory.len() != image.len() as u64 {
         return TOO_SMALL;
     }

@@ -10,6 +10,7 @@
 use nv_args::{CheckOutput, Todo, VERSION, read_words};
 use nv_checking::{Blocks, Output, check_file, check_files, explain_file, map_file};
 use nv_images::{Failure, Lock, Target, ended, explain, print_line, refuse_words, words_of};
+use nv_pending::check_journals;
 use std::alloc::AllocError;
 use std::env::Env;
 use std::process::ExitCode;
@@ -56,14 +57,8 @@ where
             paths,
             workers,
             output,
-        } => match paths.as_slice() {
-            [path] if output == CheckOutput::Explained => explain_file(rt, path, workers),
-            [path] => check_file(rt, path, workers, output_of(output)),
-            paths => check_files(rt, paths, workers, output_of(output)),
-        },
-        Todo::Map { image, svg, force } => {
-            map_file(rt, image, svg.map(|path| Target { path, force }))
-        }
+        } => check(rt, &paths, workers, output),
+        Todo::Map { image, svg, force } => map_file(rt, image, target_of(svg, force)),
         Todo::Explain { class } => explain(rt, class),
         _ => {
             let _ = eprintln!(rt; "nova_check has the commands check, map and explain alone");
@@ -72,11 +67,34 @@ where
     }
 }
 
+// Checks the images in the files at these paths.
+fn check<'a, H: Files + AllocGlobal + Print + Eprint + Threads + Sync>(
+    rt: &H,
+    paths: &[&'a str],
+    workers: u32,
+    output: CheckOutput,
+) -> Result<u8, Failure<'a>>
+where
+    H::File: Blocks + Sync,
+{
+    match paths {
+        [path] if output == CheckOutput::Explained => explain_file(rt, path, workers),
+        [path] if output == CheckOutput::Journal => check_journals(rt, path, workers),
+        [path] => check_file(rt, path, workers, output_of(output)),
+        paths => check_files(rt, paths, workers, output_of(output)),
+    }
+}
+
 fn output_of(output: CheckOutput) -> Output {
     match output {
-        CheckOutput::Report | CheckOutput::Explained => Output::Report,
+        CheckOutput::Report | CheckOutput::Explained | CheckOutput::Journal => Output::Report,
         CheckOutput::Summary => Output::Summary,
         CheckOutput::OnlyFaults => Output::OnlyFaults,
         CheckOutput::Json => Output::Json,
     }
+}
+
+// The file at a path, where one is written.
+fn target_of(path: Option<&str>, force: bool) -> Option<Target<'_>> {
+    path.map(|path| Target { path, force })
 }

@@ -10,3 +10,4 @@ pub mod RunsWhere
 pub mod SetParts
 pub mod RunParts
 pub mod PoolMarks
+pub mod RunsLeft

@@ -76,15 +76,18 @@ JoinAll old (run ∷ runs) new = (next : FreeLists) × Joins old run next × Joi
 
 -- The lists are those of before a take again once all that it gave is given back.
 abbrev pub TakeThenGiveRestores : Type 0
-TakeThenGiveRestores = (old mid back : FreeLists) (cpu n : ℕ) (runs : List Run) → IsSound old → cpu < old.sup.cpus → Took old cpu n runs mid → JoinAll mid runs back → (back.sup ≡ old.sup) × (back.pools ≡ old.pools)
+TakeThenGiveRestores = (old mid back : FreeLists) (cpu n : ℕ) (runs : List Run) → IsSound old → cpu < old.sup.cpus → Took old cpu n runs mid → JoinAll mid runs back
+    → (back.sup ≡ old.sup) × (back.pools ≡ old.pools)
 
 -- Each run that a take gave can be given back, also after those before it.
 abbrev pub TakenCanJoin : Type 0
-TakenCanJoin = (old mid now : FreeLists) (cpu n : ℕ) (before : List Run) (run : Run) (behind : List Run) → IsSound old → cpu < old.sup.cpus → Took old cpu n (before ++ run ∷ behind) mid → JoinAll mid before now → CanJoin now run
+TakenCanJoin = (old mid now : FreeLists) (cpu n : ℕ) (before : List Run) (run : Run) (behind : List Run) → IsSound old → cpu < old.sup.cpus → Took old cpu n (before ++ run ∷ behind) mid
+    → JoinAll mid before now → CanJoin now run
 
 -- The free blocks of each pool determine the lists.
 abbrev pub SetsDetermineLists : Type 0
-SetsDetermineLists = (a b : FreeLists) → IsSound a → IsSound b → a.sup ≡ b.sup → ((cpu block : ℕ) → (IsFreeIn a cpu block → IsFreeIn b cpu block) × (IsFreeIn b cpu block → IsFreeIn a cpu block)) → a.pools ≡ b.pools
+SetsDetermineLists = (a b : FreeLists) → IsSound a → IsSound b → a.sup ≡ b.sup
+    → ((cpu block : ℕ) → (IsFreeIn a cpu block → IsFreeIn b cpu block) × (IsFreeIn b cpu block → IsFreeIn a cpu block)) → a.pools ≡ b.pools
 
 -- From sound lists, blocks that are taken one by one were free, no two are the same, and just they aren't free any more.
 abbrev pub SingleTakesLeave : Type 0

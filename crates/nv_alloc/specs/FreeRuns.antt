@@ -34,3 +34,11 @@ pub record IsPool (words : List ℕ) (from to free first : ℕ) : Type 0 where
   pub counted : free ≡ blocks_in (free_runs words from to)
   pub first_place : (from ≤ first) × (first ≤ to)
   pub passed : (b : ℕ) → from ≤ b → b < first → is_free words from b ≡ false
+
+-- What runs that are left stand on: words of which the first is that of the block `first`, a block from which on they are, and the
+-- block behind the last, up to which the words reach.
+pub record AreLeft (words : List ℕ) (first here to : ℕ) : Type 0 where
+  pub low : first ≤ here
+  pub high : here ≤ to
+  pub within : to ≤ word_start first + 64 * length words
+  pub small : to ≤ 2 ^ 32

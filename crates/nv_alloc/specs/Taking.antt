@@ -54,7 +54,8 @@ TakeExists = (pools : List (List Run)) (cpu n : ℕ) → n ≤ all_blocks pools 
 
 -- What a take gives and leaves is decided by the pools, the CPU and the number of blocks.
 abbrev pub TakeIsOne : Type 0
-TakeIsOne = (pools : List (List Run)) (cpu n : ℕ) (runs others : List Run) (after rest : List (List Run)) → Takes pools cpu n runs after → Takes pools cpu n others rest → (runs ≡ others) × (after ≡ rest)
+TakeIsOne = (pools : List (List Run)) (cpu n : ℕ) (runs others : List Run) (after rest : List (List Run)) → Takes pools cpu n runs after → Takes pools cpu n others rest
+    → (runs ≡ others) × (after ≡ rest)
 
 -- ---- one by one
 
@@ -70,11 +71,13 @@ TakesSingly pools cpu (b ∷ blocks) after = (next : List (List Run)) × Takes p
 
 -- Which blocks are taken one by one, and what is left, is decided by the pools, the CPU and their number.
 abbrev pub SingleTakesAreOne : Type 0
-SingleTakesAreOne = (pools : List (List Run)) (cpu : ℕ) (blocks others : List ℕ) (after rest : List (List Run)) → length blocks ≡ length others → TakesSingly pools cpu blocks after → TakesSingly pools cpu others rest → (blocks ≡ others) × (after ≡ rest)
+SingleTakesAreOne = (pools : List (List Run)) (cpu : ℕ) (blocks others : List ℕ) (after rest : List (List Run)) → length blocks ≡ length others → TakesSingly pools cpu blocks after
+    → TakesSingly pools cpu others rest → (blocks ≡ others) × (after ≡ rest)
 
 -- Blocks are taken one by one just where the first of them are, and then the others from what these leave.
 abbrev pub SingleTakesSplit : Type 0
-SingleTakesSplit = (pools : List (List Run)) (cpu : ℕ) (blocks others : List ℕ) (after : List (List Run)) → TakesSingly pools cpu (blocks ++ others) after ↔ ((mid : List (List Run)) × TakesSingly pools cpu blocks mid × TakesSingly mid cpu others after)
+SingleTakesSplit = (pools : List (List Run)) (cpu : ℕ) (blocks others : List ℕ) (after : List (List Run))
+    → TakesSingly pools cpu (blocks ++ others) after ↔ ((mid : List (List Run)) × TakesSingly pools cpu blocks mid × TakesSingly mid cpu others after)
 
 -- The blocks were free in these pools, no two are the same, and just they aren't free any more.
 pub record LeaveSingly (pools : List (List Run)) (blocks : List ℕ) (after : List (List Run)) : Type 0 where

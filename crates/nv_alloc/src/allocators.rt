@@ -11,6 +11,7 @@ ghost use Rattle.nv_alloc.specs.FreeLists.{IsSound, AreOutside, SameLists, Took,
 ghost use Rattle.nv_alloc.specs.Inside.{lists_of, bounds_of, AreBounds, TakesOnto, JoinedUpTo};
 
 use crate::pool::Pool;
+use crate::runs::FreeRuns;
 use nv_super::{Run, Super};
 use std::alloc::{AllocError, Global};
 use std::marker::Model;
@@ -148,6 +149,14 @@ impl Allocators {
             lists.push(list)?;
         }
         Ok(lists)
+    }
+
+    /// The runs of the free blocks of a CPU's pool, rising. It takes no memory.
+    pub fn runs(&self, cpu: u64) -> FreeRuns<'_>
+        requires { cpu < self.now.sup.cpus }
+        ensures { result ≡ pool_at self.now.pools cpu }
+    {
+        self.pools[cpu as usize].runs()
     }
 
     /// How many blocks are free in all pools together.

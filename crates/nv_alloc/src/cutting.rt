@@ -5,8 +5,6 @@ ghost use Rattle.nv_alloc.specs.Taking.{blocks_in};
 ghost use Rattle.nv_alloc.specs.FreeRuns.{word_start, is_free, free_runs};
 
 use crate::marks::Marks;
-use nv_super::Run;
-use std::alloc::{AllocError, Global};
 
 /// The first block whose bit is in the word of this block's bit.
 pub const fn word_start(block: u64) -> u64
@@ -56,24 +54,4 @@ pub fn count_blocks(marks: &Marks, from: u64, to: u64) -> u64
         here = next_free(marks, from, end, to);
     }
     blocks
-}
-
-/// The runs of a pool's free blocks.
-pub fn list_runs(alloc: Global, marks: &Marks, from: u64, to: u64) -> Result<Vec<Run>, AllocError>
-    requires order { from ≤ to }
-    requires within { to ≤ word_start from + 64 * length marks.now }
-    requires small { to ≤ 2 ^ 32 }
-    ensures { IfOk result (λ runs. runs.items ≡ free_runs marks.now from to) }
-{
-    let mut runs = Vec::new(alloc);
-    let mut here = next_free(marks, from, from, to);
-    while here < to {
-        let end = next_used(marks, from, here, to);
-        runs.push(Run {
-            start: here,
-            count: end - here,
-        })?;
-        here = next_free(marks, from, end, to);
-    }
-    Ok(runs)
 }

@@ -6,8 +6,9 @@ ghost use Rattle.nv_alloc.specs.Taking.{HasBlock, blocks_in};
 ghost use Rattle.nv_alloc.specs.PoolValue.{SamePlace};
 ghost use Rattle.nv_alloc.specs.Inside.{IsClear, TakesFrom, TakesSome};
 
-use crate::cutting::{count_blocks, list_runs, next_free, next_used, word_start};
+use crate::cutting::{count_blocks, next_free, next_used, word_start};
 use crate::marks::Marks;
+use crate::runs::FreeRuns;
 use nv_super::Run;
 use std::alloc::{AllocError, Global};
 use std::marker::Model;
@@ -125,10 +126,22 @@ impl Pool {
         }
     }
 
+    /// The runs, one after the other. It takes no memory.
+    pub fn runs(&self) -> FreeRuns<'_>
+        ensures { result ≡ self.now.runs }
+    {
+        FreeRuns {
+            marks: &self.marks,
+            first: self.from,
+            here: self.from,
+            to: self.to,
+        }
+    }
+
     /// The runs.
     pub fn list(&self, alloc: Global) -> Result<Vec<Run>, AllocError>
         ensures { IfOk result (λ runs. runs.items ≡ self.now.runs) }
     {
-        list_runs(alloc, &self.marks, self.from, self.to)
+        self.runs().collect(alloc)
     }
 }

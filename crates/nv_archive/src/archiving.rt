@@ -33,8 +33,10 @@ pub fn write_archive<B: Blocks, W: Write>(
     requires low { AreLowRows rows.now.items }
     requires used { IsInUse rows.now.items inode }
     requires named { IsNamedBy chosen inode }
-    ensures ok { AreKnown (B.bytes source.now) rows.now.items → OnOk result (WritesArchiveOf (shown_tree (B.bytes source.now) rows.now.items) chosen.entry inode all (W.contents writer.old) (W.contents writer.new)) }
-    ensures err { AreKnown (B.bytes source.now) rows.now.items → IfErr result (λ e. FailsArchiveOf (shown_tree (B.bytes source.now) rows.now.items) chosen.entry inode all e (W.contents writer.old) (W.contents writer.new)) }
+    ensures ok { AreKnown (B.bytes source.now) rows.now.items
+        → OnOk result (WritesArchiveOf (shown_tree (B.bytes source.now) rows.now.items) chosen.entry inode all (W.contents writer.old) (W.contents writer.new)) }
+    ensures err { AreKnown (B.bytes source.now) rows.now.items
+        → IfErr result (λ e. FailsArchiveOf (shown_tree (B.bytes source.now) rows.now.items) chosen.entry inode all e (W.contents writer.old) (W.contents writer.new)) }
 {
     let base = base_of(alloc, chosen)?;
     let tops = Tops {

@@ -16,7 +16,7 @@ use nv_tree::{Refusal, split_name};
 use std::alloc::{AllocError, Global};
 
 /// What is put into an archive.
-#[derive(Clone, Copy, Debug)]
+#[derive(Clone, Copy)]
 pub enum Chosen<'a> {
     /// What a path leads to.
     Path(&'a [u8]),

@@ -2,3 +2,4 @@ pub mod Adding
 pub mod Line
 pub mod Sizing
 pub mod Spelling
+pub mod Owning

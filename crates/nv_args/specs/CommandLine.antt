@@ -1,5 +1,5 @@
 -- The command line of the program, as `clap` sees it.
-use Rattle.std.specs.Prelude.{◌^◌, ◌-◌, List, [], ◌∷◌, pos, true, Some, codes}
+use Rattle.std.specs.Prelude.{ℕ, ◌^◌, ◌-◌, List, [], ◌∷◌, ◌++◌, pos, true, Some, codes}
 use Rattle.std.specs.List.{fold}
 use Rattle.clap.specs.Walk.{Rule, Text}
 use Rattle.clap.specs.Simple.{App, new_app, new_rule, with_rule, with_subcommand, on_top}
@@ -30,6 +30,14 @@ number_rule name = record (option_rule name) { parser = Some (parsers.Unsigned 0
 abbrev pub flag_rule : Text → Rule
 flag_rule name = record (option_rule name) { action = Some SetTrue }
 
+-- an option with no value that has a letter too
+abbrev pub letter_rule : ℕ → Text → Rule
+letter_rule letter name = record (flag_rule name) { short = Some letter }
+
+-- a number below 2^64 that has to be written
+abbrev pub needed_number_rule : Text → Rule
+needed_number_rule name = record (needed_rule name) { parser = Some (parsers.Unsigned 0 (2 ^ 64 - 1)) }
+
 -- an option with a number from 1 to 64
 abbrev pub threads_rule : Text → Rule
 threads_rule name = record (option_rule name) { parser = Some (parsers.Signed (pos 1) (pos 64)) }
@@ -54,7 +62,7 @@ shell_app = command (codes "shell") (needed_rule (codes "image") ∷ flag_rule (
 -- `check`: the files of images, a number of workers, and what is printed in place of the report or below it
 abbrev pub check_app : App
 check_app = command (codes "check") (several_rule (codes "path") ∷ workers_rule ∷ flag_rule (codes "summary") ∷ flag_rule (codes "only-faults")
-    ∷ flag_rule (codes "json") ∷ flag_rule (codes "explain") ∷ [])
+    ∷ flag_rule (codes "json") ∷ flag_rule (codes "explain") ∷ flag_rule (codes "journal") ∷ [])
 
 -- `mkfs`: an image's file, the numbers of a new region, its size in place of its blocks, and whether the file may be there
 abbrev pub mkfs_app : App
@@ -65,13 +73,25 @@ mkfs_app = command (codes "mkfs") (needed_rule (codes "image") ∷ number_rule (
 abbrev pub may_path_app : Text → App
 may_path_app name = command name (needed_rule (codes "image") ∷ place_rule (codes "path") ∷ [])
 
--- a command on one inode of an image: `stat`, `cat` and `log`
+-- a command on one inode of an image: `stat` and `cat`
 abbrev pub path_app : Text → App
 path_app name = command name (needed_rule (codes "image") ∷ needed_rule (codes "path") ∷ [])
 
 -- `tar`: an image's file, what is put into the archive, and whether all else that is in use is too
 abbrev pub tar_app : App
 tar_app = command (codes "tar") (needed_rule (codes "image") ∷ place_rule (codes "path") ∷ flag_rule (codes "lost-found") ∷ [])
+
+-- `ls`: an image's file, a directory, and whether the numbers of each inode stand before its name
+abbrev pub ls_app : App
+ls_app = command (codes "ls") (needed_rule (codes "image") ∷ place_rule (codes "path") ∷ letter_rule 108 (codes "long") ∷ [])
+
+-- `log`: an image's file, and an inode or all
+abbrev pub log_app : App
+log_app = command (codes "log") (needed_rule (codes "image") ∷ place_rule (codes "path") ∷ flag_rule (codes "all") ∷ [])
+
+-- `block`: an image's file, the number of a block, and whether its bytes are shown
+abbrev pub block_app : App
+block_app = command (codes "block") (needed_rule (codes "image") ∷ needed_number_rule (codes "block") ∷ flag_rule (codes "hex") ∷ [])
 
 -- `explain`: a class of faults
 abbrev pub explain_app : App
@@ -91,8 +111,32 @@ with_commands program apps = fold (λ app sub. with_subcommand app sub.top) prog
 
 -- the commands that read an image, or write one
 abbrev pub image_apps : List App
-image_apps = mkfs_app ∷ may_path_app (codes "clean") ∷ may_path_app (codes "ls") ∷ path_app (codes "stat") ∷ path_app (codes "cat") ∷ tar_app ∷ path_app (codes "log") ∷ explain_app ∷ map_app ∷ []
+image_apps = mkfs_app ∷ may_path_app (codes "clean") ∷ ls_app ∷ path_app (codes "stat") ∷ path_app (codes "cat") ∷ may_path_app (codes "du") ∷ tar_app ∷ log_app ∷ block_app ∷ explain_app ∷ map_app ∷ []
+
+-- a command that changes an image: its file, these arguments, a CPU and a time
+abbrev pub change_app : Text → List Rule → App
+change_app name rules = command name (needed_rule (codes "image") ∷ rules ++ number_rule (codes "cpu") ∷ number_rule (codes "time") ∷ [])
+
+-- one that changes what has a path
+abbrev pub one_path_app : Text → App
+one_path_app name = change_app name (needed_rule (codes "path") ∷ [])
+
+-- one that gives what has a path another name
+abbrev pub two_paths_app : Text → App
+two_paths_app name = change_app name (needed_rule (codes "old") ∷ needed_rule (codes "new") ∷ [])
+
+-- `recover`: an image's file, and whether it stays as it is
+abbrev pub recover_app : App
+recover_app = command (codes "recover") (needed_rule (codes "image") ∷ flag_rule (codes "dry-run") ∷ [])
+
+-- the commands that change an image by one call, and `recover`
+abbrev pub change_apps : List App
+change_apps = one_path_app (codes "mkdir") ∷ one_path_app (codes "rm") ∷ one_path_app (codes "rmdir") ∷ two_paths_app (codes "mv") ∷ two_paths_app (codes "ln")
+    ∷ change_app (codes "truncate") (needed_rule (codes "size") ∷ needed_rule (codes "path") ∷ [])
+    ∷ change_app (codes "chmod") (needed_rule (codes "mode") ∷ needed_rule (codes "path") ∷ [])
+    ∷ change_app (codes "chown") (needed_rule (codes "owner") ∷ needed_rule (codes "path") ∷ [])
+    ∷ change_app (codes "put") (needed_rule (codes "host") ∷ needed_rule (codes "path") ∷ []) ∷ recover_app ∷ []
 
 -- the program with its commands
 abbrev pub nova_app : App
-nova_app = with_commands bare_app (run_app ∷ shell_app ∷ check_app ∷ image_apps)
+nova_app = with_commands (with_commands bare_app (run_app ∷ shell_app ∷ check_app ∷ image_apps)) change_apps

@@ -1,3 +1,4 @@
+pub mod Changes
 pub mod CommandLine
 pub mod Tables
 pub mod UsageValue

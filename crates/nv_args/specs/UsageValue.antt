@@ -4,7 +4,7 @@ use Rattle.clap.specs.Values.{kind_of}
 use Rattle.clap.specs.declared.error.kind.ErrorKind.{ErrorKind}
 use Rattle.clap.specs.declared.error.kind.ErrorKind.TheVariants.{OutOfMemory}
 use Rattle.nv_args.specs.declared.usage.Cause.{Cause}
-use Rattle.nv_args.specs.declared.usage.Cause.TheVariants.{Words, TwoOutputs, NoSize, NoMemory}
+use Rattle.nv_args.specs.declared.usage.Cause.TheVariants.{Words, TwoOutputs, NoSize, NoChange, NoLog, NoMemory}
 
 -- Whether a text for the user tells of want of memory.
 pub record UsageTold : Type 0 where
@@ -20,4 +20,6 @@ abbrev pub told_by : Cause → UsageTold
 told_by (Words error) = record { out_of_memory = is_memory (kind_of error) }
 told_by TwoOutputs = record { out_of_memory = false }
 told_by NoSize = record { out_of_memory = false }
+told_by NoChange = record { out_of_memory = false }
+told_by NoLog = record { out_of_memory = false }
 told_by NoMemory = record { out_of_memory = true }

@@ -7,11 +7,16 @@ use Rattle.clap.specs.Simple.{subcommand_of}
 use Rattle.clap.specs.Faults.{fault_of}
 use Rattle.nv_args.specs.CommandLine.{nova_app}
 use Rattle.nv_args.specs.declared.todo.CheckOutput.{CheckOutput}
-use Rattle.nv_args.specs.declared.todo.CheckOutput.TheVariants.{Report, Summary, OnlyFaults, Json, Explained}
+use Rattle.nv_args.specs.Changes.{AreOwners, IsMode}
+use Rattle.nv_args.specs.declared.change.NamedChange.{NamedChange}
+use Rattle.nv_args.specs.declared.change.NamedChange.TheVariants.{Mkdir, Rm, Rmdir, Mv, Ln, Truncate, Chmod, Chown, Put}
+use Rattle.nv_args.specs.declared.todo.CheckOutput.TheVariants.{Report, Summary, OnlyFaults, Json, Explained, Journal}
 use Rattle.nv_args.specs.declared.todo.Todo.{Todo}
-use Rattle.nv_args.specs.declared.todo.Todo.TheVariants.{Version, Run, Shell, Check, Mkfs, Clean, Ls, Stat, Cat, Tar, Log, Explain, Map}
+use Rattle.nv_args.specs.declared.todo.Todo.TheVariants.{Version, Run, Shell, Check, Mkfs, Clean, Change, Recover, Ls, Stat, Cat, Tar, Log, View, Explain, Map}
 use Rattle.nv_args.specs.declared.todo.Which.{Which}
 use Rattle.nv_args.specs.declared.todo.Which.TheVariants.{Path, Number}
+use Rattle.nv_args.specs.declared.views.View.{View as ViewValue}
+use Rattle.nv_args.specs.declared.views.View.TheVariants.{Logs, Block, Usage}
 use Rattle.nv_args.specs.UsageValue.{UsageTold}
 
 -- the written text is a decimal number below 2^64, which may have a plus sign and leading zeros
@@ -75,18 +80,21 @@ AreWorkers (Some text) workers = IsNumeral 10 (without_leading_plus text)
 abbrev pub IsGiven : Text → List Row → Type 0
 IsGiven name values = first_of name values ≡ Some (codes "true")
 
--- a check prints the report, unless one of four options asks for something else; that each fault is explained, only of one image
+-- A check prints the report, unless one of five options asks for something else: that each fault is explained, and what is pending,
+-- only of one image.
 abbrev pub IsOutput : List Row → ℕ → CheckOutput → Type 0
-IsOutput values images Report = (¬ IsGiven (codes "summary") values) × (¬ IsGiven (codes "only-faults") values)
-    × (¬ IsGiven (codes "json") values) × (¬ IsGiven (codes "explain") values)
+IsOutput values images Report = (¬ IsGiven (codes "summary") values) × (¬ IsGiven (codes "only-faults") values) × (¬ IsGiven (codes "json") values)
+    × (¬ IsGiven (codes "explain") values) × (¬ IsGiven (codes "journal") values)
 IsOutput values images Summary = IsGiven (codes "summary") values × (¬ IsGiven (codes "only-faults") values) × (¬ IsGiven (codes "json") values)
-    × (¬ IsGiven (codes "explain") values)
-IsOutput values images OnlyFaults = (¬ IsGiven (codes "summary") values) × IsGiven (codes "only-faults") values
-    × (¬ IsGiven (codes "json") values) × (¬ IsGiven (codes "explain") values)
+    × (¬ IsGiven (codes "explain") values) × (¬ IsGiven (codes "journal") values)
+IsOutput values images OnlyFaults = (¬ IsGiven (codes "summary") values) × IsGiven (codes "only-faults") values × (¬ IsGiven (codes "json") values)
+    × (¬ IsGiven (codes "explain") values) × (¬ IsGiven (codes "journal") values)
 IsOutput values images Json = (¬ IsGiven (codes "summary") values) × (¬ IsGiven (codes "only-faults") values) × IsGiven (codes "json") values
-    × (¬ IsGiven (codes "explain") values)
-IsOutput values images Explained = (¬ IsGiven (codes "summary") values) × (¬ IsGiven (codes "only-faults") values)
-    × (¬ IsGiven (codes "json") values) × IsGiven (codes "explain") values × (images ≡ 1)
+    × (¬ IsGiven (codes "explain") values) × (¬ IsGiven (codes "journal") values)
+IsOutput values images Explained = (¬ IsGiven (codes "summary") values) × (¬ IsGiven (codes "only-faults") values) × (¬ IsGiven (codes "json") values)
+    × IsGiven (codes "explain") values × (¬ IsGiven (codes "journal") values) × (images ≡ 1)
+IsOutput values images Journal = (¬ IsGiven (codes "summary") values) × (¬ IsGiven (codes "only-faults") values) × (¬ IsGiven (codes "json") values)
+    × (¬ IsGiven (codes "explain") values) × IsGiven (codes "journal") values × (images ≡ 1)
 
 -- the numbers of a new region are written: its blocks and the others, or its size, and of the others those that are written
 abbrev pub AreNumbers : List Row → ℕ → Option ℕ → Option ℕ → Type 0
@@ -96,6 +104,59 @@ AreNumbers values blocks cpus tables = ((first_of (codes "size") values ≡ None
     ⊎ ((first_of (codes "blocks") values ≡ None) × IsSize (first_of (codes "size") values) blocks
     × MayBeNumber (first_of (codes "cpus") values) cpus × MayBeNumber (first_of (codes "tables") values) tables)
 
+-- ---- changes
+
+-- the number of a CPU is 0 where none is written
+abbrev pub IsCpu : Option Text → ℕ → Type 0
+IsCpu None cpu = cpu ≡ 0
+IsCpu (Some text) cpu = IsNumber (Some text) cpu
+
+-- a mode is written
+abbrev pub WritesMode : Option Text → ℕ → Type 0
+WritesMode None mode = ⊥
+WritesMode (Some text) mode = IsMode text mode
+
+-- an owner is written, and a group where there is one
+abbrev pub WritesOwners : Option Text → ℕ → Option ℕ → Type 0
+WritesOwners None owner group = ⊥
+WritesOwners (Some text) owner group = AreOwners text owner group
+
+-- the name of the command of a change
+abbrev pub change_command : NamedChange → Text
+change_command (Mkdir path) = codes "mkdir"
+change_command (Rm path) = codes "rm"
+change_command (Rmdir path) = codes "rmdir"
+change_command (Mv old new) = codes "mv"
+change_command (Ln old new) = codes "ln"
+change_command (Truncate path size) = codes "truncate"
+change_command (Chmod path mode) = codes "chmod"
+change_command (Chown path owner group) = codes "chown"
+change_command (Put host path) = codes "put"
+
+-- a change has the values that are written
+abbrev pub HasChange : List Row → NamedChange → Type 0
+HasChange values (Mkdir path) = first_of (codes "path") values ≡ Some path.now
+HasChange values (Rm path) = first_of (codes "path") values ≡ Some path.now
+HasChange values (Rmdir path) = first_of (codes "path") values ≡ Some path.now
+HasChange values (Mv old new) = (first_of (codes "old") values ≡ Some old.now) × (first_of (codes "new") values ≡ Some new.now)
+HasChange values (Ln old new) = (first_of (codes "old") values ≡ Some old.now) × (first_of (codes "new") values ≡ Some new.now)
+HasChange values (Truncate path size) = (first_of (codes "path") values ≡ Some path.now) × IsNumber (first_of (codes "size") values) size
+HasChange values (Chmod path mode) = (first_of (codes "path") values ≡ Some path.now) × WritesMode (first_of (codes "mode") values) mode
+HasChange values (Chown path owner group) = (first_of (codes "path") values ≡ Some path.now) × WritesOwners (first_of (codes "owner") values) owner group
+HasChange values (Put host path) = (first_of (codes "host") values ≡ Some host.now) × (first_of (codes "path") values ≡ Some path.now)
+
+-- this command, with the values written for its arguments, asks for this change
+abbrev pub AsksChange : Text → List Row → NamedChange → Type 0
+AsksChange command values change = (command ≡ change_command change) × HasChange values change
+
+-- ---- commands
+
+-- the name of the command by which something is shown
+abbrev pub view_command : ViewValue → Text
+view_command (Logs image) = codes "log"
+view_command (Block image block hex) = codes "block"
+view_command (Usage image which) = codes "du"
+
 -- the name of the command that is to be done
 abbrev pub command_of : Todo → Text
 command_of Version = []
@@ -104,11 +165,14 @@ command_of (Shell image force) = codes "shell"
 command_of (Check paths workers output) = codes "check"
 command_of (Mkfs image blocks cpus tables force) = codes "mkfs"
 command_of (Clean image path) = codes "clean"
-command_of (Ls image which) = codes "ls"
+command_of (Change image change cpu time) = change_command change
+command_of (Recover image dry_run) = codes "recover"
+command_of (Ls image which long) = codes "ls"
 command_of (Stat image which) = codes "stat"
 command_of (Cat image which) = codes "cat"
 command_of (Tar image which lost) = codes "tar"
 command_of (Log image which) = codes "log"
+command_of (View view) = view_command view
 command_of (Explain class) = codes "explain"
 command_of (Map image svg force) = codes "map"
 
@@ -123,6 +187,15 @@ abbrev pub checked_path : Todo → Option Text
 checked_path (Check paths workers output) = only_path paths.items
 checked_path _ = None
 
+-- what is to be shown has the values that are written for a command's arguments
+abbrev pub HasView : List Row → ViewValue → Type 0
+HasView values (Logs image) = (first_of (codes "image") values ≡ Some image.now) × (first_of (codes "path") values ≡ None) × IsGiven (codes "all") values
+HasView values (Block image block hex) = (first_of (codes "image") values ≡ Some image.now)
+    × IsNumber (first_of (codes "block") values) block × (IsTrue hex ↔ IsGiven (codes "hex") values)
+-- the root, where none is written
+HasView values (Usage image which) = (first_of (codes "image") values ≡ Some image.now)
+    × Names (unwrap_or (first_of (codes "path") values) (codes "/")) which
+
 -- what is to be done has the values that are written for a command's arguments
 abbrev pub HasValues : List Row → Todo → Type 0
 HasValues values Version = ⊥
@@ -136,14 +209,19 @@ HasValues values (Check paths workers output) = (all_of (codes "path") values �
 HasValues values (Mkfs image blocks cpus tables force) = (first_of (codes "image") values ≡ Some image.now)
     × AreNumbers values blocks cpus tables × (IsTrue force ↔ IsGiven (codes "force") values)
 HasValues values (Clean image path) = (first_of (codes "image") values ≡ Some image.now) × (first_of (codes "path") values ≡ option_map (λ text. text.now) path)
+HasValues values (Change image change cpu time) = (first_of (codes "image") values ≡ Some image.now) × HasChange values change
+    × IsCpu (first_of (codes "cpu") values) cpu × MayBeNumber (first_of (codes "time") values) time
+HasValues values (Recover image dry_run) = (first_of (codes "image") values ≡ Some image.now) × (IsTrue dry_run ↔ IsGiven (codes "dry-run") values)
 -- the root, where none is written
-HasValues values (Ls image which) = (first_of (codes "image") values ≡ Some image.now)
-    × Names (unwrap_or (first_of (codes "path") values) (codes "/")) which
+HasValues values (Ls image which long) = (first_of (codes "image") values ≡ Some image.now)
+    × Names (unwrap_or (first_of (codes "path") values) (codes "/")) which × (IsTrue long ↔ IsGiven (codes "long") values)
 HasValues values (Stat image which) = (first_of (codes "image") values ≡ Some image.now) × IsNamed (first_of (codes "path") values) which
 HasValues values (Cat image which) = (first_of (codes "image") values ≡ Some image.now) × IsNamed (first_of (codes "path") values) which
 HasValues values (Tar image which lost) = (first_of (codes "image") values ≡ Some image.now)
     × Names (unwrap_or (first_of (codes "path") values) (codes "/")) which × (IsTrue lost ↔ IsGiven (codes "lost-found") values)
 HasValues values (Log image which) = (first_of (codes "image") values ≡ Some image.now) × IsNamed (first_of (codes "path") values) which
+    × (¬ IsGiven (codes "all") values)
+HasValues values (View view) = HasView values view
 HasValues values (Explain class) = first_of (codes "class") values ≡ Some class.now
 HasValues values (Map image svg force) = (first_of (codes "image") values ≡ Some image.now)
     × (first_of (codes "svg") values ≡ option_map (λ text. text.now) svg) × (IsTrue force ↔ IsGiven (codes "force") values)

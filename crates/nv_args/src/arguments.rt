@@ -2,7 +2,7 @@
 
 ghost use Rattle.std.specs.Prelude.{◌≡◌, ◌^◌, ◌-◌, false, pos};
 ghost use Rattle.clap.specs.Walk.{rule_of};
-ghost use Rattle.nv_args.specs.CommandLine.{place_rule, needed_rule, several_rule, option_rule, number_rule, flag_rule, threads_rule};
+ghost use Rattle.nv_args.specs.CommandLine.{place_rule, needed_rule, several_rule, option_rule, number_rule, flag_rule, letter_rule, needed_number_rule, threads_rule};
 ghost use Rattle.nv_args.specs.Tables.{rule_by};
 
 use clap::builder::ValueParser;
@@ -22,8 +22,12 @@ pub(crate) enum Written {
     Option,
     /// `--NAME`.
     Flag,
+    /// `--NAME`, or this letter behind one `-`.
+    LetterFlag(char),
     /// `--NAME N`.
     Number,
+    /// A number, by its place.
+    NeededNumber,
     /// `--NAME N`, where N is a number of threads.
     Workers,
 }
@@ -47,7 +51,9 @@ pub(crate) fn arg_of<'a>(alloc: Global, argument: &Argument<'a>) -> Arg<'a>
         Written::Several => several(alloc, name, help),
         Written::Option => option(alloc, name, help),
         Written::Flag => flag(alloc, name, help),
+        Written::LetterFlag(letter) => letter_flag(alloc, name, letter, help),
         Written::Number => number(alloc, name, help),
+        Written::NeededNumber => needed_number(alloc, name, help),
         Written::Workers => workers(alloc, name, help),
     }
 }
@@ -96,6 +102,22 @@ fn flag<'a>(alloc: Global, name: &'a str, help: &'a str) -> Arg<'a>
         .long(name)
         .help(help)
         .action(ArgAction::SetTrue)
+}
+
+/// `--NAME`, or a letter behind one `-`.
+fn letter_flag<'a>(alloc: Global, name: &'a str, letter: char, help: &'a str) -> Arg<'a>
+    ensures rule { rule_of result ≡ letter_rule letter name.entry.now }
+    ensures local { result.global ≡ false }
+{
+    flag(alloc, name, help).short(letter)
+}
+
+/// A number that is written by its place.
+fn needed_number<'a>(alloc: Global, name: &'a str, help: &'a str) -> Arg<'a>
+    ensures rule { rule_of result ≡ needed_number_rule name.entry.now }
+    ensures local { result.global ≡ false }
+{
+    needed(alloc, name, help).value_parser(number_parser())
 }
 
 /// `--NAME N`.

@@ -4,10 +4,11 @@ ghost use Rattle.std.specs.Prelude.{◌≡◌, ◌∷◌, IfOk, map};
 ghost use Rattle.std.specs.List.{AllByRecursion};
 ghost use Rattle.clap.specs.Simple.{app_of};
 ghost use Rattle.clap.specs.Walk.{rule_of};
-ghost use Rattle.nv_args.specs.CommandLine.{bare_app, check_app, image_apps, nova_app, run_app, shell_app};
+ghost use Rattle.nv_args.specs.CommandLine.{bare_app, change_apps, check_app, image_apps, nova_app, run_app, shell_app, with_commands};
 ghost use Rattle.nv_args.specs.Tables.{HasLocals, IsLocal, app_by, rule_by};
 
 use crate::arguments::{Argument, Written, arg_of};
+use crate::change_forms::CHANGES;
 use clap::{Arg, Command};
 use std::alloc::{AllocError, Global};
 
@@ -36,7 +37,7 @@ Of several images it is the greatest one.
 
 docs/SCRIPT.md has the lines of a report, docs/FAULTS.md what each fault means.";
 
-const NOTES: &str = "\
+pub(crate) const NOTES: &str = "\
 Exit status:
   0  done
   2  refused, or failed";
@@ -47,15 +48,15 @@ const SAVE_FORCE: &str =
     "Put the region in the place of a file that is there; over the one of --image that isn't needed";
 
 /// A command, what a user reads of it, and its arguments.
-struct CommandForm<'a> {
-    name: &'a str,
-    about: &'a str,
-    notes: &'a str,
-    arguments: &'a [Argument<'a>],
+pub(crate) struct CommandForm<'a> {
+    pub(crate) name: &'a str,
+    pub(crate) about: &'a str,
+    pub(crate) notes: &'a str,
+    pub(crate) arguments: &'a [Argument<'a>],
 }
 
 // In the order in which help lists them.
-const COMMANDS: [CommandForm<'static>; 12] = [
+const COMMANDS: [CommandForm<'static>; 14] = [
     CommandForm {
         name: "run",
         about: "Runs a script and prints its answers",
@@ -140,6 +141,11 @@ const COMMANDS: [CommandForm<'static>; 12] = [
                 name: "explain",
                 help: "Say below the report of one image, of each fault, what is wrong with which word",
             },
+            Argument {
+                written: Written::Flag,
+                name: "journal",
+                help: "Print above the report of one image what its journals would roll back",
+            },
         ],
     },
     CommandForm {
@@ -211,6 +217,11 @@ const COMMANDS: [CommandForm<'static>; 12] = [
                 name: "path",
                 help: "The path or the number of the directory; / if left out",
             },
+            Argument {
+                written: Written::LetterFlag('l'),
+                name: "long",
+                help: "Print the attributes of each inode before its name",
+            },
         ],
     },
     CommandForm {
@@ -248,6 +259,23 @@ const COMMANDS: [CommandForm<'static>; 12] = [
         ],
     },
     CommandForm {
+        name: "du",
+        about: "Counts the blocks that a file or directory takes, with all that is below",
+        notes: NOTES,
+        arguments: &[
+            Argument {
+                written: Written::Needed,
+                name: "image",
+                help: IMAGE,
+            },
+            Argument {
+                written: Written::ByPlace,
+                name: "path",
+                help: "The path or the number of what is counted; / if left out",
+            },
+        ],
+    },
+    CommandForm {
         name: "tar",
         about: "Writes the files of an image as a tar archive to standard output",
         notes: NOTES,
@@ -280,9 +308,36 @@ const COMMANDS: [CommandForm<'static>; 12] = [
                 help: IMAGE,
             },
             Argument {
-                written: Written::Needed,
+                written: Written::ByPlace,
                 name: "path",
                 help: "The path in the image, or a number of an inode: 12 or <12>",
+            },
+            Argument {
+                written: Written::Flag,
+                name: "all",
+                help: "Print the logs of all inodes in use, in place of one",
+            },
+        ],
+    },
+    CommandForm {
+        name: "block",
+        about: "Says what a block of an image is, and which files it belongs to",
+        notes: NOTES,
+        arguments: &[
+            Argument {
+                written: Written::Needed,
+                name: "image",
+                help: IMAGE,
+            },
+            Argument {
+                written: Written::NeededNumber,
+                name: "block",
+                help: "The number of the block",
+            },
+            Argument {
+                written: Written::Flag,
+                name: "hex",
+                help: "Print its bytes too",
             },
         ],
     },
@@ -325,6 +380,13 @@ fn forms() -> &'static [CommandForm<'static>]
     ensures { map app_by result.now ≡ run_app ∷ shell_app ∷ check_app ∷ image_apps }
 {
     &COMMANDS
+}
+
+// The table of changes, with what its forms stand for.
+fn change_forms() -> &'static [CommandForm<'static>]
+    ensures { map app_by result.now ≡ change_apps }
+{
+    &CHANGES
 }
 
 // The arguments for `clap`.
@@ -377,10 +439,18 @@ fn bare<'a>(alloc: Global) -> Result<Command<'a>, AllocError>
         .bin_name("nova")
 }
 
+// The program with the commands that change no tree.
+fn without_changes<'a>(alloc: Global) -> Result<Command<'a>, AllocError>
+    ensures { IfOk result (λ c. app_of c ≡ with_commands bare_app (run_app ∷ shell_app ∷ check_app ∷ image_apps)) }
+{
+    let commands = commands_of(alloc, forms())?;
+    bare(alloc)?.subcommands(commands)
+}
+
 /// The program's command line. Fails where memory is refused.
 pub(crate) fn nova<'a>(alloc: Global) -> Result<Command<'a>, AllocError>
     ensures { IfOk result (λ c. app_of c ≡ nova_app) }
 {
-    let commands = commands_of(alloc, forms())?;
-    bare(alloc)?.subcommands(commands)
+    let changes = commands_of(alloc, change_forms())?;
+    without_changes(alloc)?.subcommands(changes)
 }

@@ -6,21 +6,23 @@ ghost use Rattle.clap.specs.Simple.{subcommand_rows_of};
 ghost use Rattle.clap.specs.Matches.{found_of};
 ghost use Rattle.nv_args.specs.Words.{AreNumbers, AreWorkers, AskVersion, Asks, CommandSays, IsBetween, IsGiven, IsNumber, IsOutput, IsVersion, MayBeNumber, Names, Says, SizeOf, SpellsNumber, WordsSay, WantsMemory};
 
+use crate::changing::{change_of, recover_of};
 use crate::command_line::nova;
 use crate::sizes::size_of;
 use crate::todo::{CheckOutput, Todo, Which};
 use crate::usage::{Cause, Usage};
+use crate::views::{block_of, du_of, log_of};
 use clap::ArgMatches;
 use std::alloc::{AllocError, Global};
 
 // The text that is written for the argument of this name.
-fn text_of<'a>(values: &ArgMatches<'a>, name: &str) -> Option<&'a str>
+pub(crate) fn text_of<'a>(values: &ArgMatches<'a>, name: &str) -> Option<&'a str>
     ensures { first_of name.now (rows_of (found_of values.now)) ≡ option_map (λ text. text.now) result }
 {
     values.get_str(name)
 }
 
-fn is_given(values: &ArgMatches<'_>, name: &str) -> bool
+pub(crate) fn is_given(values: &ArgMatches<'_>, name: &str) -> bool
     ensures { IsTrue result ↔ IsGiven name.now (rows_of (found_of values.now)) }
 {
     match text_of(values, name) {
@@ -60,7 +62,7 @@ pub(crate) fn number_of(text: Option<&str>) -> Option<u64>
 }
 
 // The inode that a word names.
-fn which_of<'a>(word: &'a str) -> Which<'a>
+pub(crate) fn which_of<'a>(word: &'a str) -> Which<'a>
     ensures { Names word.entry.now result }
 {
     match number_in(word) {
@@ -107,12 +109,14 @@ fn output_of(values: &ArgMatches<'_>, images: usize) -> Option<CheckOutput>
     let only_faults = is_given(values, "only-faults");
     let json = is_given(values, "json");
     let explain = is_given(values, "explain");
-    match (summary, only_faults, json, explain) {
-        (false, false, false, false) => Some(CheckOutput::Report),
-        (true, false, false, false) => Some(CheckOutput::Summary),
-        (false, true, false, false) => Some(CheckOutput::OnlyFaults),
-        (false, false, true, false) => Some(CheckOutput::Json),
-        (false, false, false, true) if images == 1 => Some(CheckOutput::Explained),
+    let journal = is_given(values, "journal");
+    match (summary, only_faults, json, explain, journal) {
+        (false, false, false, false, false) => Some(CheckOutput::Report),
+        (true, false, false, false, false) => Some(CheckOutput::Summary),
+        (false, true, false, false, false) => Some(CheckOutput::OnlyFaults),
+        (false, false, true, false, false) => Some(CheckOutput::Json),
+        (false, false, false, true, false) if images == 1 => Some(CheckOutput::Explained),
+        (false, false, false, false, true) if images == 1 => Some(CheckOutput::Journal),
         _ => None,
     }
 }
@@ -199,8 +203,10 @@ fn numbers_of(values: &ArgMatches<'_>) -> Option<Numbers>
 
 // Those beside so many blocks.
 fn all_numbers(values: &ArgMatches<'_>, blocks: &str) -> Option<Numbers>
-    ensures some { IfSome result (λ found. IsNumber (Some blocks.now) found.blocks × ((c : ℕ) × (found.cpus ≡ Some c) × IsNumber (first_of (codes "cpus") (rows_of (found_of values.now))) c) × ((t : ℕ) × (found.tables ≡ Some t) × IsNumber (first_of (codes "tables") (rows_of (found_of values.now))) t)) }
-    ensures none { IsNone result → (number c t : ℕ) → IsNumber (Some blocks.now) number → IsNumber (first_of (codes "cpus") (rows_of (found_of values.now))) c → ¬ IsNumber (first_of (codes "tables") (rows_of (found_of values.now))) t }
+    ensures some { IfSome result (λ found. IsNumber (Some blocks.now) found.blocks × ((c : ℕ) × (found.cpus ≡ Some c) × IsNumber (first_of (codes "cpus") (rows_of (found_of values.now))) c)
+        × ((t : ℕ) × (found.tables ≡ Some t) × IsNumber (first_of (codes "tables") (rows_of (found_of values.now))) t)) }
+    ensures none { IsNone result → (number c t : ℕ) → IsNumber (Some blocks.now) number → IsNumber (first_of (codes "cpus") (rows_of (found_of values.now))) c
+        → ¬ IsNumber (first_of (codes "tables") (rows_of (found_of values.now))) t }
 {
     let blocks = number_of(Some(blocks))?;
     let cpus = number_of(text_of(values, "cpus"))?;
@@ -214,8 +220,10 @@ fn all_numbers(values: &ArgMatches<'_>, blocks: &str) -> Option<Numbers>
 
 // Those beside a size.
 fn numbers_by_size(values: &ArgMatches<'_>, size: &str) -> Option<Numbers>
-    ensures some { IfSome result (λ found. SizeOf size.now found.blocks × MayBeNumber (first_of (codes "cpus") (rows_of (found_of values.now))) found.cpus × MayBeNumber (first_of (codes "tables") (rows_of (found_of values.now))) found.tables) }
-    ensures none { IsNone result → (blocks : ℕ) (cpus tables : Option ℕ) → SizeOf size.now blocks → MayBeNumber (first_of (codes "cpus") (rows_of (found_of values.now))) cpus → ¬ MayBeNumber (first_of (codes "tables") (rows_of (found_of values.now))) tables }
+    ensures some { IfSome result (λ found. SizeOf size.now found.blocks × MayBeNumber (first_of (codes "cpus") (rows_of (found_of values.now))) found.cpus
+        × MayBeNumber (first_of (codes "tables") (rows_of (found_of values.now))) found.tables) }
+    ensures none { IsNone result → (blocks : ℕ) (cpus tables : Option ℕ) → SizeOf size.now blocks → MayBeNumber (first_of (codes "cpus") (rows_of (found_of values.now))) cpus
+        → ¬ MayBeNumber (first_of (codes "tables") (rows_of (found_of values.now))) tables }
 {
     let blocks = size_of(size)?;
     let cpus = may_be_number(text_of(values, "cpus"))?;
@@ -228,7 +236,7 @@ fn numbers_by_size(values: &ArgMatches<'_>, size: &str) -> Option<Numbers>
 }
 
 // The number that is written, where one is; nothing where what is written is none.
-fn may_be_number(text: Option<&str>) -> Option<Option<u64>>
+pub(crate) fn may_be_number(text: Option<&str>) -> Option<Option<u64>>
     ensures some { IfSome result (MayBeNumber (option_map (λ text. text.now) text.entry)) }
     ensures none { IsNone result → (number : Option ℕ) → ¬ MayBeNumber (option_map (λ text. text.now) text.entry) number }
 {
@@ -253,7 +261,8 @@ fn ls_of<'a>(values: &ArgMatches<'a>) -> Option<Todo<'a>>
 {
     let image = text_of(values, "image")?;
     let which = which_of(text_of(values, "path").unwrap_or("/"));
-    Some(Todo::Ls { image, which })
+    let long = is_given(values, "long");
+    Some(Todo::Ls { image, which, long })
 }
 
 fn stat_of<'a>(values: &ArgMatches<'a>) -> Option<Todo<'a>>
@@ -283,15 +292,6 @@ fn tar_of<'a>(values: &ArgMatches<'a>) -> Option<Todo<'a>>
     let which = which_of(path);
     let lost = is_given(values, "lost-found");
     Some(Todo::Tar { image, which, lost })
-}
-
-fn log_of<'a>(values: &ArgMatches<'a>) -> Option<Todo<'a>>
-    ensures some { IfSome result (λ todo. Asks (codes "log") (rows_of (found_of values.now)) todo) }
-    ensures none { IsNone result → (todo : Todo) → ¬ Asks (codes "log") (rows_of (found_of values.now)) todo }
-{
-    let image = text_of(values, "image")?;
-    let which = which_of(text_of(values, "path")?);
-    Some(Todo::Log { image, which })
 }
 
 fn explain_of<'a>(values: &ArgMatches<'a>) -> Option<Todo<'a>>
@@ -336,11 +336,14 @@ fn command_of<'a>(name: &str, values: &ArgMatches<'a>) -> Option<Todo<'a>>
         "ls" => ls_of(values),
         "stat" => stat_of(values),
         "cat" => cat_of(values),
+        "du" => du_of(values),
         "tar" => tar_of(values),
         "log" => log_of(values),
+        "block" => block_of(values),
         "explain" => explain_of(values),
         "map" => map_of(values),
-        _ => None,
+        "recover" => recover_of(values),
+        _ => change_of(name, values),
     }
 }
 
@@ -388,29 +391,34 @@ fn read_command<'a>(alloc: Global, words: &'a [&'a str]) -> Result<Todo<'a>, Usa
         });
     };
     match command.try_get_matches_from(words) {
-        Ok(matches) => asked(todo_of(alloc, &matches), asks_for_image(&matches)),
+        Ok(matches) => asked(todo_of(alloc, &matches), cause_of(&matches)),
         Err(error) => Err(Usage {
             cause: Cause::Words(error),
         }),
     }
 }
 
-// Whether the words are those of a new image.
-fn asks_for_image(matches: &ArgMatches<'_>) -> bool {
-    matches!(matches.subcommand(), Some(("mkfs", _)))
+// Why the words of a command that pass ask for nothing, where they do.
+fn cause_of(matches: &ArgMatches<'_>) -> Cause {
+    match matches.subcommand() {
+        Some(("check", _)) => Cause::TwoOutputs,
+        Some(("mkfs", _)) => Cause::NoSize,
+        Some(("log", _)) => Cause::NoLog,
+        _ => Cause::NoChange,
+    }
 }
 
-// What words that pass ask for. Of these only a check that is to print several things, or to explain several images, and a new
-// image of no size ask for nothing.
-fn asked(found: Result<Option<Todo<'_>>, AllocError>, is_image: bool) -> Result<Todo<'_>, Usage>
+// What words that pass ask for. Of these only a check that is to print several things, or to explain several images, a new
+// image of no size, a log of no inode, and a change by what can't be read ask for nothing.
+fn asked(found: Result<Option<Todo<'_>>, AllocError>, cause: Cause) -> Result<Todo<'_>, Usage>
     ensures ok { IfOk result (λ todo. found.entry ≡ Ok (Some todo)) }
     ensures err { IfErr result (λ usage. (found.entry ≡ Ok None) ⊎ WantsMemory usage) }
 {
-    let cause = match found {
-        Ok(Some(todo)) => return Ok(todo),
-        Ok(None) if is_image => Cause::NoSize,
-        Ok(None) => Cause::TwoOutputs,
-        Err(_) => Cause::NoMemory,
-    };
-    Err(Usage { cause })
+    match found {
+        Ok(Some(todo)) => Ok(todo),
+        Ok(None) => Err(Usage { cause }),
+        Err(_) => Err(Usage {
+            cause: Cause::NoMemory,
+        }),
+    }
 }

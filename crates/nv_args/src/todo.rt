@@ -1,5 +1,8 @@
 //! What the program can be asked to do.
 
+use crate::change::NamedChange;
+use crate::views::View;
+
 /// What the program is to do.
 #[derive(Drop, PartialEq, Eq)]
 pub enum Todo<'a> {
@@ -42,10 +45,23 @@ pub enum Todo<'a> {
         image: &'a str,
         path: Option<&'a str>,
     },
-    /// List a directory of an image.
+    /// Change an image by one call, in the name of this CPU, and at this time or, without one, now.
+    Change {
+        image: &'a str,
+        change: NamedChange<'a>,
+        cpu: u64,
+        time: Option<u64>,
+    },
+    /// Tell the pending records of the journals of an image, and roll them back unless it is a dry run.
+    Recover {
+        image: &'a str,
+        dry_run: bool,
+    },
+    /// List a directory of an image, with the numbers of each inode if `long` says so.
     Ls {
         image: &'a str,
         which: Which<'a>,
+        long: bool,
     },
     /// Tell the attributes of an inode of an image.
     Stat {
@@ -68,6 +84,8 @@ pub enum Todo<'a> {
         image: &'a str,
         which: Which<'a>,
     },
+    /// Show something of an image that isn't what one inode holds.
+    View(View<'a>),
     /// Tell what a class of faults means.
     Explain {
         class: &'a str,
@@ -99,7 +117,7 @@ impl<'a> Todo<'a> {
 }
 
 /// An inode of an image, as a word names it.
-#[derive(Clone, Copy, Debug, PartialEq, Eq)]
+#[derive(Clone, Copy, PartialEq, Eq)]
 pub enum Which<'a> {
     /// The one that a path leads to: a word that is no number.
     Path(&'a str),
@@ -120,4 +138,6 @@ pub enum CheckOutput {
     Json,
     /// The whole report, and of each fault what is wrong with which word.
     Explained,
+    /// The whole report, and above it the pending records of the journals.
+    Journal,
 }

@@ -8,7 +8,7 @@ use std::fmt;
 use std::marker::Model;
 
 const TWO_OUTPUTS: &str = "\
-error: only one of the arguments '--summary', '--only-faults', '--json' and '--explain' can be used, and '--explain' with one path alone
+error: only one of the arguments '--summary', '--only-faults', '--json', '--explain' and '--journal' can be used, and '--explain' and '--journal' with one path alone
 
 Usage: nova check [OPTIONS] <path>
 
@@ -23,8 +23,26 @@ Usage: nova mkfs [OPTIONS] <image>
 For more information, try '--help'.
 ";
 
+const NO_CHANGE: &str = "\
+error: a size is a number of bytes, a mode an octal number up to 7777, an owner a number or two with a colon, such as 1000:100
+
+Usage: nova truncate <image> <size> <path>
+       nova chmod <image> <mode> <path>
+       nova chown <image> <owner>[:<group>] <path>
+
+For more information, try '--help'.
+";
+
+const NO_LOG: &str = "\
+error: either '[path]' or '--all' is needed, and not both
+
+Usage: nova log [OPTIONS] <image> [path]
+
+For more information, try '--help'.
+";
+
 /// Why the words ask for nothing.
-#[derive(Debug, Drop)]
+#[derive(Drop)]
 pub(crate) enum Cause {
     /// They are no words of the command line, or they ask for help.
     Words(Error),
@@ -32,12 +50,16 @@ pub(crate) enum Cause {
     TwoOutputs,
     /// An image is to be made of no size, of two, or of one that can't be read.
     NoSize,
+    /// A number can't be read that an image is to be changed by.
+    NoChange,
+    /// Neither an inode nor all is asked for, or both.
+    NoLog,
     /// Memory was refused before there was a text.
     NoMemory,
 }
 
 /// Why the words ask for nothing, or the help that they ask for. Its text is for the user, and ends its last line.
-#[derive(Debug, Drop)]
+#[derive(Drop)]
 pub struct Usage {
     pub(crate) cause: Cause,
 }
@@ -57,7 +79,7 @@ impl Usage {
     {
         match &self.cause {
             Cause::Words(error) => error.kind() == ErrorKind::OutOfMemory,
-            Cause::TwoOutputs | Cause::NoSize => false,
+            Cause::TwoOutputs | Cause::NoSize | Cause::NoChange | Cause::NoLog => false,
             Cause::NoMemory => true,
         }
     }
@@ -69,6 +91,8 @@ impl fmt::Display for Usage {
             Cause::Words(error) => write!(f, "{error}"),
             Cause::TwoOutputs => f.write_str(TWO_OUTPUTS),
             Cause::NoSize => f.write_str(NO_SIZE),
+            Cause::NoChange => f.write_str(NO_CHANGE),
+            Cause::NoLog => f.write_str(NO_LOG),
             Cause::NoMemory => writeln!(f, "out of memory"),
         }
     }

@@ -42,7 +42,8 @@ impl NewBytes<'_> {
     pub(crate) fn read(&self, x: u64, words: &mut [u64])
         requires from { self.now.offset ≤ x }
         requires to { x + 8 * length words.old ≤ self.now.offset + length (data_bytes self.now.content) }
-        ensures read { (j k : ℕ) (old : ℕ → ℕ) → j < length words.old → k < 8 → byte_of_word (get_or words.new j 0) k ≡ byte_after self.now.offset (data_bytes self.now.content) self.now.size old (x + 8 * j + k) }
+        ensures read { (j k : ℕ) (old : ℕ → ℕ) → j < length words.old → k < 8
+            → byte_of_word (get_or words.new j 0) k ≡ byte_after self.now.offset (data_bytes self.now.content) self.now.size old (x + 8 * j + k) }
         ensures as_long { length words.new ≡ length words.old }
     {
         self.content.read(x - self.offset, words);

@@ -64,7 +64,8 @@ fn store_run<P: Pmem>(
     requires apart { (p b : ℕ) → block_at index.now p ≡ Some b → InRun run b → ⊥ }
     requires pages { page + run.count ≤ 2 ^ 32 }
     requires small { change.now.offset + length (data_bytes change.now.content) ≤ 2 ^ 62 }
-    ensures stored { OnOk result ((k : ℕ) → k < run.count → HoldsPage (P.region memory.new) (byte_after change.now.offset (data_bytes change.now.content) change.now.size (file_byte (P.region memory.old) index.now)) (run.start + k) (page + k)) }
+    ensures stored { OnOk result ((k : ℕ) → k < run.count
+        → HoldsPage (P.region memory.new) (byte_after change.now.offset (data_bytes change.now.content) change.now.size (file_byte (P.region memory.old) index.now)) (run.start + k) (page + k)) }
     ensures wrote { StoresOnly (InBlocks (InRun run)) (P.region memory.old) (P.region memory.new) (P.may_hold memory.old) (P.may_hold memory.new) }
     ensures stopped { (P.fuse memory.old).has_burnt ≡ false → is_err result ≡ (P.fuse memory.new).has_burnt }
     ensures keeps_fuse { KeepsFuse (λ limit. size (P.region memory.old) ≤ limit) (P.fuse memory.old) (P.fuse memory.new) }
@@ -182,7 +183,8 @@ fn next_line<P: Pmem>(memory: &P, block: Option<u64>, x: u64, change: &NewBytes)
     requires whole { x % 8 ≡ 0 }
     requires place { x + 64 ≤ 2 ^ 62 }
     requires small { change.now.offset + length (data_bytes change.now.content) ≤ 2 ^ 62 }
-    ensures { (j k : ℕ) → j < 8 → k < 8 → byte_of_word (get_or result j 0) k ≡ byte_after change.now.offset (data_bytes change.now.content) change.now.size (byte_in (P.region memory.now) block) (x + 8 * j + k) }
+    ensures { (j k : ℕ) → j < 8 → k < 8
+        → byte_of_word (get_or result j 0) k ≡ byte_after change.now.offset (data_bytes change.now.content) change.now.size (byte_in (P.region memory.now) block) (x + 8 * j + k) }
 {
     if change.covers(x, LINE_SIZE) {
         change.line(x)
@@ -197,7 +199,8 @@ fn mixed_line<P: Pmem>(memory: &P, block: Option<u64>, x: u64, change: &NewBytes
     requires whole { x % 8 ≡ 0 }
     requires place { x + 64 ≤ 2 ^ 62 }
     requires small { change.now.offset + length (data_bytes change.now.content) ≤ 2 ^ 62 }
-    ensures { (j k : ℕ) → j < 8 → k < 8 → byte_of_word (get_or result j 0) k ≡ byte_after change.now.offset (data_bytes change.now.content) change.now.size (byte_in (P.region memory.now) block) (x + 8 * j + k) }
+    ensures { (j k : ℕ) → j < 8 → k < 8
+        → byte_of_word (get_or result j 0) k ≡ byte_after change.now.offset (data_bytes change.now.content) change.now.size (byte_in (P.region memory.now) block) (x + 8 * j + k) }
 {
     let mut line = [0; 8];
     for j in 0..8 {

@@ -17,7 +17,7 @@ use Rattle.nv_alloc.specs.FreeValue.{FreeLists}
 use Rattle.nv_radix.specs.Pages.{block_at}
 use Rattle.nv_names.specs.Names.{Names, name_at}
 use Rattle.nv_scan.specs.declared.piece.Row.{Row}
-use Rattle.nv_held.specs.nv_scan.Dead.{IsFirstDead}
+use Rattle.nv_deadpages.specs.Dead.{IsFirstDead}
 use Rattle.nv_held.specs.nv_check.Cross.{row_key}
 use Rattle.nv_held.specs.nv_named.Read.{row_of}
 use Rattle.nv_held.specs.Held.{Held, Store, with_inode}

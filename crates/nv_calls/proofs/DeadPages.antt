@@ -11,9 +11,9 @@ use Rattle.nv_super.specs.declared.faults.Fault.{Fault}
 use Rattle.nv_alloc.specs.FreeValue.{FreeLists}
 use Rattle.nv_logpage.specs.declared.found.Placed.{Placed}
 use Rattle.nv_logpage.specs.Unlinked.{without_page}
-use Rattle.nv_scan.specs.Dead.{IsFirstDead}
-use Rattle.nv_scan.specs.InTurn.{AreDeadPages, GoInTurn}
-use Rattle.nv_scan.specs.declared.in_turn.DeadPages.{DeadPages}
+use Rattle.nv_deadpages.specs.Dead.{IsFirstDead}
+use Rattle.nv_deadpages.specs.InTurn.{AreDeadPages, GoInTurn}
+use Rattle.nv_deadpages.specs.declared.in_turn.DeadPages.{DeadPages}
 use Rattle.nv_scan.specs.declared.piece.Row.{Row}
 use Rattle.nv_held.specs.Held.{Held, Store}
 use Rattle.nv_held.specs.Mounted.{ShowsSound}

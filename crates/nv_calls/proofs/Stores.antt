@@ -13,7 +13,7 @@ use Rattle.nv_super.proofs.Members.{stands}
 use Rattle.nv_scan.specs.declared.piece.Row.{Row}
 use Rattle.nv_rows.specs.Rows.{place_in, row_of}
 use Rattle.nv_rows.proofs.Places.{at_place, numbered}
-use Rattle.nv_held.specs.nv_scan.Dead.{IsFirstDead}
+use Rattle.nv_deadpages.specs.Dead.{IsFirstDead}
 use Rattle.nv_held.specs.Held.{Held, Store}
 use Rattle.nv_held.specs.Mounted.{IsMounted, ShowsSound}
 use Rattle.nv_steps.specs.Steps.{ShowsRow}

@@ -60,7 +60,8 @@ pub record CutsAt (R S : Region) (s : Super) (free mid : FreeLists) (cpu : ℕ) 
   pub put : news ≡ remove (set rows place now) target
 
 -- what is left of a step when what it gave back is left out
-abbrev pub cut_of : {R S : Region} {s : Super} {free after : FreeLists} {cpu : ℕ} {rows news : List Row} {place target : ℕ} {name : List ℕ} {time : ℕ} → (step : RemovesAt R S s free after cpu rows news place target name time) → CutsAt R S s free step.mid cpu rows news place target name time
+abbrev pub cut_of : {R S : Region} {s : Super} {free after : FreeLists} {cpu : ℕ} {rows news : List Row} {place target : ℕ} {name : List ℕ} {time : ℕ}
+    → (step : RemovesAt R S s free after cpu rows news place target name time) → CutsAt R S s free step.mid cpu rows news place target name time
 cut_of step = record { row = step.row; gone = step.gone; now = step.now; at = step.at; gone_at = step.gone_at; step = step.step; put = step.put }
 
 -- where the file has other names, one name and one link of it went; else it went with the name

@@ -2,7 +2,7 @@
 use Rattle.std.specs.Prelude.{◌≡◌, ℕ, [], ◌∷◌, Option, Some, None, get_or, is_none}
 use Rattle.nv_region.specs.Region.{Region}
 use Rattle.nv_super.specs.declared.superblock.Super.{Super}
-use Rattle.nv_held.specs.nv_scan.Dead.{IsFirstDead}
+use Rattle.nv_deadpages.specs.Dead.{IsFirstDead}
 use Rattle.nv_held.specs.Held.{Held, Store, with_inode}
 use Rattle.nv_held.specs.Cleaned.{cleaned}
 use Rattle.nv_held.specs.Mounted.{ShowsSound}

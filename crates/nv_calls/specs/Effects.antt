@@ -78,7 +78,8 @@ makes_no_change S m names = tree_of S m.rows
 
 -- `create` and `mkdir`: the directory's log has one entry more, the new inode's log is one entry, and no other log has changed.
 abbrev pub logs_inode : {P : Type 0} → Kind → ℕ → ℕ → ℕ → Logs P
-logs_inode kind cpu mode time S m names T = (d j : ℕ) (held : Store) (h : Held) → walk (tree_of S m.rows) 1 names ≡ Ok d → unused_number m.sup m.rows cpu ≡ Some j → ShowsSound S m.sup held → held d ≡ Some h
+logs_inode kind cpu mode time S m names T = (d j : ℕ) (held : Store) (h : Held) → walk (tree_of S m.rows) 1 names ≡ Ok d → unused_number m.sup m.rows cpu ≡ Some j → ShowsSound S m.sup held
+    → held d ≡ Some h
     → ShowsCreated T m.sup m.free.pools cpu held kind mode time j d h (last_name names)
 
 -- `write`: the file's log has the entries over the blocks that a take of this CPU gives, and no other log has changed. No bytes
@@ -102,27 +103,33 @@ logs_attributes cpu mode owner group time S m names T = (i : ℕ) (node : Node) 
 -- is no path it is never done.
 abbrev pub logs_link : {P : Type 0} → ℕ → ℕ → Path → Logs P
 logs_link cpu time None S m names T = ⊥
-logs_link cpu time (Some others) S m names T = (i d : ℕ) (node : Node) (held : Store) (f h : Held) → LeadsTo (tree_of S m.rows) names i node → walk (tree_of S m.rows) 1 others ≡ Ok d → ShowsSound S m.sup held → held i ≡ Some f → held d ≡ Some h
+logs_link cpu time (Some others) S m names T = (i d : ℕ) (node : Node) (held : Store) (f h : Held) → LeadsTo (tree_of S m.rows) names i node → walk (tree_of S m.rows) 1 others ≡ Ok d
+    → ShowsSound S m.sup held → held i ≡ Some f → held d ≡ Some h
     → ShowsBothGrew T m.sup m.free.pools cpu held i f (links_entries (node.links + 1) time) d h (name_entries Add i (last_name others) time)
 
 -- `unlink`: where the file has more links, its log and that of the directory have one entry more. Else the directory's has, and
 -- the file is gone. No other log has changed.
 pub record LogsUnlink {P : Type 0} (cpu time : ℕ) (S : Region) (m : Mount P) (names : List (List ℕ)) (T : Region) : Type 0 where
-  pub more : (i d : ℕ) (node : Node) (held : Store) (h f : Held) → LeadsTo (tree_of S m.rows) names i node → walk (tree_of S m.rows) 1 names ≡ Ok d → ShowsSound S m.sup held → held d ≡ Some h → held i ≡ Some f → 1 < node.links
+  pub more : (i d : ℕ) (node : Node) (held : Store) (h f : Held) → LeadsTo (tree_of S m.rows) names i node → walk (tree_of S m.rows) 1 names ≡ Ok d → ShowsSound S m.sup held
+      → held d ≡ Some h → held i ≡ Some f → 1 < node.links
       → ShowsBothGrew T m.sup m.free.pools cpu held d h (name_entries Remove i (last_name names) time) i f (links_entries (node.links - 1) time)
-  pub last : (i d : ℕ) (node : Node) (held : Store) (h : Held) → LeadsTo (tree_of S m.rows) names i node → walk (tree_of S m.rows) 1 names ≡ Ok d → ShowsSound S m.sup held → held d ≡ Some h → node.links ≤ 1
+  pub last : (i d : ℕ) (node : Node) (held : Store) (h : Held) → LeadsTo (tree_of S m.rows) names i node → walk (tree_of S m.rows) 1 names ≡ Ok d → ShowsSound S m.sup held → held d ≡ Some h
+      → node.links ≤ 1
       → ShowsRemoved T m.sup m.free.pools cpu held d h (name_entries Remove i (last_name names) time) i
 
 -- `rmdir`: the log of the directory in which it stood has one entry more, it is gone, and no other log has changed.
 abbrev pub logs_removal : {P : Type 0} → ℕ → ℕ → Logs P
-logs_removal cpu time S m names T = (i d : ℕ) (node : Node) (held : Store) (h : Held) → LeadsTo (tree_of S m.rows) names i node → walk (tree_of S m.rows) 1 names ≡ Ok d → ShowsSound S m.sup held → held d ≡ Some h
+logs_removal cpu time S m names T = (i d : ℕ) (node : Node) (held : Store) (h : Held) → LeadsTo (tree_of S m.rows) names i node → walk (tree_of S m.rows) 1 names ≡ Ok d
+    → ShowsSound S m.sup held → held d ≡ Some h
     → ShowsRemoved T m.sup m.free.pools cpu held d h (name_entries Remove i (last_name names) time) i
 
 -- `rename`: the logs of two directories have one entry more, or that of the only one has both, and no other log has changed.
 pub record LogsMove {P : Type 0} (cpu time : ℕ) (others : List (List ℕ)) (S : Region) (m : Mount P) (names : List (List ℕ)) (T : Region) : Type 0 where
-  pub across : (i d e : ℕ) (node : Node) (held : Store) (h k : Held) → LeadsTo (tree_of S m.rows) names i node → walk (tree_of S m.rows) 1 names ≡ Ok d → walk (tree_of S m.rows) 1 others ≡ Ok e → d ≢ e → ShowsSound S m.sup held → held d ≡ Some h → held e ≡ Some k
+  pub across : (i d e : ℕ) (node : Node) (held : Store) (h k : Held) → LeadsTo (tree_of S m.rows) names i node → walk (tree_of S m.rows) 1 names ≡ Ok d
+      → walk (tree_of S m.rows) 1 others ≡ Ok e → d ≢ e → ShowsSound S m.sup held → held d ≡ Some h → held e ≡ Some k
       → ShowsBothGrew T m.sup m.free.pools cpu held d h (name_entries Remove i (last_name names) time) e k (name_entries Add i (last_name others) time)
-  pub within : (i d : ℕ) (node : Node) (held : Store) (h : Held) → LeadsTo (tree_of S m.rows) names i node → walk (tree_of S m.rows) 1 names ≡ Ok d → walk (tree_of S m.rows) 1 others ≡ Ok d → ShowsSound S m.sup held → held d ≡ Some h
+  pub within : (i d : ℕ) (node : Node) (held : Store) (h : Held) → LeadsTo (tree_of S m.rows) names i node → walk (tree_of S m.rows) 1 names ≡ Ok d → walk (tree_of S m.rows) 1 others ≡ Ok d
+      → ShowsSound S m.sup held → held d ≡ Some h
       → ShowsGrownLog T m.sup m.free.pools cpu held d h (move_entries i (last_name names) (last_name others) time)
 
 -- the same by the new path; by what is no path it is never done

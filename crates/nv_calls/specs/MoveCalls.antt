@@ -53,7 +53,8 @@ pub record MovesHere (R S : Region) (s : Super) (free after : FreeLists) (cpu : 
 
 -- within one directory, or from one to another
 abbrev pub MovesAt : Region → Region → Super → FreeLists → FreeLists → ℕ → List Row → List Row → ℕ → ℕ → ℕ → List ℕ → List ℕ → ℕ → Type 0
-MovesAt R S s free after cpu rows news place target end name other time = ((place ≡ end) × MovesHere R S s free after cpu rows news place target name other time) ⊎ ((place ≢ end) × MovesAcross R S s free after cpu rows news place target end name other time)
+MovesAt R S s free after cpu rows news place target end name other time = ((place ≡ end) × MovesHere R S s free after cpu rows news place target name other time)
+    ⊎ ((place ≢ end) × MovesAcross R S s free after cpu rows news place target end name other time)
 
 -- how many blocks are needed by a directory's row, and another's, for an inode's other name
 abbrev pub move_blocks : ℕ → ℕ → Row → Row → ℕ → List ℕ → List ℕ → ℕ → ℕ

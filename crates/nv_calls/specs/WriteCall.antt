@@ -20,7 +20,8 @@ use Rattle.nv_steps.specs.declared.planning.Plan.{Plan}
 -- needs.
 pub record WriteNeeds {P : Type 0} (R : Region) (m : Mount P) (cpu : ℕ) (p : Path) (offset bytes time count : ℕ) : Type 0 where
   pub none : bytes ≡ 0 → count ≡ 0
-  pub some : 0 < bytes → (row : Row) → option_and_then (row_of m.rows) (target (tree_of R m.rows) p) ≡ Some row → NeedsBlocks m.free.pools cpu row.tail (plan_of (block_at row.index) row.numbers.size offset bytes time) count
+  pub some : 0 < bytes → (row : Row) → option_and_then (row_of m.rows) (target (tree_of R m.rows) p) ≡ Some row
+      → NeedsBlocks m.free.pools cpu row.tail (plan_of (block_at row.index) row.numbers.size offset bytes time) count
 
 -- The log has grown by the entries over the blocks that a take of this CPU gives, all of them at once, over those that it then
 -- takes one by one. What these blocks have past the file's end is zeros.

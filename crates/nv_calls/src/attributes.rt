@@ -23,6 +23,7 @@ ghost use Rattle.nv_steps.specs.Stores.{StoresIn, one_log};
 ghost use Rattle.nv_calls.specs.Mount.{shown};
 
 use crate::Fs;
+use crate::arguments::{Cpu, Time};
 use crate::writing::is_stop;
 use nv_entry::AttrEntry;
 use nv_paths::row_at;
@@ -46,12 +47,12 @@ impl<P: Pmem + Drop> Fs<P> {
     /// everything as it was.
     pub fn set_attr(
         &mut self,
-        cpu: u64,
+        cpu: Cpu,
         path: &[u8],
         mode: u32,
         owner: u32,
         group: u32,
-        time: u64,
+        time: Time,
     ) -> Result<(), Refusal>
         ensures stopped_before { IsTrue self.old.stopped → (result ≡ Result.Err RefusalValue.Stopped) × (self.new ≡ self.old) }
         ensures allowed { (p : Path) → Says path.now p
@@ -62,9 +63,11 @@ impl<P: Pmem + Drop> Fs<P> {
             → OnOk result (SameTree (shown P.region self.new) (attributed names mode owner group time (shown P.region self.old))) }
         // The log of the inode has one entry more, and no other log has changed.
         ensures log { (names : List (List ℕ)) (i : ℕ) (node : Node) (held : Store) (h : Held) → IsPath path.now names → LeadsTo (shown P.region self.old) names i node
-            → ShowsSound (P.region self.old.memory) self.old.sup held → held i ≡ Option.Some h → OnOk result (ShowsGrownLog (P.region self.new.memory) self.old.sup self.old.free.pools cpu held i h (attributes node.size mode owner group time)) }
+            → ShowsSound (P.region self.old.memory) self.old.sup held → held i ≡ Option.Some h
+            → OnOk result (ShowsGrownLog (P.region self.new.memory) self.old.sup self.old.free.pools cpu held i h (attributes node.size mode owner group time)) }
         ensures unchanged { IfErr result (λ e. (e ≡ RefusalValue.Stopped → ⊥) → SameMount self.old self.new) }
-        ensures stopped { self.old.stopped ≡ false → (IsTrue self.new.stopped → (result ≡ Result.Err RefusalValue.Stopped) × IsTrue (P.fuse self.new.memory).has_burnt) × (result ≡ Result.Err RefusalValue.Stopped → IsTrue self.new.stopped) }
+        ensures stopped { self.old.stopped ≡ false → (IsTrue self.new.stopped → (result ≡ Result.Err RefusalValue.Stopped) × IsTrue (P.fuse self.new.memory).has_burnt)
+            × (result ≡ Result.Err RefusalValue.Stopped → IsTrue self.new.stopped) }
         ensures keeps { KeepsMount self.old self.new }
         ensures settled { OnOk result (NothingPending (P.region self.new.memory) (P.may_hold self.new.memory)) }
         ensures length { size (P.region self.new.memory) ≡ size (P.region self.old.memory) }
@@ -80,13 +83,13 @@ impl<P: Pmem + Drop> Fs<P> {
         ensures any_stop { (names : List (List ℕ)) → IsPath path.now names → self.old.stopped ≡ false → self.old.read_only ≡ false
             → LeavesOnly (P.region self.new.memory) (P.may_hold self.new.memory) (LeavesCall (makes_attributes mode owner group time) (logs_attributes cpu mode owner group time) (P.region self.old.memory) self.old names) }
     {
-        self.writable(cpu)?;
+        self.writable(cpu.0)?;
         let inode = row_at(&self.rows, path)?.inode;
         let mut row = self.rows.lend(self.alloc, inode);
         let attributes = AttrEntry {
             mode: mode % 4096,
             size: row.numbers.size,
-            time,
+            time: time.0,
             owner,
             group,
         };
@@ -95,7 +98,7 @@ impl<P: Pmem + Drop> Fs<P> {
             &mut self.memory,
             &self.sup,
             &mut self.free,
-            cpu,
+            cpu.0,
             &mut row,
             attributes,
         );

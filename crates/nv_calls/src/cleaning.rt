@@ -5,14 +5,14 @@ ghost use Rattle.nv_region.specs.Region.{size};
 ghost use Rattle.nv_region.specs.Stops.{LeavesOnly, NothingPending};
 ghost use Rattle.nv_region.specs.Fuses.{KeepsFuse};
 ghost use Rattle.nv_held.specs.Held.{Held, Store};
-ghost use Rattle.nv_held.specs.nv_scan.Dead.{IsFirstDead};
+ghost use Rattle.nv_deadpages.specs.Dead.{IsFirstDead};
 ghost use Rattle.nv_held.specs.Mounted.{ShowsSound};
 ghost use Rattle.nv_tree.specs.Path.{IsPath, Says};
 ghost use Rattle.nv_tree.specs.Tree.{Node, SameTree};
 ghost use Rattle.nv_tree.specs.Refusals.{Path, Tests, clean_tests, first_refusal, IsRefusedBy};
 ghost use Rattle.nv_tree.specs.declared.refusal.Refusal.{Refusal as RefusalValue};
 ghost use Rattle.nv_rows.specs.Rows.{IsInUse, row_of};
-ghost use Rattle.nv_scan.specs.InTurn.{AreDeadPages};
+ghost use Rattle.nv_deadpages.specs.InTurn.{AreDeadPages};
 ghost use Rattle.nv_calls.specs.CleanCall.{IsKnown, LosesPage, ShowsCleaned, clean_inode_tests};
 ghost use Rattle.nv_calls.specs.Effects.{logs_page_less, makes_no_change};
 ghost use Rattle.nv_calls.specs.Mount.{IsKept, shown};
@@ -24,9 +24,9 @@ ghost use Rattle.nv_steps.specs.Stores.{StoresIn, one_page_less};
 
 use crate::Fs;
 use crate::writing::is_stop;
+use nv_deadpages::DeadPages;
 use nv_paths::row_at;
 use nv_region::Pmem;
-use nv_scan::DeadPages;
 use nv_steps::{clean_log, dead_pages_of};
 use nv_tree::Refusal;
 use std::alloc::AllocError;
@@ -53,9 +53,11 @@ impl<P: Pmem + Drop> Fs<P> {
         ensures same_tree { OnOk result (SameTree (shown P.region self.new) (shown P.region self.old)) }
         // Which page went, by the log of the inode.
         ensures log { (names : List (List ℕ)) (i : ℕ) (node : Node) (held : Store) (h : Held) → IsPath path.now names → LeadsTo (shown P.region self.old) names i node
-            → ShowsSound (P.region self.old.memory) self.old.sup held → held i ≡ Option.Some h → IfOk result (ShowsCleaned (P.region self.old.memory) (P.region self.new.memory) self.old.sup held i h) }
+            → ShowsSound (P.region self.old.memory) self.old.sup held → held i ≡ Option.Some h
+            → IfOk result (ShowsCleaned (P.region self.old.memory) (P.region self.new.memory) self.old.sup held i h) }
         ensures unchanged { IfErr result (λ e. (e ≡ RefusalValue.Stopped → ⊥) → SameMount self.old self.new) }
-        ensures stopped { self.old.stopped ≡ false → (IsTrue self.new.stopped → (result ≡ Result.Err RefusalValue.Stopped) × IsTrue (P.fuse self.new.memory).has_burnt) × (result ≡ Result.Err RefusalValue.Stopped → IsTrue self.new.stopped) }
+        ensures stopped { self.old.stopped ≡ false → (IsTrue self.new.stopped → (result ≡ Result.Err RefusalValue.Stopped) × IsTrue (P.fuse self.new.memory).has_burnt)
+            × (result ≡ Result.Err RefusalValue.Stopped → IsTrue self.new.stopped) }
         ensures keeps { KeepsMount self.old self.new }
         ensures settled { OnOk result (NothingPending (P.region self.new.memory) (P.may_hold self.new.memory)) }
         ensures length { size (P.region self.new.memory) ≡ size (P.region self.old.memory) }
@@ -93,9 +95,11 @@ impl<P: Pmem + Drop> Fs<P> {
             → IfErr result (IsRefusedBy (first_refusal (clean_inode_tests (world_of self.old) (shown P.region self.old) inode))) }
         ensures same_tree { OnOk result (SameTree (shown P.region self.new) (shown P.region self.old)) }
         // Which page went, by the log of the inode.
-        ensures log { (held : Store) (h : Held) → ShowsSound (P.region self.old.memory) self.old.sup held → held inode ≡ Option.Some h → IfOk result (ShowsCleaned (P.region self.old.memory) (P.region self.new.memory) self.old.sup held inode h) }
+        ensures log { (held : Store) (h : Held) → ShowsSound (P.region self.old.memory) self.old.sup held → held inode ≡ Option.Some h
+            → IfOk result (ShowsCleaned (P.region self.old.memory) (P.region self.new.memory) self.old.sup held inode h) }
         ensures unchanged { IfErr result (λ e. (e ≡ RefusalValue.Stopped → ⊥) → SameMount self.old self.new) }
-        ensures stopped { self.old.stopped ≡ false → (IsTrue self.new.stopped → (result ≡ Result.Err RefusalValue.Stopped) × IsTrue (P.fuse self.new.memory).has_burnt) × (result ≡ Result.Err RefusalValue.Stopped → IsTrue self.new.stopped) }
+        ensures stopped { self.old.stopped ≡ false → (IsTrue self.new.stopped → (result ≡ Result.Err RefusalValue.Stopped) × IsTrue (P.fuse self.new.memory).has_burnt)
+            × (result ≡ Result.Err RefusalValue.Stopped → IsTrue self.new.stopped) }
         ensures keeps { KeepsMount self.old self.new }
         ensures settled { OnOk result (NothingPending (P.region self.new.memory) (P.may_hold self.new.memory)) }
         ensures length { size (P.region self.new.memory) ≡ size (P.region self.old.memory) }
@@ -103,7 +107,8 @@ impl<P: Pmem + Drop> Fs<P> {
         // What was mounted with faults stays as it was.
         ensures read_only { IsTrue self.old.read_only → SameMount self.old self.new }
         // Every word outside these places is as it was.
-        ensures wrote { (held : Store) (h : Held) (o : Option ℕ) → ShowsSound (P.region self.old.memory) self.old.sup held → held inode ≡ Option.Some h → IsFirstDead self.old.sup h.kind inode h.created h.entries h.pages o
+        ensures wrote { (held : Store) (h : Held) (o : Option ℕ) → ShowsSound (P.region self.old.memory) self.old.sup held → held inode ≡ Option.Some h
+            → IsFirstDead self.old.sup h.kind inode h.created h.entries h.pages o
             → StoresIn self.old.sup held (one_page_less self.old.sup inode h.pages o) (P.region self.old.memory) (P.region self.new.memory) }
         // Whatever a stop leaves, at any exit: recovery finds what was mounted, or it without the page, without faults.
         ensures any_stop { self.old.stopped ≡ false → self.old.read_only ≡ false
@@ -130,9 +135,11 @@ impl<P: Pmem + Drop> Fs<P> {
             → IfErr result (IsRefusedBy (first_refusal (clean_inode_tests (world_of self.old) (shown P.region self.old) inode))) }
         ensures same_tree { OnOk result (SameTree (shown P.region self.new) (shown P.region self.old)) }
         // Which page went, by the log of the inode.
-        ensures log { (held : Store) (h : Held) → ShowsSound (P.region self.old.memory) self.old.sup held → held inode ≡ Option.Some h → IfOk result (ShowsCleaned (P.region self.old.memory) (P.region self.new.memory) self.old.sup held inode h) }
+        ensures log { (held : Store) (h : Held) → ShowsSound (P.region self.old.memory) self.old.sup held → held inode ≡ Option.Some h
+            → IfOk result (ShowsCleaned (P.region self.old.memory) (P.region self.new.memory) self.old.sup held inode h) }
         ensures unchanged { IfErr result (λ e. (e ≡ RefusalValue.Stopped → ⊥) → SameMount self.old self.new) }
-        ensures stopped { self.old.stopped ≡ false → (IsTrue self.new.stopped → (result ≡ Result.Err RefusalValue.Stopped) × IsTrue (P.fuse self.new.memory).has_burnt) × (result ≡ Result.Err RefusalValue.Stopped → IsTrue self.new.stopped) }
+        ensures stopped { self.old.stopped ≡ false → (IsTrue self.new.stopped → (result ≡ Result.Err RefusalValue.Stopped) × IsTrue (P.fuse self.new.memory).has_burnt)
+            × (result ≡ Result.Err RefusalValue.Stopped → IsTrue self.new.stopped) }
         ensures keeps { KeepsMount self.old self.new }
         ensures settled { OnOk result (NothingPending (P.region self.new.memory) (P.may_hold self.new.memory)) }
         ensures length { size (P.region self.new.memory) ≡ size (P.region self.old.memory) }
@@ -140,7 +147,8 @@ impl<P: Pmem + Drop> Fs<P> {
         // What was mounted with faults stays as it was.
         ensures read_only { IsTrue self.old.read_only → SameMount self.old self.new }
         // Every word outside these places is as it was.
-        ensures wrote { (held : Store) (h : Held) (o : Option ℕ) → ShowsSound (P.region self.old.memory) self.old.sup held → held inode ≡ Option.Some h → IsFirstDead self.old.sup h.kind inode h.created h.entries h.pages o
+        ensures wrote { (held : Store) (h : Held) (o : Option ℕ) → ShowsSound (P.region self.old.memory) self.old.sup held → held inode ≡ Option.Some h
+            → IsFirstDead self.old.sup h.kind inode h.created h.entries h.pages o
             → StoresIn self.old.sup held (one_page_less self.old.sup inode h.pages o) (P.region self.old.memory) (P.region self.new.memory) }
         // Whatever a stop leaves, at any exit: recovery finds what was mounted, or it without the page, without faults.
         ensures any_stop { self.old.stopped ≡ false → self.old.read_only ≡ false
@@ -183,7 +191,8 @@ impl<P: Pmem + Drop> Fs<P> {
         ensures allowed { OnOk result (first_refusal (clean_inode_tests (world_of self.now) (shown P.region self.now) inode) ≡ Option.None) }
         ensures refused { self.now.stopped ≡ false
             → IfErr result (λ e. (e ≡ RefusalValue.Memory) ⊎ (first_refusal (clean_inode_tests (world_of self.now) (shown P.region self.now) inode) ≡ Option.Some e)) }
-        ensures dead { (held : Store) (h : Held) → ShowsSound (P.region self.now.memory) self.now.sup held → held inode ≡ Option.Some h → IfOk result (AreDeadPages self.now.sup h.kind inode h.created h.entries h.pages) }
+        ensures dead { (held : Store) (h : Held) → ShowsSound (P.region self.now.memory) self.now.sup held → held inode ≡ Option.Some h
+            → IfOk result (AreDeadPages self.now.sup h.kind inode h.created h.entries h.pages) }
     {
         self.cleanable()?;
         self.in_use(inode)?;

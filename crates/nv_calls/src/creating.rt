@@ -40,6 +40,7 @@ ghost use Rattle.nv_steps.specs.Stores.{StoresIn, one_more};
 ghost use Rattle.nv_calls.specs.Mount.{shown};
 
 use crate::Fs;
+use crate::arguments::{Cpu, Time};
 use crate::writing::is_stop;
 use nv_alloc::Allocators;
 use nv_entry::{Operation, name_entry};
@@ -73,9 +74,11 @@ fn create_at<P: Pmem>(
     requires can { (row : RowValue) → row_of rows.old.items directory ≡ Option.Some row → CanName (P.region memory.old) sup.now cpu new.now.inode row }
     requires name { IsName new.now.name.now }
     ensures created { OnOk result (CreatesAt (P.region memory.old) (P.region memory.new) sup.now free.old free.new cpu rows.old.items rows.new.items (place_in rows.old.items directory) new.now.kind new.now.mode new.now.time new.now.inode new.now.name.now) }
-    ensures enough { (row : RowValue) → row_of rows.old.items directory ≡ Option.Some row → OnOk result (1 + needed (row.tail % 4096) (name_entries OperationValue.Add new.now.inode new.now.name.now new.now.time) ≤ all_blocks free.old.pools) }
+    ensures enough { (row : RowValue) → row_of rows.old.items directory ≡ Option.Some row
+        → OnOk result (1 + needed (row.tail % 4096) (name_entries OperationValue.Add new.now.inode new.now.name.now new.now.time) ≤ all_blocks free.old.pools) }
     ensures settled { OnOk result (NothingPending (P.region memory.new) (P.may_hold memory.new)) }
-    ensures refused { (row : RowValue) → row_of rows.old.items directory ≡ Option.Some row → IfErr result (λ e. RefusesStep e (1 + needed (row.tail % 4096) (name_entries OperationValue.Add new.now.inode new.now.name.now new.now.time)) free.old) }
+    ensures refused { (row : RowValue) → row_of rows.old.items directory ≡ Option.Some row
+        → IfErr result (λ e. RefusesStep e (1 + needed (row.tail % 4096) (name_entries OperationValue.Add new.now.inode new.now.name.now new.now.time)) free.old) }
     ensures unchanged { IfErr result (λ e. (e ≡ RefusalValue.Stopped → ⊥) → LeavesRows memory.old memory.new free.old free.new rows.old.items rows.new.items) }
     ensures stopped { IfErr result (λ e. e ≡ RefusalValue.Stopped → IsTrue (P.fuse memory.new).has_burnt) }
     ensures limit { rows.new.sup ≡ rows.old.sup }
@@ -83,13 +86,16 @@ fn create_at<P: Pmem>(
     ensures length { size (P.region memory.new) ≡ size (P.region memory.old) }
     ensures keeps_fuse { KeepsFuse (λ limit. size (P.region memory.old) ≤ limit) (P.fuse memory.old) (P.fuse memory.new) }
     // Every word outside these places is as it was.
-    ensures wrote { (row : RowValue) (held : Store) (h : Held) → row_of rows.old.items directory ≡ Option.Some row → ShowsRow (P.region memory.old) sup.now held h row free.old → held new.now.inode ≡ Option.None
+    ensures wrote { (row : RowValue) (held : Store) (h : Held) → row_of rows.old.items directory ≡ Option.Some row → ShowsRow (P.region memory.old) sup.now held h row free.old
+        → held new.now.inode ≡ Option.None
         → StoresIn sup.now held (one_more sup.now cpu new.now.inode row.inode) (P.region memory.old) (P.region memory.new) }
     // The new inode's valid word is stored first.
-    ensures in_order { (row : RowValue) (held : Store) (h : Held) → row_of rows.old.items directory ≡ Option.Some row → ShowsRow (P.region memory.old) sup.now held h row free.old → held new.now.inode ≡ Option.None
+    ensures in_order { (row : RowValue) (held : Store) (h : Held) → row_of rows.old.items directory ≡ Option.Some row → ShowsRow (P.region memory.old) sup.now held h row free.old
+        → held new.now.inode ≡ Option.None
         → FirstIsFirst (P.region memory.old) (slot_address sup.now new.now.inode) 1 (tail_address sup.now row.inode) (P.region memory.new) }
     // Whatever a stop leaves: recovery finds what is held, or it with the new inode and its name, without faults.
-    ensures any_stop { (row : RowValue) (held : Store) (h : Held) → row_of rows.old.items directory ≡ Option.Some row → ShowsRow (P.region memory.old) sup.now held h row free.old → held new.now.inode ≡ Option.None → name_at row.names new.now.name.now ≡ Option.None → NothingPending (P.region memory.old) (P.may_hold memory.old)
+    ensures any_stop { (row : RowValue) (held : Store) (h : Held) → row_of rows.old.items directory ≡ Option.Some row → ShowsRow (P.region memory.old) sup.now held h row free.old
+        → held new.now.inode ≡ Option.None → name_at row.names new.now.name.now ≡ Option.None → NothingPending (P.region memory.old) (P.may_hold memory.old)
         → LeavesOnly (P.region memory.new) (P.may_hold memory.new) (LeavesEither (P.region memory.old) (fixed_layout sup.now) held (Named (P.region memory.old) sup.now free.old cpu row new.now.kind new.now.mode new.now.time new.now.inode new.now.name.now)) }
 {
     let entries = [name_entry(Operation::Add, new.inode, new.name, new.time)];
@@ -121,7 +127,7 @@ impl<P: Pmem + Drop> Fs<P> {
     ///
     /// Besides these `Memory` where a growth was refused, and `Stopped` where the fuse burns. All but `Stopped` leave
     /// everything as it was.
-    pub fn create(&mut self, cpu: u64, path: &[u8], mode: u32, time: u64) -> Result<(), Refusal>
+    pub fn create(&mut self, cpu: Cpu, path: &[u8], mode: u32, time: Time) -> Result<(), Refusal>
         ensures stopped_before { IsTrue self.old.stopped → (result ≡ Result.Err RefusalValue.Stopped) × (self.new ≡ self.old) }
         ensures allowed { (p : Path) → Says path.now p
             → OnOk result (first_refusal (create_tests (world_of self.old) (shown P.region self.old) cpu p (create_blocks self.old.rows (shown P.region self.old) p)) ≡ Option.None) }
@@ -130,10 +136,13 @@ impl<P: Pmem + Drop> Fs<P> {
         ensures changed { (names : List (List ℕ)) → IsPath path.now names
             → OnOk result (SameTree (shown P.region self.new) (created File (unused_number self.old.sup self.old.rows cpu) names mode time (shown P.region self.old))) }
         // The log of the directory has one entry more, the new inode's log is one entry, and no other log has changed.
-        ensures log { (names : List (List ℕ)) (d j : ℕ) (held : Store) (h : Held) → IsPath path.now names → walk (shown P.region self.old) 1 names ≡ Result.Ok d → unused_number self.old.sup self.old.rows cpu ≡ Option.Some j
-            → ShowsSound (P.region self.old.memory) self.old.sup held → held d ≡ Option.Some h → OnOk result (ShowsCreated (P.region self.new.memory) self.old.sup self.old.free.pools cpu held File mode time j d h (last_name names)) }
+        ensures log { (names : List (List ℕ)) (d j : ℕ) (held : Store) (h : Held) → IsPath path.now names → walk (shown P.region self.old) 1 names ≡ Result.Ok d
+            → unused_number self.old.sup self.old.rows cpu ≡ Option.Some j
+            → ShowsSound (P.region self.old.memory) self.old.sup held → held d ≡ Option.Some h
+            → OnOk result (ShowsCreated (P.region self.new.memory) self.old.sup self.old.free.pools cpu held File mode time j d h (last_name names)) }
         ensures unchanged { IfErr result (λ e. (e ≡ RefusalValue.Stopped → ⊥) → SameMount self.old self.new) }
-        ensures stopped { self.old.stopped ≡ false → (IsTrue self.new.stopped → (result ≡ Result.Err RefusalValue.Stopped) × IsTrue (P.fuse self.new.memory).has_burnt) × (result ≡ Result.Err RefusalValue.Stopped → IsTrue self.new.stopped) }
+        ensures stopped { self.old.stopped ≡ false → (IsTrue self.new.stopped → (result ≡ Result.Err RefusalValue.Stopped) × IsTrue (P.fuse self.new.memory).has_burnt)
+            × (result ≡ Result.Err RefusalValue.Stopped → IsTrue self.new.stopped) }
         ensures keeps { KeepsMount self.old self.new }
         // The superblock and all journals but that of the CPU are as they were.
         ensures journals { OnOk result (SameFrontBut self.old.sup.cpus cpu (P.region self.old.memory) (P.region self.new.memory)) }
@@ -145,10 +154,12 @@ impl<P: Pmem + Drop> Fs<P> {
         // What was mounted with faults stays as it was.
         ensures read_only { IsTrue self.old.read_only → SameMount self.old self.new }
         // Every word outside these places is as it was.
-        ensures wrote { (names : List (List ℕ)) (d j : ℕ) (held : Store) → IsPath path.now names → walk (shown P.region self.old) 1 names ≡ Result.Ok d → unused_number self.old.sup self.old.rows cpu ≡ Option.Some j → ShowsSound (P.region self.old.memory) self.old.sup held
+        ensures wrote { (names : List (List ℕ)) (d j : ℕ) (held : Store) → IsPath path.now names → walk (shown P.region self.old) 1 names ≡ Result.Ok d
+            → unused_number self.old.sup self.old.rows cpu ≡ Option.Some j → ShowsSound (P.region self.old.memory) self.old.sup held
             → StoresIn self.old.sup held (one_more self.old.sup cpu j d) (P.region self.old.memory) (P.region self.new.memory) }
         // The new inode's valid word is stored first.
-        ensures in_order { (names : List (List ℕ)) (d j : ℕ) → IsPath path.now names → walk (shown P.region self.old) 1 names ≡ Result.Ok d → unused_number self.old.sup self.old.rows cpu ≡ Option.Some j
+        ensures in_order { (names : List (List ℕ)) (d j : ℕ) → IsPath path.now names → walk (shown P.region self.old) 1 names ≡ Result.Ok d
+            → unused_number self.old.sup self.old.rows cpu ≡ Option.Some j
             → ShowsValidFirst (P.region self.old.memory) (P.region self.new.memory) self.old.sup j d }
         // Whatever a stop leaves, at any exit: recovery finds what was mounted, or what the call makes, without faults.
         ensures any_stop { (names : List (List ℕ)) → IsPath path.now names → self.old.stopped ≡ false → self.old.read_only ≡ false
@@ -158,7 +169,7 @@ impl<P: Pmem + Drop> Fs<P> {
     }
 
     /// Makes a directory of this mode, of which the low 12 bits are kept, with one name. Errors as `create` has them.
-    pub fn mkdir(&mut self, cpu: u64, path: &[u8], mode: u32, time: u64) -> Result<(), Refusal>
+    pub fn mkdir(&mut self, cpu: Cpu, path: &[u8], mode: u32, time: Time) -> Result<(), Refusal>
         ensures stopped_before { IsTrue self.old.stopped → (result ≡ Result.Err RefusalValue.Stopped) × (self.new ≡ self.old) }
         ensures allowed { (p : Path) → Says path.now p
             → OnOk result (first_refusal (create_tests (world_of self.old) (shown P.region self.old) cpu p (create_blocks self.old.rows (shown P.region self.old) p)) ≡ Option.None) }
@@ -167,10 +178,13 @@ impl<P: Pmem + Drop> Fs<P> {
         ensures changed { (names : List (List ℕ)) → IsPath path.now names
             → OnOk result (SameTree (shown P.region self.new) (created Directory (unused_number self.old.sup self.old.rows cpu) names mode time (shown P.region self.old))) }
         // The log of the directory has one entry more, the new inode's log is one entry, and no other log has changed.
-        ensures log { (names : List (List ℕ)) (d j : ℕ) (held : Store) (h : Held) → IsPath path.now names → walk (shown P.region self.old) 1 names ≡ Result.Ok d → unused_number self.old.sup self.old.rows cpu ≡ Option.Some j
-            → ShowsSound (P.region self.old.memory) self.old.sup held → held d ≡ Option.Some h → OnOk result (ShowsCreated (P.region self.new.memory) self.old.sup self.old.free.pools cpu held Directory mode time j d h (last_name names)) }
+        ensures log { (names : List (List ℕ)) (d j : ℕ) (held : Store) (h : Held) → IsPath path.now names → walk (shown P.region self.old) 1 names ≡ Result.Ok d
+            → unused_number self.old.sup self.old.rows cpu ≡ Option.Some j
+            → ShowsSound (P.region self.old.memory) self.old.sup held → held d ≡ Option.Some h
+            → OnOk result (ShowsCreated (P.region self.new.memory) self.old.sup self.old.free.pools cpu held Directory mode time j d h (last_name names)) }
         ensures unchanged { IfErr result (λ e. (e ≡ RefusalValue.Stopped → ⊥) → SameMount self.old self.new) }
-        ensures stopped { self.old.stopped ≡ false → (IsTrue self.new.stopped → (result ≡ Result.Err RefusalValue.Stopped) × IsTrue (P.fuse self.new.memory).has_burnt) × (result ≡ Result.Err RefusalValue.Stopped → IsTrue self.new.stopped) }
+        ensures stopped { self.old.stopped ≡ false → (IsTrue self.new.stopped → (result ≡ Result.Err RefusalValue.Stopped) × IsTrue (P.fuse self.new.memory).has_burnt)
+            × (result ≡ Result.Err RefusalValue.Stopped → IsTrue self.new.stopped) }
         ensures keeps { KeepsMount self.old self.new }
         // The superblock and all journals but that of the CPU are as they were.
         ensures journals { OnOk result (SameFrontBut self.old.sup.cpus cpu (P.region self.old.memory) (P.region self.new.memory)) }
@@ -182,10 +196,12 @@ impl<P: Pmem + Drop> Fs<P> {
         // What was mounted with faults stays as it was.
         ensures read_only { IsTrue self.old.read_only → SameMount self.old self.new }
         // Every word outside these places is as it was.
-        ensures wrote { (names : List (List ℕ)) (d j : ℕ) (held : Store) → IsPath path.now names → walk (shown P.region self.old) 1 names ≡ Result.Ok d → unused_number self.old.sup self.old.rows cpu ≡ Option.Some j → ShowsSound (P.region self.old.memory) self.old.sup held
+        ensures wrote { (names : List (List ℕ)) (d j : ℕ) (held : Store) → IsPath path.now names → walk (shown P.region self.old) 1 names ≡ Result.Ok d
+            → unused_number self.old.sup self.old.rows cpu ≡ Option.Some j → ShowsSound (P.region self.old.memory) self.old.sup held
             → StoresIn self.old.sup held (one_more self.old.sup cpu j d) (P.region self.old.memory) (P.region self.new.memory) }
         // The new inode's valid word is stored first.
-        ensures in_order { (names : List (List ℕ)) (d j : ℕ) → IsPath path.now names → walk (shown P.region self.old) 1 names ≡ Result.Ok d → unused_number self.old.sup self.old.rows cpu ≡ Option.Some j
+        ensures in_order { (names : List (List ℕ)) (d j : ℕ) → IsPath path.now names → walk (shown P.region self.old) 1 names ≡ Result.Ok d
+            → unused_number self.old.sup self.old.rows cpu ≡ Option.Some j
             → ShowsValidFirst (P.region self.old.memory) (P.region self.new.memory) self.old.sup j d }
         // Whatever a stop leaves, at any exit: recovery finds what was mounted, or what the call makes, without faults.
         ensures any_stop { (names : List (List ℕ)) → IsPath path.now names → self.old.stopped ≡ false → self.old.read_only ≡ false
@@ -197,11 +213,11 @@ impl<P: Pmem + Drop> Fs<P> {
     /// Makes an inode of a kind: what `create` and `mkdir` do.
     fn make(
         &mut self,
-        cpu: u64,
+        cpu: Cpu,
         path: &[u8],
         kind: Kind,
         mode: u32,
-        time: u64,
+        time: Time,
     ) -> Result<(), Refusal>
         ensures stopped_before { IsTrue self.old.stopped → (result ≡ Result.Err RefusalValue.Stopped) × (self.new ≡ self.old) }
         ensures allowed { (p : Path) → Says path.now p
@@ -211,10 +227,13 @@ impl<P: Pmem + Drop> Fs<P> {
         ensures changed { (names : List (List ℕ)) → IsPath path.now names
             → OnOk result (SameTree (shown P.region self.new) (created kind (unused_number self.old.sup self.old.rows cpu) names mode time (shown P.region self.old))) }
         // The log of the directory has one entry more, the new inode's log is one entry, and no other log has changed.
-        ensures log { (names : List (List ℕ)) (d j : ℕ) (held : Store) (h : Held) → IsPath path.now names → walk (shown P.region self.old) 1 names ≡ Result.Ok d → unused_number self.old.sup self.old.rows cpu ≡ Option.Some j
-            → ShowsSound (P.region self.old.memory) self.old.sup held → held d ≡ Option.Some h → OnOk result (ShowsCreated (P.region self.new.memory) self.old.sup self.old.free.pools cpu held kind mode time j d h (last_name names)) }
+        ensures log { (names : List (List ℕ)) (d j : ℕ) (held : Store) (h : Held) → IsPath path.now names → walk (shown P.region self.old) 1 names ≡ Result.Ok d
+            → unused_number self.old.sup self.old.rows cpu ≡ Option.Some j
+            → ShowsSound (P.region self.old.memory) self.old.sup held → held d ≡ Option.Some h
+            → OnOk result (ShowsCreated (P.region self.new.memory) self.old.sup self.old.free.pools cpu held kind mode time j d h (last_name names)) }
         ensures unchanged { IfErr result (λ e. (e ≡ RefusalValue.Stopped → ⊥) → SameMount self.old self.new) }
-        ensures stopped { self.old.stopped ≡ false → (IsTrue self.new.stopped → (result ≡ Result.Err RefusalValue.Stopped) × IsTrue (P.fuse self.new.memory).has_burnt) × (result ≡ Result.Err RefusalValue.Stopped → IsTrue self.new.stopped) }
+        ensures stopped { self.old.stopped ≡ false → (IsTrue self.new.stopped → (result ≡ Result.Err RefusalValue.Stopped) × IsTrue (P.fuse self.new.memory).has_burnt)
+            × (result ≡ Result.Err RefusalValue.Stopped → IsTrue self.new.stopped) }
         ensures keeps { KeepsMount self.old self.new }
         // The superblock and all journals but that of the CPU are as they were.
         ensures journals { OnOk result (SameFrontBut self.old.sup.cpus cpu (P.region self.old.memory) (P.region self.new.memory)) }
@@ -226,22 +245,24 @@ impl<P: Pmem + Drop> Fs<P> {
         // What was mounted with faults stays as it was.
         ensures read_only { IsTrue self.old.read_only → SameMount self.old self.new }
         // Every word outside these places is as it was.
-        ensures wrote { (names : List (List ℕ)) (d j : ℕ) (held : Store) → IsPath path.now names → walk (shown P.region self.old) 1 names ≡ Result.Ok d → unused_number self.old.sup self.old.rows cpu ≡ Option.Some j → ShowsSound (P.region self.old.memory) self.old.sup held
+        ensures wrote { (names : List (List ℕ)) (d j : ℕ) (held : Store) → IsPath path.now names → walk (shown P.region self.old) 1 names ≡ Result.Ok d
+            → unused_number self.old.sup self.old.rows cpu ≡ Option.Some j → ShowsSound (P.region self.old.memory) self.old.sup held
             → StoresIn self.old.sup held (one_more self.old.sup cpu j d) (P.region self.old.memory) (P.region self.new.memory) }
         // The new inode's valid word is stored first.
-        ensures in_order { (names : List (List ℕ)) (d j : ℕ) → IsPath path.now names → walk (shown P.region self.old) 1 names ≡ Result.Ok d → unused_number self.old.sup self.old.rows cpu ≡ Option.Some j
+        ensures in_order { (names : List (List ℕ)) (d j : ℕ) → IsPath path.now names → walk (shown P.region self.old) 1 names ≡ Result.Ok d
+            → unused_number self.old.sup self.old.rows cpu ≡ Option.Some j
             → ShowsValidFirst (P.region self.old.memory) (P.region self.new.memory) self.old.sup j d }
         // Whatever a stop leaves, at any exit: recovery finds what was mounted, or what the call makes, without faults.
         ensures any_stop { (names : List (List ℕ)) → IsPath path.now names → self.old.stopped ≡ false → self.old.read_only ≡ false
             → LeavesOnly (P.region self.new.memory) (P.may_hold self.new.memory) (LeavesCall (makes_inode kind cpu mode time) (logs_inode kind cpu mode time) (P.region self.old.memory) self.old names) }
     {
-        self.writable(cpu)?;
-        let spot = spot_for(&self.rows, cpu, path)?;
+        self.writable(cpu.0)?;
+        let spot = spot_for(&self.rows, cpu.0, path)?;
         let new = NewName {
             inode: spot.inode,
             kind,
             mode,
-            time,
+            time: time.0,
             name: spot.name,
         };
         match create_at(
@@ -249,7 +270,7 @@ impl<P: Pmem + Drop> Fs<P> {
             &mut self.memory,
             &self.sup,
             &mut self.free,
-            cpu,
+            cpu.0,
             &mut self.rows,
             spot.directory,
             &new,

@@ -1,10 +1,11 @@
 //! A mounted file system: the memory, and what recovery found in its region.
 
-ghost use Rattle.std.specs.Prelude.{◌≡◌, ℕ, List, IsTrue, IfOk, Result, false};
+ghost use Rattle.std.specs.Prelude.{◌≡◌, ◌<◌, ℕ, List, IsTrue, IfOk, Result, false};
 ghost use Rattle.std.specs.Result.{result_err};
 ghost use Rattle.std.specs.List.{Contains};
 ghost use Rattle.nv_region.specs.Stops.{LeavesOnly, NothingPending};
 ghost use Rattle.nv_journal.specs.Undo.{undone};
+ghost use Rattle.nv_alloc.specs.Taking.{pool_at};
 ghost use Rattle.nv_held.specs.nv_outcome.Outcome.{IsOutcome};
 ghost use Rattle.nv_held.specs.nv_outcome.Same.{lasting_outcome};
 ghost use Rattle.nv_held.specs.nv_outcome.Answer.{outcome_of};
@@ -15,7 +16,8 @@ ghost use Rattle.nv_paths.specs.Seen.{node_of, LeadsTo};
 ghost use Rattle.nv_calls.specs.Mount.{IsKept, has_faults, shown};
 ghost use Rattle.nv_calls.specs.Stopped.{LeavesMounted};
 
-use nv_alloc::Allocators;
+use crate::arguments::Cpu;
+use nv_alloc::{Allocators, FreeRuns};
 use nv_held::Recovered;
 use nv_paths::row_at;
 use nv_region::{Fuse, MemRegion, Pmem};
@@ -93,21 +95,21 @@ impl<P: Pmem + Drop> Fs<P> {
     }
 
     /// The memory again.
-    pub fn into_region(self) -> P
+    pub fn into_memory(self) -> P
         ensures { result ≡ self.memory }
     {
         self.memory
     }
 
     /// The memory.
-    pub fn region(&self) -> &P
+    pub fn memory(&self) -> &P
         ensures { result.now ≡ self.now.memory }
     {
         &self.memory
     }
 
     /// The superblock's numbers.
-    pub fn sup(&self) -> &Super
+    pub fn superblock(&self) -> &Super
         ensures { result.now ≡ self.now.sup }
     {
         &self.sup
@@ -125,6 +127,14 @@ impl<P: Pmem + Drop> Fs<P> {
         ensures { result.now ≡ self.now.free }
     {
         &self.free
+    }
+
+    /// The runs of the free blocks of a CPU's pool, rising. It takes no memory.
+    pub fn free_runs(&self, cpu: Cpu) -> FreeRuns<'_>
+        requires { cpu < self.now.sup.cpus }
+        ensures { result ≡ pool_at self.now.free.pools cpu }
+    {
+        self.free.runs(cpu.0)
     }
 
     /// The faults that were found when it was recovered.

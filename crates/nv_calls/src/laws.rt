@@ -64,14 +64,17 @@ pub fn alike_regions()
 /// same.
 pub fn calls_keep_regions_alike()
     ensures create { (kind : Kind) (cpu mode time : ℕ) → KeepsAlike (λ R m p n. create_tests (world_of m) (tree_of R m.rows) cpu p n) (makes_inode kind cpu mode time) (logs_inode kind cpu mode time) }
-    ensures write { (cpu offset count : ℕ) (bytes : List ℕ) (time : ℕ) → KeepsAlike (λ R m p n. write_tests (world_of m) (tree_of R m.rows) cpu p (offset + count) n) (makes_bytes offset bytes time) (LogsBytes cpu offset count time) }
+    ensures write { (cpu offset count : ℕ) (bytes : List ℕ) (time : ℕ)
+        → KeepsAlike (λ R m p n. write_tests (world_of m) (tree_of R m.rows) cpu p (offset + count) n) (makes_bytes offset bytes time) (LogsBytes cpu offset count time) }
     ensures set_size { (cpu bytes time : ℕ) → KeepsAlike (λ R m p n. set_size_tests (world_of m) (tree_of R m.rows) cpu p bytes n) (makes_size bytes time) (logs_size cpu bytes time) }
-    ensures set_attr { (cpu mode owner group time : ℕ) → KeepsAlike (λ R m p n. set_attr_tests (world_of m) (tree_of R m.rows) cpu p n) (makes_attributes mode owner group time) (logs_attributes cpu mode owner group time) }
+    ensures set_attr { (cpu mode owner group time : ℕ)
+        → KeepsAlike (λ R m p n. set_attr_tests (world_of m) (tree_of R m.rows) cpu p n) (makes_attributes mode owner group time) (logs_attributes cpu mode owner group time) }
     ensures link { (cpu time : ℕ) (q : Path) → KeepsAlike (λ R m p n. link_tests (world_of m) (tree_of R m.rows) cpu p q n) (makes_link time q) (logs_link cpu time q) }
     ensures unlink { (cpu time : ℕ) → KeepsAlike (λ R m p n. unlink_tests (world_of m) (tree_of R m.rows) cpu p n) (makes_unlink time) (LogsUnlink cpu time) }
     ensures rmdir { (cpu time : ℕ) → KeepsAlike (λ R m p n. rmdir_tests (world_of m) (tree_of R m.rows) cpu p n) (makes_removal time) (logs_removal cpu time) }
     ensures rename { (cpu time : ℕ) (q : Path) → KeepsAlike (λ R m p n. rename_tests (world_of m) (tree_of R m.rows) cpu p q n) (makes_rename time q) (logs_rename cpu time q) }
     ensures clean { (answer : Option ℕ) → KeepsAlike (λ R m p n. clean_tests (world_of m) (tree_of R m.rows) p) makes_no_change (logs_clean answer) }
-    ensures cleaned { (answer other : Option ℕ) (R S T U : Region) (m k : Mount ⊤) (names : List (List ℕ)) → AreAlike R S → IsFaultlessMount R m → IsFaultlessMount S k → IsAllowed (λ R m p n. clean_tests (world_of m) (tree_of R m.rows) p) R m names
+    ensures cleaned { (answer other : Option ℕ) (R S T U : Region) (m k : Mount ⊤) (names : List (List ℕ)) → AreAlike R S → IsFaultlessMount R m → IsFaultlessMount S k
+        → IsAllowed (λ R m p n. clean_tests (world_of m) (tree_of R m.rows) p) R m names
         → WasDone makes_no_change (logs_clean answer) R m names T → WasDone makes_no_change (logs_clean other) S k names U → answer ≡ other }
 {}

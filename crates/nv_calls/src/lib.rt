@@ -1,6 +1,7 @@
 //! A mounted file system, and its calls.
 #![tactic(auto)]
 
+mod arguments;
 mod attributes;
 mod by_number;
 mod cleaning;
@@ -21,6 +22,7 @@ mod unlinking;
 mod write;
 mod writing;
 
+pub use arguments::{Cpu, Time};
 pub use fs::Fs;
 pub use laws::{alike_regions, calls_are_decided, calls_keep_regions_alike};
 pub use nv_bytes::Data;

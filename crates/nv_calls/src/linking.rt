@@ -39,6 +39,7 @@ ghost use Rattle.nv_steps.specs.Stores.{StoresIn, two_logs};
 ghost use Rattle.nv_calls.specs.Mount.{shown};
 
 use crate::Fs;
+use crate::arguments::{Cpu, Time};
 use crate::writing::is_stop;
 use nv_alloc::Allocators;
 use nv_paths::{Named, link_for};
@@ -67,13 +68,17 @@ fn link_at<P: Pmem>(
     requires directory { IsInUse rows.old.items named.now.directory }
     requires apart { named.now.target ≢ named.now.directory }
     requires few { (row : RowValue) → row_of rows.old.items named.now.target ≡ Option.Some row → row.numbers.links < 1000 }
-    requires stands { (row : RowValue) → row_of rows.old.items named.now.target ≡ Option.Some row → StandsRight (P.region memory.old) sup.now free.old row × CanName (P.region memory.old) sup.now cpu row.inode row }
-    requires directory_stands { (directory : RowValue) → row_of rows.old.items named.now.directory ≡ Option.Some directory → StandsRight (P.region memory.old) sup.now free.old directory × CanName (P.region memory.old) sup.now cpu directory.inode directory }
+    requires stands { (row : RowValue) → row_of rows.old.items named.now.target ≡ Option.Some row → StandsRight (P.region memory.old) sup.now free.old row
+        × CanName (P.region memory.old) sup.now cpu row.inode row }
+    requires directory_stands { (directory : RowValue) → row_of rows.old.items named.now.directory ≡ Option.Some directory
+        → StandsRight (P.region memory.old) sup.now free.old directory × CanName (P.region memory.old) sup.now cpu directory.inode directory }
     requires name { IsName named.now.name.now }
     ensures linked { OnOk result (LinksAt (P.region memory.old) (P.region memory.new) sup.now free.old free.new cpu rows.old.items rows.new.items (place_in rows.old.items named.now.target) (place_in rows.old.items named.now.directory) named.now.name.now time) }
-    ensures enough { (row directory : RowValue) → row_of rows.old.items named.now.target ≡ Option.Some row → row_of rows.old.items named.now.directory ≡ Option.Some directory → OnOk result (needed (row.tail % 4096) (links_entries (row.numbers.links + 1) time) + needed (directory.tail % 4096) (name_entries Add row.inode named.now.name.now time) ≤ all_blocks free.old.pools) }
+    ensures enough { (row directory : RowValue) → row_of rows.old.items named.now.target ≡ Option.Some row → row_of rows.old.items named.now.directory ≡ Option.Some directory
+        → OnOk result (needed (row.tail % 4096) (links_entries (row.numbers.links + 1) time) + needed (directory.tail % 4096) (name_entries Add row.inode named.now.name.now time) ≤ all_blocks free.old.pools) }
     ensures settled { OnOk result (NothingPending (P.region memory.new) (P.may_hold memory.new)) }
-    ensures refused { (row directory : RowValue) → row_of rows.old.items named.now.target ≡ Option.Some row → row_of rows.old.items named.now.directory ≡ Option.Some directory → IfErr result (λ e. RefusesStep e (needed (row.tail % 4096) (links_entries (row.numbers.links + 1) time) + needed (directory.tail % 4096) (name_entries Add row.inode named.now.name.now time)) free.old) }
+    ensures refused { (row directory : RowValue) → row_of rows.old.items named.now.target ≡ Option.Some row → row_of rows.old.items named.now.directory ≡ Option.Some directory
+        → IfErr result (λ e. RefusesStep e (needed (row.tail % 4096) (links_entries (row.numbers.links + 1) time) + needed (directory.tail % 4096) (name_entries Add row.inode named.now.name.now time)) free.old) }
     ensures unchanged { IfErr result (λ e. (e ≡ RefusalValue.Stopped → ⊥) → LeavesRows memory.old memory.new free.old free.new rows.old.items rows.new.items) }
     ensures stopped { IfErr result (λ e. e ≡ RefusalValue.Stopped → IsTrue (P.fuse memory.new).has_burnt) }
     ensures limit { rows.new.sup ≡ rows.old.sup }
@@ -81,13 +86,19 @@ fn link_at<P: Pmem>(
     ensures length { size (P.region memory.new) ≡ size (P.region memory.old) }
     ensures keeps_fuse { KeepsFuse (λ limit. size (P.region memory.old) ≤ limit) (P.fuse memory.old) (P.fuse memory.new) }
     // Every word outside these places is as it was.
-    ensures wrote { (file directory : RowValue) (held : Store) (f h : Held) → row_of rows.old.items named.now.target ≡ Option.Some file → row_of rows.old.items named.now.directory ≡ Option.Some directory → ShowsRow (P.region memory.old) sup.now held f file free.old → ShowsRow (P.region memory.old) sup.now held h directory free.old
+    ensures wrote { (file directory : RowValue) (held : Store) (f h : Held) → row_of rows.old.items named.now.target ≡ Option.Some file
+        → row_of rows.old.items named.now.directory ≡ Option.Some directory → ShowsRow (P.region memory.old) sup.now held f file free.old
+        → ShowsRow (P.region memory.old) sup.now held h directory free.old
         → StoresIn sup.now held (two_logs sup.now cpu file.inode directory.inode) (P.region memory.old) (P.region memory.new) }
     // The file's tail is stored first.
-    ensures in_order { (file directory : RowValue) (held : Store) (f h : Held) → row_of rows.old.items named.now.target ≡ Option.Some file → row_of rows.old.items named.now.directory ≡ Option.Some directory → ShowsRow (P.region memory.old) sup.now held f file free.old → ShowsRow (P.region memory.old) sup.now held h directory free.old
+    ensures in_order { (file directory : RowValue) (held : Store) (f h : Held) → row_of rows.old.items named.now.target ≡ Option.Some file
+        → row_of rows.old.items named.now.directory ≡ Option.Some directory → ShowsRow (P.region memory.old) sup.now held f file free.old
+        → ShowsRow (P.region memory.old) sup.now held h directory free.old
         → TailIsFirst (P.region memory.old) (P.region memory.new) sup.now free.old.pools cpu file.inode file.tail (links_entries (file.numbers.links + 1) time) (tail_address sup.now directory.inode) }
     // Whatever a stop leaves: recovery finds what is held, or it with the link and the name, without faults.
-    ensures any_stop { (file directory : RowValue) (held : Store) (f h : Held) → row_of rows.old.items named.now.target ≡ Option.Some file → row_of rows.old.items named.now.directory ≡ Option.Some directory → ShowsRow (P.region memory.old) sup.now held f file free.old → ShowsRow (P.region memory.old) sup.now held h directory free.old
+    ensures any_stop { (file directory : RowValue) (held : Store) (f h : Held) → row_of rows.old.items named.now.target ≡ Option.Some file
+        → row_of rows.old.items named.now.directory ≡ Option.Some directory → ShowsRow (P.region memory.old) sup.now held f file free.old
+        → ShowsRow (P.region memory.old) sup.now held h directory free.old
         → name_at directory.names named.now.name.now ≡ Option.None → NothingPending (P.region memory.old) (P.may_hold memory.old)
         → LeavesOnly (P.region memory.new) (P.may_hold memory.new) (LeavesEither (P.region memory.old) (fixed_layout sup.now) held (Linked (P.region memory.old) sup.now free.old cpu file directory named.now.name.now time)) }
 {
@@ -126,7 +137,7 @@ impl<P: Pmem + Drop> Fs<P> {
     ///
     /// Besides these `Memory` where a growth was refused, and `Stopped` where the fuse burns. All but `Stopped` leave
     /// everything as it was.
-    pub fn link(&mut self, cpu: u64, old: &[u8], new: &[u8], time: u64) -> Result<(), Refusal>
+    pub fn link(&mut self, cpu: Cpu, old: &[u8], new: &[u8], time: Time) -> Result<(), Refusal>
         ensures stopped_before { IsTrue self.old.stopped → (result ≡ Result.Err RefusalValue.Stopped) × (self.new ≡ self.old) }
         ensures allowed { (p q : Path) → Says old.now p → Says new.now q
             → OnOk result (first_refusal (link_tests (world_of self.old) (shown P.region self.old) cpu p q (link_blocks self.old.rows (shown P.region self.old) p q)) ≡ Option.None) }
@@ -135,11 +146,13 @@ impl<P: Pmem + Drop> Fs<P> {
         ensures changed { (names others : List (List ℕ)) → IsPath old.now names → IsPath new.now others
             → OnOk result (SameTree (shown P.region self.new) (linked names others time (shown P.region self.old))) }
         // The log of the file and that of the directory have one entry more, and no other log has changed.
-        ensures log { (names others : List (List ℕ)) (i d : ℕ) (node : Node) (held : Store) (f h : Held) → IsPath old.now names → IsPath new.now others → LeadsTo (shown P.region self.old) names i node → walk (shown P.region self.old) 1 others ≡ Result.Ok d
+        ensures log { (names others : List (List ℕ)) (i d : ℕ) (node : Node) (held : Store) (f h : Held) → IsPath old.now names → IsPath new.now others
+            → LeadsTo (shown P.region self.old) names i node → walk (shown P.region self.old) 1 others ≡ Result.Ok d
             → ShowsSound (P.region self.old.memory) self.old.sup held → held i ≡ Option.Some f → held d ≡ Option.Some h
             → OnOk result (ShowsBothGrew (P.region self.new.memory) self.old.sup self.old.free.pools cpu held i f (links_entries (node.links + 1) time) d h (name_entries Add i (last_name others) time)) }
         ensures unchanged { IfErr result (λ e. (e ≡ RefusalValue.Stopped → ⊥) → SameMount self.old self.new) }
-        ensures stopped { self.old.stopped ≡ false → (IsTrue self.new.stopped → (result ≡ Result.Err RefusalValue.Stopped) × IsTrue (P.fuse self.new.memory).has_burnt) × (result ≡ Result.Err RefusalValue.Stopped → IsTrue self.new.stopped) }
+        ensures stopped { self.old.stopped ≡ false → (IsTrue self.new.stopped → (result ≡ Result.Err RefusalValue.Stopped) × IsTrue (P.fuse self.new.memory).has_burnt)
+            × (result ≡ Result.Err RefusalValue.Stopped → IsTrue self.new.stopped) }
         ensures keeps { KeepsMount self.old self.new }
         // The superblock and all journals but that of the CPU are as they were.
         ensures journals { OnOk result (SameFrontBut self.old.sup.cpus cpu (P.region self.old.memory) (P.region self.new.memory)) }
@@ -151,27 +164,30 @@ impl<P: Pmem + Drop> Fs<P> {
         // What was mounted with faults stays as it was.
         ensures read_only { IsTrue self.old.read_only → SameMount self.old self.new }
         // Every word outside these places is as it was.
-        ensures wrote { (names others : List (List ℕ)) (i d : ℕ) (node : Node) (held : Store) → IsPath old.now names → IsPath new.now others → LeadsTo (shown P.region self.old) names i node → walk (shown P.region self.old) 1 others ≡ Result.Ok d
+        ensures wrote { (names others : List (List ℕ)) (i d : ℕ) (node : Node) (held : Store) → IsPath old.now names → IsPath new.now others → LeadsTo (shown P.region self.old) names i node
+            → walk (shown P.region self.old) 1 others ≡ Result.Ok d
             → ShowsSound (P.region self.old.memory) self.old.sup held
             → StoresIn self.old.sup held (two_logs self.old.sup cpu i d) (P.region self.old.memory) (P.region self.new.memory) }
         // The file's tail is stored first.
-        ensures in_order { (names others : List (List ℕ)) (i d : ℕ) (node : Node) (held : Store) (f : Held) → IsPath old.now names → IsPath new.now others → LeadsTo (shown P.region self.old) names i node → walk (shown P.region self.old) 1 others ≡ Result.Ok d
-            → ShowsSound (P.region self.old.memory) self.old.sup held → held i ≡ Option.Some f → ShowsTailFirst (P.region self.old.memory) (P.region self.new.memory) self.old.sup self.old.free.pools cpu i f (links_entries (node.links + 1) time) (tail_address self.old.sup d) }
+        ensures in_order { (names others : List (List ℕ)) (i d : ℕ) (node : Node) (held : Store) (f : Held) → IsPath old.now names → IsPath new.now others
+            → LeadsTo (shown P.region self.old) names i node → walk (shown P.region self.old) 1 others ≡ Result.Ok d
+            → ShowsSound (P.region self.old.memory) self.old.sup held → held i ≡ Option.Some f
+            → ShowsTailFirst (P.region self.old.memory) (P.region self.new.memory) self.old.sup self.old.free.pools cpu i f (links_entries (node.links + 1) time) (tail_address self.old.sup d) }
         // Whatever a stop leaves, at any exit: recovery finds what was mounted, or what the call makes, without faults.
         ensures any_stop { (names others : List (List ℕ)) → IsPath old.now names → IsPath new.now others → self.old.stopped ≡ false → self.old.read_only ≡ false
             → LeavesOnly (P.region self.new.memory) (P.may_hold self.new.memory) (LeavesCall (makes_link time (Option.Some others)) (logs_link cpu time (Option.Some others)) (P.region self.old.memory) self.old names) }
     {
-        self.writable(cpu)?;
+        self.writable(cpu.0)?;
         let named = link_for(&self.rows, old, new)?;
         match link_at(
             self.alloc,
             &mut self.memory,
             &self.sup,
             &mut self.free,
-            cpu,
+            cpu.0,
             &mut self.rows,
             &named,
-            time,
+            time.0,
         ) {
             Ok(()) => Ok(()),
             Err(refusal) => {

@@ -27,6 +27,7 @@ ghost use Rattle.nv_steps.specs.Stores.{StoresIn, one_less};
 ghost use Rattle.nv_calls.specs.Mount.{shown};
 
 use crate::Fs;
+use crate::arguments::{Cpu, Time};
 use crate::removing::remove_named;
 use crate::writing::is_stop;
 use nv_paths::rmdir_for;
@@ -49,7 +50,7 @@ impl<P: Pmem + Drop> Fs<P> {
     ///
     /// Besides these `Memory` where a growth was refused, and `Stopped` where the fuse burns. All but `Stopped` leave
     /// everything as it was.
-    pub fn rmdir(&mut self, cpu: u64, path: &[u8], time: u64) -> Result<(), Refusal>
+    pub fn rmdir(&mut self, cpu: Cpu, path: &[u8], time: Time) -> Result<(), Refusal>
         ensures stopped_before { IsTrue self.old.stopped → (result ≡ Result.Err RefusalValue.Stopped) × (self.new ≡ self.old) }
         ensures allowed { (p : Path) → Says path.now p
             → OnOk result (first_refusal (rmdir_tests (world_of self.old) (shown P.region self.old) cpu p (name_blocks self.old.rows (shown P.region self.old) p)) ≡ Option.None) }
@@ -58,11 +59,13 @@ impl<P: Pmem + Drop> Fs<P> {
         ensures changed { (names : List (List ℕ)) → IsPath path.now names
             → OnOk result (SameTree (shown P.region self.new) (removed names time (shown P.region self.old))) }
         // The log of the directory in which it stood has one entry more, and no other log has changed.
-        ensures log { (names : List (List ℕ)) (i d : ℕ) (node : Node) (held : Store) (h : Held) → IsPath path.now names → LeadsTo (shown P.region self.old) names i node → walk (shown P.region self.old) 1 names ≡ Result.Ok d
+        ensures log { (names : List (List ℕ)) (i d : ℕ) (node : Node) (held : Store) (h : Held) → IsPath path.now names → LeadsTo (shown P.region self.old) names i node
+            → walk (shown P.region self.old) 1 names ≡ Result.Ok d
             → ShowsSound (P.region self.old.memory) self.old.sup held → held d ≡ Option.Some h
             → OnOk result (ShowsRemoved (P.region self.new.memory) self.old.sup self.old.free.pools cpu held d h (name_entries Remove i (last_name names) time) i) }
         ensures unchanged { IfErr result (λ e. (e ≡ RefusalValue.Stopped → ⊥) → SameMount self.old self.new) }
-        ensures stopped { self.old.stopped ≡ false → (IsTrue self.new.stopped → (result ≡ Result.Err RefusalValue.Stopped) × IsTrue (P.fuse self.new.memory).has_burnt) × (result ≡ Result.Err RefusalValue.Stopped → IsTrue self.new.stopped) }
+        ensures stopped { self.old.stopped ≡ false → (IsTrue self.new.stopped → (result ≡ Result.Err RefusalValue.Stopped) × IsTrue (P.fuse self.new.memory).has_burnt)
+            × (result ≡ Result.Err RefusalValue.Stopped → IsTrue self.new.stopped) }
         ensures keeps { KeepsMount self.old self.new }
         // The superblock and all journals but that of the CPU are as they were.
         ensures journals { OnOk result (SameFrontBut self.old.sup.cpus cpu (P.region self.old.memory) (P.region self.new.memory)) }
@@ -74,27 +77,30 @@ impl<P: Pmem + Drop> Fs<P> {
         // What was mounted with faults stays as it was.
         ensures read_only { IsTrue self.old.read_only → SameMount self.old self.new }
         // Every word outside these places is as it was.
-        ensures wrote { (names : List (List ℕ)) (i d : ℕ) (node : Node) (held : Store) → IsPath path.now names → LeadsTo (shown P.region self.old) names i node → walk (shown P.region self.old) 1 names ≡ Result.Ok d
+        ensures wrote { (names : List (List ℕ)) (i d : ℕ) (node : Node) (held : Store) → IsPath path.now names → LeadsTo (shown P.region self.old) names i node
+            → walk (shown P.region self.old) 1 names ≡ Result.Ok d
             → ShowsSound (P.region self.old.memory) self.old.sup held
             → StoresIn self.old.sup held (one_less self.old.sup cpu d i) (P.region self.old.memory) (P.region self.new.memory) }
         // The tail of the directory above is stored first.
-        ensures in_order { (names : List (List ℕ)) (i d : ℕ) (node : Node) (held : Store) (h : Held) → IsPath path.now names → LeadsTo (shown P.region self.old) names i node → walk (shown P.region self.old) 1 names ≡ Result.Ok d
-            → ShowsSound (P.region self.old.memory) self.old.sup held → held d ≡ Option.Some h → ShowsTailFirst (P.region self.old.memory) (P.region self.new.memory) self.old.sup self.old.free.pools cpu d h (name_entries Remove i (last_name names) time) (slot_address self.old.sup i) }
+        ensures in_order { (names : List (List ℕ)) (i d : ℕ) (node : Node) (held : Store) (h : Held) → IsPath path.now names → LeadsTo (shown P.region self.old) names i node
+            → walk (shown P.region self.old) 1 names ≡ Result.Ok d
+            → ShowsSound (P.region self.old.memory) self.old.sup held → held d ≡ Option.Some h
+            → ShowsTailFirst (P.region self.old.memory) (P.region self.new.memory) self.old.sup self.old.free.pools cpu d h (name_entries Remove i (last_name names) time) (slot_address self.old.sup i) }
         // Whatever a stop leaves, at any exit: recovery finds what was mounted, or what the call makes, without faults.
         ensures any_stop { (names : List (List ℕ)) → IsPath path.now names → self.old.stopped ≡ false → self.old.read_only ≡ false
             → LeavesOnly (P.region self.new.memory) (P.may_hold self.new.memory) (LeavesCall (makes_removal time) (logs_removal cpu time) (P.region self.old.memory) self.old names) }
     {
-        self.writable(cpu)?;
+        self.writable(cpu.0)?;
         let named = rmdir_for(&self.rows, path)?;
         match remove_named(
             self.alloc,
             &mut self.memory,
             &self.sup,
             &mut self.free,
-            cpu,
+            cpu.0,
             &mut self.rows,
             &named,
-            time,
+            time.0,
         ) {
             Ok(()) => Ok(()),
             Err(refusal) => {

@@ -41,6 +41,7 @@ ghost use Rattle.nv_steps.specs.Stores.{StoresIn, one_log, two_logs};
 ghost use Rattle.nv_calls.specs.Mount.{shown};
 
 use crate::Fs;
+use crate::arguments::{Cpu, Time};
 use crate::writing::is_stop;
 use nv_alloc::Allocators;
 use nv_paths::{Move, rename_for};
@@ -69,14 +70,20 @@ fn move_across<P: Pmem>(
     requires from { IsInUse rows.old.items moved.now.from.directory }
     requires directory { IsInUse rows.old.items moved.now.directory }
     requires apart { moved.now.from.directory ≢ moved.now.directory }
-    requires stands { (row : RowValue) → row_of rows.old.items moved.now.from.directory ≡ Option.Some row → StandsRight (P.region memory.old) sup.now free.old row × CanName (P.region memory.old) sup.now cpu row.inode row }
-    requires other_stands { (row : RowValue) → row_of rows.old.items moved.now.directory ≡ Option.Some row → StandsRight (P.region memory.old) sup.now free.old row × CanName (P.region memory.old) sup.now cpu row.inode row }
+    requires stands { (row : RowValue) → row_of rows.old.items moved.now.from.directory ≡ Option.Some row
+        → StandsRight (P.region memory.old) sup.now free.old row × CanName (P.region memory.old) sup.now cpu row.inode row }
+    requires other_stands { (row : RowValue) → row_of rows.old.items moved.now.directory ≡ Option.Some row
+        → StandsRight (P.region memory.old) sup.now free.old row × CanName (P.region memory.old) sup.now cpu row.inode row }
     requires name { IsName moved.now.from.name.now }
     requires other { IsName moved.now.name.now }
     ensures moved { OnOk result (MovesAcross (P.region memory.old) (P.region memory.new) sup.now free.old free.new cpu rows.old.items rows.new.items (place_in rows.old.items moved.now.from.directory) (place_in rows.old.items moved.now.from.target) (place_in rows.old.items moved.now.directory) moved.now.from.name.now moved.now.name.now time) }
-    ensures enough { (from to inode : RowValue) → row_of rows.old.items moved.now.from.directory ≡ Option.Some from → row_of rows.old.items moved.now.directory ≡ Option.Some to → row_of rows.old.items moved.now.from.target ≡ Option.Some inode → OnOk result (needed (from.tail % 4096) (name_entries Remove inode.inode moved.now.from.name.now time) + needed (to.tail % 4096) (name_entries Add inode.inode moved.now.name.now time) ≤ all_blocks free.old.pools) }
+    ensures enough { (from to inode : RowValue) → row_of rows.old.items moved.now.from.directory ≡ Option.Some from → row_of rows.old.items moved.now.directory ≡ Option.Some to
+        → row_of rows.old.items moved.now.from.target ≡ Option.Some inode
+        → OnOk result (needed (from.tail % 4096) (name_entries Remove inode.inode moved.now.from.name.now time) + needed (to.tail % 4096) (name_entries Add inode.inode moved.now.name.now time) ≤ all_blocks free.old.pools) }
     ensures settled { OnOk result (NothingPending (P.region memory.new) (P.may_hold memory.new)) }
-    ensures refused { (from to inode : RowValue) → row_of rows.old.items moved.now.from.directory ≡ Option.Some from → row_of rows.old.items moved.now.directory ≡ Option.Some to → row_of rows.old.items moved.now.from.target ≡ Option.Some inode → IfErr result (λ e. RefusesStep e (needed (from.tail % 4096) (name_entries Remove inode.inode moved.now.from.name.now time) + needed (to.tail % 4096) (name_entries Add inode.inode moved.now.name.now time)) free.old) }
+    ensures refused { (from to inode : RowValue) → row_of rows.old.items moved.now.from.directory ≡ Option.Some from → row_of rows.old.items moved.now.directory ≡ Option.Some to
+        → row_of rows.old.items moved.now.from.target ≡ Option.Some inode
+        → IfErr result (λ e. RefusesStep e (needed (from.tail % 4096) (name_entries Remove inode.inode moved.now.from.name.now time) + needed (to.tail % 4096) (name_entries Add inode.inode moved.now.name.now time)) free.old) }
     ensures unchanged { IfErr result (λ e. (e ≡ RefusalValue.Stopped → ⊥) → LeavesRows memory.old memory.new free.old free.new rows.old.items rows.new.items) }
     ensures stopped { IfErr result (λ e. e ≡ RefusalValue.Stopped → IsTrue (P.fuse memory.new).has_burnt) }
     ensures limit { rows.new.sup ≡ rows.old.sup }
@@ -84,16 +91,20 @@ fn move_across<P: Pmem>(
     ensures length { size (P.region memory.new) ≡ size (P.region memory.old) }
     ensures keeps_fuse { KeepsFuse (λ limit. size (P.region memory.old) ≤ limit) (P.fuse memory.old) (P.fuse memory.new) }
     // Every word outside these places is as it was.
-    ensures wrote { (from to inode : RowValue) (held : Store) (h k : Held) → row_of rows.old.items moved.now.from.directory ≡ Option.Some from → row_of rows.old.items moved.now.directory ≡ Option.Some to → row_of rows.old.items moved.now.from.target ≡ Option.Some inode
+    ensures wrote { (from to inode : RowValue) (held : Store) (h k : Held) → row_of rows.old.items moved.now.from.directory ≡ Option.Some from
+        → row_of rows.old.items moved.now.directory ≡ Option.Some to → row_of rows.old.items moved.now.from.target ≡ Option.Some inode
         → ShowsRow (P.region memory.old) sup.now held h from free.old → ShowsRow (P.region memory.old) sup.now held k to free.old
         → StoresIn sup.now held (two_logs sup.now cpu from.inode to.inode) (P.region memory.old) (P.region memory.new) }
     // The old directory's tail is stored first.
-    ensures in_order { (from to inode : RowValue) (held : Store) (h k : Held) → row_of rows.old.items moved.now.from.directory ≡ Option.Some from → row_of rows.old.items moved.now.directory ≡ Option.Some to → row_of rows.old.items moved.now.from.target ≡ Option.Some inode
+    ensures in_order { (from to inode : RowValue) (held : Store) (h k : Held) → row_of rows.old.items moved.now.from.directory ≡ Option.Some from
+        → row_of rows.old.items moved.now.directory ≡ Option.Some to → row_of rows.old.items moved.now.from.target ≡ Option.Some inode
         → ShowsRow (P.region memory.old) sup.now held h from free.old → ShowsRow (P.region memory.old) sup.now held k to free.old
         → TailIsFirst (P.region memory.old) (P.region memory.new) sup.now free.old.pools cpu from.inode from.tail (name_entries Remove inode.inode moved.now.from.name.now time) (tail_address sup.now to.inode) }
     // Whatever a stop leaves: recovery finds what is held, or it with the other name, without faults.
-    ensures any_stop { (from to inode : RowValue) (held : Store) (h k : Held) → row_of rows.old.items moved.now.from.directory ≡ Option.Some from → row_of rows.old.items moved.now.directory ≡ Option.Some to → row_of rows.old.items moved.now.from.target ≡ Option.Some inode
-        → ShowsRow (P.region memory.old) sup.now held h from free.old → ShowsRow (P.region memory.old) sup.now held k to free.old → name_at to.names moved.now.name.now ≡ Option.None → NothingPending (P.region memory.old) (P.may_hold memory.old)
+    ensures any_stop { (from to inode : RowValue) (held : Store) (h k : Held) → row_of rows.old.items moved.now.from.directory ≡ Option.Some from
+        → row_of rows.old.items moved.now.directory ≡ Option.Some to → row_of rows.old.items moved.now.from.target ≡ Option.Some inode
+        → ShowsRow (P.region memory.old) sup.now held h from free.old → ShowsRow (P.region memory.old) sup.now held k to free.old → name_at to.names moved.now.name.now ≡ Option.None
+        → NothingPending (P.region memory.old) (P.may_hold memory.old)
         → LeavesOnly (P.region memory.new) (P.may_hold memory.new) (LeavesEither (P.region memory.old) (fixed_layout sup.now) held (MovedOver (P.region memory.old) sup.now free.old cpu from to inode.inode moved.now.from.name.now moved.now.name.now time)) }
 {
     let mut from = rows.lend(alloc, moved.from.directory);
@@ -138,14 +149,20 @@ fn move_at<P: Pmem>(
     requires target { IsInUse rows.old.items moved.now.from.target }
     requires from { IsInUse rows.old.items moved.now.from.directory }
     requires directory { IsInUse rows.old.items moved.now.directory }
-    requires stands { (row : RowValue) → row_of rows.old.items moved.now.from.directory ≡ Option.Some row → StandsRight (P.region memory.old) sup.now free.old row × CanName (P.region memory.old) sup.now cpu row.inode row }
-    requires other_stands { (row : RowValue) → row_of rows.old.items moved.now.directory ≡ Option.Some row → StandsRight (P.region memory.old) sup.now free.old row × CanName (P.region memory.old) sup.now cpu row.inode row }
+    requires stands { (row : RowValue) → row_of rows.old.items moved.now.from.directory ≡ Option.Some row
+        → StandsRight (P.region memory.old) sup.now free.old row × CanName (P.region memory.old) sup.now cpu row.inode row }
+    requires other_stands { (row : RowValue) → row_of rows.old.items moved.now.directory ≡ Option.Some row
+        → StandsRight (P.region memory.old) sup.now free.old row × CanName (P.region memory.old) sup.now cpu row.inode row }
     requires name { IsName moved.now.from.name.now }
     requires other { IsName moved.now.name.now }
     ensures moved { OnOk result (MovesAt (P.region memory.old) (P.region memory.new) sup.now free.old free.new cpu rows.old.items rows.new.items (place_in rows.old.items moved.now.from.directory) (place_in rows.old.items moved.now.from.target) (place_in rows.old.items moved.now.directory) moved.now.from.name.now moved.now.name.now time) }
-    ensures enough { (from to inode : RowValue) → row_of rows.old.items moved.now.from.directory ≡ Option.Some from → row_of rows.old.items moved.now.directory ≡ Option.Some to → row_of rows.old.items moved.now.from.target ≡ Option.Some inode → OnOk result (move_blocks (place_in rows.old.items moved.now.from.directory) (place_in rows.old.items moved.now.directory) from to inode.inode moved.now.from.name.now moved.now.name.now time ≤ all_blocks free.old.pools) }
+    ensures enough { (from to inode : RowValue) → row_of rows.old.items moved.now.from.directory ≡ Option.Some from → row_of rows.old.items moved.now.directory ≡ Option.Some to
+        → row_of rows.old.items moved.now.from.target ≡ Option.Some inode
+        → OnOk result (move_blocks (place_in rows.old.items moved.now.from.directory) (place_in rows.old.items moved.now.directory) from to inode.inode moved.now.from.name.now moved.now.name.now time ≤ all_blocks free.old.pools) }
     ensures settled { OnOk result (NothingPending (P.region memory.new) (P.may_hold memory.new)) }
-    ensures refused { (from to inode : RowValue) → row_of rows.old.items moved.now.from.directory ≡ Option.Some from → row_of rows.old.items moved.now.directory ≡ Option.Some to → row_of rows.old.items moved.now.from.target ≡ Option.Some inode → IfErr result (λ e. RefusesStep e (move_blocks (place_in rows.old.items moved.now.from.directory) (place_in rows.old.items moved.now.directory) from to inode.inode moved.now.from.name.now moved.now.name.now time) free.old) }
+    ensures refused { (from to inode : RowValue) → row_of rows.old.items moved.now.from.directory ≡ Option.Some from → row_of rows.old.items moved.now.directory ≡ Option.Some to
+        → row_of rows.old.items moved.now.from.target ≡ Option.Some inode
+        → IfErr result (λ e. RefusesStep e (move_blocks (place_in rows.old.items moved.now.from.directory) (place_in rows.old.items moved.now.directory) from to inode.inode moved.now.from.name.now moved.now.name.now time) free.old) }
     ensures unchanged { IfErr result (λ e. (e ≡ RefusalValue.Stopped → ⊥) → LeavesRows memory.old memory.new free.old free.new rows.old.items rows.new.items) }
     ensures stopped { IfErr result (λ e. e ≡ RefusalValue.Stopped → IsTrue (P.fuse memory.new).has_burnt) }
     ensures limit { rows.new.sup ≡ rows.old.sup }
@@ -153,19 +170,26 @@ fn move_at<P: Pmem>(
     ensures length { size (P.region memory.new) ≡ size (P.region memory.old) }
     ensures keeps_fuse { KeepsFuse (λ limit. size (P.region memory.old) ≤ limit) (P.fuse memory.old) (P.fuse memory.new) }
     // Every word outside these places is as it was.
-    ensures wrote { (from to inode : RowValue) (held : Store) (h k : Held) → row_of rows.old.items moved.now.from.directory ≡ Option.Some from → row_of rows.old.items moved.now.directory ≡ Option.Some to → row_of rows.old.items moved.now.from.target ≡ Option.Some inode
-        → ShowsRow (P.region memory.old) sup.now held h from free.old → ShowsRow (P.region memory.old) sup.now held k to free.old → place_in rows.old.items moved.now.from.directory ≢ place_in rows.old.items moved.now.directory
+    ensures wrote { (from to inode : RowValue) (held : Store) (h k : Held) → row_of rows.old.items moved.now.from.directory ≡ Option.Some from
+        → row_of rows.old.items moved.now.directory ≡ Option.Some to → row_of rows.old.items moved.now.from.target ≡ Option.Some inode
+        → ShowsRow (P.region memory.old) sup.now held h from free.old → ShowsRow (P.region memory.old) sup.now held k to free.old
+        → place_in rows.old.items moved.now.from.directory ≢ place_in rows.old.items moved.now.directory
         → StoresIn sup.now held (two_logs sup.now cpu from.inode to.inode) (P.region memory.old) (P.region memory.new) }
     // Within one directory these are the places of its log.
-    ensures within_wrote { (directory : RowValue) (held : Store) (h : Held) → row_of rows.old.items moved.now.directory ≡ Option.Some directory → ShowsRow (P.region memory.old) sup.now held h directory free.old → moved.now.from.directory ≡ moved.now.directory
+    ensures within_wrote { (directory : RowValue) (held : Store) (h : Held) → row_of rows.old.items moved.now.directory ≡ Option.Some directory
+        → ShowsRow (P.region memory.old) sup.now held h directory free.old → moved.now.from.directory ≡ moved.now.directory
         → StoresIn sup.now held (one_log sup.now directory.inode) (P.region memory.old) (P.region memory.new) }
     // The old directory's tail is stored first.
-    ensures in_order { (from to inode : RowValue) (held : Store) (h k : Held) → row_of rows.old.items moved.now.from.directory ≡ Option.Some from → row_of rows.old.items moved.now.directory ≡ Option.Some to → row_of rows.old.items moved.now.from.target ≡ Option.Some inode
-        → ShowsRow (P.region memory.old) sup.now held h from free.old → ShowsRow (P.region memory.old) sup.now held k to free.old → place_in rows.old.items moved.now.from.directory ≢ place_in rows.old.items moved.now.directory
+    ensures in_order { (from to inode : RowValue) (held : Store) (h k : Held) → row_of rows.old.items moved.now.from.directory ≡ Option.Some from
+        → row_of rows.old.items moved.now.directory ≡ Option.Some to → row_of rows.old.items moved.now.from.target ≡ Option.Some inode
+        → ShowsRow (P.region memory.old) sup.now held h from free.old → ShowsRow (P.region memory.old) sup.now held k to free.old
+        → place_in rows.old.items moved.now.from.directory ≢ place_in rows.old.items moved.now.directory
         → TailIsFirst (P.region memory.old) (P.region memory.new) sup.now free.old.pools cpu from.inode from.tail (name_entries Remove inode.inode moved.now.from.name.now time) (tail_address sup.now to.inode) }
     // Whatever a stop leaves: recovery finds what is held, or it with the other name, without faults.
-    ensures any_stop { (from to inode : RowValue) (held : Store) (h k : Held) → row_of rows.old.items moved.now.from.directory ≡ Option.Some from → row_of rows.old.items moved.now.directory ≡ Option.Some to → row_of rows.old.items moved.now.from.target ≡ Option.Some inode
-        → ShowsRow (P.region memory.old) sup.now held h from free.old → ShowsRow (P.region memory.old) sup.now held k to free.old → name_at to.names moved.now.name.now ≡ Option.None → NothingPending (P.region memory.old) (P.may_hold memory.old)
+    ensures any_stop { (from to inode : RowValue) (held : Store) (h k : Held) → row_of rows.old.items moved.now.from.directory ≡ Option.Some from
+        → row_of rows.old.items moved.now.directory ≡ Option.Some to → row_of rows.old.items moved.now.from.target ≡ Option.Some inode
+        → ShowsRow (P.region memory.old) sup.now held h from free.old → ShowsRow (P.region memory.old) sup.now held k to free.old → name_at to.names moved.now.name.now ≡ Option.None
+        → NothingPending (P.region memory.old) (P.may_hold memory.old)
         → LeavesOnly (P.region memory.new) (P.may_hold memory.new) (LeavesEither (P.region memory.old) (fixed_layout sup.now) held (Renamed (P.region memory.old) sup.now free.old cpu (place_in rows.old.items moved.now.from.directory) (place_in rows.old.items moved.now.directory) from to inode.inode moved.now.from.name.now moved.now.name.now time)) }
 {
     if moved.from.directory != moved.directory {
@@ -194,7 +218,7 @@ impl<P: Pmem + Drop> Fs<P> {
     ///
     /// Besides these `Memory` where a growth was refused, and `Stopped` where the fuse burns. All but `Stopped` leave
     /// everything as it was.
-    pub fn rename(&mut self, cpu: u64, old: &[u8], new: &[u8], time: u64) -> Result<(), Refusal>
+    pub fn rename(&mut self, cpu: Cpu, old: &[u8], new: &[u8], time: Time) -> Result<(), Refusal>
         ensures stopped_before { IsTrue self.old.stopped → (result ≡ Result.Err RefusalValue.Stopped) × (self.new ≡ self.old) }
         ensures allowed { (p q : Path) → Says old.now p → Says new.now q
             → OnOk result (first_refusal (rename_tests (world_of self.old) (shown P.region self.old) cpu p q (rename_blocks self.old.rows (shown P.region self.old) p q)) ≡ Option.None) }
@@ -203,15 +227,18 @@ impl<P: Pmem + Drop> Fs<P> {
         ensures changed { (names others : List (List ℕ)) → IsPath old.now names → IsPath new.now others
             → OnOk result (SameTree (shown P.region self.new) (renamed names others time (shown P.region self.old))) }
         // The log of each of two directories has one entry more.
-        ensures log { (names others : List (List ℕ)) (i d e : ℕ) (node : Node) (held : Store) (h k : Held) → IsPath old.now names → IsPath new.now others → LeadsTo (shown P.region self.old) names i node → walk (shown P.region self.old) 1 names ≡ Result.Ok d → walk (shown P.region self.old) 1 others ≡ Result.Ok e → d ≢ e
+        ensures log { (names others : List (List ℕ)) (i d e : ℕ) (node : Node) (held : Store) (h k : Held) → IsPath old.now names → IsPath new.now others
+            → LeadsTo (shown P.region self.old) names i node → walk (shown P.region self.old) 1 names ≡ Result.Ok d → walk (shown P.region self.old) 1 others ≡ Result.Ok e → d ≢ e
             → ShowsSound (P.region self.old.memory) self.old.sup held → held d ≡ Option.Some h → held e ≡ Option.Some k
             → OnOk result (ShowsBothGrew (P.region self.new.memory) self.old.sup self.old.free.pools cpu held d h (name_entries Remove i (last_name names) time) e k (name_entries Add i (last_name others) time)) }
         // The log of the only directory has both entries. In both cases no other log has changed.
-        ensures within { (names others : List (List ℕ)) (i d : ℕ) (node : Node) (held : Store) (h : Held) → IsPath old.now names → IsPath new.now others → LeadsTo (shown P.region self.old) names i node → walk (shown P.region self.old) 1 names ≡ Result.Ok d → walk (shown P.region self.old) 1 others ≡ Result.Ok d
+        ensures within { (names others : List (List ℕ)) (i d : ℕ) (node : Node) (held : Store) (h : Held) → IsPath old.now names → IsPath new.now others
+            → LeadsTo (shown P.region self.old) names i node → walk (shown P.region self.old) 1 names ≡ Result.Ok d → walk (shown P.region self.old) 1 others ≡ Result.Ok d
             → ShowsSound (P.region self.old.memory) self.old.sup held → held d ≡ Option.Some h
             → OnOk result (ShowsGrownLog (P.region self.new.memory) self.old.sup self.old.free.pools cpu held d h (move_entries i (last_name names) (last_name others) time)) }
         ensures unchanged { IfErr result (λ e. (e ≡ RefusalValue.Stopped → ⊥) → SameMount self.old self.new) }
-        ensures stopped { self.old.stopped ≡ false → (IsTrue self.new.stopped → (result ≡ Result.Err RefusalValue.Stopped) × IsTrue (P.fuse self.new.memory).has_burnt) × (result ≡ Result.Err RefusalValue.Stopped → IsTrue self.new.stopped) }
+        ensures stopped { self.old.stopped ≡ false → (IsTrue self.new.stopped → (result ≡ Result.Err RefusalValue.Stopped) × IsTrue (P.fuse self.new.memory).has_burnt)
+            × (result ≡ Result.Err RefusalValue.Stopped → IsTrue self.new.stopped) }
         ensures keeps { KeepsMount self.old self.new }
         // The superblock and all journals but that of the CPU are as they were.
         ensures journals { OnOk result (SameFrontBut self.old.sup.cpus cpu (P.region self.old.memory) (P.region self.new.memory)) }
@@ -223,30 +250,34 @@ impl<P: Pmem + Drop> Fs<P> {
         // What was mounted with faults stays as it was.
         ensures read_only { IsTrue self.old.read_only → SameMount self.old self.new }
         // Every word outside these places is as it was.
-        ensures wrote { (names others : List (List ℕ)) (i d e : ℕ) (node : Node) (held : Store) → IsPath old.now names → IsPath new.now others → LeadsTo (shown P.region self.old) names i node → walk (shown P.region self.old) 1 names ≡ Result.Ok d → walk (shown P.region self.old) 1 others ≡ Result.Ok e → d ≢ e
+        ensures wrote { (names others : List (List ℕ)) (i d e : ℕ) (node : Node) (held : Store) → IsPath old.now names → IsPath new.now others
+            → LeadsTo (shown P.region self.old) names i node → walk (shown P.region self.old) 1 names ≡ Result.Ok d → walk (shown P.region self.old) 1 others ≡ Result.Ok e → d ≢ e
             → ShowsSound (P.region self.old.memory) self.old.sup held
             → StoresIn self.old.sup held (two_logs self.old.sup cpu d e) (P.region self.old.memory) (P.region self.new.memory) }
         // Within one directory these are the places of its log.
-        ensures within_wrote { (names others : List (List ℕ)) (d : ℕ) (held : Store) → IsPath old.now names → IsPath new.now others → walk (shown P.region self.old) 1 names ≡ Result.Ok d → walk (shown P.region self.old) 1 others ≡ Result.Ok d
+        ensures within_wrote { (names others : List (List ℕ)) (d : ℕ) (held : Store) → IsPath old.now names → IsPath new.now others → walk (shown P.region self.old) 1 names ≡ Result.Ok d
+            → walk (shown P.region self.old) 1 others ≡ Result.Ok d
             → ShowsSound (P.region self.old.memory) self.old.sup held → StoresIn self.old.sup held (one_log self.old.sup d) (P.region self.old.memory) (P.region self.new.memory) }
         // Of two directories the old one's tail is stored first.
-        ensures in_order { (names others : List (List ℕ)) (i d e : ℕ) (node : Node) (held : Store) (h : Held) → IsPath old.now names → IsPath new.now others → LeadsTo (shown P.region self.old) names i node → walk (shown P.region self.old) 1 names ≡ Result.Ok d → walk (shown P.region self.old) 1 others ≡ Result.Ok e → d ≢ e
-            → ShowsSound (P.region self.old.memory) self.old.sup held → held d ≡ Option.Some h → ShowsTailFirst (P.region self.old.memory) (P.region self.new.memory) self.old.sup self.old.free.pools cpu d h (name_entries Remove i (last_name names) time) (tail_address self.old.sup e) }
+        ensures in_order { (names others : List (List ℕ)) (i d e : ℕ) (node : Node) (held : Store) (h : Held) → IsPath old.now names → IsPath new.now others
+            → LeadsTo (shown P.region self.old) names i node → walk (shown P.region self.old) 1 names ≡ Result.Ok d → walk (shown P.region self.old) 1 others ≡ Result.Ok e → d ≢ e
+            → ShowsSound (P.region self.old.memory) self.old.sup held → held d ≡ Option.Some h
+            → ShowsTailFirst (P.region self.old.memory) (P.region self.new.memory) self.old.sup self.old.free.pools cpu d h (name_entries Remove i (last_name names) time) (tail_address self.old.sup e) }
         // Whatever a stop leaves, at any exit: recovery finds what was mounted, or what the call makes, without faults.
         ensures any_stop { (names others : List (List ℕ)) → IsPath old.now names → IsPath new.now others → self.old.stopped ≡ false → self.old.read_only ≡ false
             → LeavesOnly (P.region self.new.memory) (P.may_hold self.new.memory) (LeavesCall (makes_rename time (Option.Some others)) (logs_rename cpu time (Option.Some others)) (P.region self.old.memory) self.old names) }
     {
-        self.writable(cpu)?;
+        self.writable(cpu.0)?;
         let moved = rename_for(&self.rows, old, new)?;
         match move_at(
             self.alloc,
             &mut self.memory,
             &self.sup,
             &mut self.free,
-            cpu,
+            cpu.0,
             &mut self.rows,
             &moved,
-            time,
+            time.0,
         ) {
             Ok(()) => Ok(()),
             Err(refusal) => {

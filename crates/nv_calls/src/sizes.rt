@@ -25,6 +25,7 @@ ghost use Rattle.nv_steps.specs.Stores.{StoresIn, one_log};
 ghost use Rattle.nv_calls.specs.Mount.{shown};
 
 use crate::Fs;
+use crate::arguments::{Cpu, Time};
 use crate::writing::is_stop;
 use nv_entry::AttrEntry;
 use nv_paths::row_at;
@@ -51,7 +52,7 @@ impl<P: Pmem + Drop> Fs<P> {
     ///
     /// Besides these `Memory` where a growth was refused, and `Stopped` where the fuse burns. All but `Stopped` leave
     /// everything as it was.
-    pub fn set_size(&mut self, cpu: u64, path: &[u8], size: u64, time: u64) -> Result<(), Refusal>
+    pub fn set_size(&mut self, cpu: Cpu, path: &[u8], size: u64, time: Time) -> Result<(), Refusal>
         ensures stopped_before { IsTrue self.old.stopped → (result ≡ Result.Err RefusalValue.Stopped) × (self.new ≡ self.old) }
         ensures allowed { (p : Path) → Says path.now p
             → OnOk result (first_refusal (set_size_tests (world_of self.old) (shown P.region self.old) cpu p size (resized_blocks self.old.rows (shown P.region self.old) p size)) ≡ Option.None) }
@@ -61,9 +62,11 @@ impl<P: Pmem + Drop> Fs<P> {
             → OnOk result (SameTree (shown P.region self.new) (resized names size time (shown P.region self.old))) }
         // The log of the file has the entries for its size, and no other log has changed.
         ensures log { (names : List (List ℕ)) (i : ℕ) (node : Node) (held : Store) (h : Held) → IsPath path.now names → LeadsTo (shown P.region self.old) names i node
-            → ShowsSound (P.region self.old.memory) self.old.sup held → held i ≡ Option.Some h → OnOk result (ShowsResizedLog (P.region self.new.memory) self.old.sup self.old.free.pools cpu held i h node size time) }
+            → ShowsSound (P.region self.old.memory) self.old.sup held → held i ≡ Option.Some h
+            → OnOk result (ShowsResizedLog (P.region self.new.memory) self.old.sup self.old.free.pools cpu held i h node size time) }
         ensures unchanged { IfErr result (λ e. (e ≡ RefusalValue.Stopped → ⊥) → SameMount self.old self.new) }
-        ensures stopped { self.old.stopped ≡ false → (IsTrue self.new.stopped → (result ≡ Result.Err RefusalValue.Stopped) × IsTrue (P.fuse self.new.memory).has_burnt) × (result ≡ Result.Err RefusalValue.Stopped → IsTrue self.new.stopped) }
+        ensures stopped { self.old.stopped ≡ false → (IsTrue self.new.stopped → (result ≡ Result.Err RefusalValue.Stopped) × IsTrue (P.fuse self.new.memory).has_burnt)
+            × (result ≡ Result.Err RefusalValue.Stopped → IsTrue self.new.stopped) }
         ensures keeps { KeepsMount self.old self.new }
         ensures settled { OnOk result (NothingPending (P.region self.new.memory) (P.may_hold self.new.memory)) }
         ensures length { bytes_in (P.region self.new.memory) ≡ bytes_in (P.region self.old.memory) }
@@ -79,13 +82,13 @@ impl<P: Pmem + Drop> Fs<P> {
         ensures any_stop { (names : List (List ℕ)) → IsPath path.now names → self.old.stopped ≡ false → self.old.read_only ≡ false
             → LeavesOnly (P.region self.new.memory) (P.may_hold self.new.memory) (LeavesCall (makes_size size time) (logs_size cpu size time) (P.region self.old.memory) self.old names) }
     {
-        self.writable(cpu)?;
+        self.writable(cpu.0)?;
         let inode = resizable_at(&self.rows, path, size)?.inode;
         let mut row = self.rows.lend(self.alloc, inode);
         let attributes = AttrEntry {
             mode: row.numbers.mode,
             size,
-            time,
+            time: time.0,
             owner: row.numbers.owner,
             group: row.numbers.group,
         };
@@ -94,7 +97,7 @@ impl<P: Pmem + Drop> Fs<P> {
             &mut self.memory,
             &self.sup,
             &mut self.free,
-            cpu,
+            cpu.0,
             &mut row,
             attributes,
         );
@@ -116,7 +119,8 @@ pub(crate) fn resizable_at<'a>(rows: &'a Rows, path: &[u8], size: u64) -> Result
     ensures held { IfOk result (λ r. row_of rows.now.items r.now.inode ≡ Option.Some r.now) }
     ensures file { IfOk result (λ r. r.now.kind ≡ File) }
     ensures most { OnOk result (size ≤ most_size) }
-    ensures refused { (region : Region) (p : Path) → Says path.now p → first_refusal (stat_tests (tree_of region rows.now.items) p ++ is_dir (tree_of region rows.now.items) p ∷ is_too_large size ∷ []) ≡ result_err result }
+    ensures refused { (region : Region) (p : Path) → Says path.now p
+        → first_refusal (stat_tests (tree_of region rows.now.items) p ++ is_dir (tree_of region rows.now.items) p ∷ is_too_large size ∷ []) ≡ result_err result }
 {
     let row = row_at(rows, path)?;
     can_have_size(row, size)?;

@@ -16,7 +16,8 @@ ghost use Rattle.nv_calls.specs.Stopped.{LeavesFormat, RecoversTo};
 /// A recovery that is stopped, and each after it, find the same rows and free lists, and no faults but those of pending
 /// records. Since each leaves a region that rolls back to the same, so does any number of them.
 pub fn stopped_recoveries_change_nothing()
-    ensures { (left next : Region) (s : Super) (rows : List RowValue) (free : List (List Run)) (o : Outcome) → RecoversTo left s rows free → IsSuper next s → undone s next ≡ undone s left → IsOutcome next o → SameOutcome (faultless_outcome s rows free) (lasting_outcome o) }
+    ensures { (left next : Region) (s : Super) (rows : List RowValue) (free : List (List Run)) (o : Outcome) → RecoversTo left s rows free → IsSuper next s → undone s next ≡ undone s left
+        → IsOutcome next o → SameOutcome (faultless_outcome s rows free) (lasting_outcome o) }
 {}
 
 /// A stop within `format` leaves the region before it, of which recovery finds what it would have found, or one that each

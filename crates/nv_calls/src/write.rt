@@ -25,6 +25,7 @@ ghost use Rattle.nv_bytes.specs.Data.{data_bytes};
 ghost use Rattle.nv_calls.specs.Mount.{shown};
 
 use crate::Fs;
+use crate::arguments::{Cpu, Time};
 use crate::sizes::resizable_at;
 use crate::writing::is_stop;
 use nv_bytes::{Data, NewBytes};
@@ -57,11 +58,11 @@ impl<P: Pmem + Drop> Fs<P> {
     /// everything as it was.
     pub fn write(
         &mut self,
-        cpu: u64,
+        cpu: Cpu,
         path: &[u8],
         offset: u64,
         bytes: &[u8],
-        time: u64,
+        time: Time,
     ) -> Result<(), Refusal>
         ensures stopped_before { IsTrue self.old.stopped → (result ≡ Result.Err RefusalValue.Stopped) × (self.new ≡ self.old) }
         ensures allowed { (p : Path) (count : ℕ) → Says path.now p → WriteNeeds (P.region self.old.memory) self.old cpu p offset (length bytes.now) time count
@@ -76,7 +77,8 @@ impl<P: Pmem + Drop> Fs<P> {
             → OnOk result (ShowsLogWrite (P.region self.new.memory) self.old cpu held i h (plan_of (block_of (good_in (fixed_layout self.old.sup) h)) node.size offset (length bytes.now) time)) }
         ensures nothing { length bytes.now ≡ 0 → OnOk result (self.new ≡ self.old) }
         ensures unchanged { IfErr result (λ e. (e ≡ RefusalValue.Stopped → ⊥) → SameMount self.old self.new) }
-        ensures stopped { self.old.stopped ≡ false → (IsTrue self.new.stopped → (result ≡ Result.Err RefusalValue.Stopped) × IsTrue (P.fuse self.new.memory).has_burnt) × (result ≡ Result.Err RefusalValue.Stopped → IsTrue self.new.stopped) }
+        ensures stopped { self.old.stopped ≡ false → (IsTrue self.new.stopped → (result ≡ Result.Err RefusalValue.Stopped) × IsTrue (P.fuse self.new.memory).has_burnt)
+            × (result ≡ Result.Err RefusalValue.Stopped → IsTrue self.new.stopped) }
         ensures keeps { KeepsMount self.old self.new }
         ensures settled { 0 < length bytes.now → OnOk result (NothingPending (P.region self.new.memory) (P.may_hold self.new.memory)) }
         ensures length { size (P.region self.new.memory) ≡ size (P.region self.old.memory) }
@@ -101,16 +103,17 @@ impl<P: Pmem + Drop> Fs<P> {
     /// Errors: those of `write`.
     pub fn write_data(
         &mut self,
-        cpu: u64,
+        cpu: Cpu,
         path: &[u8],
         offset: u64,
         content: Data<'_>,
-        time: u64,
+        time: Time,
     ) -> Result<(), Refusal>
         ensures stopped_before { IsTrue self.old.stopped → (result ≡ Result.Err RefusalValue.Stopped) × (self.new ≡ self.old) }
         ensures allowed { (p : Path) (count : ℕ) → Says path.now p → WriteNeeds (P.region self.old.memory) self.old cpu p offset (length (data_bytes content.entry)) time count
             → OnOk result (first_refusal (write_tests (world_of self.old) (shown P.region self.old) cpu p (offset + length (data_bytes content.entry)) count) ≡ Option.None) }
-        ensures refused { self.old.stopped ≡ false → (p : Path) (count : ℕ) → Says path.now p → WriteNeeds (P.region self.old.memory) self.old cpu p offset (length (data_bytes content.entry)) time count
+        ensures refused { self.old.stopped ≡ false → (p : Path) (count : ℕ) → Says path.now p
+            → WriteNeeds (P.region self.old.memory) self.old cpu p offset (length (data_bytes content.entry)) time count
             → IfErr result (IsRefusedBy (first_refusal (write_tests (world_of self.old) (shown P.region self.old) cpu p (offset + length (data_bytes content.entry)) count))) }
         ensures changed { (names : List (List ℕ)) → IsPath path.now names
             → OnOk result (SameTree (shown P.region self.new) (written names offset (data_bytes content.entry) time (shown P.region self.old))) }
@@ -120,7 +123,8 @@ impl<P: Pmem + Drop> Fs<P> {
             → OnOk result (ShowsLogWrite (P.region self.new.memory) self.old cpu held i h (plan_of (block_of (good_in (fixed_layout self.old.sup) h)) node.size offset (length (data_bytes content.entry)) time)) }
         ensures nothing { length (data_bytes content.entry) ≡ 0 → OnOk result (self.new ≡ self.old) }
         ensures unchanged { IfErr result (λ e. (e ≡ RefusalValue.Stopped → ⊥) → SameMount self.old self.new) }
-        ensures stopped { self.old.stopped ≡ false → (IsTrue self.new.stopped → (result ≡ Result.Err RefusalValue.Stopped) × IsTrue (P.fuse self.new.memory).has_burnt) × (result ≡ Result.Err RefusalValue.Stopped → IsTrue self.new.stopped) }
+        ensures stopped { self.old.stopped ≡ false → (IsTrue self.new.stopped → (result ≡ Result.Err RefusalValue.Stopped) × IsTrue (P.fuse self.new.memory).has_burnt)
+            × (result ≡ Result.Err RefusalValue.Stopped → IsTrue self.new.stopped) }
         ensures keeps { KeepsMount self.old self.new }
         ensures settled { 0 < length (data_bytes content.entry) → OnOk result (NothingPending (P.region self.new.memory) (P.may_hold self.new.memory)) }
         ensures length { size (P.region self.new.memory) ≡ size (P.region self.old.memory) }
@@ -136,7 +140,7 @@ impl<P: Pmem + Drop> Fs<P> {
         ensures any_stop { (names : List (List ℕ)) → IsPath path.now names → self.old.stopped ≡ false → self.old.read_only ≡ false
             → LeavesOnly (P.region self.new.memory) (P.may_hold self.new.memory) (LeavesCall (makes_bytes offset (data_bytes content.entry) time) (LogsBytes cpu offset (length (data_bytes content.entry)) time) (P.region self.old.memory) self.old names) }
     {
-        self.writable(cpu)?;
+        self.writable(cpu.0)?;
         let count = content.len();
         let inode = resizable_at(&self.rows, path, offset.saturating_add(count))?.inode;
         if count == 0 {
@@ -144,7 +148,7 @@ impl<P: Pmem + Drop> Fs<P> {
         }
         let mut row = self.rows.lend(self.alloc, inode);
         let size = row.numbers.size;
-        let plan = Plan::new(&row.index, size, offset, count, time);
+        let plan = Plan::new(&row.index, size, offset, count, time.0);
         let change = NewBytes {
             offset,
             content,
@@ -155,7 +159,7 @@ impl<P: Pmem + Drop> Fs<P> {
             &mut self.memory,
             &self.sup,
             &mut self.free,
-            cpu,
+            cpu.0,
             &mut row,
             &plan,
             &change,

@@ -50,20 +50,49 @@ where
     ensures error { IfErr result (IsUnchecked path.entry) }
 {
     let file = open_image(rt, path)?;
-    let workers = u64::from(workers);
-    let writer = &mut io::writer(rt);
-    let status = match gather_plain(rt, rt.alloc(), &file, workers)? {
-        Some(gathered) => check_gathered(rt, rt.alloc(), gathered, workers, output, writer)?,
-        None => {
-            let image = read_image(rt.alloc(), file)?;
-            let status = check_image(rt, rt.alloc(), &image, workers, output, writer)?;
-            tell_image_refused(rt, &image, status);
-            status
-        }
-    };
+    let status = check_open(rt, file, u64::from(workers), output)?;
     if status == Last::Faulty.status() {
         tell_explain(rt);
     }
+    Ok(status)
+}
+
+// Checks the image in an open file: a plain file by its metadata, where that can be, and any other as a whole.
+fn check_open<'a, H: Files + AllocGlobal + Print + Eprint + Threads + Sync>(
+    rt: &H,
+    file: ImageFile<'a, H::File>,
+    workers: u64,
+    output: Output,
+) -> Result<u8, Failure<'a>>
+where
+    H::File: Blocks + Sync,
+    ensures status { IfOk result (λ status. status ≤ 2) }
+    ensures error { IfErr result (IsUnchecked file.entry.path) }
+{
+    match gather_plain(rt, rt.alloc(), &file, workers)? {
+        Some(gathered) => {
+            let writer = &mut io::writer(rt);
+            Ok(check_gathered(rt, rt.alloc(), gathered, workers, output, writer)?)
+        }
+        None => check_whole(rt, file, workers, output),
+    }
+}
+
+// Checks an image that is read whole.
+fn check_whole<'a, H: Files + AllocGlobal + Print + Eprint + Threads + Sync>(
+    rt: &H,
+    file: ImageFile<'a, H::File>,
+    workers: u64,
+    output: Output,
+) -> Result<u8, Failure<'a>>
+where
+    ensures status { IfOk result (λ status. status ≤ 2) }
+    ensures error { IfErr result (IsUnchecked file.entry.path) }
+{
+    let image = read_image(rt.alloc(), file)?;
+    let writer = &mut io::writer(rt);
+    let status = check_image(rt, rt.alloc(), &image, workers, output, writer)?;
+    tell_image_refused(rt, &image, status);
     Ok(status)
 }
 
@@ -124,20 +153,62 @@ where
     ensures error { IfErr result (IsUnmapped path.entry svg.entry) }
 {
     let file = open_image(rt, path)?;
-    let held = match svg {
-        Some(target) => Some(hold_drawing(rt, target, file.opened.stamp)?),
-        None => None,
-    };
-    let mapped = match gather_plain(rt, rt.alloc(), &file, READERS)? {
-        Some(gathered) => map_gathered(rt.alloc(), gathered, MOST_CELLS)?,
-        None => map_whole(rt, file)?,
-    };
-    let is_drawn_there = held.as_ref().is_some_and(|held| held.is_output());
-    let answered = print_map(rt.alloc(), &mapped, is_drawn_there, &mut io::writer(rt))?;
-    tell_faults(rt, path, answered.faults);
-    if let Some(held) = &held {
-        draw(rt, &mapped, held)?;
+    match svg {
+        Some(target) => map_and_draw(rt, file, target),
+        None => {
+            let mapped = map_open(rt, file)?;
+            Ok(tell_map(rt, path, &mapped, false)?)
+        }
     }
+}
+
+// Maps the image in an open file, and draws its cells in another one, which is held from the start.
+fn map_and_draw<'a, H: Files + AllocGlobal + Print + Eprint + Threads + Sync>(
+    rt: &H,
+    file: ImageFile<'a, H::File>,
+    svg: Target<'a>,
+) -> Result<u8, Failure<'a>>
+where
+    H::File: Blocks + Lock + Sync,
+    ensures status { IfOk result (λ status. (status ≡ 0) ⊎ (status ≡ 2)) }
+    ensures error { IfErr result (IsUnmapped file.entry.path (Some svg.entry)) }
+{
+    let path = file.path;
+    let held = hold_drawing(rt, svg, file.opened.stamp)?;
+    let mapped = map_open(rt, file)?;
+    let status = tell_map(rt, path, &mapped, held.is_output())?;
+    draw(rt, &mapped, &held)?;
+    Ok(status)
+}
+
+// Maps the image in an open file, which is read as `check_file` reads it.
+fn map_open<'a, H: Files + AllocGlobal + Eprint + Threads + Sync>(
+    rt: &H,
+    file: ImageFile<'a, H::File>,
+) -> Result<Mapped, Failure<'a>>
+where
+    H::File: Blocks + Sync,
+    ensures error { IfErr result (IsUnread file.entry.path) }
+{
+    match gather_plain(rt, rt.alloc(), &file, READERS)? {
+        Some(gathered) => Ok(map_gathered(rt.alloc(), gathered, MOST_CELLS)?),
+        None => map_whole(rt, file),
+    }
+}
+
+// Prints the text of a map, unless the drawing goes to standard output, and says on standard error whether the image has faults.
+// Answers the exit status.
+fn tell_map<H: AllocGlobal + Print + Eprint>(
+    rt: &H,
+    path: &str,
+    mapped: &Mapped,
+    is_drawn_there: bool,
+) -> Result<u8, ScriptError>
+    ensures status { IfOk result (λ status. (status ≡ 0) ⊎ (status ≡ 2)) }
+    ensures error { IfErr result (λ e. e ≢ ScriptError.Read) }
+{
+    let answered = print_map(rt.alloc(), mapped, is_drawn_there, &mut io::writer(rt))?;
+    tell_faults(rt, path, answered.faults);
     Ok(answered.status)
 }
 

@@ -24,7 +24,7 @@ use std::io::Write;
 use std::thread::Threads;
 
 /// Why an image that is read piece by piece was not checked.
-#[derive(Clone, Copy, Debug)]
+#[derive(Clone, Copy)]
 pub enum BlocksError {
     /// Its length could not be told, or some of its bytes not be read, as the system's error says.
     Read(io::Error),

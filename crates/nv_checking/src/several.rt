@@ -1,9 +1,10 @@
 //! The check of images in several files, one after another. Each line that it prints begins with the path of its file.
 
-ghost use Rattle.std.specs.Prelude.{◌≡◌, ◌≤◌, ◌++◌, IfOk, IfErr, OnOk, map, string_bytes};
+ghost use Rattle.std.specs.Prelude.{◌≡◌, ◌≢◌, ◌≤◌, ◌++◌, IfOk, IfErr, OnOk, map, string_bytes};
 ghost use Rattle.std.specs.Io.KnownBytes.{Appends};
 ghost use Rattle.std.specs.Str.Lines.{lines};
 ghost use Rattle.nv_images.specs.Images.{IsUnanswered};
+ghost use Rattle.nv_metadata.specs.Gathered.{IsOpen};
 ghost use Rattle.nv_checking.specs.Files.{IsUnchecked};
 ghost use Rattle.nv_checking.specs.Several.{IsImageCheck, WritesNamed, FailsNamed, FailsLines, named_line, named_lines};
 
@@ -12,8 +13,10 @@ use crate::files::tell_image_refused;
 use crate::gathered::check_metadata;
 use crate::output::Output;
 use crate::plain::gather_plain;
-use nv_images::{Failure, Image, Shown, open_image, read_image, tell_explain, tell_failure};
-use nv_metadata::Blocks;
+use nv_images::{
+    Failure, Image, ImageFile, Shown, open_image, read_image, tell_explain, tell_failure,
+};
+use nv_metadata::{Blocks, Gathered};
 use nv_report::Last;
 use nv_stream::{ScriptError, write_text};
 use nv_super::SuperFault;
@@ -94,17 +97,45 @@ where
     ensures status { IfOk result (λ status. status ≤ 2) }
     ensures error { IfErr result (IsUnchecked path.entry) }
 {
-    let alloc = rt.alloc();
-    let name = format!(in alloc; "{}: ", Shown(path))?;
-    let writer = &mut io::writer(rt);
+    let name = format!(in rt.alloc(); "{}: ", Shown(path))?;
     let file = open_image(rt, path)?;
-    let threads = u64::from(workers);
-    if let Some(gathered) = gather_plain(rt, alloc, &file, threads)? {
-        let checked = check_metadata(rt, alloc, gathered, threads, output)?;
-        return Ok(write_named(alloc, &name, &checked, writer)?);
+    match gather_plain(rt, rt.alloc(), &file, u64::from(workers))? {
+        Some(gathered) => Ok(check_gathered_named(rt, &name, gathered, workers, output)?),
+        None => check_whole_named(rt, &name, file, workers, output),
     }
-    let image = read_image(alloc, file)?;
-    let status = check_named(rt, &name, &image, workers, output, writer)?;
+}
+
+// Checks an image of which this was gathered, and prints it with a name before each line.
+fn check_gathered_named<H: AllocGlobal + Print + Threads + Sync>(
+    rt: &H,
+    name: &str,
+    gathered: Gathered,
+    workers: u32,
+    output: Output,
+) -> Result<u8, ScriptError>
+    requires { IsOpen gathered }
+    ensures status { IfOk result (λ status. status ≤ 2) }
+    ensures error { IfErr result (λ e. e ≢ ScriptError.Read) }
+{
+    let checked = check_metadata(rt, rt.alloc(), gathered, u64::from(workers), output)?;
+    write_named(rt.alloc(), name, &checked, &mut io::writer(rt))
+}
+
+// Checks an image that is read whole, and prints it with a name before each line.
+fn check_whole_named<'a, H: Files + AllocGlobal + Print + Eprint + Threads + Sync>(
+    rt: &H,
+    name: &str,
+    file: ImageFile<'a, H::File>,
+    workers: u32,
+    output: Output,
+) -> Result<u8, Failure<'a>>
+where
+    ensures status { IfOk result (λ status. status ≤ 2) }
+    ensures error { IfErr result (IsUnchecked file.entry.path) }
+{
+    let image = read_image(rt.alloc(), file)?;
+    let writer = &mut io::writer(rt);
+    let status = check_named(rt, name, &image, workers, output, writer)?;
     tell_image_refused(rt, &image, status);
     Ok(status)
 }

@@ -2,7 +2,7 @@
 use nv_super::Owner;
 
 /// One step of one worker. Workers and blocks count from 0.
-#[derive(Clone, Copy, Debug, PartialEq, Eq, Drop)]
+#[derive(Clone, Copy, PartialEq, Eq, Drop)]
 pub enum Event {
     /// The worker draws the cursor's number, and the cursor is raised by one.
     Draw {

@@ -25,7 +25,8 @@ pub fn cursor_is_bounded()
 /// that stand in the work twice or more.
 #[tactic(auto, using(crate::proofs::Ends::finished_first, crate::proofs::Ends::finished_second))]
 pub fn finished_sets()
-    ensures { (z : Sizes) (s : State) (work : List (List (ℕ × Owner))) → Legal z s → Finished s work → (b : ℕ) → (has s.first b ≡ min 1 (works_of b work)) × (has s.second b ≡ min 1 (works_of b work - 1)) }
+    ensures { (z : Sizes) (s : State) (work : List (List (ℕ × Owner))) → Legal z s → Finished s work → (b : ℕ)
+        → (has s.first b ≡ min 1 (works_of b work)) × (has s.second b ≡ min 1 (works_of b work - 1)) }
 {}
 
 /// Workers that run to their ends in rising order take just one list of steps, so a schedule names one state.

@@ -64,7 +64,7 @@ fn first_stranger(schedule: &[u32], workers: u32) -> Option<usize>
 
 /// How far a worker has come: its last ticket, how many of that ticket's claims it has made, the block of its lost claim
 /// that is not marked yet, and whether it has drawn past the end.
-#[derive(Clone, Copy, Debug, Drop)]
+#[derive(Clone, Copy, Drop)]
 struct Pace {
     ticket: usize,
     made: usize,

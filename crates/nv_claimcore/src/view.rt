@@ -4,7 +4,7 @@ use std::collections::LinkedList;
 
 /// One claim of a block for an owner. It won where the block was not in the first set; a lost one is marked once its
 /// worker has put the block into the second set for it.
-#[derive(Clone, Copy, Debug, PartialEq, Eq, Drop)]
+#[derive(Clone, Copy, PartialEq, Eq, Drop)]
 pub struct Record {
     pub block: u64,
     pub owner: Owner,
@@ -21,7 +21,7 @@ pub struct View {
 }
 
 /// How many blocks, tickets and workers there are. Each counts from 0.
-#[derive(Clone, Copy, Debug, PartialEq, Eq, Drop)]
+#[derive(Clone, Copy, PartialEq, Eq, Drop)]
 pub struct Sizes {
     pub blocks: u64,
     pub tickets: u64,

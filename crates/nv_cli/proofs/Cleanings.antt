@@ -24,9 +24,9 @@ use Rattle.nv_tree.specs.Refusals.{first_refusal}
 use Rattle.nv_tree.specs.declared.refusal.Refusal.{Refusal}
 use Rattle.nv_tree.specs.declared.refusal.Refusal.TheVariants.{Memory, NotFound, ReadOnly, Stopped}
 use Rattle.nv_tree.proofs.Same.{same_itself, same_transitive}
-use Rattle.nv_scan.specs.Dead.{IsDead, IsFirstDead}
-use Rattle.nv_scan.specs.InTurn.{GoInTurn}
-use Rattle.nv_scan.specs.declared.in_turn.DeadPages.{DeadPages}
+use Rattle.nv_deadpages.specs.Dead.{IsDead, IsFirstDead}
+use Rattle.nv_deadpages.specs.InTurn.{GoInTurn}
+use Rattle.nv_deadpages.specs.declared.in_turn.DeadPages.{DeadPages}
 use Rattle.nv_scan.specs.declared.piece.Row.{Row}
 use Rattle.nv_held.specs.Held.{Held, Store, with_inode}
 use Rattle.nv_held.specs.Cleaned.{cleaned}

@@ -21,7 +21,7 @@ use Rattle.nv_super.proofs.Rising.{Contains-cons}
 use Rattle.nv_logpage.specs.DataBlocks.{AreDataBlocks}
 use Rattle.nv_logpage.proofs.DataBlocks.{one_page, pages_are}
 use Rattle.nv_logpage.proofs.RightLogs.{head_starts}
-use Rattle.nv_scan.specs.Dead.{IsDead}
+use Rattle.nv_deadpages.specs.Dead.{IsDead}
 use Rattle.nv_scan.proofs.Work.{AllByRecursion-append}
 use Rattle.nv_report.specs.nv_outcome.Outcome.{IsFree}
 use Rattle.nv_held.specs.Held.{Held, Shows, Store, with_inode}
@@ -33,6 +33,7 @@ use Rattle.nv_held.proofs.Cleaning.{free_and_page}
 use Rattle.nv_held.proofs.Growing.{log_owned}
 use Rattle.nv_held.proofs.Kept.{page_owner}
 use Rattle.nv_held.proofs.Owning.{owned_before, same_held}
+use Rattle.nv_scan.proofs.ChainBlocks.{fixed_chainless}
 use Rattle.nv_held.proofs.Shown.{free_back, free_there, owns_back, owns_there, stands_at}
 use Rattle.nv_calls.specs.CleanCall.{PageWent}
 use Rattle.nv_cli.specs.Cleaning.{CameBack, IsPageOf}
@@ -136,8 +137,8 @@ module _ (R S : Region) (s : Super) (held : Store) (i b k : ℕ) (h : Held) (sou
   -- The free blocks are those of before and the page.
   pub freed : (q : ℕ) → IsFree S (fixed_layout s) q ↔ (IsFree R (fixed_layout s) q ⊎ (q ≡ page))
   freed q = (
-    (λ free. elim ((unowned_now q).0 (free_back went.sound.shows q free)) [ inl old ↦ inl (free_there sound.shows q old) | inr same ↦ inr same ]),
-    (λ either. free_there went.sound.shows q ((unowned_now q).1 (elim either [ inl free ↦ inl (free_back sound.shows q free) | inr same ↦ inr same ]))),
+    (λ free. elim ((unowned_now q).0 (free_back went.sound.shows q free)) [ inl old ↦ inl (free_there sound.shows (fixed_chainless s) q old) | inr same ↦ inr same ]),
+    (λ either. free_there went.sound.shows (fixed_chainless s) q ((unowned_now q).1 (elim either [ inl free ↦ inl (free_back sound.shows q free) | inr same ↦ inr same ]))),
   )
 
   -- The page was one of the log.
@@ -157,7 +158,7 @@ module _ (R S : Region) (s : Super) (held : Store) (i b k : ℕ) (h : Held) (sou
   -- A page of a log has been one before.
   pub page_before : (j q : ℕ) → IsPageOf S s j q → IsPageOf R s j q
   page_before j q known = ∥∥₁_map known (λ w.
-      let v = owner_before j q w.0 (owns_back went.sound.shows q (owners.Log j w.0) w.1) in
+      let v = owner_before j q w.0 (owns_back went.sound.shows (fixed_chainless s) q (owners.Log j w.0) w.1) in
       (v.0, owns_there sound.shows q (owners.Log j v.0) v.1))
 
 -- ---- blocks that came back

@@ -6,9 +6,9 @@ use Rattle.nv_region.specs.RegionState.{RegionState, is_steady}
 use Rattle.nv_super.specs.declared.superblock.Super.{Super}
 use Rattle.nv_super.specs.declared.owners.Owner.TheVariants as owners
 use Rattle.nv_super.specs.Layout.{fixed_layout}
-use Rattle.nv_scan.specs.Dead.{IsFirstDead}
-use Rattle.nv_scan.specs.InTurn.{AreDeadPages, GoInTurn}
-use Rattle.nv_scan.specs.declared.in_turn.DeadPages.{DeadPages}
+use Rattle.nv_deadpages.specs.Dead.{IsFirstDead}
+use Rattle.nv_deadpages.specs.InTurn.{AreDeadPages, GoInTurn}
+use Rattle.nv_deadpages.specs.declared.in_turn.DeadPages.{DeadPages}
 use Rattle.nv_scan.specs.Owners.{Owns}
 use Rattle.nv_report.specs.nv_outcome.nv_journal.Undo.{undone}
 use Rattle.nv_report.specs.nv_outcome.Outcome.{Outcome, IsFree, IsOutcome}

@@ -16,9 +16,9 @@ ghost use Rattle.nv_cli.specs.Cleaning.{AreAsked, AreShort, AsksCleaning, CanCle
 ghost use Rattle.nv_cli.specs.declared.cleaning.Logs.TheVariants as which;
 
 use nv_checking::{Answer, recover_alone};
+use nv_deadpages::DeadPages;
 use nv_region::MemRegion;
 use nv_report::refused_text;
-use nv_scan::DeadPages;
 use nv_session::{CallRefusal, Fs, keep_all, refused_call_text};
 use nv_text::Refusal;
 use std::alloc::{AllocError, Global};
@@ -38,7 +38,7 @@ pub enum Cleaned {
 }
 
 // Whose logs are to be cleaned.
-#[derive(Clone, Copy, Debug)]
+#[derive(Clone, Copy)]
 enum Logs {
     Of(u64),
     All,
@@ -107,7 +107,7 @@ fn clean_mount(mut mount: Fs<MemRegion>, path: Option<&[u8]>) -> Result<Cleaned,
             // What it keeps is asked for below.
             mount.keeps();
             mount.nothing_is_pending();
-            let region = mount.into_region();
+            let region = mount.into_memory();
             Ok(Cleaned::Region { region, pages })
         }
         Err(refusal) => Ok(Cleaned::Refused(refusal)),
@@ -118,7 +118,8 @@ fn clean_mount(mut mount: Fs<MemRegion>, path: Option<&[u8]>) -> Result<Cleaned,
 fn logs_at(mount: &Fs<MemRegion>, path: Option<&[u8]>) -> Result<Logs, CallRefusal>
     requires { mount.now.stopped ≡ false }
     ensures asked { IfOk result (AreAsked (tree_of mount.now.memory.region mount.now.rows) (option_map (λ text. text.now) path.entry)) }
-    ensures tests { (tests : Tests) → AsksCleaning mount.now.read_only (tree_of mount.now.memory.region mount.now.rows) (option_map (λ text. text.now) path.entry) tests → first_refusal tests ≡ result_err result }
+    ensures tests { (tests : Tests) → AsksCleaning mount.now.read_only (tree_of mount.now.memory.region mount.now.rows) (option_map (λ text. text.now) path.entry) tests
+        → first_refusal tests ≡ result_err result }
 {
     // Whether it may be written is told by its faults.
     mount.keeps();
@@ -174,7 +175,7 @@ fn clean_all_logs(mount: &mut Fs<MemRegion>) -> Result<u64, AllocError>
     // The layout is asked for below.
     mount.keeps();
     let mut pages = 0;
-    for inode in 0..mount.sup().inode_limit() {
+    for inode in 0..mount.superblock().inode_limit() {
         let gone = clean_log(mount, inode)?;
         pages += gone;
     }

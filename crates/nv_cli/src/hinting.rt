@@ -12,7 +12,7 @@ use std::fmt;
 pub const LENGTH_REFUSED: &str = "refused S1\n";
 
 /// What stands behind a line of the output.
-#[derive(Clone, Copy, Debug, PartialEq, Eq)]
+#[derive(Clone, Copy, PartialEq, Eq)]
 pub enum Hint {
     /// Why the line of this number is bad.
     BadLine(u64, Reason),
@@ -42,7 +42,7 @@ pub trait Hints {
 }
 
 /// Leaves all hints out.
-#[derive(Clone, Copy, Debug)]
+#[derive(Clone, Copy)]
 pub struct NoHints;
 
 impl Hints for NoHints {

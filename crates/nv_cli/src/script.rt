@@ -35,7 +35,7 @@ const BAD_LINE_STATUS: u8 = 2;
 const REFUSED_STATUS: u8 = 2;
 
 /// What ends a script before its last line.
-#[derive(Clone, Copy, Debug, PartialEq, Eq)]
+#[derive(Clone, Copy, PartialEq, Eq)]
 enum Rule {
     /// A bad line alone.
     Lenient,
@@ -228,7 +228,8 @@ fn next_reply<H: Threads + Sync, R: Read>(
     line: &mut Vec<u8>,
     reader: &mut R,
 ) -> Result<Reply, ScriptError>
-    ensures replies { IfOk result (λ reply. (said : List ℕ) × PrintsReply session.new reply said × Leads (λ old new. KnownReplies (R.remaining reader.old) (R.remaining reader.new) old reply said new) session.old session.new) }
+    ensures replies { IfOk result (λ reply. (said : List ℕ) × PrintsReply session.new reply said
+        × Leads (λ old new. KnownReplies (R.remaining reader.old) (R.remaining reader.new) old reply said new) session.old session.new) }
     ensures kind { IfErr result (λ e. e ≢ ScriptError.Write) }
 {
     match read_line(reader, line)? {
@@ -285,7 +286,8 @@ pub(crate) fn bad_line_text(alloc: Global, number: u64) -> Result<String, AllocE
 
 // Tells the region's length behind an answer that is a refusal for it.
 fn hint_length<N: Hints>(session: &Session, is_refusal: bool, hints: &mut N)
-    ensures { (state : State) (said : List ℕ) → StandsFor session.now state → is_refusal ≡ bytes_eq said (refused_line (super_fault_name SuperFault.Length)) → Appends (N.told hints.old) (N.told hints.new) (answer_hint said state) }
+    ensures { (state : State) (said : List ℕ) → StandsFor session.now state → is_refusal ≡ bytes_eq said (refused_line (super_fault_name SuperFault.Length))
+        → Appends (N.told hints.old) (N.told hints.new) (answer_hint said state) }
 {
     if !is_refusal {
         return;

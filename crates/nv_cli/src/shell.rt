@@ -151,7 +151,9 @@ fn next_answer<H: Threads + Sync, R: Read, P: Host>(
     reader: &mut R,
     host: &mut P,
 ) -> Result<Answer, ScriptError>
-    ensures answers { IfOk result (λ answer. (text : List ℕ) × PrintsAnswer session.new answer text × GrowsBy (P.kept host.old) (P.kept host.new) (λ kept. KeepsFor answer kept × Leads (λ old new. KnownAnswers number (R.remaining reader.old) (R.remaining reader.new) old answer text kept new) session.old session.new)) }
+    ensures answers { IfOk result (λ answer. (text : List ℕ) × PrintsAnswer session.new answer text
+        × GrowsBy (P.kept host.old) (P.kept host.new) (λ kept. KeepsFor answer kept
+        × Leads (λ old new. KnownAnswers number (R.remaining reader.old) (R.remaining reader.new) old answer text kept new) session.old session.new)) }
     ensures none_kept { OnErr result (Grows (P.kept host.old) (P.kept host.new) []) }
     ensures kind { IfErr result (λ e. e ≢ ScriptError.Write) }
 {
@@ -170,7 +172,8 @@ fn answer_line<H: Threads + Sync, P: Host>(
     line: &[u8],
     host: &mut P,
 ) -> Result<Answer, AllocError>
-    ensures answers { IfOk result (λ answer. (text : List ℕ) × PrintsAnswer session.new answer text × GrowsBy (P.kept host.old) (P.kept host.new) (λ kept. KeepsFor answer kept × Leads (λ old new. AnswersLine number line.now old answer text kept new) session.old session.new)) }
+    ensures answers { IfOk result (λ answer. (text : List ℕ) × PrintsAnswer session.new answer text
+        × GrowsBy (P.kept host.old) (P.kept host.new) (λ kept. KeepsFor answer kept × Leads (λ old new. AnswersLine number line.now old answer text kept new) session.old session.new)) }
     ensures none_kept { OnErr result (Grows (P.kept host.old) (P.kept host.new) []) }
 {
     match own_command(line) {

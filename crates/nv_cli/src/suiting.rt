@@ -12,7 +12,7 @@ const MOST_TABLES: u64 = 64;
 const BLOCKS_OF_A_TABLE: u64 = 256;
 
 /// How many CPUs a region has, and how many table blocks each.
-#[derive(Clone, Copy, Debug)]
+#[derive(Clone, Copy)]
 pub struct Areas {
     pub cpus: u64,
     pub tables: u64,

@@ -79,7 +79,7 @@ sound_undone {Q} {s} {held} sound =
 -- ---- two logs
 
 module _ {R : Region} {s : Super} {held : Store} {cpu i : ℕ} {h : Held} {x : Extension} {j : ℕ} {g : Held} {y : Extension} (can : CanExtendTwo R s held cpu i h x j g y) where
-  all_loose : (left : Region) → IsMixed R (BothWords x y) left → IsMixed R (Loose (fixed_layout s) held) left
+  pub all_loose : (left : Region) → IsMixed R (BothWords x y) left → IsMixed R (Loose (fixed_layout s) held) left
   all_loose left mixed = mixed_more (Loose (fixed_layout s) held) (BothWords x y) R R left (λ k v w. elim w [ inl a ↦ loose_there can.first k v a | inr b ↦ loose_there can.second k v b ]) (mixed_same R (Loose (fixed_layout s) held)) mixed
 
   -- before the tails are moved
@@ -116,7 +116,7 @@ module _ {R : Region} {s : Super} {held : Store} {cpu i : ℕ} {h : Held} {x : E
     | inr one ↦ can.apart b (taken_there b one) two
   ]
 
-  apart_words : (b : ℕ) → Contains (h.pages ++ take (needed (h.tail % 4096) x.entries.now) x.fresh.now) b → (a : ℕ) → a % 8 ≡ 0 → a / 4096 ≡ b → (v : ℕ) → AppendWords y.tail y.fresh.now (a / 8) v → ⊥
+  pub apart_words : (b : ℕ) → Contains (h.pages ++ take (needed (h.tail % 4096) x.entries.now) x.fresh.now) b → (a : ℕ) → a % 8 ≡ 0 → a / 4096 ≡ b → (v : ℕ) → AppendWords y.tail y.fresh.now (a / 8) v → ⊥
   apart_words b c a whole page v (inl w) =
       let here = w.0 in
       let same : g.tail / 4096 ≡ b = omega (arith, here, whole, page, can.second.tail_is) in
@@ -127,7 +127,7 @@ module _ {R : Region} {s : Super} {held : Store} {cpu i : ℕ} {h : Held} {x : E
       in_fresh b c (subst (Contains y.fresh.now) same (w.0, w.1, get_or_default y.fresh.now w.0 (get_or y.fresh.now w.0 0) 0 w.1))
 
   module _ {S : Region} {new last : ℕ} (done : AppendsBoth R S x y new last) where
-    clear : SlotsClear (fixed_layout s) held
+    pub clear : SlotsClear (fixed_layout s) held
     clear = slots can.first
 
     between : CanExtend done.between s held j g y.slot y.tail y.entries.now y.fresh.now
@@ -146,7 +146,7 @@ module _ {R : Region} {s : Super} {held : Store} {cpu i : ℕ} {h : Held} {x : E
     first_was : HasBehind done.between (fixed_layout s) held h new (appended x.fresh.now 0 h.tail x.entries.now) (take (needed (h.tail % 4096) x.entries.now) x.fresh.now)
     first_was = stands_behind can.first done.between new done.first_end done.first
 
-    second_there : HasBehind S (fixed_layout s) held g last (appended y.fresh.now 0 g.tail y.entries.now) (take (needed (g.tail % 4096) y.entries.now) y.fresh.now)
+    pub second_there : HasBehind S (fixed_layout s) held g last (appended y.fresh.now 0 g.tail y.entries.now) (take (needed (g.tail % 4096) y.entries.now) y.fresh.now)
     second_there = stands_behind between S last done.second_end done.second
 
     first_there : HasBehind S (fixed_layout s) held h new (appended x.fresh.now 0 h.tail x.entries.now) (take (needed (h.tail % 4096) x.entries.now) x.fresh.now)
@@ -164,16 +164,16 @@ module _ {R : Region} {s : Super} {held : Store} {cpu i : ℕ} {h : Held} {x : E
     mixed : IsMixed R (BothWords x y) S
     mixed = both_mixed done
 
-    same_size : size S ≡ size R
+    pub same_size : size S ≡ size R
     same_size = mixed_size mixed
 
-    front : SameFront s.cpus R S
+    pub front : SameFront s.cpus R S
     front = loose_front (fixed_layout s) held R S clear.stand can.first.sound.shows (all_loose S mixed)
 
     pub sup : IsSuper S s
     sup = front_super R S s s.cpus front can.first.sound.sup
 
-    layout : IsLayout s
+    pub layout : IsLayout s
     layout = layout_of_super R s can.first.sound.sup
 
     pub can_undo : length R.rest < 8 → CanUndo (is_permitted s) s.cpus S cpu (x.slot + 24) (y.slot + 24)
@@ -197,25 +197,25 @@ module _ {R : Region} {s : Super} {held : Store} {cpu i : ℕ} {h : Held} {x : E
       abbrev both : Region
       both = put moved (y.slot + 24) last
 
-      short_now : length S.rest < 8
+      pub short_now : length S.rest < 8
       short_now = subst (λ (r : List ℕ). length r < 8) (sym mixed.same_rest) short
 
-      first_stored : Stored S (x.slot + 24) new moved
+      pub first_stored : Stored S (x.slot + 24) new moved
       first_stored = put_stored S (x.slot + 24) new (omega (arith, clear.whole i x.slot can.first.at)) (omega (arith, first_inside, same_size)) short_now
 
-      second_stored : Stored moved (y.slot + 24) last both
+      pub second_stored : Stored moved (y.slot + 24) last both
       second_stored = put_stored moved (y.slot + 24) last (omega (arith, clear.whole j y.slot can.second.at)) (omega (arith, second_inside, same_size, first_stored.len)) short_now
 
-      first_outside : SameOutside S x.slot 128 moved
+      pub first_outside : SameOutside S x.slot 128 moved
       first_outside = stored_outside S moved x.slot 24 new (clear.whole i x.slot can.first.at) (omega arith) (omega arith) first_stored
 
-      second_outside : SameOutside moved y.slot 128 both
+      pub second_outside : SameOutside moved y.slot 128 both
       second_outside = stored_outside moved both y.slot 24 last (clear.whole j y.slot can.second.at) (omega arith) (omega arith) second_stored
 
       abbrev first_held : Store
       first_held = with_log held i h x.entries.now x.fresh.now
 
-      first_shows : Shows moved (fixed_layout s) first_held
+      pub first_shows : Shows moved (fixed_layout s) first_held
       first_shows =
           subst (λ (n : ℕ). Shows moved (fixed_layout s) (with_inode held i (Some (grown h n (appended x.fresh.now 0 h.tail x.entries.now) (take (needed (h.tail % 4096) x.entries.now) x.fresh.now))))) (ends can.first done.between new done.first_end done.first)
           (tail_follows (fixed_layout s) held S moved i x.slot new h (appended x.fresh.now 0 h.tail x.entries.now) (take (needed (h.tail % 4096) x.entries.now) x.fresh.now) clear can.first.at can.first.holds first_there first_stored)
@@ -232,13 +232,13 @@ module _ {R : Region} {s : Super} {held : Store} {cpu i : ℕ} {h : Held} {x : E
         clear = second_there.clear;
       }
 
-      both_show : Shows both (fixed_layout s) (with_logs held i h x j g y)
+      pub both_show : Shows both (fixed_layout s) (with_logs held i h x j g y)
       both_show =
           subst (λ (n : ℕ). Shows both (fixed_layout s) (with_inode first_held j (Some (grown g n (appended y.fresh.now 0 g.tail y.entries.now) (take (needed (g.tail % 4096) y.entries.now) y.fresh.now))))) (ends between S last done.second_end done.second)
           (tail_follows (fixed_layout s) first_held moved both j y.slot last g (appended y.fresh.now 0 g.tail y.entries.now) (take (needed (g.tail % 4096) y.entries.now) y.fresh.now)
           (slots_clear moved s first_held layout first_shows) can.second.at second_held second_then second_stored)
 
-      both_front : SameFront s.cpus R both
+      pub both_front : SameFront s.cpus R both
       both_front = front_more front (front_more (slot_front (fixed_layout s) S moved i x.slot clear.stand can.first.at first_outside) (slot_front (fixed_layout s) moved both j y.slot clear.stand can.second.at second_outside))
 
       -- after the change of both words, and while they change

@@ -109,7 +109,7 @@ module _ (l : Layout) (held : Store) (d : ℕ) (h : Held) (is : held d ≡ Some 
       (λ new e. subst (λ (g : Held). NoEntryFault l.sup g.kind d g.entries) (some_is (grown h tail (x ∷ []) fresh) new (Some (grown h tail (x ∷ []) fresh)) refl e) (clean_more l.sup h.kind d h.entries x (λ f fault. clean d h f is fault) fits)) clean
 
 -- what went brings none either
-gone_clean : (l : Layout) (held : Store) (i : ℕ) → AreClean l held → AreClean l (with_inode held i None)
+pub gone_clean : (l : Layout) (held : Store) (i : ℕ) → AreClean l held → AreClean l (with_inode held i None)
 gone_clean l held i clean = still_clean l held i None (λ new e. absurd (cc)) clean
 
 -- what went owns nothing

@@ -35,7 +35,7 @@ module _ {R : Region} {s : Super} {held : Store} {i : ℕ} {h : Held} {own tail 
   tail_in = let sound = can.sound in let there = held_there sound.shows can.at can.holds in tail_there there.right there.reads
 
   -- no append stores a valid word
-  away : (j slot : ℕ) → slot_of (fixed_layout s) j ≡ Some slot → (v : ℕ) → AppendWords tail fresh (slot / 8) v → ⊥
+  pub away : (j slot : ℕ) → slot_of (fixed_layout s) j ≡ Some slot → (v : ℕ) → AppendWords tail fresh (slot / 8) v → ⊥
   away j slot at v (inl w) =
       let whole = clear.whole j slot at in
       let page = w.0 in

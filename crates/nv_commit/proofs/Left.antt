@@ -14,6 +14,7 @@ use Rattle.nv_journal.specs.Undo.{undone}
 use Rattle.nv_held.specs.nv_outcome.Outcome.{IsFaulty, journal, inode, cross, double, Outcome, IsOutcome}
 use Rattle.nv_held.specs.nv_outcome.Same.{SameOutcome, lasting_outcome}
 use Rattle.nv_held.specs.nv_scan.declared.piece.Row.{Row}
+use Rattle.nv_held.proofs.nv_scan.ChainBlocks.{fixed_chainless}
 use Rattle.nv_held.proofs.nv_outcome.Again.{rolled_back}
 use Rattle.nv_held.proofs.nv_outcome.OnlyOne.{same_outcome}
 use Rattle.nv_held.proofs.nv_outcome.SuperOf.{layout_of_super, one_super}
@@ -44,7 +45,7 @@ module _ {left : Region} {s : Super} {after : Store} (can : CanRecover s left) (
   no_fault_left f (journal h) = can.journals f h
   no_fault_left f (inode i h) = let right = sound.faultless in no_inode_fault sound.shows right.clean i f h
   no_fault_left f (cross h) = let right = sound.faultless in no_faults (graph_shown sound.shows) right.named f h
-  no_fault_left _ (double {b = b} {o = o} d) = let right = sound.faultless in none_doubled sound.shows right.undoubled b o d
+  no_fault_left _ (double {b = b} {o = o} d) = let right = sound.faultless in none_doubled sound.shows (fixed_chainless s) right.undoubled b o d
 
   module _ (o : Outcome) (is : IsOutcome left o) where
     same_super : o.sup ≡ s

@@ -5,8 +5,11 @@ pub mod Permitted
 pub mod TwoWords
 pub mod BothTails
 pub mod Removes
+pub mod Replaces
+pub mod ThreeLogs
 pub mod Makes
 pub mod InOrder
 pub mod Called
+pub mod Takes
 pub mod BlocksOf
 pub mod BytesStay

@@ -47,4 +47,5 @@ ExtendWords slot tail entries fresh i x = AppendWords tail fresh i x ⊎ One (sl
 
 -- Other values stand in loose words, or the tail is moved behind the entries, and nothing else was stored.
 abbrev pub LooseOrExtended : Region → Super → Store → ℕ → Held → ℕ → ℕ → List Entry → List ℕ → Region → Type 0
-LooseOrExtended R s held i h slot tail entries fresh left = IsMixed R (Loose (fixed_layout s) held) left ⊎ (ShowsMoved R s (with_log held i h entries fresh) left × IsMixed R (ExtendWords slot tail entries fresh) left)
+LooseOrExtended R s held i h slot tail entries fresh left = IsMixed R (Loose (fixed_layout s) held) left
+    ⊎ (ShowsMoved R s (with_log held i h entries fresh) left × IsMixed R (ExtendWords slot tail entries fresh) left)

@@ -1,6 +1,9 @@
 pub mod Extends
 pub mod Together
 pub mod Removes
+pub mod Replaces
+pub mod ThreeLogs
+pub mod ReplacedNames
 pub mod Makes
 pub mod Pages
 pub mod Stopped

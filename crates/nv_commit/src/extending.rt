@@ -46,10 +46,12 @@ pub fn extend_log<P: Pmem>(
     // The region as it reads, also after a stop, and each that a stop leaves.
     ensures reads { (s : Super) (held : Store) (i : ℕ) (h : Held) → CanExtend (P.region memory.old) s held i h slot tail entries.now fresh.now
         → BeforeOrExtended (P.region memory.old) s held i h entries.now fresh.now (P.region memory.new) }
-    ensures any_stop { (s : Super) (held : Store) (i : ℕ) (h : Held) → CanExtend (P.region memory.old) s held i h slot tail entries.now fresh.now → NothingPending (P.region memory.old) (P.may_hold memory.old)
+    ensures any_stop { (s : Super) (held : Store) (i : ℕ) (h : Held) → CanExtend (P.region memory.old) s held i h slot tail entries.now fresh.now
+        → NothingPending (P.region memory.old) (P.may_hold memory.old)
         → LeavesOnly (P.region memory.new) (P.may_hold memory.new) (BeforeOrExtended (P.region memory.old) s held i h entries.now fresh.now) }
     // So it is too where loose words were pending, as those of data that the entries write.
-    ensures loose_stop { (s : Super) (held : Store) (i : ℕ) (h : Held) → CanExtend (P.region memory.old) s held i h slot tail entries.now fresh.now → PendingOnly (P.region memory.old) (P.may_hold memory.old) (Loose (fixed_layout s) held)
+    ensures loose_stop { (s : Super) (held : Store) (i : ℕ) (h : Held) → CanExtend (P.region memory.old) s held i h slot tail entries.now fresh.now
+        → PendingOnly (P.region memory.old) (P.may_hold memory.old) (Loose (fixed_layout s) held)
         → LeavesOnly (P.region memory.new) (P.may_hold memory.new) (LooseOrExtended (P.region memory.old) s held i h slot tail entries.now fresh.now) }
 {
     // The region's length is a u64, and fewer than eight bytes stand behind the last word.

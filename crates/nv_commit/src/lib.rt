@@ -11,7 +11,10 @@ mod laws;
 mod making;
 mod owning;
 mod removing;
+mod replacing;
 mod stopped;
+mod taking;
+mod three_logs;
 mod together;
 
 pub use extending::extend_log;
@@ -23,8 +26,11 @@ pub use laws::shown_is_sound;
 pub use making::{NewInode, make_inode};
 pub use owning::{begun_log_owns, gone_blocks_are_free, no_page_is_said};
 pub use removing::remove_inode;
+pub use replacing::replace_inode;
 pub use stopped::{
     later_recoveries_find_the_same, loose_words_are_not_recovered, one_thing_is_shown,
     stopped_outcome,
 };
+pub use taking::taken_name_is_faultless;
+pub use three_logs::extend_three;
 pub use together::{Extension, extend_two};

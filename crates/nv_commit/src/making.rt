@@ -58,14 +58,16 @@ pub fn make_inode<P: Pmem>(
     ensures settled { OnOk result (NothingPending (P.region memory.new) (P.may_hold memory.new)) }
     ensures wrote { StoresOnly (MakeWords cpu inode.now directory.now) (P.region memory.old) (P.region memory.new) (P.may_hold memory.old) (P.may_hold memory.new) }
     ensures stopped { is_err result ≡ (P.fuse memory.new).has_burnt }
-    ensures keeps_fuse { KeepsFuse (λ limit. EndBy (inode.now.page ∷ []) limit × EndBy (directory.now.tail / 4096 ∷ directory.now.fresh.now) limit × (inode.now.slot + 40 ≤ limit) × (directory.now.slot + 32 ≤ limit)) (P.fuse memory.old) (P.fuse memory.new) }
+    ensures keeps_fuse { KeepsFuse (λ limit. EndBy (inode.now.page ∷ []) limit × EndBy (directory.now.tail / 4096 ∷ directory.now.fresh.now) limit × (inode.now.slot + 40 ≤ limit)
+        × (directory.now.slot + 32 ≤ limit)) (P.fuse memory.old) (P.fuse memory.new) }
     // The valid word is stored before the tail.
     ensures in_order { (s : Super) (held : Store) (j i : ℕ) (h : Held) → CanMake (P.region memory.old) s held cpu j inode.now i h directory.now
         → FirstIsFirst (P.region memory.old) inode.now.slot 1 (directory.now.slot + 24) (P.region memory.new) }
     // The region as it reads, also after a stop, and each that a stop leaves.
     ensures reads { (s : Super) (held : Store) (j i : ℕ) (h : Held) → CanMake (P.region memory.old) s held cpu j inode.now i h directory.now
         → BeforeOrMade s held j inode.now i h directory.now (P.region memory.new) }
-    ensures any_stop { (s : Super) (held : Store) (j i : ℕ) (h : Held) → CanMake (P.region memory.old) s held cpu j inode.now i h directory.now → NothingPending (P.region memory.old) (P.may_hold memory.old)
+    ensures any_stop { (s : Super) (held : Store) (j i : ℕ) (h : Held) → CanMake (P.region memory.old) s held cpu j inode.now i h directory.now
+        → NothingPending (P.region memory.old) (P.may_hold memory.old)
         → LeavesOnly (P.region memory.new) (P.may_hold memory.new) (BeforeOrMade s held j inode.now i h directory.now) }
 {
     // The region's length is a u64, and fewer than eight bytes stand behind the last word.
@@ -89,7 +91,8 @@ fn prepare<P: Pmem>(
     ensures wrote { StoresOnly (PrepareWords inode.now directory.now) (P.region memory.old) (P.region memory.new) (P.may_hold memory.old) (P.may_hold memory.new) }
     ensures settled { OnOk result (NothingPending (P.region memory.new) (P.may_hold memory.new)) }
     ensures stopped { is_err result ≡ (P.fuse memory.new).has_burnt }
-    ensures keeps_fuse { KeepsFuse (λ limit. EndBy (inode.now.page ∷ []) limit × EndBy (directory.now.tail / 4096 ∷ directory.now.fresh.now) limit × (inode.now.slot + 40 ≤ limit)) (P.fuse memory.old) (P.fuse memory.new) }
+    ensures keeps_fuse { KeepsFuse (λ limit. EndBy (inode.now.page ∷ []) limit × EndBy (directory.now.tail / 4096 ∷ directory.now.fresh.now) limit
+        × (inode.now.slot + 40 ≤ limit)) (P.fuse memory.old) (P.fuse memory.new) }
 {
     // The region's length is a u64, and so is each address up to it.
     let _length = memory.len();

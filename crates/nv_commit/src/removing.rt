@@ -42,14 +42,16 @@ pub fn remove_inode<P: Pmem>(
     ensures settled { OnOk result (NothingPending (P.region memory.new) (P.may_hold memory.new)) }
     ensures wrote { StoresOnly (RemoveWords cpu directory.now slot) (P.region memory.old) (P.region memory.new) (P.may_hold memory.old) (P.may_hold memory.new) }
     ensures stopped { is_err result ≡ (P.fuse memory.new).has_burnt }
-    ensures keeps_fuse { KeepsFuse (λ limit. EndBy (directory.now.tail / 4096 ∷ directory.now.fresh.now) limit × (directory.now.slot + 32 ≤ limit) × (slot + 8 ≤ limit)) (P.fuse memory.old) (P.fuse memory.new) }
+    ensures keeps_fuse { KeepsFuse (λ limit. EndBy (directory.now.tail / 4096 ∷ directory.now.fresh.now) limit × (directory.now.slot + 32 ≤ limit)
+        × (slot + 8 ≤ limit)) (P.fuse memory.old) (P.fuse memory.new) }
     // The tail is stored before the valid word.
     ensures in_order { (s : Super) (held : Store) (i j : ℕ) (h : Held) → CanRemove (P.region memory.old) s held cpu i h directory.now j slot
         → FirstIsFirst (P.region memory.old) (directory.now.slot + 24) (end_of directory.now.fresh.now 0 directory.now.tail directory.now.entries.now) slot (P.region memory.new) }
     // The region as it reads, also after a stop, and each that a stop leaves.
     ensures reads { (s : Super) (held : Store) (i j : ℕ) (h : Held) → CanRemove (P.region memory.old) s held cpu i h directory.now j slot
         → BeforeOrRemoved s held i h directory.now j (P.region memory.new) }
-    ensures any_stop { (s : Super) (held : Store) (i j : ℕ) (h : Held) → CanRemove (P.region memory.old) s held cpu i h directory.now j slot → NothingPending (P.region memory.old) (P.may_hold memory.old)
+    ensures any_stop { (s : Super) (held : Store) (i j : ℕ) (h : Held) → CanRemove (P.region memory.old) s held cpu i h directory.now j slot
+        → NothingPending (P.region memory.old) (P.may_hold memory.old)
         → LeavesOnly (P.region memory.new) (P.may_hold memory.new) (BeforeOrRemoved s held i h directory.now j) }
 {
     // The region's length is a u64, and fewer than eight bytes stand behind the last word.

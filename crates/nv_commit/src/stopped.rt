@@ -19,8 +19,10 @@ ghost use Rattle.nv_commit.specs.Stopped.{CanRecover, RollsBackTo};
 /// Whatever the outcome is of a region that a stop has left: it has no faults, and its rows and free lists are those of what
 /// is shown once the journals are rolled back. So it is the one outcome that such rows and free lists make.
 pub fn stopped_outcome()
-    ensures kept { (left : Region) (s : Super) (after : Store) (o : Outcome) → CanRecover s left → ShowsSound (undone s left) s after → IsOutcome left o → (o.faults ≡ []) × Keeps (fixed_layout s) after o.rows o.free }
-    ensures same { (left : Region) (s : Super) (after : Store) (o : Outcome) (rows : List Row) (free : List (List Run)) → CanRecover s left → ShowsSound (undone s left) s after → IsOutcome left o → Keeps (fixed_layout s) after rows free → SameOutcome (faultless_outcome s rows free) o }
+    ensures kept { (left : Region) (s : Super) (after : Store) (o : Outcome) → CanRecover s left → ShowsSound (undone s left) s after → IsOutcome left o
+        → (o.faults ≡ []) × Keeps (fixed_layout s) after o.rows o.free }
+    ensures same { (left : Region) (s : Super) (after : Store) (o : Outcome) (rows : List Row) (free : List (List Run)) → CanRecover s left → ShowsSound (undone s left) s after
+        → IsOutcome left o → Keeps (fixed_layout s) after rows free → SameOutcome (faultless_outcome s rows free) o }
 {}
 
 /// Where a sound region is left with other values in loose words, recovery finds what it would have found: it reads none of

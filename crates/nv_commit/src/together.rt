@@ -50,7 +50,8 @@ pub fn extend_two<P: Pmem>(
     ensures settled { OnOk result (NothingPending (P.region memory.new) (P.may_hold memory.new)) }
     ensures wrote { StoresOnly (TogetherWords cpu first.now second.now) (P.region memory.old) (P.region memory.new) (P.may_hold memory.old) (P.may_hold memory.new) }
     ensures stopped { is_err result ≡ (P.fuse memory.new).has_burnt }
-    ensures keeps_fuse { KeepsFuse (λ limit. EndBy (first.now.tail / 4096 ∷ first.now.fresh.now) limit × EndBy (second.now.tail / 4096 ∷ second.now.fresh.now) limit × (first.now.slot + 32 ≤ limit) × (second.now.slot + 32 ≤ limit)) (P.fuse memory.old) (P.fuse memory.new) }
+    ensures keeps_fuse { KeepsFuse (λ limit. EndBy (first.now.tail / 4096 ∷ first.now.fresh.now) limit × EndBy (second.now.tail / 4096 ∷ second.now.fresh.now) limit
+        × (first.now.slot + 32 ≤ limit) × (second.now.slot + 32 ≤ limit)) (P.fuse memory.old) (P.fuse memory.new) }
     // The first tail is stored first.
     ensures in_order { (s : Super) (held : Store) (i j : ℕ) (h g : Held) → CanExtendTwo (P.region memory.old) s held cpu i h first.now j g second.now
         → FirstIsFirst (P.region memory.old) (first.now.slot + 24) (end_of first.now.fresh.now 0 first.now.tail first.now.entries.now) (second.now.slot + 24) (P.region memory.new) }
@@ -58,7 +59,8 @@ pub fn extend_two<P: Pmem>(
     // with both logs grown. Its journals have no faults.
     ensures reads { (s : Super) (held : Store) (i j : ℕ) (h g : Held) → CanExtendTwo (P.region memory.old) s held cpu i h first.now j g second.now
         → BeforeOrBoth s held i h first.now j g second.now (P.region memory.new) }
-    ensures any_stop { (s : Super) (held : Store) (i j : ℕ) (h g : Held) → CanExtendTwo (P.region memory.old) s held cpu i h first.now j g second.now → NothingPending (P.region memory.old) (P.may_hold memory.old)
+    ensures any_stop { (s : Super) (held : Store) (i j : ℕ) (h g : Held) → CanExtendTwo (P.region memory.old) s held cpu i h first.now j g second.now
+        → NothingPending (P.region memory.old) (P.may_hold memory.old)
         → LeavesOnly (P.region memory.new) (P.may_hold memory.new) (BeforeOrBoth s held i h first.now j g second.now) }
 {
     // The region's length is a u64, and fewer than eight bytes stand behind the last word.
@@ -76,7 +78,7 @@ pub fn extend_two<P: Pmem>(
 }
 
 /// Writes entries behind two tails and fences them.
-fn append_both<P: Pmem>(
+pub(crate) fn append_both<P: Pmem>(
     memory: &mut P,
     first: &Extension<'_>,
     second: &Extension<'_>,
@@ -87,7 +89,8 @@ fn append_both<P: Pmem>(
     ensures wrote { StoresOnly (BothWords first.now second.now) (P.region memory.old) (P.region memory.new) (P.may_hold memory.old) (P.may_hold memory.new) }
     ensures settled { OnOk result (NothingPending (P.region memory.new) (P.may_hold memory.new)) }
     ensures stopped { is_err result ≡ (P.fuse memory.new).has_burnt }
-    ensures keeps_fuse { KeepsFuse (λ limit. EndBy (first.now.tail / 4096 ∷ first.now.fresh.now) limit × EndBy (second.now.tail / 4096 ∷ second.now.fresh.now) limit) (P.fuse memory.old) (P.fuse memory.new) }
+    ensures keeps_fuse { KeepsFuse (λ limit. EndBy (first.now.tail / 4096 ∷ first.now.fresh.now) limit
+        × EndBy (second.now.tail / 4096 ∷ second.now.fresh.now) limit) (P.fuse memory.old) (P.fuse memory.new) }
 {
     let first_end = append_entries(memory, first.tail, first.entries, first.fresh)?;
     let second_end = append_entries(memory, second.tail, second.entries, second.fresh)?;

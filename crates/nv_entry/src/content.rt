@@ -18,7 +18,7 @@ const MOST_MODE: u32 = 4095;
 const MOST_LINKS: u32 = 1000;
 
 /// What is wrong with what an entry says.
-#[derive(Clone, Copy, Debug, PartialEq, Eq)]
+#[derive(Clone, Copy, PartialEq, Eq)]
 pub enum ContentFault {
     /// A number or a name that can't be.
     OutOfRange,

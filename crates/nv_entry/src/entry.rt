@@ -7,14 +7,14 @@ use crate::name::FileName;
 use arrayvec::ArrayVec;
 
 /// What a name entry does with its name.
-#[derive(Clone, Copy, Debug, PartialEq, Eq)]
+#[derive(Clone, Copy, PartialEq, Eq)]
 pub enum Operation {
     Add,
     Remove,
 }
 
 /// Pages of a file were written to blocks in a row.
-#[derive(Clone, Copy, Debug, PartialEq, Eq)]
+#[derive(Clone, Copy, PartialEq, Eq)]
 pub struct WriteEntry {
     /// How many pages.
     pub count: u32,
@@ -31,7 +31,7 @@ pub struct WriteEntry {
 pub const WRITE_LENGTH: u64 = 40;
 
 /// New attributes of an inode.
-#[derive(Clone, Copy, Debug, PartialEq, Eq)]
+#[derive(Clone, Copy, PartialEq, Eq)]
 pub struct AttrEntry {
     pub mode: u32,
     /// The file's bytes; 0 in a directory.
@@ -42,7 +42,7 @@ pub struct AttrEntry {
 }
 
 /// A name was added to a directory, or removed from it.
-#[derive(Debug, Drop, PartialEq, Eq)]
+#[derive(Drop, PartialEq, Eq)]
 pub struct NameEntry {
     pub operation: Operation,
     pub inode: u64,
@@ -51,14 +51,14 @@ pub struct NameEntry {
 }
 
 /// A new link count of a file.
-#[derive(Clone, Copy, Debug, PartialEq, Eq)]
+#[derive(Clone, Copy, PartialEq, Eq)]
 pub struct LinksEntry {
     pub count: u32,
     pub time: u64,
 }
 
 /// An entry of a log.
-#[derive(Debug, Drop, PartialEq, Eq)]
+#[derive(Drop, PartialEq, Eq)]
 pub enum Entry {
     /// The log goes on at the next page.
     NextPage,

@@ -15,10 +15,9 @@ use crate::entry::{AttrEntry, Entry, LinksEntry, NameEntry, Operation, WRITE_LEN
 use crate::name::FileName;
 use arrayvec::ArrayVec;
 use nv_super::Pmem;
-use std::fmt;
 
 /// A name was added to a directory, or removed from it. The name stands in the region.
-#[derive(Clone, Copy, Debug, PartialEq, Eq)]
+#[derive(Clone, Copy, PartialEq, Eq)]
 pub struct LightName {
     pub operation: Operation,
     /// How many bytes the name has.
@@ -38,19 +37,6 @@ pub enum LightEntry {
     Attr(AttrEntry),
     Name(LightName),
     Links(LinksEntry),
-}
-
-/// Shows what it says, whose type names its kind.
-impl fmt::Debug for LightEntry {
-    fn fmt<W: fmt::Write>(&self, f: &mut fmt::Formatter<W>) -> fmt::Result {
-        match self {
-            LightEntry::NextPage => f.write_str("NextPage"),
-            LightEntry::Write(e) => fmt::Debug::fmt(e, f),
-            LightEntry::Attr(e) => fmt::Debug::fmt(e, f),
-            LightEntry::Name(e) => fmt::Debug::fmt(e, f),
-            LightEntry::Links(e) => fmt::Debug::fmt(e, f),
-        }
-    }
 }
 
 impl LightName {

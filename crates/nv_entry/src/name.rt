@@ -9,7 +9,7 @@ use arrayvec::ArrayVec;
 use std::marker::Model;
 
 /// A name of 1 to 255 bytes, kept in place.
-#[derive(Debug, Drop)]
+#[derive(Drop)]
 pub struct FileName {
     bytes: ArrayVec<u8, 255>,
 }

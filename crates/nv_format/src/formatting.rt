@@ -10,6 +10,7 @@ ghost use Rattle.nv_region.specs.Fuses.{KeepsFuse};
 ghost use Rattle.nv_region.specs.Stored.{StoresOnly, Within};
 ghost use Rattle.nv_super.specs.Layout.{IsLayout};
 ghost use Rattle.nv_format.specs.Format.{IsFormatRefusal, CanFormat, IsFormatted, IsLaidOut, HasRoot, AnyAt, IsSystemWord, IsRootWord, fresh_super, root_page, refusal_name, FormatIsDetermined, FormatLeaves};
+ghost use Rattle.nv_format.specs.Sentences.{refusal_sentence};
 
 use crate::clearing::clear_system;
 use nv_inode::{Slot, put_slot, set_word, slot_start};
@@ -62,15 +63,30 @@ impl FormatRefusal {
             FormatRefusal::Stopped => "Stopped",
         }
     }
+
+    /// What is shown of it to people.
+    fn sentence(self) -> &'static str
+        ensures { result.now ≡ refusal_sentence self }
+    {
+        match self {
+            FormatRefusal::Length => "the length isn't that of 8 to 262,144 blocks of 4096 bytes",
+            FormatRefusal::Cpus => "there aren't 1 to 64 CPUs",
+            FormatRefusal::Tables => {
+                "there aren't 1 to 64 table blocks for each CPU, or no data block is left behind them"
+            }
+            FormatRefusal::Stopped => "the memory has been stopped",
+        }
+    }
 }
 
+/// Shows a sentence. The word of scripts is its `name`.
 impl fmt::Display for FormatRefusal {
     ghost use Rattle.std.specs.Prelude.{Some};
 
-    ghost output = { λ refusal. Some (refusal_name refusal) };
+    ghost output = { λ refusal. Some (refusal_sentence refusal) };
 
     fn fmt<W: fmt::Write>(&self, f: &mut fmt::Formatter<W>) -> fmt::Result {
-        f.write_str(self.name())
+        f.write_str(self.sentence())
     }
 }
 

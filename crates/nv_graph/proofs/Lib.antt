@@ -4,3 +4,4 @@ pub mod Sound
 pub mod Changes
 pub mod Renamed
 pub mod Root
+pub mod Replaced

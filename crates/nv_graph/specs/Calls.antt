@@ -37,6 +37,10 @@ removed g d name i = with_name (with_node g i None) d name None
 abbrev pub renamed : Graph → ℕ → List ℕ → ℕ → List ℕ → ℕ → Graph
 renamed g d name e new i = with_name (with_name g d name None) e new (Some i)
 
+-- replace: the same where that name stood for node j, of which this is left
+abbrev pub replaced : Graph → ℕ → List ℕ → ℕ → List ℕ → ℕ → ℕ → Option Node → Graph
+replaced g d name e new i j left = with_node (renamed g d name e new i) j left
+
 -- two graphs show the same of each number
 pub record SameGraph (g h : Graph) : Type 0 where
   pub node : (i : ℕ) → h.node i ≡ g.node i

@@ -1,11 +1,11 @@
 //! Where no fault stands between inodes, no call makes one.
 
-ghost use Rattle.std.specs.Prelude.{◌≡◌, ℕ, ◌<◌, ◌≤◌, List, Option, Some, None};
+ghost use Rattle.std.specs.Prelude.{◌≡◌, ◌≢◌, ℕ, ◌<◌, ◌≤◌, ◌-◌, List, Option, Some, None};
 ghost use Rattle.std.specs.List.{Contains};
 ghost use Rattle.nv_super.specs.declared.kind.Kind.{Kind};
 ghost use Rattle.nv_super.specs.declared.kind.Kind.TheVariants.{File, Directory};
 ghost use Rattle.nv_graph.specs.Graph.{Node, Graph, IsOfKind, IsReachedPast, NoCrossFaults, walked, passed};
-ghost use Rattle.nv_graph.specs.Calls.{made, linked, unlinked, removed, renamed, with_name, with_node, SameGraph, root_alone};
+ghost use Rattle.nv_graph.specs.Calls.{made, linked, unlinked, removed, renamed, replaced, with_name, with_node, SameGraph, root_alone};
 
 /// A root without names has no faults, and graphs that show the same have the same faults.
 pub fn root_has_none()
@@ -70,4 +70,18 @@ pub fn renamed_into_itself()
     ensures { (g : Graph) (d : ℕ) (name : List ℕ) (e : ℕ) (new : List ℕ) (i : ℕ) → NoCrossFaults g
         → g.name d name ≡ Some i → g.name e new ≡ None → IsOfKind g i Directory → (IsReachedPast g i e → ⊥)
         → NoCrossFaults (renamed g d name e new i) → ⊥ }
+{}
+
+/// `replace` makes no fault: a name of another node stands for the renamed one then. That node is a file, which goes or counts a link
+/// less, or a directory without names, which goes.
+pub fn replace_keeps()
+    ensures last { (g : Graph) (d : ℕ) (name : List ℕ) (path : List (List ℕ)) (e : ℕ) (new : List ℕ) (i j : ℕ) (n : Node) → NoCrossFaults g
+        → g.name d name ≡ Some i → walked g 1 path ≡ Some e → g.name e new ≡ Some j → i ≢ j → (IsOfKind g i Directory → Contains (passed g 1 path) i → ⊥)
+        → g.node j ≡ Some n → n.kind ≡ File → n.links ≤ 1 → NoCrossFaults (replaced g d name e new i j None) }
+    ensures more_left { (g : Graph) (d : ℕ) (name : List ℕ) (path : List (List ℕ)) (e : ℕ) (new : List ℕ) (i j : ℕ) (n : Node) → NoCrossFaults g
+        → g.name d name ≡ Some i → walked g 1 path ≡ Some e → g.name e new ≡ Some j → i ≢ j → (IsOfKind g i Directory → Contains (passed g 1 path) i → ⊥)
+        → g.node j ≡ Some n → n.kind ≡ File → 1 < n.links → NoCrossFaults (replaced g d name e new i j (Some (record { kind = n.kind; links = n.links - 1 }))) }
+    ensures directory { (g : Graph) (d : ℕ) (name : List ℕ) (path : List (List ℕ)) (e : ℕ) (new : List ℕ) (i j : ℕ) → NoCrossFaults g
+        → g.name d name ≡ Some i → walked g 1 path ≡ Some e → g.name e new ≡ Some j → i ≢ j → (IsOfKind g i Directory → Contains (passed g 1 path) i → ⊥)
+        → IsOfKind g j Directory → ((other : List ℕ) → g.name j other ≡ None) → NoCrossFaults (replaced g d name e new i j None) }
 {}

@@ -7,6 +7,6 @@
 mod laws;
 
 pub use laws::{
-    changes_follow, create_keeps, link_keeps, rename_keeps, renamed_into_itself, rmdir_keeps,
-    root_has_none, unlink_keeps,
+    changes_follow, create_keeps, link_keeps, rename_keeps, renamed_into_itself, replace_keeps,
+    rmdir_keeps, root_has_none, unlink_keeps,
 };

@@ -28,6 +28,8 @@ use Rattle.nv_named.proofs.Bridge.{no_faults}
 use Rattle.nv_held.specs.Held.{Held, Store, Shows, ShowsSlot, log_of, good_in}
 use Rattle.nv_held.specs.Blocks.{NoneDoubled, KeepsFree}
 use Rattle.nv_held.specs.Mounted.{KeepsRow, KeepsRows, Keeps, AreClean, ShowsSound, faultless_outcome}
+use Rattle.nv_named.specs.nv_scan.ChainBlocks.{IsChainless}
+use Rattle.nv_named.proofs.nv_scan.ChainBlocks.{fixed_chainless}
 use Rattle.nv_held.proofs.Shown.{IsHeld, held_inode, HoldsAt, stands_at, in_use, is_held, owns_back, free_there, free_back}
 use Rattle.nv_held.proofs.ShownGraph.{graph_shown}
 use Rattle.nv_held.proofs.Idle.{idle_undone, idle_faultless}
@@ -54,10 +56,10 @@ module _ {R : Region} {l : Layout} {held : Store} (shows : Shows R l held) where
   }
 
   -- and so are the free lists
-  pub lists_there : (free : List (List Run)) → KeepsFree l held free → AreFreeLists R l free
-  lists_there free k = record {
+  pub lists_there : IsChainless l → (free : List (List Run)) → KeepsFree l held free → AreFreeLists R l free
+  lists_there chainless free k = record {
     pools = k.pools;
-    each = λ cpu below. AreRuns-same _ _ _ (λ b w. (w.0, free_there shows b w.1)) (λ b w. (w.0, free_back shows b w.1)) (k.each cpu below);
+    each = λ cpu below. AreRuns-same _ _ _ (λ b w. (w.0, free_there shows chainless b w.1)) (λ b w. (w.0, free_back shows b w.1)) (k.each cpu below);
   }
 
   -- ---- no faults
@@ -89,8 +91,8 @@ module _ {R : Region} {l : Layout} {held : Store} (shows : Shows R l held) where
   no_inode_fault clean i f (entry {a = a} {log = log} is e) = let w = is_held shows i a log is in
       clean i w.h f w.held_is (subst (λ (x : Log). IsEntryFault l.sup x.kind i x.entries f) w.same e)
 
-  pub none_doubled : NoneDoubled l held → (b : ℕ) (o : Owner) → IsDoubled R l b o → ⊥
-  none_doubled undoubled b o d = d.another.1 (sym (undoubled b o d.another.0 (owns_back shows b o d.owns) (owns_back shows b d.another.0 d.another.2)))
+  pub none_doubled : IsChainless l → NoneDoubled l held → (b : ℕ) (o : Owner) → IsDoubled R l b o → ⊥
+  none_doubled chainless undoubled b o d = d.another.1 (sym (undoubled b o d.another.0 (owns_back shows chainless b o d.owns) (owns_back shows chainless b d.another.0 d.another.2)))
 
 -- a list of nothing
 nothing_listed : {A : Type 0} (key : A → List ℕ) (P : A → Type 0) → ((x : A) → P x → ⊥) → Lists key P []
@@ -109,14 +111,14 @@ module _ {R : Region} {s : Super} {held : Store} (m : ShowsSound R s held) where
   no_fault_at_all f (journal h) = idle_faultless s R f m.idle h
   no_fault_at_all f (inode i h) = no_inode_fault m.shows m.faultless.clean i f (let P : Region → Type 0 = λ Q. IsFaultOf Q (fixed_layout s) i f in subst P own_undo h)
   no_fault_at_all f (cross h) = no_faults (graph_shown m.shows) m.faultless.named f (let P : Region → Type 0 = λ Q. IsCrossFault Q (fixed_layout s) f in subst P own_undo h)
-  no_fault_at_all _ (double {b = b} {o = o} d) = none_doubled m.shows m.faultless.undoubled b o (let P : Region → Type 0 = λ Q. IsDoubled Q (fixed_layout s) b o in subst P own_undo d)
+  no_fault_at_all _ (double {b = b} {o = o} d) = none_doubled m.shows (fixed_chainless s) m.faultless.undoubled b o (let P : Region → Type 0 = λ Q. IsDoubled Q (fixed_layout s) b o in subst P own_undo d)
 
   pub closing : (rows : List Row) (free : List (List Run)) → Keeps (fixed_layout s) held rows free → IsOutcome R (faultless_outcome s rows free)
   closing rows free keeps = record {
     sup = m.sup;
     rows = (let P : Region → Type 0 = λ Q. AreRows Q (fixed_layout s) rows in subst P (sym own_undo) (rows_there m.shows rows keeps.in_rows));
-    free = (let P : Region → Type 0 = λ Q. AreFreeLists Q (fixed_layout s) free in subst P (sym own_undo) (lists_there m.shows free keeps.in_lists));
-    doubled = nothing_listed claim_key _ (λ x d. none_doubled m.shows m.faultless.undoubled x.0 x.1 (let P : Region → Type 0 = λ Q. IsDoubled Q (fixed_layout s) x.0 x.1 in subst P own_undo d));
+    free = (let P : Region → Type 0 = λ Q. AreFreeLists Q (fixed_layout s) free in subst P (sym own_undo) (lists_there m.shows (fixed_chainless s) free keeps.in_lists));
+    doubled = nothing_listed claim_key _ (λ x d. none_doubled m.shows (fixed_chainless s) m.faultless.undoubled x.0 x.1 (let P : Region → Type 0 = λ Q. IsDoubled Q (fixed_layout s) x.0 x.1 in subst P own_undo d));
     faults = nothing_listed fault_key _ no_fault_at_all;
   }
 
@@ -147,7 +149,7 @@ module _ {R : Region} {s : Super} {held : Store} (m : ShowsSound R s held) where
       };
       in_lists = record {
         pools = lists_of.pools;
-        each = λ cpu below. AreRuns-same _ _ _ (λ b w. (w.0, free_back m.shows b w.1)) (λ b w. (w.0, free_there m.shows b w.1)) (lists_of.each cpu below);
+        each = λ cpu below. AreRuns-same _ _ _ (λ b w. (w.0, free_back m.shows b w.1)) (λ b w. (w.0, free_there m.shows (fixed_chainless s) b w.1)) (lists_of.each cpu below);
       };
     } where
       kept : (a : ℕ) (log : Log) (row : Row) (r : IsRow R (fixed_layout s) a log row) (w : IsHeld R (fixed_layout s) held row.inode a log) → KeepsRow (fixed_layout s) w.h row

@@ -1,5 +1,5 @@
 -- The owners and the free blocks once one log grew.
-use Rattle.std.proofs.Common.{◌≡◌, ◌↔◌, ℕ, ◌<◌, true, false, ◌⊎◌, inl, inr, List, ◌++◌, length, eqb, get_or, slice_get, refl, ap, sym, ◌∙◌, subst, arith, Option, Some, None}
+use Rattle.std.proofs.Common.{◌≡◌, ◌↔◌, ℕ, ◌<◌, Bool, true, false, ◌⊎◌, inl, inr, List, ◌++◌, length, eqb, get_or, slice_get, refl, ap, sym, ◌∙◌, subst, arith, Option, Some, None}
 use Rattle.std.specs.List.{Contains, IsDistinct}
 use Rattle.std.proofs.lemmas.Bool.{cases_eq, cases_lt, true≢false}
 use Rattle.std.proofs.lemmas.Bool.Decides.{eqb_tells}
@@ -18,7 +18,6 @@ use Rattle.nv_named.proofs.nv_outcome.Finite.{Decided, number_is, numbers, those
 use Rattle.nv_held.specs.Held.{Held, Store, with_inode, good_in}
 use Rattle.nv_held.specs.Blocks.{OwnsIn, by_log, by_page, IsUnowned, NoneDoubled, OwnsNew}
 use Rattle.nv_held.specs.Grows.{AreFree, SameFile, Maps, LetsGo, GrowsByData}
-use Rattle.nv_named.proofs.nv_scan.Only.{is_of_inode}
 use Rattle.nv_held.proofs.Owning.{same_held, owned_before, owned_after}
 use Rattle.nv_held.proofs.Kept.{page_owner}
 
@@ -29,6 +28,12 @@ log_owned (by_log {h = h} is page) = (h, is, page)
 
 pub page_owned : {l : Layout} {held : Store} {i p b : ℕ} → OwnsIn l held b (owners.Data i p) → (h : Held) × (held i ≡ Some h) × (block_of (good_in l h) p ≡ Some b)
 page_owned (by_page {h = h} is maps) = (h, is, maps)
+
+-- an owner that is of an inode
+abbrev is_of_inode : Owner → Bool
+is_of_inode (owners.Table c k) = false
+is_of_inode (owners.Log i k) = true
+is_of_inode (owners.Data i p) = true
 
 owned_by_inode : {l : Layout} {held : Store} {b : ℕ} {o : Owner} → OwnsIn l held b o → is_of_inode o ≡ true
 owned_by_inode (by_log is page) = refl

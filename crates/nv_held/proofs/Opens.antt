@@ -34,6 +34,8 @@ use Rattle.nv_named.proofs.OfRows.{all_names}
 use Rattle.nv_held.specs.Held.{Held, Store, HoldsInode, Shows, ShowsSlot}
 use Rattle.nv_held.specs.Blocks.{NoneDoubled, KeepsFree}
 use Rattle.nv_held.specs.Mounted.{KeepsRow, KeepsRows, AreClean, IsMounted}
+use Rattle.nv_named.specs.nv_scan.ChainBlocks.{IsChainless}
+use Rattle.nv_named.proofs.nv_scan.ChainBlocks.{fixed_chainless}
 use Rattle.nv_held.proofs.Shown.{held_inode, stands_at, in_use, owns_there, free_there, free_back}
 use Rattle.nv_held.proofs.ShownGraph.{graph_shown}
 use Rattle.nv_held.proofs.Idle.{idle_of}
@@ -170,10 +172,10 @@ module _ (R : Region) (l : Layout) (none : (i : ℕ) (f : Fault) → IsFaultOf R
       | inr differ ↦ absurd (single b o (record { owns = owns_there shows b o x; another = (p, (λ e. differ (sym e)), owns_there shows b p y) }))
     ]
 
-    pub lists_kept : (free : List (List Run)) → AreFreeLists R l free → KeepsFree l held free
-    lists_kept free k = record {
+    pub lists_kept : IsChainless l → (free : List (List Run)) → AreFreeLists R l free → KeepsFree l held free
+    lists_kept chainless free k = record {
       pools = k.pools;
-      each = λ cpu below. AreRuns-same _ _ _ (λ b w. (w.0, free_back shows b w.1)) (λ b w. (w.0, free_there shows b w.1)) (k.each cpu below);
+      each = λ cpu below. AreRuns-same _ _ _ (λ b w. (w.0, free_back shows b w.1)) (λ b w. (w.0, free_there shows chainless b w.1)) (k.each cpu below);
     }
 
 module _ (R : Region) (o : Outcome) (is : IsOutcome R o) (no_faults : o.faults ≡ []) (own : undone o.sup R ≡ R) where
@@ -209,7 +211,7 @@ module _ (R : Region) (o : Outcome) (is : IsOutcome R o) (no_faults : o.faults �
           };
           keeps = record {
             in_rows = rows_kept R (fixed_layout o.sup) no_inode_fault o.rows rows_are;
-            in_lists = lists_kept R (fixed_layout o.sup) no_inode_fault shows o.free (let P : Region → Type 0 = λ Q. AreFreeLists Q (fixed_layout o.sup) o.free in subst P own is.free);
+            in_lists = lists_kept R (fixed_layout o.sup) no_inode_fault shows (fixed_chainless o.sup) o.free (let P : Region → Type 0 = λ Q. AreFreeLists Q (fixed_layout o.sup) o.free in subst P own is.free);
           };
         },
       )

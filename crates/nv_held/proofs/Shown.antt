@@ -10,6 +10,7 @@ use Rattle.nv_named.specs.nv_scan.State.{block_of}
 use Rattle.nv_named.specs.nv_scan.Inode.{Log, IsInode, IsInUse, right, good_of}
 use Rattle.nv_named.specs.nv_scan.Owners as scan
 use Rattle.nv_named.specs.nv_scan.Owners.{Owns}
+use Rattle.nv_named.specs.nv_scan.ChainBlocks.{IsChainless}
 use Rattle.nv_named.proofs.nv_scan.Only.{IsInode-only, slot_in_use, kind_in_use, owned_log, owned_page, no_table}
 use Rattle.nv_named.proofs.nv_scan.Pieces.{valid_one}
 use Rattle.nv_named.specs.nv_outcome.Outcome.{IsFree}
@@ -59,15 +60,15 @@ module _ {R : Region} {l : Layout} {held : Store} (shows : Shows R l held) where
   owns_there b _ (by_log {i = i} {h = h} is page) = let v = stands_at i h is in scan.by_log (held_inode R l i v.a h v.at v.is) page
   owns_there b _ (by_page {i = i} {h = h} is maps) = let v = stands_at i h is in scan.by_page (held_inode R l i v.a h v.at v.is) maps
 
-  pub owns_back : (b : ℕ) (o : Owner) → Owns R l b o → OwnsIn l held b o
-  owns_back b (owners.Table c k) h = absurd (no_table h)
-  owns_back b (owners.Log i k) h = let u = owned_log h in let w = is_held i u.a u.log u.is in
+  pub owns_back : IsChainless l → (b : ℕ) (o : Owner) → Owns R l b o → OwnsIn l held b o
+  owns_back chainless b (owners.Table c k) h = absurd (no_table chainless h)
+  owns_back chainless b (owners.Log i k) h = let u = owned_log h in let w = is_held i u.a u.log u.is in
       by_log w.held_is (subst (λ (x : Log). slice_get x.pages k ≡ Some b) w.same u.page)
-  owns_back b (owners.Data i p) h = let u = owned_page h in let w = is_held i u.a u.log u.is in
+  owns_back chainless b (owners.Data i p) h = let u = owned_page h in let w = is_held i u.a u.log u.is in
       by_page w.held_is (subst (λ (x : Log). block_of (good_of l x) p ≡ Some b) w.same u.maps)
 
-  pub free_there : (b : ℕ) → IsUnowned l held b → IsFree R l b
-  free_there b f = record { from = f.from; below = f.below; unowned = λ o h. f.unowned o (owns_back b o h) }
+  pub free_there : IsChainless l → (b : ℕ) → IsUnowned l held b → IsFree R l b
+  free_there chainless b f = record { from = f.from; below = f.below; unowned = λ o h. f.unowned o (owns_back chainless b o h) }
 
   pub free_back : (b : ℕ) → IsFree R l b → IsUnowned l held b
   free_back b f = record { from = f.from; below = f.below; unowned = λ o h. f.unowned o (owns_there b o h) }

@@ -16,7 +16,8 @@ use Rattle.nv_held.specs.Slots.{HaveNoSlots}
 pub record Appends (R S : Region) (tail new : ℕ) (entries : List Entry) (fresh : List ℕ) : Type 0 where
   pub reads : (s : Super) (head : ℕ) (es : List Placed) (all : List ℕ) → IsTrue (is_page_start s head) → FreshFor s fresh all → Reads R s head tail es all None
       → Reads S s head new (es ++ appended fresh 0 tail entries) (all ++ take (needed (tail % 4096) entries) fresh) None
-  pub right : (s : Super) (head : ℕ) → IsTrue (is_page_start s head) → IsTrue (is_data_address s tail) → CanBePages s fresh → (8 ≤ tail % 4096) ⊎ (0 < length entries) → IsTrue (is_right_log s head new)
+  pub right : (s : Super) (head : ℕ) → IsTrue (is_page_start s head) → IsTrue (is_data_address s tail) → CanBePages s fresh → (8 ≤ tail % 4096) ⊎ (0 < length entries)
+      → IsTrue (is_right_log s head new)
   pub wrote : IsMixed R (AppendWords tail fresh) S
 
 -- The region shows what is held, and behind the tail of one inode's log stand these entries, up to a new tail that is

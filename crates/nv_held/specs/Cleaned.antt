@@ -3,7 +3,7 @@ use Rattle.std.specs.Prelude.{◌≢◌, ℕ, eqb, get_or}
 use Rattle.std.specs.List.{Contains, IsDistinct, remove}
 use Rattle.nv_super.specs.Layout.{Layout}
 use Rattle.nv_logpage.specs.Unlinked.{head_without, without_page}
-use Rattle.nv_named.specs.nv_scan.Dead.{IsDead}
+use Rattle.nv_deadpages.specs.Dead.{IsDead}
 use Rattle.nv_held.specs.Held.{Held}
 
 -- what is held of an inode without the page of this place in its log, and the entries in it

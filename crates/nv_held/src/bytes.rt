@@ -23,12 +23,14 @@ ghost use Rattle.nv_held.specs.Writes.{IsReplaced, WritesData, written_blocks, w
 
 /// Each byte of each file is the same in a region that differs in loose words alone.
 pub fn loose_data()
-    ensures { (l : Layout) (held : Store) (R left : Region) (i : ℕ) (h : Held) → SlotsClear l held → NoneDoubled l held → Shows R l held → IsMixed R (Loose l held) left → held i ≡ Some h → (x : ℕ) → byte_of left l h x ≡ byte_of R l h x }
+    ensures { (l : Layout) (held : Store) (R left : Region) (i : ℕ) (h : Held) → SlotsClear l held → NoneDoubled l held → Shows R l held → IsMixed R (Loose l held) left → held i ≡ Some h
+        → (x : ℕ) → byte_of left l h x ≡ byte_of R l h x }
 {}
 
 /// It is the same too where a slot alone has changed, and where the tables and the data blocks are the same.
 pub fn data_beside()
-    ensures slot { (l : Layout) (held : Store) (R S : Region) (j a i : ℕ) (h : Held) → SlotsClear l held → slot_of l j ≡ Some a → SameOutside R a 128 S → held i ≡ Some h → (x : ℕ) → byte_of S l h x ≡ byte_of R l h x }
+    ensures slot { (l : Layout) (held : Store) (R S : Region) (j a i : ℕ) (h : Held) → SlotsClear l held → slot_of l j ≡ Some a → SameOutside R a 128 S → held i ≡ Some h → (x : ℕ)
+        → byte_of S l h x ≡ byte_of R l h x }
     ensures behind { (l : Layout) (R S : Region) (h : Held) → SameBehind l.sup.cpus R S → (x : ℕ) → byte_of S l h x ≡ byte_of R l h x }
 {}
 
@@ -36,7 +38,8 @@ pub fn data_beside()
 /// those below the size are as before, and those past it have none.
 pub fn pages_after_writes()
     ensures written { (l : Layout) (held : Store) (h : Held) (tail : ℕ) (more : List Placed) (fresh : List ℕ) (size : ℕ) → WritesData l held h more fresh size
-        → (x : Placed) (e : WriteEntry) (p : ℕ) → Contains more x → x.entry ≡ Write e → in_run e.offset e.count p ≡ true → block_of (good_in l (grown h tail more fresh)) p ≡ Some (e.block + (p - e.offset)) }
+        → (x : Placed) (e : WriteEntry) (p : ℕ) → Contains more x → x.entry ≡ Write e → in_run e.offset e.count p ≡ true
+        → block_of (good_in l (grown h tail more fresh)) p ≡ Some (e.block + (p - e.offset)) }
     ensures kept { (l : Layout) (held : Store) (h : Held) (tail : ℕ) (more : List Placed) (fresh : List ℕ) (size : ℕ) → WritesData l held h more fresh size
         → (p : ℕ) → (HasBlock (written_pages more) p → ⊥) → p * 4096 < size → block_of (good_in l (grown h tail more fresh)) p ≡ block_of (good_in l h) p }
     ensures cut { (l : Layout) (held : Store) (h : Held) (tail : ℕ) (more : List Placed) (fresh : List ℕ) (size : ℕ) → WritesData l held h more fresh size
@@ -46,9 +49,13 @@ pub fn pages_after_writes()
 /// By such entries a file grows by free blocks. The free blocks are those of before that weren't taken, and those that the
 /// file let go: the blocks of pages that were written or cut.
 pub fn blocks_after_writes()
-    ensures grows { (l : Layout) (held : Store) (i : ℕ) (h : Held) (tail : ℕ) (more : List Placed) (fresh : List ℕ) (size : ℕ) → held i ≡ Some h → WritesData l held h more fresh size → AreFree l held fresh → GrowsByData l held h (grown h tail more fresh) fresh }
-    ensures free { (l : Layout) (held : Store) (i : ℕ) (h : Held) (tail : ℕ) (more : List Placed) (fresh : List ℕ) (size : ℕ) → held i ≡ Some h → WritesData l held h more fresh size → AreFree l held fresh → NoneDoubled l held
-        → (b : ℕ) → IsUnowned l (with_inode held i (Some (grown h tail more fresh))) b ↔ ((IsUnowned l held b × (Contains fresh b → ⊥) × (HasBlock (written_blocks more) b → ⊥)) ⊎ LetsGo l h (grown h tail more fresh) b) }
-    ensures gone { (l : Layout) (held : Store) (i : ℕ) (h : Held) (tail : ℕ) (more : List Placed) (fresh : List ℕ) (size : ℕ) → held i ≡ Some h → WritesData l held h more fresh size → AreFree l held fresh → NoneDoubled l held → 0 < length more
+    ensures grows { (l : Layout) (held : Store) (i : ℕ) (h : Held) (tail : ℕ) (more : List Placed) (fresh : List ℕ) (size : ℕ) → held i ≡ Some h → WritesData l held h more fresh size
+        → AreFree l held fresh → GrowsByData l held h (grown h tail more fresh) fresh }
+    ensures free { (l : Layout) (held : Store) (i : ℕ) (h : Held) (tail : ℕ) (more : List Placed) (fresh : List ℕ) (size : ℕ) → held i ≡ Some h → WritesData l held h more fresh size
+        → AreFree l held fresh → NoneDoubled l held
+        → (b : ℕ) → IsUnowned l (with_inode held i (Some (grown h tail more fresh))) b ↔ ((IsUnowned l held b × (Contains fresh b → ⊥) × (HasBlock (written_blocks more) b → ⊥))
+        ⊎ LetsGo l h (grown h tail more fresh) b) }
+    ensures gone { (l : Layout) (held : Store) (i : ℕ) (h : Held) (tail : ℕ) (more : List Placed) (fresh : List ℕ) (size : ℕ) → held i ≡ Some h → WritesData l held h more fresh size
+        → AreFree l held fresh → NoneDoubled l held → 0 < length more
         → (b : ℕ) → LetsGo l h (grown h tail more fresh) b ↔ IsReplaced l h more size b }
 {}

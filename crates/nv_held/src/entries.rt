@@ -22,5 +22,6 @@ pub fn still_clean()
 
 /// Nothing is wrong once one log grew that names nothing.
 pub fn still_faultless()
-    ensures { (l : Layout) (held : Store) (i : ℕ) (h new : Held) → held i ≡ Some h → SameNames l h new → NoEntryFault l.sup new.kind i new.entries → OwnsNew l held i (Some new) → IsFaultless l held → IsFaultless l (with_inode held i (Some new)) }
+    ensures { (l : Layout) (held : Store) (i : ℕ) (h new : Held) → held i ≡ Some h → SameNames l h new → NoEntryFault l.sup new.kind i new.entries → OwnsNew l held i (Some new)
+        → IsFaultless l held → IsFaultless l (with_inode held i (Some new)) }
 {}

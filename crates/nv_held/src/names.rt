@@ -37,7 +37,8 @@ pub fn graph_less()
 
 /// A directory has another name in place of one once its log grew by both entries.
 pub fn graph_moved()
-    ensures { (l : Layout) (held : Store) (d : ℕ) (h : Held) (tail at next i : ℕ) (name other : List ℕ) (time : ℕ) (fresh : List ℕ) → held d ≡ Some h → h.kind ≡ Directory → IsGoodName l.sup i name → IsGoodName l.sup i other
+    ensures { (l : Layout) (held : Store) (d : ℕ) (h : Held) (tail at next i : ℕ) (name other : List ℕ) (time : ℕ) (fresh : List ℕ) → held d ≡ Some h → h.kind ≡ Directory
+        → IsGoodName l.sup i name → IsGoodName l.sup i other
         → SameGraph (with_name (with_name (graph_in l held) d name None) d other (Some i)) (graph_in l (with_inode held d (Some (grown h tail (name_entry at Remove i name time ∷ name_entry next Add i other time ∷ []) fresh)))) }
 {}
 
@@ -58,5 +59,6 @@ pub fn graph_came()
 /// A file that went, or a directory without names, is a node less.
 pub fn graph_went()
     ensures file { (l : Layout) (held : Store) (i : ℕ) (h : Held) → held i ≡ Some h → h.kind ≡ File → SameGraph (with_node (graph_in l held) i None) (graph_in l (with_inode held i None)) }
-    ensures empty { (l : Layout) (held : Store) (i : ℕ) (h : Held) → held i ≡ Some h → ((name : List ℕ) → (graph_in l held).name i name ≡ None) → SameGraph (with_node (graph_in l held) i None) (graph_in l (with_inode held i None)) }
+    ensures empty { (l : Layout) (held : Store) (i : ℕ) (h : Held) → held i ≡ Some h → ((name : List ℕ) → (graph_in l held).name i name ≡ None)
+        → SameGraph (with_node (graph_in l held) i None) (graph_in l (with_inode held i None)) }
 {}

@@ -18,19 +18,25 @@ ghost use Rattle.nv_held.specs.Cleaned.{IsDeadIn, cleaned};
 /// Once the word that leads to a page of a log, which isn't its last, leads to the page behind it, the region shows the log
 /// without that page and its entries. Nothing is wrong with it where the log can do without them.
 pub fn page_is_unlinked()
-    ensures shown { (R S : Region) (s : Super) (held : Store) (i a : ℕ) (h : Held) (k : ℕ) → ShowsSound R s held → slot_of (fixed_layout s) i ≡ Some a → held i ≡ Some h → k + 1 < length h.pages → Stored R (word_to (a + 16) h.pages k) (page_behind h.pages k) S
+    ensures shown { (R S : Region) (s : Super) (held : Store) (i a : ℕ) (h : Held) (k : ℕ) → ShowsSound R s held → slot_of (fixed_layout s) i ≡ Some a → held i ≡ Some h
+        → k + 1 < length h.pages → Stored R (word_to (a + 16) h.pages k) (page_behind h.pages k) S
         → SameFront s.cpus R S × Shows S (fixed_layout s) (with_inode held i (Some (cleaned h k))) }
-    ensures sound { (R S : Region) (s : Super) (held : Store) (i a : ℕ) (h : Held) (k : ℕ) → ShowsSound R s held → slot_of (fixed_layout s) i ≡ Some a → held i ≡ Some h → IsDeadIn (fixed_layout s) i h k → Stored R (word_to (a + 16) h.pages k) (page_behind h.pages k) S
+    ensures sound { (R S : Region) (s : Super) (held : Store) (i a : ℕ) (h : Held) (k : ℕ) → ShowsSound R s held → slot_of (fixed_layout s) i ≡ Some a → held i ≡ Some h
+        → IsDeadIn (fixed_layout s) i h k → Stored R (word_to (a + 16) h.pages k) (page_behind h.pages k) S
         → ShowsSound S s (with_inode held i (Some (cleaned h k))) }
     // Each byte of each file is where it was.
-    ensures bytes { (R S : Region) (s : Super) (held : Store) (i a : ℕ) (h : Held) (k : ℕ) → ShowsSound R s held → slot_of (fixed_layout s) i ≡ Some a → held i ≡ Some h → k + 1 < length h.pages → Stored R (word_to (a + 16) h.pages k) (page_behind h.pages k) S
+    ensures bytes { (R S : Region) (s : Super) (held : Store) (i a : ℕ) (h : Held) (k : ℕ) → ShowsSound R s held → slot_of (fixed_layout s) i ≡ Some a → held i ≡ Some h
+        → k + 1 < length h.pages → Stored R (word_to (a + 16) h.pages k) (page_behind h.pages k) S
         → (j : ℕ) (g : Held) → held j ≡ Some g → (x : ℕ) → byte_of S (fixed_layout s) g x ≡ byte_of R (fixed_layout s) g x }
 {}
 
 /// The free blocks are those of before and the page. The free lists are theirs once it was given back.
 pub fn unlinked_page_is_free()
-    ensures free { (R S : Region) (s : Super) (held : Store) (i a : ℕ) (h : Held) (k : ℕ) → ShowsSound R s held → slot_of (fixed_layout s) i ≡ Some a → held i ≡ Some h → IsDeadIn (fixed_layout s) i h k → Stored R (word_to (a + 16) h.pages k) (page_behind h.pages k) S
+    ensures free { (R S : Region) (s : Super) (held : Store) (i a : ℕ) (h : Held) (k : ℕ) → ShowsSound R s held → slot_of (fixed_layout s) i ≡ Some a → held i ≡ Some h
+        → IsDeadIn (fixed_layout s) i h k → Stored R (word_to (a + 16) h.pages k) (page_behind h.pages k) S
         → (q : ℕ) → IsUnowned (fixed_layout s) (with_inode held i (Some (cleaned h k))) q ↔ (IsUnowned (fixed_layout s) held q ⊎ (q ≡ get_or h.pages k 0)) }
-    ensures lists { (R S : Region) (s : Super) (held : Store) (i a : ℕ) (h : Held) (k : ℕ) (old new : FreeLists) → ShowsSound R s held → slot_of (fixed_layout s) i ≡ Some a → held i ≡ Some h → IsDeadIn (fixed_layout s) i h k → Stored R (word_to (a + 16) h.pages k) (page_behind h.pages k) S
-        → KeepsFree (fixed_layout s) held old.pools → old.sup ≡ s → Joins old (record { start = get_or h.pages k 0; count = 1 }) new → KeepsFree (fixed_layout s) (with_inode held i (Some (cleaned h k))) new.pools }
+    ensures lists { (R S : Region) (s : Super) (held : Store) (i a : ℕ) (h : Held) (k : ℕ) (old new : FreeLists) → ShowsSound R s held → slot_of (fixed_layout s) i ≡ Some a
+        → held i ≡ Some h → IsDeadIn (fixed_layout s) i h k → Stored R (word_to (a + 16) h.pages k) (page_behind h.pages k) S
+        → KeepsFree (fixed_layout s) held old.pools → old.sup ≡ s → Joins old (record { start = get_or h.pages k 0; count = 1 }) new
+        → KeepsFree (fixed_layout s) (with_inode held i (Some (cleaned h k))) new.pools }
 {}

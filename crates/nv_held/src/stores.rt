@@ -20,7 +20,8 @@ ghost use Rattle.nv_held.specs.Loose.{Loose, IsReady};
 pub fn slots_are_clear()
     ensures clear { (R : Region) (s : Super) (held : Store) → IsLayout s → Shows R (fixed_layout s) held → SlotsClear (fixed_layout s) held }
     ensures blocks { (s : Super) (b : ℕ) → IsLayout s → system_blocks s ≤ b → HasNoSlot (fixed_layout s) b }
-    ensures pages { (R : Region) (s : Super) (head tail : ℕ) (entries : List Placed) (pages : List ℕ) → IsLayout s → is_right_log s head tail ≡ true → Reads R s head tail entries pages None → HaveNoSlots (fixed_layout s) pages }
+    ensures pages { (R : Region) (s : Super) (head tail : ℕ) (entries : List Placed) (pages : List ℕ) → IsLayout s → is_right_log s head tail ≡ true → Reads R s head tail entries pages None
+        → HaveNoSlots (fixed_layout s) pages }
 {}
 
 /// What is stored in loose words changes nothing that is shown.
@@ -35,7 +36,8 @@ pub fn loose_words_leave_it_sound()
 
 /// Where a slot alone has changed and shows this, the region shows what it showed, with this in its inode's place.
 pub fn one_slot_changes()
-    ensures { (l : Layout) (held : Store) (R S : Region) (i a : ℕ) (o : Option Held) → SlotsClear l held → slot_of l i ≡ Some a → SameOutside R a 128 S → Shows R l held → ShowsSlot S l a o → Shows S l (with_inode held i o) }
+    ensures { (l : Layout) (held : Store) (R S : Region) (i a : ℕ) (o : Option Held) → SlotsClear l held → slot_of l i ≡ Some a → SameOutside R a 128 S → Shows R l held → ShowsSlot S l a o
+        → Shows S l (with_inode held i o) }
 {}
 
 /// Once its tail has moved, the log of an inode is what is read up to there.
@@ -68,5 +70,6 @@ pub fn shown_behind()
 
 /// What a region shows that has the superblock and the journals of a sound one is sound, where nothing is wrong with it.
 pub fn sound_moves()
-    ensures { (R S : Region) (s : Super) (held after : Store) → ShowsSound R s held → SameFront s.cpus R S → Shows S (fixed_layout s) after → IsFaultless (fixed_layout s) after → ShowsSound S s after }
+    ensures { (R S : Region) (s : Super) (held after : Store) → ShowsSound R s held → SameFront s.cpus R S → Shows S (fixed_layout s) after → IsFaultless (fixed_layout s) after
+        → ShowsSound S s after }
 {}

@@ -29,7 +29,8 @@ AskedByBoth old new asked tests = (p : Path) × (q : Path) × Says old p × Says
 abbrev pub AreTestsOf : {P : Type 0} → Region → Mount P → Call → Tests → Type 0
 AreTestsOf R m (Create cpu path mode time) tests = AskedBy path.now (λ p. create_tests (world_of m) (tree_of R m.rows) cpu p (create_blocks m.rows (tree_of R m.rows) p)) tests
 AreTestsOf R m (MakeDirectory cpu path mode time) tests = AskedBy path.now (λ p. create_tests (world_of m) (tree_of R m.rows) cpu p (create_blocks m.rows (tree_of R m.rows) p)) tests
-AreTestsOf R m (Write cpu path offset bytes time) tests = (p : Path) × (count : ℕ) × Says path.now p × WriteNeeds R m cpu p offset (length bytes.now) time count × (tests ≡ write_tests (world_of m) (tree_of R m.rows) cpu p (offset + length bytes.now) count)
+AreTestsOf R m (Write cpu path offset bytes time) tests = (p : Path) × (count : ℕ) × Says path.now p × WriteNeeds R m cpu p offset (length bytes.now) time count
+    × (tests ≡ write_tests (world_of m) (tree_of R m.rows) cpu p (offset + length bytes.now) count)
 AreTestsOf R m (SetSize cpu path size time) tests = AskedBy path.now (λ p. set_size_tests (world_of m) (tree_of R m.rows) cpu p size (resized_blocks m.rows (tree_of R m.rows) p size)) tests
 AreTestsOf R m (SetAttributes cpu path mode owner group time) tests = AskedBy path.now (λ p. set_attr_tests (world_of m) (tree_of R m.rows) cpu p (attributes_blocks m.rows (tree_of R m.rows) p)) tests
 AreTestsOf R m (Link cpu old new time) tests = AskedByBoth old.now new.now (λ p q. link_tests (world_of m) (tree_of R m.rows) cpu p q (link_blocks m.rows (tree_of R m.rows) p q)) tests

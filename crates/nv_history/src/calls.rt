@@ -11,7 +11,7 @@ ghost use Rattle.nv_history.specs.Asking.{RefusesCall};
 ghost use Rattle.nv_history.specs.Stopping.{BeforeOrMade};
 ghost use Rattle.nv_calls.specs.Mount.{shown};
 
-use nv_calls::Fs;
+use nv_calls::{Cpu, Fs, Time};
 use nv_region::Pmem;
 use nv_tree::Refusal;
 
@@ -94,7 +94,8 @@ pub(crate) fn make_call<P: Pmem + Drop>(mount: &mut Fs<P>, call: &Call<'_>) -> R
     ensures made { OnOk result (IsMadeBy mount.old.sup call.now (shown P.region mount.old) (shown P.region mount.new)) }
     ensures refused { mount.old.stopped ≡ false → IfErr result (RefusesCall (P.region mount.old.memory) mount.old call.now) }
     ensures unchanged { IfErr result (λ e. (e ≡ RefusalValue.Stopped → ⊥) → SameMount mount.old mount.new) }
-    ensures stopped { mount.old.stopped ≡ false → (IsTrue mount.new.stopped → (result ≡ Result.Err RefusalValue.Stopped) × IsTrue (P.fuse mount.new.memory).has_burnt) × (result ≡ Result.Err RefusalValue.Stopped → IsTrue mount.new.stopped) }
+    ensures stopped { mount.old.stopped ≡ false → (IsTrue mount.new.stopped → (result ≡ Result.Err RefusalValue.Stopped) × IsTrue (P.fuse mount.new.memory).has_burnt)
+        × (result ≡ Result.Err RefusalValue.Stopped → IsTrue mount.new.stopped) }
     ensures keeps { KeepsMount mount.old mount.new }
     ensures length { size (P.region mount.new.memory) ≡ size (P.region mount.old.memory) }
     ensures keeps_fuse { KeepsFuse (λ limit. size (P.region mount.old.memory) ≤ limit) (P.fuse mount.old.memory) (P.fuse mount.new.memory) }
@@ -110,26 +111,26 @@ pub(crate) fn make_call<P: Pmem + Drop>(mount: &mut Fs<P>, call: &Call<'_>) -> R
             path,
             mode,
             time,
-        } => mount.create(cpu, path, mode, time),
+        } => mount.create(Cpu(cpu), path, mode, Time(time)),
         Call::MakeDirectory {
             cpu,
             path,
             mode,
             time,
-        } => mount.mkdir(cpu, path, mode, time),
+        } => mount.mkdir(Cpu(cpu), path, mode, Time(time)),
         Call::Write {
             cpu,
             path,
             offset,
             bytes,
             time,
-        } => mount.write(cpu, path, offset, bytes, time),
+        } => mount.write(Cpu(cpu), path, offset, bytes, Time(time)),
         Call::SetSize {
             cpu,
             path,
             size,
             time,
-        } => mount.set_size(cpu, path, size, time),
+        } => mount.set_size(Cpu(cpu), path, size, Time(time)),
         Call::SetAttributes {
             cpu,
             path,
@@ -137,21 +138,21 @@ pub(crate) fn make_call<P: Pmem + Drop>(mount: &mut Fs<P>, call: &Call<'_>) -> R
             owner,
             group,
             time,
-        } => mount.set_attr(cpu, path, mode, owner, group, time),
+        } => mount.set_attr(Cpu(cpu), path, mode, owner, group, Time(time)),
         Call::Link {
             cpu,
             old,
             new,
             time,
-        } => mount.link(cpu, old, new, time),
-        Call::Unlink { cpu, path, time } => mount.unlink(cpu, path, time),
-        Call::RemoveDirectory { cpu, path, time } => mount.rmdir(cpu, path, time),
+        } => mount.link(Cpu(cpu), old, new, Time(time)),
+        Call::Unlink { cpu, path, time } => mount.unlink(Cpu(cpu), path, Time(time)),
+        Call::RemoveDirectory { cpu, path, time } => mount.rmdir(Cpu(cpu), path, Time(time)),
         Call::Rename {
             cpu,
             old,
             new,
             time,
-        } => mount.rename(cpu, old, new, time),
+        } => mount.rename(Cpu(cpu), old, new, Time(time)),
         Call::Clean { path } => match mount.clean(path) {
             Ok(_) => Ok(()),
             Err(refusal) => Err(refusal),

@@ -15,6 +15,7 @@ use crate::calls::{Call, make_call};
 use nv_calls::Fs;
 use nv_region::Pmem;
 use nv_tree::Refusal;
+use std::error::Error;
 use std::fmt;
 
 /// Where a run of calls was halted: how many were made in front of the one that was refused, and why it was.
@@ -33,6 +34,8 @@ impl fmt::Display for Halted {
         )
     }
 }
+
+impl Error for Halted {}
 
 /// Makes calls, one after the other, up to the first that is refused.
 ///

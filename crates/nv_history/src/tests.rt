@@ -78,7 +78,7 @@ fn made_and_shown(
             halted.made
         }
     };
-    let left = mount(alloc, fs.into_region().after_stop(keep))?;
+    let left = mount(alloc, fs.into_memory().after_stop(keep))?;
     Ok((made, calls_shown(&left)?))
 }
 
@@ -115,6 +115,9 @@ fn a_halt_is_told_as_a_sentence(rt: HostRuntime) -> Result<(), Fail> {
         refusal: Refusal::Stopped,
     };
     let text = format!(in rt.alloc(); "{halted}")?;
-    assert_eq!(rt; text.as_str(), "the call at index 2 was refused: Stopped");
+    assert_eq!(rt;
+        text.as_str(),
+        "the call at index 2 was refused: the memory has been stopped"
+    );
     Ok(())
 }

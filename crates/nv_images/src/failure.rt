@@ -11,7 +11,7 @@ use std::fmt;
 use std::process::ExitCode;
 
 /// What ends a command before its answer.
-#[derive(Clone, Copy, Debug)]
+#[derive(Clone, Copy)]
 pub enum Failure<'a> {
     /// The file at this path can't be read, for this reason, which its text leaves out.
     CannotRead(&'a str, Reason),

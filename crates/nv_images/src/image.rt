@@ -169,7 +169,7 @@ pub fn tell_length<H: Eprint>(rt: &H, length: BadLength) {
 
 /// Why an image isn't accepted: for its length, or for the words of its superblock; and what else its bytes are, where that is
 /// recognized.
-#[derive(Clone, Copy, Debug)]
+#[derive(Clone, Copy)]
 pub struct Unaccepted {
     length: Option<BadLength>,
     words: Option<BadSuper>,

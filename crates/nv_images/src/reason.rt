@@ -7,7 +7,7 @@ use std::fmt;
 use std::io::{Error, ErrorKind};
 
 /// Why a file can't be read.
-#[derive(Clone, Copy, Debug)]
+#[derive(Clone, Copy)]
 pub enum Reason {
     /// Its path isn't UTF-8. The kit opens files by text alone.
     PathNotUtf8,
@@ -38,7 +38,7 @@ impl fmt::Display for Reason {
 }
 
 /// Why the file at a path was not written.
-#[derive(Clone, Copy, Debug)]
+#[derive(Clone, Copy)]
 pub(crate) struct WriteReason<'a> {
     pub path: &'a str,
     pub unsaved: Unsaved,

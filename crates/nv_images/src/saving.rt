@@ -16,7 +16,7 @@ use std::io::{ErrorKind, Write};
 use std::rt::Files;
 
 /// A file that is to be written.
-#[derive(Clone, Copy, Debug)]
+#[derive(Clone, Copy)]
 pub struct Target<'a> {
     pub path: &'a str,
     /// Whether it may take the place of a file that is there.

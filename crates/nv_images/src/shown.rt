@@ -7,7 +7,7 @@ use nv_stream::Beside;
 use std::fmt;
 
 /// A path or another word, in which each byte of a control character is shown as `\x` and two hexadecimal digits.
-#[derive(Clone, Copy, Debug)]
+#[derive(Clone, Copy)]
 pub struct Shown<'a>(pub &'a str);
 
 impl fmt::Display for Shown<'_> {
@@ -49,7 +49,7 @@ impl Shown<'_> {
 }
 
 /// The path of a new file beside a place, shown in the same way.
-#[derive(Clone, Copy, Debug)]
+#[derive(Clone, Copy)]
 pub struct ShownBeside<'a>(pub Beside<'a>);
 
 impl fmt::Display for ShownBeside<'_> {

@@ -11,7 +11,7 @@ use nv_super::{BLOCK_SIZE, SuperFault, read_super};
 use std::fmt;
 
 /// The words of a superblock for which it isn't accepted, by the first fault that applies.
-#[derive(Clone, Copy, Debug, PartialEq, Eq)]
+#[derive(Clone, Copy, PartialEq, Eq)]
 pub enum BadSuper {
     /// The first word.
     Magic(u64),
@@ -83,7 +83,7 @@ impl fmt::Display for BadSuper {
 }
 
 /// What a file holds in place of a region, by its first bytes.
-#[derive(Clone, Copy, Debug, PartialEq, Eq)]
+#[derive(Clone, Copy, PartialEq, Eq)]
 pub enum Content {
     Gzip,
     Xfs,

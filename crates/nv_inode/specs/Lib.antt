@@ -1,6 +1,7 @@
 pub mod Slot
 pub mod Chains
 pub mod Tables
+pub mod FoundChains
 pub mod SlotBlocks
 pub mod Growing
 pub mod Upgraded

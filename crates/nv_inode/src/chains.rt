@@ -7,8 +7,9 @@
 ghost use Rattle.std.specs.Prelude.{◌≡◌, ◌↔◌, ◌==◌, ◌<◌, ◌≤◌, ◌+◌, ◌^◌, ◌*◌, ◌/◌, ◌%◌, ◌||◌, ◌++◌, [], eqb, ℕ, IsTrue, IfOk, IfSome, OnOk, true, false, Some, length, get_or, slice_get};
 ghost use Rattle.std.specs.List.{cons_option, list_any};
 ghost use Rattle.nv_blockset.specs.BlockSet.{is_set};
-ghost use Rattle.nv_super.specs.nv_region.Region.{HasBlocks};
+ghost use Rattle.nv_super.specs.nv_region.Region.{HasBlocks, Region};
 ghost use Rattle.nv_super.specs.Layout.{IsLayout, chain_of, extra_slot, slot_of};
+ghost use Rattle.nv_inode.specs.FoundChains.{AreChainsTo};
 ghost use Rattle.nv_inode.specs.Chains.{IsLaid, chain_faults, chain_in, end_fault, in_chains, layout_of, link_fault};
 ghost use Rattle.nv_inode.specs.SlotBlocks.{extra_block, extra_blocks, fixed_block, slot_blocks};
 ghost use Rattle.nv_inode.specs.Permitted.{in_extra, in_fixed, is_key_offset, is_permitted_by, IsSlotWord, NamesSlotBy};
@@ -293,22 +294,64 @@ fn read_chains<P: Pmem>(alloc: Global, memory: &P, sup: &Super) -> Result<Tables
     ensures faults { IfOk result (λ t. t.faults ≡ chain_faults sup.now (P.region memory.now)) }
 {
     let mut read = BlockList::new(alloc, sup.blocks)?;
-    let mut marks = vec![in alloc; 0; words_for(sup.blocks)]?;
-    let mut chains = Vec::with_capacity(alloc, sup.cpus as usize)?;
-    let mut faults = Vec::new(alloc);
+    let mut found = FoundChains::new(alloc, sup)?;
     for cpu in 0..sup.cpus {
-        read.clear();
-        let fault = read_chain(memory, sup, cpu, &mut read)?;
-        mark_blocks(&mut marks, read.as_slice());
-        chains.push(Vec::from_slice(alloc, read.as_slice())?)?;
-        push_fault(&mut faults, fault)?;
+        found.add(alloc, memory, sup, cpu, &mut read)?;
     }
     Ok(Tables {
         sup: *sup,
-        chains,
-        marks,
-        faults,
+        chains: found.chains,
+        marks: found.marks,
+        faults: found.faults,
     })
+}
+
+/// The chains of the first CPUs, as they are read.
+#[derive(Drop)]
+struct FoundChains {
+    chains: Vec<Vec<u64>>,
+    // The blocks of all of them, as bits.
+    marks: Vec<u64>,
+    faults: Vec<Fault>,
+}
+
+impl FoundChains {
+    /// Those of no CPU.
+    fn new(alloc: Global, sup: &Super) -> Result<FoundChains, AllocError>
+        requires { IsLayout sup.now }
+        ensures { (R : Region) → IfOk result (AreChainsTo sup.now R 0) }
+    {
+        Ok(FoundChains {
+            chains: Vec::with_capacity(alloc, sup.cpus as usize)?,
+            marks: vec![in alloc; 0; words_for(sup.blocks)]?,
+            faults: Vec::new(alloc),
+        })
+    }
+
+    /// Reads the chain of the next CPU, over what is in a list.
+    fn add<P: Pmem>(
+        &mut self,
+        alloc: Global,
+        memory: &P,
+        sup: &Super,
+        cpu: u64,
+        read: &mut BlockList,
+    ) -> Result<(), AllocError>
+        requires layout { IsLayout sup.now }
+        requires version { (sup.now.version == 2) ≡ true }
+        requires blocks { HasBlocks (P.region memory.now) sup.now.blocks }
+        requires cpu { cpu < sup.now.cpus }
+        requires list { read.old.bound ≡ sup.now.blocks }
+        requires before { AreChainsTo sup.now (P.region memory.now) cpu self.old }
+        ensures list { OnOk result (read.new.bound ≡ sup.now.blocks) }
+        ensures more { OnOk result (AreChainsTo sup.now (P.region memory.now) (cpu + 1) self.new) }
+    {
+        read.clear();
+        let fault = read_chain(memory, sup, cpu, read)?;
+        mark_blocks(&mut self.marks, read.as_slice());
+        self.chains.push(Vec::from_slice(alloc, read.as_slice())?)?;
+        push_fault(&mut self.faults, fault)
+    }
 }
 
 /// Reads the chain of a CPU's table into an empty list, and answers what is wrong with its last link. Each block is

@@ -45,14 +45,16 @@ pub fn slots_are_in_one_block()
 /// A chain to whose last link a data block was put that isn't among its blocks, and whose own link is 0, has it
 /// behind them.
 pub fn chains_grow()
-    ensures { (s : Super) (R Q : Region) (cpu b : ℕ) → s.version ≡ 2 → SameLinks R Q (first_link cpu) (chain_in s R cpu) → word Q (link_behind (first_link cpu) (chain_in s R cpu)) ≡ 4096 * b → word Q (4096 * b) ≡ 0
+    ensures { (s : Super) (R Q : Region) (cpu b : ℕ) → s.version ≡ 2 → SameLinks R Q (first_link cpu) (chain_in s R cpu)
+        → word Q (link_behind (first_link cpu) (chain_in s R cpu)) ≡ 4096 * b → word Q (4096 * b) ≡ 0
         → system_blocks s ≤ b → b < s.blocks → list_any (eqb b) (chain_in s R cpu) ≡ false → chain_in s Q cpu ≡ chain_in s R cpu ++ b ∷ [] }
 {}
 
 /// Where a block was linked to the end of a CPU's chain, the layout has it there and is the same else. Before the
 /// link, while words of the block alone have changed, it is the same.
 pub fn linked_blocks_are_tables()
-    ensures linked { (s : Super) (R Q : Region) (cpu block : ℕ) → CanLink s R cpu block → IsLinked R (link_behind (first_link cpu) (chain_in s R cpu)) block Q → layout_of s Q ≡ with_block (layout_of s R) cpu block }
+    ensures linked { (s : Super) (R Q : Region) (cpu block : ℕ) → CanLink s R cpu block → IsLinked R (link_behind (first_link cpu) (chain_in s R cpu)) block Q
+        → layout_of s Q ≡ with_block (layout_of s R) cpu block }
     ensures before { (s : Super) (R left : Region) (cpu block : ℕ) → CanLink s R cpu block → IsMixed R (Within (4096 * block) 4096) left → layout_of s left ≡ layout_of s R }
 {}
 

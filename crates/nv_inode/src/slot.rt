@@ -25,7 +25,7 @@ pub(crate) const TAIL: u64 = 24;
 pub(crate) const CREATED: u64 = 32;
 
 /// The words of a slot: valid, kind, head and tail of the log (byte addresses), creation time.
-#[derive(Clone, Copy, Debug, PartialEq, Eq)]
+#[derive(Clone, Copy, PartialEq, Eq)]
 pub struct Slot {
     pub valid: u64,
     pub kind: u64,
@@ -35,7 +35,7 @@ pub struct Slot {
 }
 
 /// Whether a slot is in use, and if not, why.
-#[derive(Clone, Copy, Debug, PartialEq, Eq)]
+#[derive(Clone, Copy, PartialEq, Eq)]
 pub enum SlotState {
     /// The valid word is 0.
     Unused,

@@ -10,7 +10,7 @@ use nv_logpage::Placed;
 use nv_super::{Kind, Super};
 
 /// The byte addresses of the last entries that count and give attributes, or a link count.
-#[derive(Clone, Copy, Debug, PartialEq, Eq)]
+#[derive(Clone, Copy, PartialEq, Eq)]
 pub(crate) struct Lasts {
     pub attributes: Option<u64>,
     pub links: Option<u64>,

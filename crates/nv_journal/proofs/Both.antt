@@ -72,7 +72,7 @@ restored R permits first second at v one two other =
     ]
 
 -- a put of the same word in regions that agree at a word
-put_agrees : (R S : Region) (a v at : ℕ) → length S.words ≡ length R.words → word S at ≡ word R at → word (put S a v) at ≡ word (put R a v) at
+pub put_agrees : (R S : Region) (a v at : ℕ) → length S.words ≡ length R.words → word S at ≡ word R at → word (put S a v) at ≡ word (put R a v) at
 put_agrees R S a v at as_long same = elim (cases_eq (at / 8) (a / 8)) [
   | inl is ↦ elim (cases_lt (a / 8) (length R.words)) [
     | inl inside ↦ ap (λ (k : ℕ). get_or (set S.words (a / 8) v) k 0) is ∙ get_or-set_same S.words (a / 8) v 0 (omega (arith, inside, as_long)) ∙ sym (ap (λ (k : ℕ). get_or (set R.words (a / 8) v) k 0) is ∙ get_or-set_same R.words (a / 8) v 0 inside)
@@ -83,7 +83,7 @@ put_agrees R S a v at as_long same = elim (cases_eq (at / 8) (a / 8)) [
 
 module _ (permits : ℕ → Bool) (cpus : ℕ) where
   -- the words of an undone region
-  undone_is : (R X : Region) → length X.words ≡ length R.words → X.rest ≡ R.rest → ((at : ℕ) → at % 8 ≡ 0 → IsOutside cpus at → undone_word permits cpus X at ≡ word R at) → SameButJournals cpus R (undo permits cpus X)
+  pub undone_is : (R X : Region) → length X.words ≡ length R.words → X.rest ≡ R.rest → ((at : ℕ) → at % 8 ≡ 0 → IsOutside cpus at → undone_word permits cpus X at ≡ word R at) → SameButJournals cpus R (undo permits cpus X)
   undone_is R X as_long same_rest each = record {
     as_long = length_is ∙ as_long;
     same_rest = same_rest;

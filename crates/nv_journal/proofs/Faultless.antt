@@ -37,7 +37,7 @@ module _ (permits : ℕ → Bool) where
   fault_there R S cpu same _ h = h
 
   -- one with no pending record has none
-  empty_faultless : (S : Region) (cpu : ℕ) → IsEmpty S cpu → (f : Fault) → IsFaultOf permits S cpu f → ⊥
+  pub empty_faultless : (S : Region) (cpu : ℕ) → IsEmpty S cpu → (f : Fault) → IsFaultOf permits S cpu f → ⊥
   empty_faultless S cpu empty (J1 c) h = let same = empty.0 in let small = empty.1 in elim h.1 [ inl low ↦ omega (arith, low, same, small) | inr high ↦ omega (arith, high, small) ]
   empty_faultless S cpu empty (J2 c k) h = let same = empty.0 in let some = h.2.1 in omega (arith, same, some)
   empty_faultless S cpu empty _ h = h
@@ -70,11 +70,11 @@ module _ (permits : ℕ → Bool) where
   pair_faultless S cpu first second a b one two has _ h = h
 
   -- regions with the same journals
-  same_faultless : (cpus : ℕ) (R S : Region) → ((c : ℕ) → c < cpus → SameBlock (journal c) R S) → NoJournalFault permits cpus R → NoJournalFault permits cpus S
+  pub same_faultless : (cpus : ℕ) (R S : Region) → ((c : ℕ) → c < cpus → SameBlock (journal c) R S) → NoJournalFault permits cpus R → NoJournalFault permits cpus S
   same_faultless cpus R S same none f fault = none f (fault.0, fault.1, fault_there R S fault.0 (same fault.0 fault.1) f fault.2)
 
   -- regions with the same journals but for one, with which nothing is wrong
-  but_one : (cpus : ℕ) (R S : Region) (cpu : ℕ) → ((c : ℕ) → c < cpus → c ≢ cpu → SameBlock (journal c) R S) → ((f : Fault) → IsFaultOf permits S cpu f → ⊥) → NoJournalFault permits cpus R → NoJournalFault permits cpus S
+  pub but_one : (cpus : ℕ) (R S : Region) (cpu : ℕ) → ((c : ℕ) → c < cpus → c ≢ cpu → SameBlock (journal c) R S) → ((f : Fault) → IsFaultOf permits S cpu f → ⊥) → NoJournalFault permits cpus R → NoJournalFault permits cpus S
   but_one cpus R S cpu same here none f fault = elim (cases_eq fault.0 cpu) [
     | inl is ↦ here f (subst (λ (c : ℕ). IsFaultOf permits S c f) is fault.2)
     | inr differs ↦ none f (fault.0, fault.1, fault_there R S fault.0 (same fault.0 fault.1 differs) f fault.2)

@@ -22,3 +22,4 @@ pub mod Emptied
 pub mod Faultless
 pub mod KeptLinks
 pub mod Fixed
+pub mod Several

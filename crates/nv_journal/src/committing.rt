@@ -150,7 +150,8 @@ pub fn change_two<P: Pmem>(
     // records, and each pending record names a permitted word.
     ensures faultless { (permits : ℕ → Bool) (cpus : ℕ) → CanUndo permits cpus (P.region memory.old) cpu first second → NoJournalFault permits cpus (P.region memory.old)
         → NoJournalFault permits cpus (P.region memory.new) }
-    ensures stop_is_faultless { (permits : ℕ → Bool) (cpus : ℕ) → CanUndo permits cpus (P.region memory.old) cpu first second → NoJournalFault permits cpus (P.region memory.old) → NothingPending (P.region memory.old) (P.may_hold memory.old)
+    ensures stop_is_faultless { (permits : ℕ → Bool) (cpus : ℕ) → CanUndo permits cpus (P.region memory.old) cpu first second → NoJournalFault permits cpus (P.region memory.old)
+        → NothingPending (P.region memory.old) (P.may_hold memory.old)
         → LeavesOnly (P.region memory.new) (P.may_hold memory.new) (NoJournalFault permits cpus) }
 {
     // Fewer than eight bytes stand behind the last word, so each of these addresses is a word's.

@@ -11,6 +11,7 @@ mod faults;
 mod laws;
 mod pending;
 mod rollback;
+mod three_words;
 mod undoing;
 
 pub use committing::{begin, change_two, commit};
@@ -19,4 +20,5 @@ pub use laws::{
     undo_again_changes_nothing, undo_keeps_the_chains, undone_regions_are_quiet,
     version_1_is_undone_by_fixed_tables,
 };
+pub use three_words::change_three;
 pub use undoing::{UndoError, undo, undo_by};

@@ -15,7 +15,7 @@ use std::fmt;
 const MARK: &[u8] = &[239, 187, 191];
 
 /// How the words of a command stand.
-#[derive(Clone, Copy, Debug, PartialEq, Eq)]
+#[derive(Clone, Copy, PartialEq, Eq)]
 pub enum Form {
     Format,
     Time,
@@ -45,14 +45,14 @@ pub enum Form {
 }
 
 /// A word that is too large a number: its place, the name of the command being word 1, and the most that may stand there.
-#[derive(Clone, Copy, Debug, PartialEq, Eq)]
+#[derive(Clone, Copy, PartialEq, Eq)]
 pub struct Excess {
     pub word: u64,
     pub most: u64,
 }
 
 /// Why a line is bad.
-#[derive(Clone, Copy, Debug, PartialEq, Eq)]
+#[derive(Clone, Copy, PartialEq, Eq)]
 pub enum Reason {
     /// It has more bytes than a line may have.
     TooLong,

@@ -78,7 +78,8 @@ pub fn append<P: Pmem>(
     ensures wrote { StoresOnly (AppendWords tail fresh.now) (P.region memory.old) (P.region memory.new) (P.may_hold memory.old) (P.may_hold memory.new) }
 
     // No link is written before all entries are.
-    ensures order { StoresOnly (EntryWords tail fresh.now) (P.region memory.old) (P.region memory.new) (P.may_hold memory.old) (P.may_hold memory.new) ⊎ Laid (P.region memory.new) fresh.now 0 tail entries.now }
+    ensures order { StoresOnly (EntryWords tail fresh.now) (P.region memory.old) (P.region memory.new) (P.may_hold memory.old) (P.may_hold memory.new)
+        ⊎ Laid (P.region memory.new) fresh.now 0 tail entries.now }
     ensures len { size (P.region memory.new) ≡ size (P.region memory.old) }
     ensures nothing { length entries.now ≡ 0 → (is_err result ≡ false) × (memory.new ≡ memory.old) }
     ensures stopped { 0 < length entries.now → is_err result ≡ (P.fuse memory.new).has_burnt }

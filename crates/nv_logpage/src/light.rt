@@ -9,14 +9,14 @@ use nv_entry::LightEntry;
 use nv_region::Pmem;
 
 /// An entry with its address in bytes, but for the bytes of its name.
-#[derive(Clone, Copy, Debug, PartialEq, Eq)]
+#[derive(Clone, Copy, PartialEq, Eq)]
 pub struct LightPlaced {
     pub at: u64,
     pub entry: LightEntry,
 }
 
 /// What is found at one place of a log, but for the bytes of a name.
-#[derive(Clone, Copy, Debug, PartialEq, Eq)]
+#[derive(Clone, Copy, PartialEq, Eq)]
 pub enum LightFinding {
     /// An entry of the log, which is no next-page entry.
     Entry(LightPlaced),

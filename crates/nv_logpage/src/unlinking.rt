@@ -33,14 +33,17 @@ pub fn unlink_page<P: Pmem>(
     requires head_inside { head_at + 8 ≤ size (P.region memory.old) }
     requires inside { EndBy pages.now (size (P.region memory.old)) }
     // The log is read without the page and its entries.
-    ensures reads { (s : Super) (head tail : ℕ) (es : List Placed) → IsTrue (is_page_start s head) → ((b : ℕ) → Contains pages.now b → head_at / 4096 ≢ b) → Reads (P.region memory.old) s head tail es pages.now None
+    ensures reads { (s : Super) (head tail : ℕ) (es : List Placed) → IsTrue (is_page_start s head) → ((b : ℕ) → Contains pages.now b → head_at / 4096 ≢ b)
+        → Reads (P.region memory.old) s head tail es pages.now None
         → OnOk result (Without (P.region memory.new) s (head_without head pages.now place) tail es pages.now place) }
     ensures done { OnOk result (P.region memory.new ≡ put (P.region memory.old) (word_to head_at pages.now place) (page_behind pages.now place)) }
     ensures settled { OnOk result (NothingPending (P.region memory.new) (P.may_hold memory.new)) }
     ensures wrote { StoresOnly (One (word_to head_at pages.now place) (page_behind pages.now place)) (P.region memory.old) (P.region memory.new) (P.may_hold memory.old) (P.may_hold memory.new) }
     ensures stopped { is_err result ≡ (P.fuse memory.new).has_burnt }
     ensures keeps_fuse { KeepsFuse (λ limit. EndBy pages.now limit × (head_at + 8 ≤ limit)) (P.fuse memory.old) (P.fuse memory.new) }
-    ensures any_stop { NothingPending (P.region memory.old) (P.may_hold memory.old) → LeavesOnly (P.region memory.new) (P.may_hold memory.new) (λ left. (left ≡ P.region memory.old) ⊎ (left ≡ put (P.region memory.old) (word_to head_at pages.now place) (page_behind pages.now place))) }
+    ensures any_stop { NothingPending (P.region memory.old) (P.may_hold memory.old)
+        → LeavesOnly (P.region memory.new) (P.may_hold memory.new) (λ left. (left ≡ P.region memory.old)
+        ⊎ (left ≡ put (P.region memory.old) (word_to head_at pages.now place) (page_behind pages.now place))) }
 {
     // The region's length is a u64, and so is each address up to it.
     let _end = memory.len();

@@ -1,3 +1,7 @@
+pub mod AllLooks
 pub mod Asked
 pub mod Regions
 pub mod Looks
+pub mod BlockLooks
+pub mod LowRows
+pub mod RowLooks

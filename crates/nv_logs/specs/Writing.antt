@@ -28,3 +28,15 @@ abbrev pub FailsLog : Inode → Region → Option (List ℕ) → Option (List �
 FailsLog inode R old new old_errors new_errors Read = ⊥
 FailsLog inode R old new old_errors new_errors Write = (text : List ℕ) × (answered : Answered) × IsLogLook inode R text answered × SendsFront text answered.status old new old_errors new_errors
 FailsLog inode R old new old_errors new_errors Memory = Keeps old new × Keeps old_errors new_errors
+
+-- ---- the same of any look
+
+-- the text of a look of this kind was written
+abbrev pub WritesTold : (List ℕ → Answered → Type 0) → Option (List ℕ) → Option (List ℕ) → Option (List ℕ) → Option (List ℕ) → Answered → Type 0
+WritesTold IsTold old new old_errors new_errors answered = (text : List ℕ) × IsTold text answered × Sends text answered.status old new old_errors new_errors
+
+-- After an error: a front of the text where the writer failed, and nothing where memory was refused.
+abbrev pub FailsTold : (List ℕ → Answered → Type 0) → Option (List ℕ) → Option (List ℕ) → Option (List ℕ) → Option (List ℕ) → ScriptError → Type 0
+FailsTold IsTold old new old_errors new_errors Read = ⊥
+FailsTold IsTold old new old_errors new_errors Write = (text : List ℕ) × (answered : Answered) × IsTold text answered × SendsFront text answered.status old new old_errors new_errors
+FailsTold IsTold old new old_errors new_errors Memory = Keeps old new × Keeps old_errors new_errors

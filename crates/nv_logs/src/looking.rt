@@ -69,7 +69,8 @@ fn look_in<P: Pmem>(
 ) -> Result<Look, AllocError>
     requires areas { HasAreas found.now.sup }
     requires blocks { HasBlocks (P.region memory.now) found.now.sup.blocks }
-    ensures told { (R : Region) → IfOk result (λ look. TellsLog (tree_of R found.now.rows.items) (P.region memory.now) found.now.sup found.now.rows.items inode.now (string_bytes look.text) look.answered.status) }
+    ensures told { (R : Region)
+        → IfOk result (λ look. TellsLog (tree_of R found.now.rows.items) (P.region memory.now) found.now.sup found.now.rows.items inode.now (string_bytes look.text) look.answered.status) }
     ensures faults { IfOk result (λ look. look.answered.faults ≡ length found.now.faults.items) }
 {
     let faults = found.faults.len();
@@ -103,12 +104,17 @@ fn shown_look<P: Pmem>(
     })
 }
 
-fn refused_look(alloc: Global, refusal: nv_tree::Refusal, faults: usize) -> Result<Look, AllocError>
+/// What is told of a call that is refused.
+pub(crate) fn refused_look(
+    alloc: Global,
+    refusal: nv_tree::Refusal,
+    faults: usize,
+) -> Result<Look, AllocError>
     ensures refused { IfOk result (λ look. IsRefusal (refusal_word refusal) (string_bytes look.text) look.answered.status) }
     ensures faults { IfOk result (λ look. look.answered.faults ≡ faults) }
 {
     let mut text = String::new(alloc);
-    writeln!(text, "refused {refusal}")?;
+    writeln!(text, "refused {}", refusal.name())?;
     Ok(Look {
         text,
         answered: Answered {
@@ -118,8 +124,8 @@ fn refused_look(alloc: Global, refusal: nv_tree::Refusal, faults: usize) -> Resu
     })
 }
 
-// The region's superblock isn't accepted.
-fn unaccepted_look(alloc: Global, refusal: Refusal) -> Result<Look, AllocError>
+/// What is told of a region whose superblock isn't accepted.
+pub(crate) fn unaccepted_look(alloc: Global, refusal: Refusal) -> Result<Look, AllocError>
     ensures { IfOk result (λ look. IsRefusal (refusal_name refusal) (string_bytes look.text) look.answered.status × (look.answered.faults ≡ 0)) }
 {
     Ok(Look {

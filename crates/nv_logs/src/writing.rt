@@ -44,7 +44,8 @@ pub fn log_gathered<W: Write, E: Write>(
     errors: &mut E,
 ) -> Result<Answered, ScriptError>
     requires { IsOpen gathered }
-    ensures ok { (R : Region) → AreGathered R gathered → IfOk result (λ answered. WritesLog inode.now R (W.contents writer.old) (W.contents writer.new) (E.contents errors.old) (E.contents errors.new) answered) }
+    ensures ok { (R : Region) → AreGathered R gathered
+        → IfOk result (λ answered. WritesLog inode.now R (W.contents writer.old) (W.contents writer.new) (E.contents errors.old) (E.contents errors.new) answered) }
     ensures err { (R : Region) → AreGathered R gathered → IfErr result (λ e. FailsLog inode.now R (W.contents writer.old) (W.contents writer.new) (E.contents errors.old) (E.contents errors.new) e) }
     ensures unread { IfErr result (λ e. e ≢ ScriptError.Read) }
 {
@@ -53,8 +54,8 @@ pub fn log_gathered<W: Write, E: Write>(
     Ok(look.answered)
 }
 
-// Writes what is told: a refusal to the errors, and all else to the writer.
-fn write_look<W: Write, E: Write>(
+/// Writes what is told: a refusal to the errors, and all else to the writer.
+pub(crate) fn write_look<W: Write, E: Write>(
     look: &Look,
     writer: &mut W,
     errors: &mut E,

@@ -31,7 +31,8 @@ KeepsBothUnread (Answer error) old new = Unit {0}
 
 -- What was gathered is mounted, with its journals rolled back, and what the mount shows is its outcome; or its superblock was refused.
 abbrev pub IsOpenedOf : Gathered → OpenedMetadata → Type 0
-IsOpenedOf (gatherings.Metadata s memory) (opened.Mounted m) = (o : Outcome) × IsOutcome memory.memory.region o × (m.memory.memory.region ≡ undone o.sup memory.memory.region) × (m.rows ≡ o.rows) × (m.faults ≡ o.faults) × (m.stopped ≡ false)
+IsOpenedOf (gatherings.Metadata s memory) (opened.Mounted m) = (o : Outcome) × IsOutcome memory.memory.region o × (m.memory.memory.region ≡ undone o.sup memory.memory.region)
+    × (m.rows ≡ o.rows) × (m.faults ≡ o.faults) × (m.stopped ≡ false)
 IsOpenedOf (gatherings.Metadata s memory) (opened.Refused refusal) = ⊥
 IsOpenedOf (gatherings.Refused fault) (opened.Mounted m) = ⊥
 IsOpenedOf (gatherings.Refused fault) (opened.Refused refusal) = refusal ≡ refusals.Super fault

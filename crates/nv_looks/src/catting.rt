@@ -44,8 +44,10 @@ pub fn cat_blocks<B: Blocks, W: Write, E: Write>(
     writer: &mut W,
     errors: &mut E,
 ) -> Result<Answered, BlocksError>
-    ensures ok { (bytes : List ℕ) → B.bytes source.now ≡ Some bytes → IfOk result (λ answered. WritesLook (GivesBytes path.now) bytes (written (W.contents writer.old) (E.contents errors.old)) (written (W.contents writer.new) (E.contents errors.new)) answered) }
-    ensures err { (bytes : List ℕ) → B.bytes source.now ≡ Some bytes → IfErr result (λ e. FailsBlocksCat (GivesBytes path.now) bytes e (written (W.contents writer.old) (E.contents errors.old)) (written (W.contents writer.new) (E.contents errors.new))) }
+    ensures ok { (bytes : List ℕ) → B.bytes source.now ≡ Some bytes
+        → IfOk result (λ answered. WritesLook (GivesBytes path.now) bytes (written (W.contents writer.old) (E.contents errors.old)) (written (W.contents writer.new) (E.contents errors.new)) answered) }
+    ensures err { (bytes : List ℕ) → B.bytes source.now ≡ Some bytes
+        → IfErr result (λ e. FailsBlocksCat (GivesBytes path.now) bytes e (written (W.contents writer.old) (E.contents errors.old)) (written (W.contents writer.new) (E.contents errors.new))) }
 {
     let gathered = gather(alloc, source)?;
     cat_gathered(alloc, source, gathered, path, writer, errors)
@@ -61,8 +63,10 @@ pub fn cat_gathered<B: Blocks, W: Write, E: Write>(
     errors: &mut E,
 ) -> Result<Answered, BlocksError>
     requires { IsOpen gathered }
-    ensures ok { (bytes : List ℕ) → B.bytes source.now ≡ Some bytes → AreGathered (region_of bytes) gathered → IfOk result (λ answered. WritesLook (GivesBytes path.now) bytes (written (W.contents writer.old) (E.contents errors.old)) (written (W.contents writer.new) (E.contents errors.new)) answered) }
-    ensures err { (bytes : List ℕ) → B.bytes source.now ≡ Some bytes → AreGathered (region_of bytes) gathered → IfErr result (λ e. FailsBlocksCat (GivesBytes path.now) bytes e (written (W.contents writer.old) (E.contents errors.old)) (written (W.contents writer.new) (E.contents errors.new))) }
+    ensures ok { (bytes : List ℕ) → B.bytes source.now ≡ Some bytes → AreGathered (region_of bytes) gathered
+        → IfOk result (λ answered. WritesLook (GivesBytes path.now) bytes (written (W.contents writer.old) (E.contents errors.old)) (written (W.contents writer.new) (E.contents errors.new)) answered) }
+    ensures err { (bytes : List ℕ) → B.bytes source.now ≡ Some bytes → AreGathered (region_of bytes) gathered
+        → IfErr result (λ e. FailsBlocksCat (GivesBytes path.now) bytes e (written (W.contents writer.old) (E.contents errors.old)) (written (W.contents writer.new) (E.contents errors.new))) }
 {
     let opened = open_gathered(alloc, gathered)?;
     match opened {
@@ -91,8 +95,10 @@ fn cat_file<B: Blocks, W: Write, E: Write>(
     errors: &mut E,
 ) -> Result<u8, BlocksError>
     requires { AreSmallRows rows.now.items }
-    ensures ok { (image : List ℕ) → B.bytes source.now ≡ Some image → (R : Region) → AreShownAs R (region_of image) rows.now.items → (p : Path) → Says path.now p → IfOk result (λ status. WritesCall (tree_of R rows.now.items) p (written (W.contents writer.old) (E.contents errors.old)) (written (W.contents writer.new) (E.contents errors.new)) status) }
-    ensures err { (image : List ℕ) → B.bytes source.now ≡ Some image → (R : Region) → AreShownAs R (region_of image) rows.now.items → (p : Path) → Says path.now p → IfErr result (λ e. FailsBlocksCall (tree_of R rows.now.items) p e (written (W.contents writer.old) (E.contents errors.old)) (written (W.contents writer.new) (E.contents errors.new))) }
+    ensures ok { (image : List ℕ) → B.bytes source.now ≡ Some image → (R : Region) → AreShownAs R (region_of image) rows.now.items → (p : Path) → Says path.now p
+        → IfOk result (λ status. WritesCall (tree_of R rows.now.items) p (written (W.contents writer.old) (E.contents errors.old)) (written (W.contents writer.new) (E.contents errors.new)) status) }
+    ensures err { (image : List ℕ) → B.bytes source.now ≡ Some image → (R : Region) → AreShownAs R (region_of image) rows.now.items → (p : Path) → Says path.now p
+        → IfErr result (λ e. FailsBlocksCall (tree_of R rows.now.items) p e (written (W.contents writer.old) (E.contents errors.old)) (written (W.contents writer.new) (E.contents errors.new))) }
 {
     match file_at(rows, path) {
         Ok(row) => write_row(alloc, source, row, writer),
@@ -126,8 +132,10 @@ fn write_row<B: Blocks, W: Write>(
 ) -> Result<u8, BlocksError>
     requires { IsSmallRow row.now }
     ensures status { IfOk result (λ status. status ≡ 0) }
-    ensures ok { (image : List ℕ) → B.bytes source.now ≡ Some image → (t : Tree) (names : List (List ℕ)) → IsFileOf (region_of image) row.now t names → OnOk result (WritesFile t names (W.contents writer.old) (W.contents writer.new)) }
-    ensures err { (image : List ℕ) → B.bytes source.now ≡ Some image → (t : Tree) (names : List (List ℕ)) → IsFileOf (region_of image) row.now t names → IfErr result (λ e. FailsBlocksFile t names e (W.contents writer.old) (W.contents writer.new)) }
+    ensures ok { (image : List ℕ) → B.bytes source.now ≡ Some image → (t : Tree) (names : List (List ℕ)) → IsFileOf (region_of image) row.now t names
+        → OnOk result (WritesFile t names (W.contents writer.old) (W.contents writer.new)) }
+    ensures err { (image : List ℕ) → B.bytes source.now ≡ Some image → (t : Tree) (names : List (List ℕ)) → IsFileOf (region_of image) row.now t names
+        → IfErr result (λ e. FailsBlocksFile t names e (W.contents writer.old) (W.contents writer.new)) }
 {
     let size = row.numbers.size;
     let mut at = 0;

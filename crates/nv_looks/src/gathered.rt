@@ -37,8 +37,10 @@ pub fn list_blocks<B: Blocks, W: Write, E: Write>(
     writer: &mut W,
     errors: &mut E,
 ) -> Result<Answered, BlocksError>
-    ensures ok { (bytes : List ℕ) → B.bytes source.now ≡ Some bytes → IfOk result (λ answered. WritesLook (ListsNames path.now) bytes (written (W.contents writer.old) (E.contents errors.old)) (written (W.contents writer.new) (E.contents errors.new)) answered) }
-    ensures err { (bytes : List ℕ) → B.bytes source.now ≡ Some bytes → IfErr result (λ e. FailsBlocksLook (ListsNames path.now) bytes e (written (W.contents writer.old) (E.contents errors.old)) (written (W.contents writer.new) (E.contents errors.new))) }
+    ensures ok { (bytes : List ℕ) → B.bytes source.now ≡ Some bytes
+        → IfOk result (λ answered. WritesLook (ListsNames path.now) bytes (written (W.contents writer.old) (E.contents errors.old)) (written (W.contents writer.new) (E.contents errors.new)) answered) }
+    ensures err { (bytes : List ℕ) → B.bytes source.now ≡ Some bytes
+        → IfErr result (λ e. FailsBlocksLook (ListsNames path.now) bytes e (written (W.contents writer.old) (E.contents errors.old)) (written (W.contents writer.new) (E.contents errors.new))) }
     ensures unread { IfErr result (λ e. KeepsBothUnread e (written (W.contents writer.old) (E.contents errors.old)) (written (W.contents writer.new) (E.contents errors.new))) }
 {
     let gathered = gather(alloc, source)?;
@@ -56,8 +58,10 @@ pub fn list_gathered<W: Write, E: Write>(
     errors: &mut E,
 ) -> Result<Answered, ScriptError>
     requires { IsOpen gathered }
-    ensures ok { (bytes : List ℕ) → AreGathered (region_of bytes) gathered → IfOk result (λ answered. WritesLook (ListsNames path.now) bytes (written (W.contents writer.old) (E.contents errors.old)) (written (W.contents writer.new) (E.contents errors.new)) answered) }
-    ensures err { (bytes : List ℕ) → AreGathered (region_of bytes) gathered → IfErr result (λ e. FailsLook (ListsNames path.now) bytes e (written (W.contents writer.old) (E.contents errors.old)) (written (W.contents writer.new) (E.contents errors.new))) }
+    ensures ok { (bytes : List ℕ) → AreGathered (region_of bytes) gathered
+        → IfOk result (λ answered. WritesLook (ListsNames path.now) bytes (written (W.contents writer.old) (E.contents errors.old)) (written (W.contents writer.new) (E.contents errors.new)) answered) }
+    ensures err { (bytes : List ℕ) → AreGathered (region_of bytes) gathered
+        → IfErr result (λ e. FailsLook (ListsNames path.now) bytes e (written (W.contents writer.old) (E.contents errors.old)) (written (W.contents writer.new) (E.contents errors.new))) }
     ensures unread { IfErr result (λ e. e ≢ ScriptError.Read) }
 {
     let look = look_at_names(alloc, gathered, path)?;
@@ -74,8 +78,10 @@ pub fn stat_blocks<B: Blocks, W: Write, E: Write>(
     writer: &mut W,
     errors: &mut E,
 ) -> Result<Answered, BlocksError>
-    ensures ok { (bytes : List ℕ) → B.bytes source.now ≡ Some bytes → IfOk result (λ answered. WritesLook (TellsNumbers path.now) bytes (written (W.contents writer.old) (E.contents errors.old)) (written (W.contents writer.new) (E.contents errors.new)) answered) }
-    ensures err { (bytes : List ℕ) → B.bytes source.now ≡ Some bytes → IfErr result (λ e. FailsBlocksLook (TellsNumbers path.now) bytes e (written (W.contents writer.old) (E.contents errors.old)) (written (W.contents writer.new) (E.contents errors.new))) }
+    ensures ok { (bytes : List ℕ) → B.bytes source.now ≡ Some bytes
+        → IfOk result (λ answered. WritesLook (TellsNumbers path.now) bytes (written (W.contents writer.old) (E.contents errors.old)) (written (W.contents writer.new) (E.contents errors.new)) answered) }
+    ensures err { (bytes : List ℕ) → B.bytes source.now ≡ Some bytes
+        → IfErr result (λ e. FailsBlocksLook (TellsNumbers path.now) bytes e (written (W.contents writer.old) (E.contents errors.old)) (written (W.contents writer.new) (E.contents errors.new))) }
     ensures unread { IfErr result (λ e. KeepsBothUnread e (written (W.contents writer.old) (E.contents errors.old)) (written (W.contents writer.new) (E.contents errors.new))) }
 {
     let gathered = gather(alloc, source)?;
@@ -93,8 +99,10 @@ pub fn stat_gathered<W: Write, E: Write>(
     errors: &mut E,
 ) -> Result<Answered, ScriptError>
     requires { IsOpen gathered }
-    ensures ok { (bytes : List ℕ) → AreGathered (region_of bytes) gathered → IfOk result (λ answered. WritesLook (TellsNumbers path.now) bytes (written (W.contents writer.old) (E.contents errors.old)) (written (W.contents writer.new) (E.contents errors.new)) answered) }
-    ensures err { (bytes : List ℕ) → AreGathered (region_of bytes) gathered → IfErr result (λ e. FailsLook (TellsNumbers path.now) bytes e (written (W.contents writer.old) (E.contents errors.old)) (written (W.contents writer.new) (E.contents errors.new))) }
+    ensures ok { (bytes : List ℕ) → AreGathered (region_of bytes) gathered
+        → IfOk result (λ answered. WritesLook (TellsNumbers path.now) bytes (written (W.contents writer.old) (E.contents errors.old)) (written (W.contents writer.new) (E.contents errors.new)) answered) }
+    ensures err { (bytes : List ℕ) → AreGathered (region_of bytes) gathered
+        → IfErr result (λ e. FailsLook (TellsNumbers path.now) bytes e (written (W.contents writer.old) (E.contents errors.old)) (written (W.contents writer.new) (E.contents errors.new))) }
     ensures unread { IfErr result (λ e. e ≢ ScriptError.Read) }
 {
     let look = look_at_numbers(alloc, gathered, path)?;

@@ -208,8 +208,10 @@ fn cat_file<P: Pmem + Drop, W: Write, E: Write>(
     errors: &mut E,
 ) -> Result<u8, ScriptError>
     requires { mount.now.stopped ≡ false }
-    ensures ok { (p : Path) → Says path.now p → IfOk result (λ status. WritesCall (shown P.region mount.now) p (written (W.contents writer.old) (E.contents errors.old)) (written (W.contents writer.new) (E.contents errors.new)) status) }
-    ensures err { (p : Path) → Says path.now p → IfErr result (λ e. FailsCall (shown P.region mount.now) p e (written (W.contents writer.old) (E.contents errors.old)) (written (W.contents writer.new) (E.contents errors.new))) }
+    ensures ok { (p : Path) → Says path.now p
+        → IfOk result (λ status. WritesCall (shown P.region mount.now) p (written (W.contents writer.old) (E.contents errors.old)) (written (W.contents writer.new) (E.contents errors.new)) status) }
+    ensures err { (p : Path) → Says path.now p
+        → IfErr result (λ e. FailsCall (shown P.region mount.now) p e (written (W.contents writer.old) (E.contents errors.old)) (written (W.contents writer.new) (E.contents errors.new))) }
 {
     // No bytes: the same tests.
     match mount.read(path, 0, 0) {

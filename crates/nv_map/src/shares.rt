@@ -7,7 +7,7 @@ use crate::uses::BlockUse;
 use std::alloc::{AllocError, Global};
 
 /// How many of a cell's blocks have each use.
-#[derive(Clone, Copy, Debug, PartialEq, Eq)]
+#[derive(Clone, Copy, PartialEq, Eq)]
 pub struct Share {
     /// The number of its first block.
     pub first: u64,

@@ -5,7 +5,7 @@ ghost use Rattle.nv_map.specs.Rank.{rank};
 ghost use Rattle.nv_map.specs.Text.{letter};
 
 /// What a block is used for. Of several blocks, or of several uses, the last of these is told.
-#[derive(Clone, Copy, Debug, PartialEq, Eq)]
+#[derive(Clone, Copy, PartialEq, Eq)]
 pub enum BlockUse {
     /// It is free.
     Free,

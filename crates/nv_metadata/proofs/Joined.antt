@@ -18,7 +18,7 @@ use Rattle.nv_metadata.specs.declared.errors.GatherError.TheVariants.{Memory}
 use Rattle.nv_metadata.specs.declared.logs.LogEnds.{LogEnds}
 use Rattle.nv_metadata.proofs.Same.{start_behind}
 use Rattle.nv_metadata.proofs.SameLogs.{right_start}
-use Rattle.nv_metadata.proofs.Shown.{shows_with}
+use Rattle.nv_metadata.proofs.Shown.{shows_more}
 
 -- nothing is put together of no blocks
 pub joined_none : (from to : ℕ) (old other : MetadataState) → to ≤ from → IsJoined from to old other old
@@ -34,22 +34,31 @@ joined_kept block old other less = record {
 }
 
 -- of a block of which more is held there
-pub joined_more : (block : ℕ) (piece : List ℕ) (old other new : MetadataState) → other.memory.front ≤ 4096 * block → old.memory.front ≤ 4096 * block → new.memory.front ≡ old.memory.front → length piece ≡ held other block → held old block ≤ length piece
+pub joined_more : (block : ℕ) (piece : List ℕ) (old other new : MetadataState) → other.memory.front ≤ 4096 * block → old.memory.front ≤ 4096 * block → new.memory.front ≡ old.memory.front → held old block ≤ held other block
     → ((at : ℕ) → at % 8 ≡ 0 → at / 4096 ≡ block → at % 4096 < length piece → little_number 8 (drop (at % 4096) piece) ≡ word other.memory.region at)
+    → ((at : ℕ) → at % 8 ≡ 0 → at / 4096 ≡ block → length piece ≤ at % 4096 → word other.memory.region at ≡ 0)
     → ((at : ℕ) → at % 8 ≡ 0 → at / 4096 ≡ block → at % 4096 < length piece → word new.memory.region at ≡ little_number 8 (drop (at % 4096) piece))
     → ((at : ℕ) → at % 8 ≡ 0 → at / 4096 ≡ block → length piece ≤ at % 4096 → word new.memory.region at ≡ 0)
     → ((at : ℕ) → at % 8 ≡ 0 → at / 4096 ≢ block → word new.memory.region at ≡ word old.memory.region at)
-    → held new block ≡ length piece → ((b : ℕ) → b ≢ block → held new b ≡ held old b) → length new.memory.region.words ≡ length old.memory.region.words → new.memory.region.rest ≡ old.memory.region.rest
+    → held new block ≡ held other block → ((b : ℕ) → b ≢ block → held new b ≡ held old b) → length new.memory.region.words ≡ length old.memory.region.words → new.memory.region.rest ≡ old.memory.region.rest
     → IsJoined block (block + 1) old other new
-joined_more block piece old other new there behind front count more says words zeros others here elsewhere long rest = record {
-  shows = λ R a b. shows_with R piece block old new a (λ at aligned is within. says at aligned is within ∙ b.pieces at aligned (omega (arith, is, there)) (let n = ap (held other) is in omega (arith, n, count, within))) behind front words zeros others here elsewhere long rest;
+joined_more block piece old other new there behind front more says none words zeros others here elsewhere long rest = record {
+  shows = λ R a b. shows_more R block old new a
+      (λ at aligned is within. alike at aligned is ∙ b.pieces at aligned (omega (arith, is, there)) (let n = ap (held other) is in omega (arith, n, here, within))) behind front
+      (λ at aligned is past. alike at aligned is ∙ b.zeros at aligned (omega (arith, is, there)) (let n = ap (held other) is in omega (arith, n, here, past))) others elsewhere long rest;
   keeps = λ b. elim (cases_eq b block) [
     | inl is ↦ (let n = ap (held new) is in let o = ap (held old) is in omega (arith, n, o, here, more))
     | inr apart ↦ (let n = elsewhere b apart in omega (arith, n))
   ];
-  more = λ b high low. (let is : b ≡ block = omega (arith, high, low) in let n = ap (held new) is in let o = ap (held other) is in omega (arith, n, o, here, count));
-  only = λ b. elim (cases_eq b block) [ inl is ↦ inr (ap (held new) is ∙ here ∙ count ∙ sym (ap (held other) is)) | inr apart ↦ inl (elsewhere b apart) ];
-}
+  more = λ b high low. (let is : b ≡ block = omega (arith, high, low) in let n = ap (held new) is in let o = ap (held other) is in omega (arith, n, o, here));
+  only = λ b. elim (cases_eq b block) [ inl is ↦ inr (ap (held new) is ∙ here ∙ sym (ap (held other) is)) | inr apart ↦ inl (elsewhere b apart) ];
+} where
+  -- the block has the words that it has there
+  alike : (at : ℕ) → at % 8 ≡ 0 → at / 4096 ≡ block → word new.memory.region at ≡ word other.memory.region at
+  alike at aligned is = elim (cases_lt (at % 4096) (length piece)) [
+    | inl within ↦ words at aligned is within ∙ says at aligned is within
+    | inr past ↦ zeros at aligned is past ∙ sym (none at aligned is past)
+  ]
 
 -- and one block after another
 pub joined_on : (from block to : ℕ) (old other m new : MetadataState) → IsJoined from block old other m → IsJoined block to m other new → IsJoined from to old other new

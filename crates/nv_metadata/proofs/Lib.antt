@@ -1,6 +1,7 @@
 pub mod Linked
 pub mod Same
 pub mod Pieces
+pub mod Put
 pub mod Held
 pub mod Shown
 pub mod Walked

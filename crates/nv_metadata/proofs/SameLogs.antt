@@ -11,12 +11,16 @@ use Rattle.nv_super.specs.Layout.{IsLayout, SlotsApart, fixed_layout, slot_addre
 use Rattle.nv_super.proofs.Members.{none_in}
 use Rattle.nv_super.proofs.Slots.{slots_apart}
 use Rattle.nv_inode.specs.declared.slot.Slot.{Slot}
+use Rattle.nv_inode.specs.Chains.{layout_of}
+use Rattle.nv_inode.specs.Permitted.{is_permitted_by}
 use Rattle.nv_inode.specs.Slot.{is_right_log, kind_at, slot_at}
 use Rattle.nv_scan.proofs.Pieces.{slot_is}
 use Rattle.nv_outcome.proofs.Tickets.{slot_number}
 use Rattle.nv_journal.specs.Undo.{undone}
-use Rattle.nv_journal.specs.Undone.{SameBefore}
+use Rattle.nv_journal.specs.Undone.{AllQuiet, SameBefore}
+use Rattle.nv_journal.proofs.AnyLength.{quiet_same}
 use Rattle.nv_journal.proofs.Fixed.{front_undone}
+use Rattle.nv_journal.proofs.KeptLinks.{own_rule}
 use Rattle.nv_metadata.specs.Linked.{IsLogOf, IsLog}
 use Rattle.nv_metadata.specs.Walk.{AreLogs}
 use Rattle.nv_metadata.specs.declared.logs.LogEnds.{LogEnds}
@@ -25,6 +29,10 @@ use Rattle.nv_metadata.specs.declared.logs.LogEnds.{LogEnds}
 pub same_rolled_back : (s : Super) (R S : Region) → IsLayout s → s.version ≡ 1 → length S.words ≡ length R.words → SameBefore (4096 * system_blocks s) R S → SameBefore (4096 * system_blocks s) (undone s R) (undone s S)
 same_rolled_back s R S layout one long same at aligned before =
     front_undone s R S layout one (λ a whole low. same a whole (omega (arith, low))) long at aligned (same at aligned before)
+
+-- and with nothing to roll back, a region is as it was
+pub quiet_undone : (s : Super) (R : Region) → IsLayout s → AllQuiet s.cpus R → undone s R ≡ R
+quiet_undone s R layout quiet = quiet_same (is_permitted_by (layout_of s R)) s.cpus (own_rule s R layout) R quiet
 
 -- the same inodes have the same logs
 log_there : (s : Super) (U V : Region) → IsLayout s → SameBefore (4096 * system_blocks s) U V → (i a head tail : ℕ) → IsLogOf U s i a head tail → IsLogOf V s i a head tail

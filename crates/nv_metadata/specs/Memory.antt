@@ -2,7 +2,7 @@
 use Rattle.std.specs.Prelude.{◌≡◌, ◌≤◌, ◌<◌, ◌+◌, ◌*◌, ◌/◌, ◌%◌, ℕ, if◌then◌else◌, List, [], drop, get_or, length, map, false, nat_lt}
 use Rattle.std.specs.List.{range_with_len}
 use Rattle.byteorder.specs.Endian.{little_number}
-use Rattle.nv_region.specs.Region.{Region, word, HasBlocks}
+use Rattle.nv_region.specs.Region.{Region, word, words_of, HasBlocks}
 use Rattle.nv_super.specs.declared.superblock.Super.{Super}
 use Rattle.nv_super.specs.Layout.{most_blocks, system_blocks}
 use Rattle.nv_super.specs.Super.{IsSuper}
@@ -28,12 +28,15 @@ piece_word starts counts bytes i =
 abbrev pub pieced : ℕ → List ℕ → List ℕ → List ℕ → Region
 pieced blocks starts counts bytes = record { words = map (λ i. piece_word starts counts bytes i) (range_with_len 0 (512 * blocks)); rest = [] }
 
--- the front lies within the region, and the piece of each block is whole words among the bytes that are held
+-- The front is whole words within the region, and the piece of each block is whole words among the bytes that are kept. Behind it are
+-- zeros.
 pub record HasPieces (m : Inside) : Type 0 where
-  pub front : length m.front.items ≤ 512 * m.blocks
+  pub front : length (words_of m.front.items) ≤ 512 * m.blocks
+  pub front_whole : length m.front.items % 8 ≡ 0
   pub blocks : m.blocks ≤ most_blocks
   pub starts : length m.starts.items ≡ m.blocks
   pub counts : length m.counts.items ≡ m.blocks
+  pub known : length m.known.items ≡ m.blocks
   pub whole : (b : ℕ) → get_or m.counts.items b 0 % 8 ≡ 0
   pub inside : (b : ℕ) → get_or m.starts.items b 0 + get_or m.counts.items b 0 ≤ length m.bytes.items
 

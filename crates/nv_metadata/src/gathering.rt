@@ -1,15 +1,15 @@
 //! The metadata of an image, gathered by a reader of its bytes.
 //!
-//! First the superblock is read, and then all blocks in front of the data blocks in one read. A copy of these is rolled back:
-//! it says where logs begin and end. From each head on the links lead to the pages, which are read
-//! once by each thread, that of the tail up to it.
+//! First the superblock is read, and then all blocks in front of the data blocks in one read. Rolled back, they say where logs
+//! begin and end. From each head on the links lead to the pages, which are read once by each thread, that of the tail up to it.
 
-ghost use Rattle.std.specs.Prelude.{◌≡◌, ◌≤◌, ◌+◌, ◌*◌, ◌^◌, ℕ, List, Some, IfOk, IfErr, IsTrue, length, take};
+ghost use Rattle.std.specs.Prelude.{◌≡◌, ◌≤◌, ◌+◌, ◌*◌, ◌^◌, ℕ, List, Some, IfOk, IfErr, OnOk, IsTrue, false, length, take};
 ghost use Rattle.std.specs.List.{Contains};
-ghost use Rattle.nv_region.specs.Region.{region_of};
+ghost use Rattle.nv_region.specs.Region.{HasBlocks, region_of};
 ghost use Rattle.nv_super.specs.Layout.{IsLayout, system_blocks};
 ghost use Rattle.nv_inode.specs.Slot.{is_right_log};
 ghost use Rattle.nv_journal.specs.Undo.{undone};
+ghost use Rattle.nv_journal.specs.Undone.{AllQuiet};
 ghost use Rattle.nv_metadata.specs.Blocks.{AreBytesAt};
 ghost use Rattle.nv_metadata.specs.Fronts.{IsFrontOf, IsSoundFront};
 ghost use Rattle.nv_metadata.specs.Gathered.{AreGathered, IsOpen};
@@ -18,10 +18,12 @@ ghost use Rattle.nv_metadata.specs.declared.logs.LogEnds.{LogEnds as LogEndsValu
 
 use crate::blocks::Blocks;
 use crate::errors::GatherError;
+use crate::front::FrontRegion;
 use crate::logs::{LogEnds, right_logs};
 use crate::memory::MetadataRegion;
 use crate::parts::{fetch_alone, fetch_apart};
 use nv_journal::undo;
+use nv_region::Pmem;
 use nv_super::{BLOCK_SIZE, LEAST_BLOCKS, MOST_BLOCKS, Super, SuperFault, read_super};
 use std::alloc::Global;
 use std::thread::Threads;
@@ -31,6 +33,9 @@ const MOST_THREADS: u64 = 8;
 
 // Fewer logs than these are read sooner than another thread's tables are made.
 const FEW_LOGS: usize = 1024;
+
+// Where the enqueue number of a journal stands, in bytes from its start. The dequeue number is its first word.
+const ENQUEUE: u64 = 8;
 
 /// What was read of an image.
 #[derive(Drop)]
@@ -65,7 +70,7 @@ pub fn gather<B: Blocks>(alloc: Global, source: &B) -> Result<Gathered, GatherEr
     match read_front(alloc, source)? {
         Front::Accepted(sup, front) => {
             let logs = logs_rolled_back(alloc, &sup, &front)?;
-            let memory = fetch_alone(alloc, source, &sup, &front, &logs)?;
+            let memory = fetch_alone(alloc, source, &sup, front, &logs)?;
             Ok(Gathered::Metadata(sup, memory))
         }
         Front::Refused(fault) => Ok(Gathered::Refused(fault)),
@@ -90,7 +95,7 @@ pub fn gather_on<B: Blocks + Sync, H: Threads + Sync>(
         Front::Accepted(sup, front) => {
             let logs = logs_rolled_back(alloc, &sup, &front)?;
             let threads = worth(threads, logs.len());
-            let memory = fetch_apart(rt, alloc, source, &sup, &front, &logs, threads)?;
+            let memory = fetch_apart(rt, alloc, source, &sup, front, &logs, threads)?;
             Ok(Gathered::Metadata(sup, memory))
         }
         Front::Refused(fault) => Ok(Gathered::Refused(fault)),
@@ -118,7 +123,7 @@ fn read_front<B: Blocks>(alloc: Global, source: &B) -> Result<Front, GatherError
         return Ok(Front::Refused(SuperFault::Length));
     }
     let first = read_bytes(alloc, source, 0, BLOCK_SIZE)?;
-    let alone = MetadataRegion::new(alloc, blocks, &first, 0)?;
+    let alone = FrontRegion::new(blocks, &first);
     match read_super(&alone) {
         Ok(sup) => {
             let front = read_rest(alloc, source, &sup, first)?;
@@ -142,15 +147,22 @@ fn read_rest<B: Blocks>(
     ensures read { (image : List ℕ) → B.bytes source.now ≡ Some image → AreBytesAt image 0 first.items → IfOk result (λ front. AreBytesAt image 0 front.items) }
     ensures known { (image : List ℕ) → B.bytes source.now ≡ Some image → length image ≡ 4096 * sup.now.blocks → IfErr result (λ e. e ≡ GatherError.Memory) }
 {
-    let rest = read_bytes(
-        alloc,
-        source,
-        BLOCK_SIZE,
-        (sup.system_blocks() - 1) * BLOCK_SIZE,
-    )?;
     let mut front = first;
-    front.extend_from_slice(&rest)?;
+    front.resize((sup.system_blocks() * BLOCK_SIZE) as usize, 0)?;
+    read_behind(source, &mut front)?;
     Ok(front)
+}
+
+// The bytes of the image behind the first block, where it was read before.
+fn read_behind<B: Blocks>(source: &B, front: &mut [u8]) -> Result<(), GatherError>
+    requires begins { 4096 ≤ length front.old }
+    ensures begins { take 4096 front.new ≡ take 4096 front.old }
+    ensures as_long { length front.new ≡ length front.old }
+    ensures read { (image : List ℕ) → B.bytes source.now ≡ Some image → AreBytesAt image 0 (take 4096 front.old) → OnOk result (AreBytesAt image 0 front.new) }
+    ensures known { (image : List ℕ) → B.bytes source.now ≡ Some image → length front.old ≤ length image → IfErr result (λ e. e ≡ GatherError.Memory) }
+{
+    source.read(BLOCK_SIZE, &mut front[BLOCK_SIZE as usize..])?;
+    Ok(())
 }
 
 // So many bytes of the image from one on.
@@ -170,8 +182,40 @@ fn read_bytes<B: Blocks>(
     Ok(bytes)
 }
 
-// Where logs begin and end, once the journals in the blocks of the front are rolled back.
+// Where logs begin and end, once the journals in the blocks of the front are rolled back. Only where there may be something to
+// roll back, the front is copied.
 fn logs_rolled_back(alloc: Global, sup: &Super, front: &[u8]) -> Result<Vec<LogEnds>, GatherError>
+    requires layout { IsLayout sup.now }
+    requires version { sup.now.version ≡ 1 }
+    requires front { length front.now ≡ 4096 * system_blocks sup.now }
+    ensures logs { (image : List ℕ) → AreBytesAt image 0 front.now → length image ≡ 4096 * sup.now.blocks → IfOk result (λ logs. AreLogs (undone sup.now (region_of image)) sup.now logs.items) }
+    ensures unread { IfErr result (λ e. e ≡ GatherError.Memory) }
+    ensures right { IfOk result (λ logs. (log : LogEndsValue) → Contains logs.items log → IsTrue (is_right_log sup.now log.head log.tail)) }
+{
+    let memory = FrontRegion::new(sup.blocks, front);
+    if may_be_pending(&memory, sup) {
+        return logs_of_undone(alloc, sup, front);
+    }
+    Ok(right_logs(alloc, &memory, sup)?)
+}
+
+// Whether a journal may have something to roll back: its two numbers differ.
+fn may_be_pending<P: Pmem>(memory: &P, sup: &Super) -> bool
+    requires layout { IsLayout sup.now }
+    requires blocks { HasBlocks (P.region memory.now) sup.now.blocks }
+    ensures { result ≡ false → AllQuiet sup.now.cpus (P.region memory.now) }
+{
+    for cpu in 0..sup.cpus {
+        let journal = BLOCK_SIZE * (1 + cpu);
+        if memory.load(journal) != memory.load(journal + ENQUEUE) {
+            return true;
+        }
+    }
+    false
+}
+
+// Where logs begin and end, read from a copy of the front whose journals are rolled back.
+fn logs_of_undone(alloc: Global, sup: &Super, front: &[u8]) -> Result<Vec<LogEnds>, GatherError>
     requires layout { IsLayout sup.now }
     requires version { sup.now.version ≡ 1 }
     requires front { length front.now ≡ 4096 * system_blocks sup.now }

@@ -6,6 +6,7 @@
 
 mod blocks;
 mod errors;
+mod front;
 mod gathering;
 mod laws;
 mod logs;

@@ -13,7 +13,7 @@ use nv_super::Super;
 use std::alloc::{AllocError, Global};
 
 /// A log's head and tail: byte addresses.
-#[derive(Clone, Copy, Debug)]
+#[derive(Clone, Copy)]
 pub(crate) struct LogEnds {
     pub head: u64,
     pub tail: u64,

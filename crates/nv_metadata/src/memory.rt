@@ -1,10 +1,10 @@
 //! A region of which the front and some blocks are held, and which has zeros elsewhere.
 //!
-//! The front is held as words, and takes stores. Of the other blocks tables say how many bytes of each are held and where these
-//! begin: they stand one piece behind another, in the order in which they came. A store behind the front is refused as if a
-//! fuse had burnt.
+//! The front is held as the bytes that were read, and takes stores. Of the other blocks tables say how many bytes of each are
+//! held and where these begin: they stand one piece behind another, in the order in which they came, each without the zeros at
+//! its end. A store behind the front is refused as if a fuse had burnt.
 
-ghost use Rattle.std.specs.Prelude.{◌≡◌, ◌≢◌, ◌≤◌, ◌<◌, ◌+◌, ◌*◌, ◌/◌, ◌%◌, ◌^◌, ◌||◌, ◌==◌, ℕ, List, false, nat_le, IsTrue, IfOk, OnOk, OnErr, is_err, length, drop, refl};
+ghost use Rattle.std.specs.Prelude.{◌≡◌, ◌≢◌, ◌≤◌, ◌<◌, ◌+◌, ◌*◌, ◌/◌, ◌%◌, ◌^◌, ◌||◌, ◌==◌, ℕ, List, false, nat_le, IsTrue, IfOk, OnOk, OnErr, is_err, length, drop, set, refl};
 ghost use Rattle.std.proofs.lemmas.Bool.{false≢true};
 ghost use Rattle.byteorder.specs.Endian.{little_number};
 ghost use Rattle.nv_region.specs.Region.{HasBlocks, size, word, put, words_of};
@@ -25,24 +25,26 @@ use std::marker::Model;
 #[derive(Drop)]
 pub struct MetadataRegion {
     blocks: u64,
-    front: Vec<u64>,
-    // For each block where its bytes begin, and how many of them are held.
-    starts: Vec<usize>,
-    counts: Vec<usize>,
+    front: Vec<u8>,
+    // For each block where its bytes begin, how many stand there, and how many are held: those behind are zeros.
+    starts: Vec<u32>,
+    counts: Vec<u32>,
+    known: Vec<u32>,
     bytes: Vec<u8>,
     burnt: bool,
 }
 
 impl Model for MetadataRegion {
-    ghost use Rattle.std.specs.Prelude.{◌*◌, length};
+    ghost use Rattle.std.specs.Prelude.{length};
+    ghost use Rattle.nv_region.specs.Region.{words_of};
     ghost use Rattle.nv_region.specs.ImageState.{with_front};
     ghost use Rattle.nv_metadata.specs.Memory.{MetadataState, pieced};
 
     ghost Value = { MetadataState };
 
     ghost view = { λ m. record {
-      memory = record { region = with_front m.front.items (pieced m.blocks m.starts.items m.counts.items m.bytes.items); front = 8 * length m.front.items; burnt = m.burnt };
-      counts = m.counts.items;
+      memory = record { region = with_front (words_of m.front.items) (pieced m.blocks m.starts.items m.counts.items m.bytes.items); front = length m.front.items; burnt = m.burnt };
+      counts = m.known.items;
     } };
 
     ghost use Rattle.nv_metadata.specs.Memory.{HasPieces};
@@ -70,11 +72,31 @@ impl MetadataRegion {
         ensures open { IfOk result (λ m. (m.memory.front ≡ length front.now) × (m.memory.burnt ≡ false)) }
         ensures none { IfOk result (λ m. (b : ℕ) → held m b ≡ 0) }
     {
+        MetadataRegion::of_front(alloc, blocks, Vec::from_slice(alloc, front)?, room)
+    }
+
+    /// `new` of bytes that are handed over: they aren't copied.
+    pub(crate) fn of_front(
+        alloc: Global,
+        blocks: u64,
+        front: Vec<u8>,
+        room: u64,
+    ) -> Result<MetadataRegion, AllocError>
+        requires few { blocks ≤ most_blocks }
+        requires within { length front.items ≤ 4096 * blocks }
+        requires whole { length front.items % 8 ≡ 0 }
+        ensures blocks { IfOk result (λ m. HasBlocks m.memory.region blocks) }
+        ensures front { IfOk result (λ m. (at : ℕ) → at % 8 ≡ 0 → at + 8 ≤ length front.items → word m.memory.region at ≡ little_number 8 (drop at front.items)) }
+        ensures zeros { IfOk result (λ m. (at : ℕ) → at % 8 ≡ 0 → length front.items ≤ at → word m.memory.region at ≡ 0) }
+        ensures open { IfOk result (λ m. (m.memory.front ≡ length front.items) × (m.memory.burnt ≡ false)) }
+        ensures none { IfOk result (λ m. (b : ℕ) → held m b ≡ 0) }
+    {
         Ok(MetadataRegion {
             blocks,
-            front: words_of(alloc, front)?,
+            front,
             starts: vec![in alloc; 0; blocks as usize]?,
             counts: vec![in alloc; 0; blocks as usize]?,
+            known: vec![in alloc; 0; blocks as usize]?,
             bytes: Vec::with_capacity(alloc, (room.min(blocks) * BLOCK_SIZE) as usize)?,
             burnt: false,
         })
@@ -85,7 +107,7 @@ impl MetadataRegion {
         requires { 4096 * block < size self.now.memory.region }
         ensures { result ≡ held self.now block }
     {
-        self.counts[block as usize]
+        self.known[block as usize] as usize
     }
 
     /// Holds these bytes as the first of a block behind the front, whose other words are 0.
@@ -105,22 +127,54 @@ impl MetadataRegion {
         ensures open { (self.new.memory.front ≡ self.old.memory.front) × (self.new.memory.burnt ≡ self.old.memory.burnt) }
         ensures refused { OnErr result (self.new ≡ self.old) }
     {
-        let start = self.bytes.len();
-        self.bytes.extend_from_slice(bytes)?;
-        self.starts[block as usize] = start;
-        self.counts[block as usize] = bytes.len();
+        let count = without_zeros(bytes);
+        self.hold_piece(block, &bytes[..count], bytes.len())?;
         Ok(())
     }
 
-    /// The bytes that are held of a block behind the front, from its first on: none where it isn't.
+    /// Holds so many bytes of a block behind the front: first these, and zeros behind them.
+    ///
+    /// Errors: `AllocError` where a growth was refused; all stays as it was.
+    pub(crate) fn hold_piece(
+        &mut self,
+        block: u64,
+        piece: &[u8],
+        known: usize,
+    ) -> Result<(), AllocError>
+        requires behind { self.old.memory.front ≤ 4096 * block }
+        requires within { 4096 * block < size self.old.memory.region }
+        requires whole { length piece.now % 8 ≡ 0 }
+        ensures piece { OnOk result ((at : ℕ) → at % 8 ≡ 0 → at / 4096 ≡ block → at % 4096 < length piece.now → word self.new.memory.region at ≡ little_number 8 (drop (at % 4096) piece.now)) }
+        ensures zeros { OnOk result ((at : ℕ) → at % 8 ≡ 0 → at / 4096 ≡ block → length piece.now ≤ at % 4096 → word self.new.memory.region at ≡ 0) }
+        ensures others { OnOk result ((at : ℕ) → at % 8 ≡ 0 → at / 4096 ≢ block → word self.new.memory.region at ≡ word self.old.memory.region at) }
+        ensures held { OnOk result ((held self.new block ≡ known) × ((b : ℕ) → b ≢ block → held self.new b ≡ held self.old b)) }
+        ensures as_long { length self.new.memory.region.words ≡ length self.old.memory.region.words }
+        ensures rest { self.new.memory.region.rest ≡ self.old.memory.region.rest }
+        ensures open { (self.new.memory.front ≡ self.old.memory.front) × (self.new.memory.burnt ≡ self.old.memory.burnt) }
+        ensures refused { OnErr result (self.new ≡ self.old) }
+    {
+        let start = narrow(self.bytes.len())?;
+        let count = narrow(piece.len())?;
+        let known = narrow(known)?;
+        self.bytes.extend_from_slice(piece)?;
+        self.starts[block as usize] = start;
+        self.counts[block as usize] = count;
+        self.known[block as usize] = known;
+        Ok(())
+    }
+
+    /// The bytes that are held of a block behind the front, from its first on, without the zeros at their end: none where it
+    /// isn't.
     pub(crate) fn piece(&self, block: u64) -> &[u8]
         requires { 4096 * block < size self.now.memory.region }
-        ensures count { length result.now ≡ held self.now block }
         ensures whole { length result.now % 8 ≡ 0 }
-        ensures words { self.now.memory.front ≤ 4096 * block → (at : ℕ) → at % 8 ≡ 0 → at / 4096 ≡ block → at % 4096 < length result.now → little_number 8 (drop (at % 4096) result.now) ≡ word self.now.memory.region at }
+        ensures words { self.now.memory.front ≤ 4096 * block → (at : ℕ) → at % 8 ≡ 0 → at / 4096 ≡ block → at % 4096 < length result.now
+            → little_number 8 (drop (at % 4096) result.now) ≡ word self.now.memory.region at }
+        ensures zeros { self.now.memory.front ≤ 4096 * block → (at : ℕ) → at % 8 ≡ 0 → at / 4096 ≡ block → length result.now ≤ at % 4096
+            → word self.now.memory.region at ≡ 0 }
     {
-        let start = self.starts[block as usize];
-        &self.bytes[start..start + self.counts[block as usize]]
+        let start = self.starts[block as usize] as usize;
+        &self.bytes[start..start + self.counts[block as usize] as usize]
     }
 
     // The word at a byte address of a block that may be held.
@@ -132,34 +186,57 @@ impl MetadataRegion {
     {
         let block = (at / BLOCK_SIZE) as usize;
         let offset = (at % BLOCK_SIZE) as usize;
-        if offset >= self.counts[block] {
+        if offset >= self.counts[block] as usize {
             return 0;
         }
-        word_at(&self.bytes, self.starts[block] + offset)
+        word_at(&self.bytes, self.starts[block] as usize + offset)
     }
 }
 
-// The little-endian words of bytes.
-fn words_of(alloc: Global, bytes: &[u8]) -> Result<Vec<u64>, AllocError>
-    requires { length bytes.now % 8 ≡ 0 }
-    ensures count { IfOk result (λ words. 8 * length words.items ≡ length bytes.now) }
-    ensures words { IfOk result (λ words. words.items ≡ words_of bytes.now) }
-{
-    let count = bytes.len() / 8;
-    let mut words = Vec::with_capacity(alloc, count)?;
-    for number in 0..count {
-        words.push_reserved(word_at(bytes, 8 * number));
-    }
-    Ok(words)
-}
-
-// The little-endian word of the eight bytes at an address.
+/// The little-endian word of the eight bytes at an address.
 #[inline]
-fn word_at(bytes: &[u8], at: usize) -> u64
+pub(crate) fn word_at(bytes: &[u8], at: usize) -> u64
     requires { at + 8 ≤ length bytes.now }
     ensures { result ≡ little_number 8 (drop at bytes.now) }
 {
     LittleEndian::read_u64(&bytes[at..])
+}
+
+// A number of bytes in 32 bits: an image has fewer by far. Errors: `AllocError` where it has no room there.
+fn narrow(count: usize) -> Result<u32, AllocError>
+    ensures { IfOk result (λ narrow. narrow ≡ count) }
+{
+    match u32::try_from(count) {
+        Ok(narrow) => Ok(narrow),
+        Err(_) => Err(AllocError),
+    }
+}
+
+// How many bytes stand in front of the words at the end that are 0.
+fn without_zeros(bytes: &[u8]) -> usize
+    requires { length bytes.now % 8 ≡ 0 }
+    ensures few { result ≤ length bytes.now }
+    ensures whole { result % 8 ≡ 0 }
+    ensures zeros { (at : ℕ) → at % 8 ≡ 0 → result ≤ at → at + 8 ≤ length bytes.now → little_number 8 (drop at bytes.now) ≡ 0 }
+{
+    let mut count = bytes.len();
+    while count > 0 {
+        if word_at(bytes, count - 8) != 0 {
+            return count;
+        }
+        count -= 8;
+    }
+    count
+}
+
+// Puts a little-endian word in the place of the eight bytes at an address.
+fn put_word(bytes: &mut [u8], at: usize, value: u64)
+    requires aligned { at % 8 ≡ 0 }
+    requires within { at + 8 ≤ length bytes.old }
+    ensures words { words_of bytes.new ≡ set (words_of bytes.old) (at / 8) value }
+    ensures as_long { length bytes.new ≡ length bytes.old }
+{
+    LittleEndian::write_u64(&mut bytes[at..], value);
 }
 
 impl Pmem for MetadataRegion {
@@ -180,9 +257,8 @@ impl Pmem for MetadataRegion {
     }
 
     fn load(&self, at: u64) -> u64 {
-        let number = (at / 8) as usize;
-        if number < self.front.len() {
-            self.front[number]
+        if at < self.front.len() as u64 {
+            word_at(&self.front, at as usize)
         } else {
             self.piece_word(at)
         }
@@ -202,12 +278,11 @@ impl Pmem for MetadataRegion {
         ensures front { self.new.memory.front ≡ self.old.memory.front }
         ensures pieces { self.new.counts ≡ self.old.counts }
     {
-        let number = (at / 8) as usize;
-        if self.burnt || number >= self.front.len() {
+        if self.burnt || at >= self.front.len() as u64 {
             self.burnt = true;
             return Err(Stopped);
         }
-        self.front[number] = value;
+        put_word(&mut self.front, at as usize, value);
         Ok(())
     }
 

@@ -1,7 +1,7 @@
 //! The pages of logs fetched by several threads: each takes a part of the logs and a memory of its own, and then these are put
 //! together.
 
-ghost use Rattle.std.specs.Prelude.{◌≡◌, ◌≤◌, ◌<◌, ◌+◌, ◌++◌, Some, IsTrue, OnOk, take};
+ghost use Rattle.std.specs.Prelude.{◌≡◌, ◌≤◌, ◌<◌, ◌+◌, ◌++◌, Some, IsTrue, IfOk, OnOk, take};
 ghost use Rattle.std.specs.List.{Contains};
 ghost use denote.Param.Send.{IsSync};
 ghost use Rattle.nv_super.specs.Layout.{HasAreas, IsLayout, system_blocks};
@@ -20,7 +20,7 @@ use std::alloc::{AllocError, Global};
 use std::thread::{Threads, join};
 
 /// Fetches the pages of these logs up to their tails, by so many threads, into a memory with this front, the first block of
-/// which has the superblock.
+/// which has the superblock. The front isn't copied: the memories of other threads have its first block alone.
 ///
 /// Errors: `Read` where a block can't be read, and `Memory` where a growth was refused.
 pub(crate) fn fetch_apart<B: Blocks + Sync, H: Threads + Sync>(
@@ -28,29 +28,29 @@ pub(crate) fn fetch_apart<B: Blocks + Sync, H: Threads + Sync>(
     alloc: Global,
     source: &B,
     sup: &Super,
-    front: &[u8],
+    front: Vec<u8>,
     logs: &[LogEnds],
     threads: u64,
 ) -> Result<MetadataRegion, GatherError>
     requires layout { IsLayout sup.now }
-    requires front { IsFront sup.now front.now }
+    requires front { IsFront sup.now front.items }
     requires right { (log : LogEndsValue) → Contains logs.now log → IsTrue (is_right_log sup.now log.head log.tail) }
-    ensures { IsPart (λ image. B.bytes source.now ≡ Some image) sup.now front.now logs.now result }
+    ensures { IsPart (λ image. B.bytes source.now ≡ Some image) sup.now front.items logs.now result }
 {
     if threads < 2 {
         return fetch_alone(alloc, source, sup, front, logs);
     }
     let (first, second) = halves(sup, logs);
-    let alone = first_block(sup, front);
+    let alone = first_block(alloc, sup, &front)?;
     let (left, right) = join(
         rt,
         || -> Result<MetadataRegion, GatherError>
-            requires { IsSync H.row × IsLayout sup.now × IsFront sup.now front.now × ((log : LogEndsValue) → Contains first.now log → IsTrue (is_right_log sup.now log.head log.tail)) }
-            ensures { IsPart (λ image. B.bytes source.entry.now ≡ Some image) sup.entry.now front.entry.now first.entry.now result }
+            requires { IsSync H.row × IsLayout sup.now × IsFront sup.now front.items × ((log : LogEndsValue) → Contains first.now log → IsTrue (is_right_log sup.now log.head log.tail)) }
+            ensures { IsPart (λ image. B.bytes source.entry.now ≡ Some image) sup.entry.now front.items first.entry.now result }
         { fetch_apart(rt, alloc, source, sup, front, first, threads / 2) },
         || -> Result<MetadataRegion, GatherError>
-            requires { IsSync H.row × IsLayout sup.now × IsFront sup.now alone.now × ((log : LogEndsValue) → Contains second.now log → IsTrue (is_right_log sup.now log.head log.tail)) }
-            ensures { IsPart (λ image. B.bytes source.entry.now ≡ Some image) sup.entry.now alone.entry.now second.entry.now result }
+            requires { IsSync H.row × IsLayout sup.now × IsFront sup.now alone.items × ((log : LogEndsValue) → Contains second.now log → IsTrue (is_right_log sup.now log.head log.tail)) }
+            ensures { IsPart (λ image. B.bytes source.entry.now ≡ Some image) sup.entry.now alone.items second.entry.now result }
         { fetch_apart(rt, alloc, source, sup, alone, second, threads - threads / 2) },
     );
     let mut memory = left?;
@@ -69,13 +69,14 @@ fn halves<'a>(_sup: &Super, logs: &'a [LogEnds]) -> (&'a [LogEnds], &'a [LogEnds
     logs.split_at(logs.len() / 2)
 }
 
-// The first block of a front.
-fn first_block<'a>(_sup: &Super, front: &'a [u8]) -> &'a [u8]
+// The first block of a front, for a memory of its own.
+fn first_block(alloc: Global, _sup: &Super, front: &[u8]) -> Result<Vec<u8>, AllocError>
     requires { IsFront _sup.now front.now }
-    ensures bytes { result.now ≡ take 4096 front.now }
-    ensures front { IsFront _sup.now result.now }
+    ensures bytes { IfOk result (λ first. first.items ≡ take 4096 front.now) }
+    ensures front { IfOk result (λ first. IsFront _sup.now first.items) }
 {
-    &front[..BLOCK_SIZE as usize]
+    let first = Vec::from_slice(alloc, &front[..BLOCK_SIZE as usize])?;
+    Ok(first)
 }
 
 /// Does so on this thread.
@@ -83,15 +84,15 @@ pub(crate) fn fetch_alone<B: Blocks>(
     alloc: Global,
     source: &B,
     sup: &Super,
-    front: &[u8],
+    front: Vec<u8>,
     logs: &[LogEnds],
 ) -> Result<MetadataRegion, GatherError>
     requires layout { IsLayout sup.now }
-    requires front { IsFront sup.now front.now }
+    requires front { IsFront sup.now front.items }
     requires right { (log : LogEndsValue) → Contains logs.now log → IsTrue (is_right_log sup.now log.head log.tail) }
-    ensures { IsPart (λ image. B.bytes source.now ≡ Some image) sup.now front.now logs.now result }
+    ensures { IsPart (λ image. B.bytes source.now ≡ Some image) sup.now front.items logs.now result }
 {
-    let mut memory = MetadataRegion::new(alloc, sup.blocks, front, logs.len() as u64)?;
+    let mut memory = MetadataRegion::of_front(alloc, sup.blocks, front, logs.len() as u64)?;
     fetch_logs(alloc, &mut memory, source, sup, logs)?;
     Ok(memory)
 }
@@ -130,10 +131,10 @@ fn hold_more(
     ensures front { SameFront memory.old memory.new }
     ensures joined { OnOk result (IsJoined block (block + 1) memory.old other.now memory.new) }
 {
-    let piece = other.piece(block);
-    if piece.len() <= memory.held(block) {
+    let known = other.held(block);
+    if known <= memory.held(block) {
         return Ok(());
     }
-    memory.hold(block, piece)?;
+    memory.hold_piece(block, other.piece(block), known)?;
     Ok(())
 }

@@ -69,7 +69,8 @@ fn fetch_log<B: Blocks>(
     ensures can { CanHold sup.now memory.new }
     ensures front { SameFront memory.old memory.new }
     ensures all_blocks { walked.new.bound ≡ sup.now.blocks }
-    ensures fetched { (image : List ℕ) → B.bytes source.now ≡ Some image → Shows (region_of image) memory.old → OnOk result (IsFetched sup.now (region_of image) log.head log.tail memory.old memory.new) }
+    ensures fetched { (image : List ℕ) → B.bytes source.now ≡ Some image → Shows (region_of image) memory.old
+        → OnOk result (IsFetched sup.now (region_of image) log.head log.tail memory.old memory.new) }
     ensures known { (image : List ℕ) → B.bytes source.now ≡ Some image → length image ≡ 4096 * sup.now.blocks → IfErr result (λ e. e ≡ GatherError.Memory) }
 {
     let mut block = log.head / BLOCK_SIZE;
@@ -102,7 +103,8 @@ fn next_page(
     ensures start { IfSome result (λ _. is_page_start sup.now (link_in memory.now.memory.region block) ≡ true) }
     ensures next { IfSome result (λ next. next ≡ link_in memory.now.memory.region block / 4096) }
     ensures fresh { IfSome result (λ next. list_any (eqb next) walked.now.blocks ≡ false) }
-    ensures none { IfNone result (block ≢ tail / 4096 → is_page_start sup.now (link_in memory.now.memory.region block) ≡ true → Contains walked.now.blocks (link_in memory.now.memory.region block / 4096)) }
+    ensures none { IfNone result (block ≢ tail / 4096 → is_page_start sup.now (link_in memory.now.memory.region block) ≡ true
+        → Contains walked.now.blocks (link_in memory.now.memory.region block / 4096)) }
 {
     if block == tail / BLOCK_SIZE {
         return None;

@@ -88,13 +88,17 @@ lists_names index us vs distinct lines moved sorted = record {
     renamed : IsPermutation (names_of index.names) (names_of (map line_of vs))
     renamed = IsPermutation-map (λ e. e.0) index.names (map line_of vs) entries
 
--- lines that are those of an index have its names
-pub has_names : (index : Names) (us : List Named) → EachOnce index → map line_of us ≡ index.names → HasNames index (map line_of us)
-has_names index us distinct lines = rw lines record {
+-- an index has its own names
+pub has_own : (index : Names) → EachOnce index → HasNames index index.names
+has_own index distinct = record {
   once = distinct;
   each = All-from_recursion _ _ (each_found index.names distinct);
   all = λ q some. found_contained index.names q some;
 }
+
+-- lines that are those of an index have its names
+pub has_names : (index : Names) (us : List Named) → EachOnce index → map line_of us ≡ index.names → HasNames index (map line_of us)
+has_names index us distinct lines = rw lines (has_own index distinct)
 
 -- where there is no table, no name is there twice
 pub held_once : (table : Option (Box Names Global)) → table ≡ None → EachOnce (names_held table)

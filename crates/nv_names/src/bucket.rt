@@ -11,6 +11,7 @@ ghost use Rattle.nv_names.specs.Table.{PutsAt, FindSame};
 ghost use Rattle.nv_names.specs.Bucket.{first_line, other_line, AreKeyed, IsBucket};
 
 use crate::held::Held;
+use crate::iter::BucketIter;
 use crate::{Named, Target};
 use std::alloc::{AllocError, Global};
 use std::collections::{BTreeMap, HashMap};
@@ -163,6 +164,13 @@ impl Bucket {
         ensures each_once { IsDistinct (pointwise nat_eq) (names_of self.now) }
     {
         self.first.len() + self.others.len()
+    }
+
+    /// The names, in no order that a caller can rest on.
+    pub(crate) fn iter(&self) -> BucketIter<'_>
+        ensures { result ≡ self.now }
+    {
+        BucketIter::new(self.first.iter(), self.others.iter())
     }
 
     /// Puts a line for each name at the end of a listing.

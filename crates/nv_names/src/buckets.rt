@@ -7,9 +7,11 @@ ghost use Rattle.std.specs.List.{IsDistinct};
 ghost use Rattle.std.specs.Cmp.Lexicographic.{pointwise};
 ghost use Rattle.nv_names.specs.Buckets.{lines_in, AreBuckets};
 ghost use Rattle.nv_names.specs.Names.{found_in, names_of, line_of, inode_and_place};
-ghost use Rattle.nv_names.specs.Table.{PutsAt, FindSame};
+ghost use Rattle.nv_names.specs.Table.{PutsAt, FindSame, fresh_line};
 
 use crate::bucket::Bucket;
+use crate::fresh::Fresh;
+use crate::iter::Iter;
 use crate::key::key_of;
 use crate::many::{find_among, push_each, put_among, take_from};
 use crate::spreading::make_room;
@@ -105,6 +107,13 @@ impl Buckets {
         ensures each_once { IsDistinct (pointwise nat_eq) (names_of self.now) }
     {
         self.count
+    }
+
+    /// The names, and those beside them, in no order that a caller can rest on.
+    pub(crate) fn iter<'a>(&'a self, fresh: &'a [Fresh]) -> Iter<'a>
+        ensures { result ≡ self.now ++ map fresh_line fresh.now }
+    {
+        Iter::new(self.one.iter(), self.many.as_slice(), fresh)
     }
 
     /// Puts a line for each name at the end of a listing.

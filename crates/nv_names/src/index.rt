@@ -6,6 +6,7 @@ ghost use Rattle.std.specs.Option.{option_map};
 ghost use Rattle.std.specs.Cmp.Lexicographic.{pointwise};
 ghost use Rattle.nv_names.specs.Names.{IsName, name_at, EachOnce, HasNames, ListsNames, inode_and_place, line_of};
 
+use crate::iter::Iter;
 use crate::table::Table;
 use crate::{Named, Target};
 use std::alloc::{AllocError, Global};
@@ -153,6 +154,17 @@ impl NameIndex {
         self.len() == 0
     }
 
+    /// Each name once, in no order that a caller can rest on. It takes no memory.
+    pub fn iter(&self) -> Iter<'_>
+        ensures { HasNames self.now result }
+    {
+        let _count = self.len();
+        match &self.table {
+            Some(table) => table.iter(),
+            None => Iter::none(),
+        }
+    }
+
     /// Each name once, rising by bytes.
     ///
     /// It takes memory for one `Named` a name, and time for a sort of them. The names stay in the index.
@@ -182,5 +194,20 @@ impl NameIndex {
             Some(table) => table.unsorted(),
             None => Ok(Vec::new(self.alloc)),
         }
+    }
+}
+
+impl<'a> IntoIterator for &'a NameIndex {
+    ghost use Rattle.nv_names.specs.Names.{HasNames};
+
+    type Item = Named<'a>;
+
+    type IntoIter = Iter<'a>;
+
+    ghost into_iter_gives = { λ index left. HasNames index.now left };
+
+    /// The names as `iter` gives them.
+    fn into_iter(self) -> Iter<'a> {
+        self.iter()
     }
 }

@@ -6,6 +6,7 @@ mod buckets;
 mod fresh;
 mod held;
 mod index;
+mod iter;
 mod key;
 mod many;
 mod name;
@@ -15,5 +16,6 @@ mod table;
 mod target;
 
 pub use index::NameIndex;
+pub use iter::Iter;
 pub use named::Named;
 pub use target::Target;

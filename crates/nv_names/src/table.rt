@@ -8,6 +8,7 @@ ghost use Rattle.nv_names.specs.Table.{PutsAt};
 
 use crate::buckets::Buckets;
 use crate::fresh::{Fresh, forget, push_fresh, settle, target_of};
+use crate::iter::Iter;
 use crate::name::Name;
 use crate::{Named, Target};
 use std::alloc::{AllocError, Global};
@@ -125,6 +126,16 @@ impl Table {
         ensures each_once { EachOnce self.now }
     {
         self.buckets.len() + self.fresh.len()
+    }
+
+    /// Each name once, in no order that a caller can rest on.
+    pub(crate) fn iter(&self) -> Iter<'_>
+        ensures names { result ≡ self.now.names }
+        ensures each_once { EachOnce self.now }
+    {
+        // The table's promise on its names is known where their number is.
+        let _count = self.len();
+        self.buckets.iter(self.fresh.as_slice())
     }
 
     /// Each name once: those of the buckets, and then those beside them.

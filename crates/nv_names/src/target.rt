@@ -1,7 +1,7 @@
 //! What a name stands for.
 
 /// The inode that a name stands for, and the place of its entry in the directory's log.
-#[derive(Clone, Copy, PartialEq, Eq, Debug)]
+#[derive(Clone, Copy, PartialEq, Eq)]
 pub struct Target {
     /// The inode's number.
     pub inode: u64,

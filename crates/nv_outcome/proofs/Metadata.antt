@@ -20,6 +20,7 @@ use Rattle.nv_journal.proofs.High.{data_word}
 use Rattle.nv_check.specs.nv_logpage.ToTail.{SameToTail}
 use Rattle.nv_check.specs.nv_scan.Inode.{Log, IsInode}
 use Rattle.nv_check.specs.nv_scan.Owners.{by_log}
+use Rattle.nv_check.proofs.nv_scan.FixedLayout.{fixed_laid}
 use Rattle.nv_check.proofs.nv_scan.Alone.{IsInode-same}
 use Rattle.nv_check.proofs.nv_scan.InUse.{has_log}
 use Rattle.nv_check.proofs.nv_scan.Only.{IsInode-only, kind_in_use, slot_in_use}
@@ -72,7 +73,7 @@ module _ (s : Super) (R S : Region) (is : IsSuper R s) (same : SameMetadata s R 
   -- the pages of a log, once the journals are rolled back
   log_page : {i a : ℕ} {log : Log} → IsInode (undone s R) l i a log → (b : ℕ) → Contains log.pages b → SameToTail (word (undone s R) (a + 24)) (undone s R) (undone s S) b
   log_page {i} {a} {log} h b c at aligned here below =
-      let owned = owned_block (undone s R) l b (owners.Log i c.0) (by_log h (slice_get-get_or log.pages c.0 b c.1 ∙ ap Some c.2)) in
+      let owned = owned_block (undone s R) l b (owners.Log i c.0) (fixed_laid s layout) (by_log h (slice_get-get_or log.pages c.0 b c.1 ∙ ap Some c.2)) in
       let high : 4096 * system_blocks s ≤ at = (let low = owned.0 in omega (arith, low, here)) in
       data_word s S layout version at aligned high ∙ same.pages i a log b h c at aligned here below ∙ sym (data_word s R layout version at aligned high)
 

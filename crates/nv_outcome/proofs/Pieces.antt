@@ -1,32 +1,35 @@
 -- What pieces of all inodes have together.
-use Rattle.std.proofs.Common.{◌≡◌, ℕ, List, [], ◌∷◌, Some, ap, sym, ◌∙◌, subst}
+use Rattle.std.proofs.Common.{◌≡◌, ℕ, ◌+◌, ◌*◌, List, [], ◌∷◌, Some, ap, sym, ◌∙◌, subst}
 use Rattle.std.specs.List.{Contains}
 use Rattle.nv_region.specs.Region.{Region}
 use Rattle.nv_super.specs.declared.owners.Owner.{Owner}
 use Rattle.nv_super.specs.declared.owners.Owner.TheVariants as owners
 use Rattle.nv_super.specs.Layout.{Layout, slot_of}
 use Rattle.nv_super.specs.Order.{owner_key, Rises}
+use Rattle.nv_journal.specs.Chains.{IsLaid}
 use Rattle.nv_super.proofs.Rising.{Contains-head, Contains-tail, Below, head_least, below_not_self, tail_rises}
 use Rattle.nv_super.proofs.Members.{into_flat, from_flat}
-use Rattle.nv_check.specs.nv_scan.Owners.{Owns, by_log, by_page, inode_of}
+use Rattle.nv_check.specs.nv_scan.Owners.{Owns, by_table, by_log, by_page, teller}
 use Rattle.nv_check.specs.nv_scan.Faults.{Has, IsOnce, IsFaultOf}
 use Rattle.nv_check.specs.nv_scan.Rows.{IsPiece}
 use Rattle.nv_check.specs.nv_scan.Work.{claims_in}
 use Rattle.nv_check.specs.nv_scan.declared.piece.Piece.{Piece}
 use Rattle.nv_check.proofs.nv_scan.Existing.{slot_of_fault}
-use Rattle.nv_check.proofs.nv_scan.Only.{slot_in_use, no_table}
+use Rattle.nv_check.proofs.nv_scan.ChainBlocks.{first_slot}
+use Rattle.nv_check.proofs.nv_scan.Only.{slot_in_use}
 use Rattle.nv_outcome.specs.Parts.{ArePieces, faults_in, piece_key}
 use Rattle.nv_outcome.proofs.Counts.{IsOnce-from_rises, IsOnce-append}
 
-pub slot_of_owner : {R : Region} {l : Layout} {b : ℕ} (o : Owner) → Owns R l b o → (a : ℕ) × (slot_of l (inode_of o) ≡ Some a)
-slot_of_owner (owners.Table c k) h = absurd (no_table h)
-slot_of_owner (owners.Log i k) (by_log {a = a} h e) = (a, slot_in_use h)
-slot_of_owner (owners.Data i p) (by_page {a = a} h e) = (a, slot_in_use h)
+-- the inode with which an owner is told has a slot
+pub slot_of_owner : {R : Region} {l : Layout} {b : ℕ} (o : Owner) → IsLaid l → Owns R l b o → (a : ℕ) × (slot_of l (teller l o) ≡ Some a)
+slot_of_owner {l = l} {b = b} (owners.Table c k) laid (by_table has) = (b * 4096 + 128, first_slot l c k b laid has)
+slot_of_owner (owners.Log i k) laid (by_log {a = a} h e) = (a, slot_in_use h)
+slot_of_owner (owners.Data i p) laid (by_page {a = a} h e) = (a, slot_in_use h)
 
 module _ {R : Region} {l : Layout} where
-  pub owned_claimed : (ps : List Piece) → ArePieces R l ps → (b : ℕ) (o : Owner) → Owns R l b o → Contains (claims_in ps) (b, o)
-  owned_claimed ps h b o q =
-      let s = slot_of_owner o q in let w = h.all (inode_of o) s.0 s.1 in
+  pub owned_claimed : (ps : List Piece) → IsLaid l → ArePieces R l ps → (b : ℕ) (o : Owner) → Owns R l b o → Contains (claims_in ps) (b, o)
+  owned_claimed ps laid h b o q =
+      let s = slot_of_owner o laid q in let w = h.all (teller l o) s.0 s.1 in
       into_flat (λ (p : Piece). p.claims.items) ps w.0 (b, o) w.1 ((h.each w.0 w.1).claims.all (b, o) (q, sym w.2))
 
   pub claimed_owned : (ps : List Piece) → ArePieces R l ps → (b : ℕ) (o : Owner) → Contains (claims_in ps) (b, o) → Owns R l b o
@@ -40,8 +43,8 @@ module _ {R : Region} {l : Layout} where
       IsOnce-append p.claims.items (claims_in ps) (IsOnce-from_rises (λ (x : ℕ × Owner). owner_key x.1) p.claims.items (each p (Contains-head p ps)).claims.rising)
       (once_in ps (tail_rises piece_key p ps r) (λ q c. each q (Contains-tail p ps q c)))
       (λ x c d. (let w = from_flat (λ (q : Piece). q.claims.items) ps x d in
-      let mine : inode_of x.1 ≡ p.inode = ((each p (Contains-head p ps)).claims.each x c).1 in
-      let its : inode_of x.1 ≡ w.0.inode = ((each w.0 (Contains-tail p ps w.0 w.1)).claims.each x w.2).1 in
+      let mine : teller l x.1 ≡ p.inode = ((each p (Contains-head p ps)).claims.each x c).1 in
+      let its : teller l x.1 ≡ w.0.inode = ((each w.0 (Contains-tail p ps w.0 w.1)).claims.each x w.2).1 in
       let less = head_least piece_key p ps r w.0 w.1 in
       let same : piece_key p ≡ piece_key w.0 = ap (λ (n : ℕ). n ∷ []) (sym mine ∙ its) in
       let B : List ℕ → Type 0 = λ k. Below k (piece_key w.0) in

@@ -9,7 +9,7 @@ use Rattle.nv_super.proofs.Rising.{Lists-same}
 use Rattle.nv_alloc.specs.Taking.{pool_at}
 use Rattle.nv_alloc.proofs.Changed.{AreRuns-same}
 use Rattle.nv_check.specs.nv_scan.Inode.{Log, IsInode, IsInUse}
-use Rattle.nv_check.specs.nv_scan.Owners.{Owns, by_log, by_page}
+use Rattle.nv_check.specs.nv_scan.Owners.{Owns, by_table, by_log, by_page}
 use Rattle.nv_check.specs.nv_scan.Rows.{IsRow}
 use Rattle.nv_check.specs.nv_scan.Faults.{IsFaultOf, i1, i2, i3, l1, l2, l3, l4, entry}
 use Rattle.nv_check.specs.nv_scan.declared.piece.Row.{Row}
@@ -65,6 +65,7 @@ module _ {l : Layout} where
   -- ---- blocks
 
   owns : {U V : Region} → SameInodes l U V → {b : ℕ} {o : Owner} → Owns U l b o → Owns V l b o
+  owns same (by_table has) = by_table has
   owns same (by_log h e) = by_log (same.there h) e
   owns same (by_page h e) = by_page (same.there h) e
 

@@ -74,7 +74,8 @@ fn fill_run<B: Blocks>(
     requires small { 4096 * page + length buffer.old ≤ 2 ^ 41 }
     requires blocks { AreRegionBlocks index.now }
     ensures count { IfOk result (λ count. (0 < count) × (count ≤ length buffer.old) × (count % 4096 ≡ 0)) }
-    ensures filled { (image : List ℕ) → B.bytes source.now ≡ Some image → IfOk result (λ count. buffer.new ≡ map (file_byte (region_of image) index.now) (range_with_len (4096 * page) count) ++ drop count buffer.old) }
+    ensures filled { (image : List ℕ) → B.bytes source.now ≡ Some image
+        → IfOk result (λ count. buffer.new ≡ map (file_byte (region_of image) index.now) (range_with_len (4096 * page) count) ++ drop count buffer.old) }
     ensures known { (image : List ℕ) → B.bytes source.now ≡ Some image → LieInside (region_of image) index.now → is_err result ≡ false }
 {
     match index.get(page) {
@@ -100,7 +101,8 @@ fn read_run<B: Blocks>(
     requires small { 4096 * page + length buffer.old ≤ 2 ^ 41 }
     requires blocks { AreRegionBlocks index.now }
     ensures count { IfOk result (λ count. (0 < count) × (count ≤ length buffer.old) × (count % 4096 ≡ 0)) }
-    ensures filled { (image : List ℕ) → B.bytes source.now ≡ Some image → IfOk result (λ count. buffer.new ≡ map (file_byte (region_of image) index.now) (range_with_len (4096 * page) count) ++ drop count buffer.old) }
+    ensures filled { (image : List ℕ) → B.bytes source.now ≡ Some image
+        → IfOk result (λ count. buffer.new ≡ map (file_byte (region_of image) index.now) (range_with_len (4096 * page) count) ++ drop count buffer.old) }
     ensures known { (image : List ℕ) → B.bytes source.now ≡ Some image → LieInside (region_of image) index.now → is_err result ≡ false }
 {
     let count = PAGE * run_length(index, page, block, buffer.len() / PAGE);

@@ -44,7 +44,8 @@ pub fn rename_for<'a>(rows: &Rows, old: &'a [u8], new: &'a [u8]) -> Result<Move<
     ensures former { IfOk result (λ moved. IsPathName moved.from.name.now) }
     ensures name { IfOk result (λ moved. IsPathName moved.name.now) }
     ensures paths { OnOk result (((names : List (List ℕ)) × IsPath old.now names) × ((name : List ℕ) × (names : List (List ℕ)) × IsPath new.now (name ∷ names))) }
-    ensures spot { (region : Region) (names others : List (List ℕ)) → IsPath old.now names → IsPath new.now others → IfOk result (λ moved. IsMoveSpot (tree_of region rows.now.items) rows.now.items names others (place_in rows.now.items moved.from.directory) moved.from.name.now (place_in rows.now.items moved.from.target) (place_in rows.now.items moved.directory) moved.name.now) }
+    ensures spot { (region : Region) (names others : List (List ℕ)) → IsPath old.now names → IsPath new.now others
+        → IfOk result (λ moved. IsMoveSpot (tree_of region rows.now.items) rows.now.items names others (place_in rows.now.items moved.from.directory) moved.from.name.now (place_in rows.now.items moved.from.target) (place_in rows.now.items moved.directory) moved.name.now) }
     ensures allowed { (region : Region) (p q : Path) → Says old.now p → Says new.now q → OnOk result (first_refusal (rename_spot_tests (tree_of region rows.now.items) p q) ≡ Option.None) }
     ensures refused { (region : Region) (p q : Path) → Says old.now p → Says new.now q → IfErr result (λ e. first_refusal (rename_spot_tests (tree_of region rows.now.items) p q) ≡ Option.Some e) }
 {
@@ -80,7 +81,8 @@ pub fn rename_for<'a>(rows: &Rows, old: &'a [u8], new: &'a [u8]) -> Result<Move<
 /// Whether the inode of a row is a directory that the way to the last name of a path passes.
 fn is_into_itself(rows: &Rows, row: &Row, path: &[u8]) -> bool
     requires some { 0 < length path.now }
-    ensures { (region : Region) (names : List (List ℕ)) → Spells path.now names → result ≡ (is_directory row.now.kind && list_any (eqb row.now.inode) (passed (tree_of region rows.now.items) 1 names)) }
+    ensures { (region : Region) (names : List (List ℕ)) → Spells path.now names
+        → result ≡ (is_directory row.now.kind && list_any (eqb row.now.inode) (passed (tree_of region rows.now.items) 1 names)) }
 {
     is_directory(row) && passes(rows, path, row.inode)
 }

@@ -35,7 +35,8 @@ fn named_at<'a>(rows: &Rows, path: &'a [u8]) -> Result<Named<'a>, Refusal>
     ensures target { IfOk result (λ named. IsInUse rows.now.items named.target) }
     ensures name { IfOk result (λ named. IsPathName named.name.now) }
     ensures path { OnOk result ((names : List (List ℕ)) × IsPath path.now names) }
-    ensures spot { (region : Region) (names : List (List ℕ)) → IsPath path.now names → IfOk result (λ named. IsNamedAt (tree_of region rows.now.items) rows.now.items names (place_in rows.now.items named.directory) named.name.now (place_in rows.now.items named.target)) }
+    ensures spot { (region : Region) (names : List (List ℕ)) → IsPath path.now names
+        → IfOk result (λ named. IsNamedAt (tree_of region rows.now.items) rows.now.items names (place_in rows.now.items named.directory) named.name.now (place_in rows.now.items named.target)) }
     ensures allowed { (region : Region) (p : Path) → Says path.now p → OnOk result (first_refusal (named_tests (tree_of region rows.now.items) p) ≡ Option.None) }
     ensures refused { (region : Region) (p : Path) → Says path.now p → IfErr result (λ e. first_refusal (named_tests (tree_of region rows.now.items) p) ≡ Option.Some e) }
 {
@@ -62,7 +63,8 @@ pub fn unlink_for<'a>(rows: &Rows, path: &'a [u8]) -> Result<Named<'a>, Refusal>
     ensures target { IfOk result (λ named. IsInUse rows.now.items named.target) }
     ensures name { IfOk result (λ named. IsPathName named.name.now) }
     ensures path { OnOk result ((names : List (List ℕ)) × IsPath path.now names) }
-    ensures spot { (region : Region) (names : List (List ℕ)) → IsPath path.now names → IfOk result (λ named. IsNamedAt (tree_of region rows.now.items) rows.now.items names (place_in rows.now.items named.directory) named.name.now (place_in rows.now.items named.target)) }
+    ensures spot { (region : Region) (names : List (List ℕ)) → IsPath path.now names
+        → IfOk result (λ named. IsNamedAt (tree_of region rows.now.items) rows.now.items names (place_in rows.now.items named.directory) named.name.now (place_in rows.now.items named.target)) }
     ensures allowed { (region : Region) (p : Path) → Says path.now p → OnOk result (first_refusal (unlink_spot_tests (tree_of region rows.now.items) p) ≡ Option.None) }
     ensures refused { (region : Region) (p : Path) → Says path.now p → IfErr result (λ e. first_refusal (unlink_spot_tests (tree_of region rows.now.items) p) ≡ Option.Some e) }
     ensures file { IfOk result (λ named. (row : RowValue) → row_of rows.now.items named.target ≡ Option.Some row → row.kind ≡ File) }
@@ -87,7 +89,8 @@ pub fn rmdir_for<'a>(rows: &Rows, path: &'a [u8]) -> Result<Named<'a>, Refusal>
     ensures target { IfOk result (λ named. IsInUse rows.now.items named.target) }
     ensures name { IfOk result (λ named. IsPathName named.name.now) }
     ensures path { OnOk result ((names : List (List ℕ)) × IsPath path.now names) }
-    ensures spot { (region : Region) (names : List (List ℕ)) → IsPath path.now names → IfOk result (λ named. IsNamedAt (tree_of region rows.now.items) rows.now.items names (place_in rows.now.items named.directory) named.name.now (place_in rows.now.items named.target)) }
+    ensures spot { (region : Region) (names : List (List ℕ)) → IsPath path.now names
+        → IfOk result (λ named. IsNamedAt (tree_of region rows.now.items) rows.now.items names (place_in rows.now.items named.directory) named.name.now (place_in rows.now.items named.target)) }
     ensures allowed { (region : Region) (p : Path) → Says path.now p → OnOk result (first_refusal (rmdir_spot_tests (tree_of region rows.now.items) p) ≡ Option.None) }
     ensures refused { (region : Region) (p : Path) → Says path.now p → IfErr result (λ e. first_refusal (rmdir_spot_tests (tree_of region rows.now.items) p) ≡ Option.Some e) }
     ensures empty { IfOk result (λ named. (row : RowValue) → row_of rows.now.items named.target ≡ Option.Some row → (row.kind ≡ Directory) × ((q : List ℕ) → name_at row.names q ≡ Option.None)) }

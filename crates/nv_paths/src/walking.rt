@@ -65,7 +65,8 @@ pub(crate) fn walk<'a>(rows: &Rows, path: &'a [u8]) -> Result<(u64, &'a [u8]), R
 /// `NotFound` and `NotDirectory` as `walk` answers them.
 pub(crate) fn found<'a>(rows: &'a Rows, path: &[u8]) -> Result<Option<&'a Row>, Refusal>
     requires some { 0 < length path.now }
-    ensures row { (region : Region) (names : List (List ℕ)) → IsPath path.now names → IfOk result (λ row. option_copied row ≡ option_and_then (row_of rows.now.items) (found (tree_of region rows.now.items) names)) }
+    ensures row { (region : Region) (names : List (List ℕ)) → IsPath path.now names
+        → IfOk result (λ row. option_copied row ≡ option_and_then (row_of rows.now.items) (found (tree_of region rows.now.items) names)) }
     ensures held { IfOk result (λ row. IfSome row (λ r. row_of rows.now.items r.now.inode ≡ Option.Some r.now)) }
     ensures walk { (region : Region) (names : List (List ℕ)) → IsPath path.now names → IfOk result (λ _. (d : ℕ) × (walk (tree_of region rows.now.items) 1 names ≡ Result.Ok d)) }
     ensures refused { (region : Region) (names : List (List ℕ)) → IsPath path.now names → IfErr result (λ e. walk (tree_of region rows.now.items) 1 names ≡ Result.Err e) }

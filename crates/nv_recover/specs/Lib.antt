@@ -1,5 +1,6 @@
 pub use Rattle.nv_outcome.specs.Answer
 pub mod Errors
+pub mod Names
 pub mod Started
 pub mod Scanned
 pub mod Workers

@@ -14,20 +14,37 @@ pub const MOST_WORKERS: u64 = 64;
 #[derive(Clone, Copy, Debug, PartialEq, Eq, Error)]
 pub enum RecoverError {
     /// The superblock isn't accepted: its first fault. The region is as before.
-    #[error("superblock fault {0}")]
+    #[error("the superblock isn't accepted: {0}")]
     Super(SuperFault),
     /// A growth was refused. The region is as before, or its journals are rolled back.
     #[error("out of memory")]
     Memory,
     /// The memory's fuse has burnt. A later recovery gives the region that this one would have given.
-    #[error("stopped")]
+    #[error("the memory has been stopped")]
     Stopped,
     /// The number of workers isn't 1 to 64. The region is as before.
-    #[error("not 1 to 64 workers")]
+    #[error("there aren't 1 to 64 workers")]
     Workers,
     /// The number at this place of the schedule, the first such, is no worker's. The region is as before.
-    #[error("no worker at place {0} of the schedule")]
+    #[error("the number at place {0} of the schedule is no worker's")]
     Schedule(usize),
+}
+
+impl RecoverError {
+    ghost use Rattle.nv_recover.specs.Names.{error_name};
+
+    /// Its name: a script prints those of refusals, which are S1 to S7 for a superblock.
+    pub fn name(self) -> &'static str
+        ensures { result.now ≡ error_name self }
+    {
+        match self {
+            RecoverError::Super(fault) => fault.name(),
+            RecoverError::Memory => "Memory",
+            RecoverError::Stopped => "Stopped",
+            RecoverError::Workers => "Workers",
+            RecoverError::Schedule(_) => "Schedule",
+        }
+    }
 }
 
 impl From<SuperFault> for RecoverError {

@@ -67,7 +67,8 @@ pub fn recover_one<P: Pmem>(alloc: Global, memory: &mut P) -> Result<Recovered, 
     ensures unstopped { (s : SuperValue) → IsSuper (P.region memory.old) s → IsTrue ((P.fuse memory.old).is_open (4096 * system_blocks s)) → IfErr result (λ e. e ≢ errors.Stopped) }
     // Whatever a stop leaves has the same undone region.
     ensures settled { NothingPending (P.region memory.old) (P.may_hold memory.old) → IfOk result (λ _. NothingPending (P.region memory.new) (P.may_hold memory.new)) }
-    ensures any_stop { (s : SuperValue) → IsSuper (P.region memory.old) s → NothingPending (P.region memory.old) (P.may_hold memory.old) → LeavesOnly (P.region memory.new) (P.may_hold memory.new) (UndoesAsBefore (P.region memory.old)) }
+    ensures any_stop { (s : SuperValue) → IsSuper (P.region memory.old) s → NothingPending (P.region memory.old) (P.may_hold memory.old)
+        → LeavesOnly (P.region memory.new) (P.may_hold memory.new) (UndoesAsBefore (P.region memory.old)) }
 {
     let started = start(alloc, memory)?;
     let scanned = scan_all(alloc, &*memory, &started.sup, &started.tables)?;
@@ -106,7 +107,8 @@ fn scan_tickets<P: Pmem>(
     requires layout { IsLayout sup.now }
     requires tables { tables.now.layout ≡ fixed_layout sup.now }
     requires blocks { HasBlocks (P.region memory.now) sup.now.blocks }
-    ensures { IfOk result (λ r. (pieces drawn : List Piece) × AreInodes (P.region memory.now) sup.now pieces r.0 × IsPermutation (claims_in pieces) (claims_in drawn) × AreSetsOf (P.region memory.now) sup.now drawn r.0.rows.items r.1.first.items r.1.second.items) }
+    ensures { IfOk result (λ r. (pieces drawn : List Piece) × AreInodes (P.region memory.now) sup.now pieces r.0 × IsPermutation (claims_in pieces) (claims_in drawn)
+        × AreSetsOf (P.region memory.now) sup.now drawn r.0.rows.items r.1.first.items r.1.second.items) }
 {
     let mut scanner = Scanner::new(alloc, sup);
     let mut inodes = Inodes::new(alloc);

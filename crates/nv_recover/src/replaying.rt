@@ -72,7 +72,8 @@ pub fn recover_replay<P: Pmem>(
     ensures unstopped { (s : SuperValue) → IsSuper (P.region memory.old) s → IsTrue ((P.fuse memory.old).is_open (4096 * system_blocks s)) → IfErr result (λ e. e ≢ errors.Stopped) }
     // Whatever a stop leaves has the same undone region.
     ensures settled { NothingPending (P.region memory.old) (P.may_hold memory.old) → IfOk result (λ _. NothingPending (P.region memory.new) (P.may_hold memory.new)) }
-    ensures any_stop { (s : SuperValue) → IsSuper (P.region memory.old) s → NothingPending (P.region memory.old) (P.may_hold memory.old) → LeavesOnly (P.region memory.new) (P.may_hold memory.new) (UndoesAsBefore (P.region memory.old)) }
+    ensures any_stop { (s : SuperValue) → IsSuper (P.region memory.old) s → NothingPending (P.region memory.old) (P.may_hold memory.old)
+        → LeavesOnly (P.region memory.new) (P.may_hold memory.new) (UndoesAsBefore (P.region memory.old)) }
 {
     if !is_worker_count(workers) {
         return Err(RecoverError::Workers);

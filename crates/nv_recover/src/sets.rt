@@ -7,6 +7,7 @@ ghost use Rattle.nv_blockset.specs.BlockSet.{with_block};
 ghost use Rattle.nv_region.specs.Region.{Region};
 ghost use Rattle.nv_super.specs.declared.owners.Owner.{Owner as OwnerValue};
 ghost use Rattle.nv_super.specs.Layout.{IsLayout};
+ghost use Rattle.nv_scan.specs.ChainBlocks.{table_claims};
 ghost use Rattle.nv_scan.specs.Claims.{log_claims, run_claims, data_claims, IsSmall};
 ghost use Rattle.nv_scan.specs.Work.{claims_among, claims_in};
 ghost use Rattle.nv_scan.specs.declared.piece.Piece.{Piece};
@@ -20,7 +21,7 @@ use nv_claimmap::Claimed;
 use nv_numbered::Chunks;
 use nv_outcome::doubled;
 use nv_radix::Extent;
-use nv_scan::{Claims, Row, claims_of_rows};
+use nv_scan::{ChainBlock, Claims, Row, claims_of_rows};
 use nv_super::{MOST_BLOCKS, Owner, Super};
 use std::alloc::{AllocError, Global};
 
@@ -94,7 +95,8 @@ pub(crate) fn owned_of(alloc: Global, claimed: Claimed) -> Result<Owned, AllocEr
     })
 }
 
-// The claims of the blocks in the second set. Only where there is such a block, the claims of all rows are listed.
+// The claims of the blocks in the second set. Only where there is such a block, the claims of all rows are listed: there are
+// no chains.
 fn doubled_in(
     alloc: Global,
     sup: &Super,
@@ -103,7 +105,8 @@ fn doubled_in(
 ) -> Result<Vec<(u64, Owner)>, AllocError>
     requires layout { IsLayout sup.now }
     requires sets { (region : Region) × (pieces : List Piece) × (first : List ℕ) × AreSetsOf region sup.now pieces rows.now.items first second.now }
-    ensures { IfOk result (λ found. (region : Region) (pieces : List Piece) (first : List ℕ) → AreSetsOf region sup.now pieces rows.now.items first second.now → AreDoubled (claims_in pieces) second.now found.items) }
+    ensures { IfOk result (λ found. (region : Region) (pieces : List Piece) (first : List ℕ) → AreSetsOf region sup.now pieces rows.now.items first second.now
+        → AreDoubled (claims_in pieces) second.now found.items) }
 {
     if first_set(second, 0, sup.blocks) == sup.blocks {
         return Ok(Vec::new(alloc));
@@ -118,9 +121,21 @@ fn fill(first: &mut [u64], second: &mut [u64], claims: &Claims)
     ensures maps { TakeIn claims.now.items first.old second.old first.new second.new }
     ensures as_long { (length first.new ≡ length first.old) × (length second.new ≡ length second.old) }
 {
-    let (inode, pages, runs) = claims.parts();
+    let (table, inode, pages, runs) = claims.parts();
+    fill_table(first, second, table);
     fill_pages(first, second, inode, pages);
     fill_runs(first, second, inode, runs);
+}
+
+// Puts the block of a chain into the sets, if there is one.
+fn fill_table(first: &mut [u64], second: &mut [u64], table: Option<ChainBlock>)
+    requires within { All (Fits first.old second.old) (table_claims table) }
+    ensures maps { TakeIn (table_claims table) first.old second.old first.new second.new }
+    ensures as_long { (length first.new ≡ length first.old) × (length second.new ≡ length second.old) }
+{
+    if let Some(table) = table {
+        claim(first, second, table.block);
+    }
 }
 
 // Puts the pages of an inode's log into the sets.

@@ -71,7 +71,8 @@ fn work_all<P: Pmem + Sync, G: Gate + Sync, H: Threads + Sync>(
         rt,
         seats,
         &|seat: ClaimSeat| -> WorkerResult
-            requires { (seat.map ≡ map.now) × (seat.view ≡ nothing 1) × (map.now.sizes.blocks ≡ tables.now.layout.sup.blocks) × (map.now.sizes.tickets ≡ ticket_count tables.now.layout) × HasBlocks (P.region memory.now) tables.now.layout.sup.blocks }
+            requires { (seat.map ≡ map.now) × (seat.view ≡ nothing 1) × (map.now.sizes.blocks ≡ tables.now.layout.sup.blocks) × (map.now.sizes.tickets ≡ ticket_count tables.now.layout)
+                × HasBlocks (P.region memory.now) tables.now.layout.sup.blocks }
             ensures { Returned (P.region memory.entry.now) tables.entry.now.layout map.entry.now result }
         { worker(alloc, memory, tables, map, seat, gate) },
     )?;

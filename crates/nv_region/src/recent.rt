@@ -175,7 +175,8 @@ fn note_each(stored: &mut StoredLines, stores: &[StoredWord], words: &[u64])
     requires all { length words.now ≡ stored.old.total }
     requires within { AreWithin stores.now (length words.now) }
     ensures total { stored.new.total ≡ stored.old.total }
-    ensures before { (after : List ℕ) (i : ℕ) → i < length words.now → (IsElsewhere stores.now (length stores.now) i → get_or after i 0 ≡ get_or words.now i 0) → word_before stored.new.rows stored.new.kept after i ≡ word_before stored.old.rows stored.old.kept words.now i }
+    ensures before { (after : List ℕ) (i : ℕ) → i < length words.now → (IsElsewhere stores.now (length stores.now) i → get_or after i 0 ≡ get_or words.now i 0)
+        → word_before stored.new.rows stored.new.kept after i ≡ word_before stored.old.rows stored.old.kept words.now i }
 {
     for store in stores {
         stored.note(store.number / WORDS_IN_LINE, words);

@@ -87,8 +87,10 @@ impl StoredLines {
         requires within { 8 * end < length words.now + 8 }
         ensures total { self.new.total ≡ self.old.total }
         ensures lines { (p : ℕ) → is_stored self.new p ≡ true → (is_stored self.old p ≡ true) ⊎ (p < end) }
-        ensures here { (after : List ℕ) (i : ℕ) → i < length words.now → first ≤ i / 8 → i / 8 < end → word_before self.new.rows self.new.kept after i ≡ word_before self.old.rows self.old.kept words.now i }
-        ensures others { (after : List ℕ) (i : ℕ) → i < length words.now → (first ≤ i / 8 → i / 8 < end → ⊥) → word_before self.new.rows self.new.kept after i ≡ word_before self.old.rows self.old.kept after i }
+        ensures here { (after : List ℕ) (i : ℕ) → i < length words.now → first ≤ i / 8 → i / 8 < end
+            → word_before self.new.rows self.new.kept after i ≡ word_before self.old.rows self.old.kept words.now i }
+        ensures others { (after : List ℕ) (i : ℕ) → i < length words.now → (first ≤ i / 8 → i / 8 < end → ⊥)
+            → word_before self.new.rows self.new.kept after i ≡ word_before self.old.rows self.old.kept after i }
     {
         if end - first == 1 {
             self.note(first, words);
@@ -104,8 +106,10 @@ impl StoredLines {
         requires within { 8 * end < length words.now + 8 }
         ensures total { self.new.total ≡ self.old.total }
         ensures lines { (p : ℕ) → is_stored self.new p ≡ true → (is_stored self.old p ≡ true) ⊎ (p < end) }
-        ensures here { (after : List ℕ) (i : ℕ) → i < length words.now → first ≤ i / 8 → i / 8 < end → word_before self.new.rows self.new.kept after i ≡ word_before self.old.rows self.old.kept words.now i }
-        ensures others { (after : List ℕ) (i : ℕ) → i < length words.now → (first ≤ i / 8 → i / 8 < end → ⊥) → word_before self.new.rows self.new.kept after i ≡ word_before self.old.rows self.old.kept after i }
+        ensures here { (after : List ℕ) (i : ℕ) → i < length words.now → first ≤ i / 8 → i / 8 < end
+            → word_before self.new.rows self.new.kept after i ≡ word_before self.old.rows self.old.kept words.now i }
+        ensures others { (after : List ℕ) (i : ℕ) → i < length words.now → (first ≤ i / 8 → i / 8 < end → ⊥)
+            → word_before self.new.rows self.new.kept after i ≡ word_before self.old.rows self.old.kept after i }
     {
         let mut here = first;
         while here < end {
@@ -140,7 +144,8 @@ impl StoredLines {
         ensures total { self.new.total ≡ self.old.total }
         ensures lines { (p : ℕ) → is_stored self.new p ≡ true → (is_stored self.old p ≡ true) ⊎ (p < end) }
         ensures here { (after : List ℕ) (i : ℕ) → i < length words.now → first ≤ i / 8 → i / 8 < end → word_before self.new.rows self.new.kept after i ≡ get_or words.now i 0 }
-        ensures others { (after : List ℕ) (i : ℕ) → i < length words.now → (first ≤ i / 8 → i / 8 < end → ⊥) → word_before self.new.rows self.new.kept after i ≡ word_before self.old.rows self.old.kept after i }
+        ensures others { (after : List ℕ) (i : ℕ) → i < length words.now → (first ≤ i / 8 → i / 8 < end → ⊥)
+            → word_before self.new.rows self.new.kept after i ≡ word_before self.old.rows self.old.kept after i }
     {
         insert_row(&mut self.marks, first as u64, end as u64);
         keep(&mut self.rows, &mut self.kept, first, end, words);

@@ -37,7 +37,8 @@ pub fn commit_word<P: Pmem>(memory: &mut P, at: u64, value: u64) -> Result<(), S
     ensures wrote { StoresOnly (One at value) (P.region memory.old) (P.region memory.new) (P.may_hold memory.old) (P.may_hold memory.new) }
     ensures stopped { is_err result ≡ (P.fuse memory.new).has_burnt }
     ensures keeps_fuse { KeepsFuse (λ limit. at + 8 ≤ limit) (P.fuse memory.old) (P.fuse memory.new) }
-    ensures any_stop { NothingPending (P.region memory.old) (P.may_hold memory.old) → LeavesOnly (P.region memory.new) (P.may_hold memory.new) (λ left. (left ≡ P.region memory.old) ⊎ (left ≡ put (P.region memory.old) at value)) }
+    ensures any_stop { NothingPending (P.region memory.old) (P.may_hold memory.old)
+        → LeavesOnly (P.region memory.new) (P.may_hold memory.new) (λ left. (left ≡ P.region memory.old) ⊎ (left ≡ put (P.region memory.old) at value)) }
 {
     memory.store(at, value)?;
     memory.fence()

@@ -22,13 +22,6 @@ pub tree_both : (rows more : List Row) (text rest : List ℕ) → IsTreeText row
 tree_both [] more text rest is others = subst (IsTreeText more) (sym (ap (λ t. t ++ rest) is)) others
 tree_both (row ∷ rows) more text rest is others = (is.0, is.1 ++ rest, is.2, tree_both rows more is.1 rest is.3 others, ap (λ t. t ++ rest) is.4 ∙ append_assoc is.0 is.1 rest)
 
--- the text of the next inode of a list
-pub tree_next : {X : Type 0} (row_of : X → Row) (list : List X) (k : ℕ) (x : X) (old new : List ℕ) → k < length list → x ≡ get_or list k x → IsTreeText (map row_of (take k list)) old → AddsText (IsRowText (row_of x)) old new → IsTreeText (map row_of (take (k + 1) list)) new
-tree_next row_of list k x old new below is texts adds =
-    let rows : map row_of (take (k + 1) list) ≡ map row_of (take k list) ++ row_of x ∷ [] =
-    ap (λ (n : ℕ). map row_of (take n list)) (add-one k) ∙ ap (map row_of) (take-suc list k x below) ∙ map-append row_of (take k list) (get_or list k x ∷ []) ∙ ap (λ y. map row_of (take k list) ++ row_of y ∷ []) (sym is) in
-    subst (λ (l : List Row). IsTreeText l new) (sym rows) (subst (λ (t : List ℕ). IsTreeText (map row_of (take k list) ++ row_of x ∷ []) t) (sym adds.2) (tree_snoc (map row_of (take k list)) (row_of x) old adds.0 texts adds.1))
-
 -- the texts of two halves of a list
 pub tree_halves : {X : Type 0} (row_of : X → Row) (list : List X) (n : ℕ) (first second : List X) (text rest : List ℕ) → first ≡ take n list → second ≡ drop n list → IsTreeText (map row_of first) text → IsTreeText (map row_of second) rest → IsTreeText (map row_of list) (text ++ rest)
 tree_halves row_of list n first second text rest front back a b =
@@ -50,6 +43,24 @@ adds_row row old mid new e b = adds_after (IsContentText row.kind row.index row.
 -- one inode more
 pub adds_tree : (rows : List Row) (row : Row) (old mid new : List ℕ) → AddsText (IsTreeText rows) old mid → AddsText (IsRowText row) mid new → AddsText (IsTreeText (rows ++ row ∷ [])) old new
 adds_tree rows row old mid new a b = adds_both (IsTreeText rows) (IsRowText row) (IsTreeText (rows ++ row ∷ [])) old mid new (λ s t is shown. tree_snoc rows row s t is shown) a b
+
+-- none yet
+pub adds_none : (old : List ℕ) → AddsText (IsTreeText []) old old
+adds_none old = ([], refl, sym (append-nil old))
+
+-- the text of the next inode of a list
+pub adds_next : {X : Type 0} (row_of : X → Row) (list : List X) (k : ℕ) (x : X) (start old new : List ℕ) → k < length list → x ≡ get_or list k x → AddsText (IsTreeText (map row_of (take k list))) start old → AddsText (IsRowText (row_of x)) old new
+    → AddsText (IsTreeText (map row_of (take (k + 1) list))) start new
+adds_next row_of list k x start old new below is added adds =
+    let rows : map row_of (take (k + 1) list) ≡ map row_of (take k list) ++ row_of x ∷ [] =
+    ap (λ (n : ℕ). map row_of (take n list)) (add-one k) ∙ ap (map row_of) (take-suc list k x below) ∙ map-append row_of (take k list) (get_or list k x ∷ []) ∙ ap (λ y. map row_of (take k list) ++ row_of y ∷ []) (sym is) in
+    subst (λ (l : List Row). AddsText (IsTreeText l) start new) (sym rows) (adds_tree (map row_of (take k list)) (row_of x) start old new added adds)
+
+-- the texts of two halves of a list, the second of which was written by itself
+pub adds_halves : {X : Type 0} (row_of : X → Row) (list : List X) (n : ℕ) (first second : List X) (start mid new rest : List ℕ) → first ≡ take n list → second ≡ drop n list → AddsText (IsTreeText (map row_of first)) start mid
+    → AddsText (IsTreeText (map row_of second)) [] rest → new ≡ mid ++ rest → AddsText (IsTreeText (map row_of list)) start new
+adds_halves row_of list n first second start mid new rest front back a b is =
+    (a.0 ++ b.0, tree_halves row_of list n first second a.0 b.0 front back a.1 b.1, is ∙ ap (λ t. mid ++ t) b.2 ∙ ap (λ t. t ++ b.0) a.2 ∙ append_assoc start a.0 b.0)
 
 -- all parts of a report
 pub adds_report : (o : Outcome) (a b c d e : List ℕ) → b ≡ a ++ region_line o.sup → AddsText (IsTreeText o.rows) b c → d ≡ c ++ free_lines o.free → e ≡ d ++ faults_text o.faults → AddsText (IsReportText o) a e

@@ -6,7 +6,7 @@ ghost use Rattle.nv_report.specs.Last.{how_it_went};
 use nv_super::Fault;
 
 /// How the last recovery went. With none at all it is `Sound`.
-#[derive(Clone, Copy, Debug, PartialEq, Eq)]
+#[derive(Clone, Copy, PartialEq, Eq)]
 pub enum Last {
     /// It found no fault.
     Sound,

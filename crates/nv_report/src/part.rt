@@ -1,7 +1,7 @@
 //! What a script can ask to see of a mounted outcome.
 
 /// A part of an outcome, or all of it.
-#[derive(Clone, Copy, Debug, PartialEq, Eq)]
+#[derive(Clone, Copy, PartialEq, Eq)]
 pub enum Part {
     /// The inodes in use.
     Tree,

@@ -1,5 +1,5 @@
-//! The report of a recovery, whose inodes are written by several threads: each writes the texts of a row of inodes, and these are put
-//! together.
+//! The report of a recovery, whose inodes are written by several threads: the first writes behind the line of the region, and what the
+//! others wrote is put behind that.
 
 ghost use Rattle.std.specs.Prelude.{◌≡◌, ◌++◌, IfOk, OnOk, map, string_bytes};
 ghost use denote.Param.Send.{IsSync};
@@ -15,6 +15,9 @@ use nv_text::{push_faults, push_region_line};
 use std::alloc::{AllocError, Global};
 use std::thread::{Threads, join};
 
+// For fewer inodes than these another thread isn't worth its start.
+const FEW_ROWS: usize = 512;
+
 /// The whole report of a recovery: `part_text` of `Part::Report`, for which so many threads write the inodes.
 ///
 /// Errors: `AllocError` where a growth was refused.
@@ -28,10 +31,9 @@ pub fn report_text<H: Threads + Sync>(
 {
     let shown = Shown::of(recovered);
     let rows = listed(alloc, shown.rows)?;
-    let tree = tree_text(rt, alloc, &rows, threads)?;
-    let mut text = String::new(alloc);
-    push_region_line(&mut text, shown.sup)?;
-    text.push_str(&tree)?;
+    let mut first = String::new(alloc);
+    push_region_line(&mut first, shown.sup)?;
+    let mut text = with_tree(rt, alloc, first, &rows, threads)?;
     push_free(&mut text, shown.free)?;
     push_faults(&mut text, shown.faults)?;
     Ok(text)
@@ -48,42 +50,45 @@ fn listed<'a>(alloc: Global, rows: &'a Rows) -> Result<Vec<&'a Row>, AllocError>
     Ok(list)
 }
 
-// The texts of these inodes, written by so many threads.
-fn tree_text<H: Threads + Sync>(
+// A text with those of these inodes behind it, written by so many threads, or by fewer where there are few. The first thread
+// writes behind the text itself, and only what others wrote is copied.
+fn with_tree<H: Threads + Sync>(
     rt: &H,
     alloc: Global,
+    text: String,
     rows: &[&Row],
     threads: u64,
 ) -> Result<String, AllocError>
-    ensures { IfOk result (λ text. IsTreeText (map (λ row. row.now) rows.now) (string_bytes text)) }
+    ensures { IfOk result (λ all. AddsText (IsTreeText (map (λ row. row.now) rows.now)) (string_bytes text) (string_bytes all)) }
 {
-    if threads < 2 {
-        return rows_text(alloc, rows);
+    if threads < 2 || rows.len() < FEW_ROWS {
+        return with_rows(text, rows);
     }
     let (first, second) = rows.split_at(rows.len() / 2);
+    let none = String::new(alloc);
     let (left, right) = join(
         rt,
         || -> Result<String, AllocError>
             requires { IsSync H.row }
-            ensures { IfOk result (λ text. IsTreeText (map (λ row. row.now) first.entry.now) (string_bytes text)) }
-        { tree_text(rt, alloc, first, threads / 2) },
+            ensures { IfOk result (λ all. AddsText (IsTreeText (map (λ row. row.now) first.entry.now)) (string_bytes text) (string_bytes all)) }
+        { with_tree(rt, alloc, text, first, threads / 2) },
         || -> Result<String, AllocError>
             requires { IsSync H.row }
-            ensures { IfOk result (λ text. IsTreeText (map (λ row. row.now) second.entry.now) (string_bytes text)) }
-        { tree_text(rt, alloc, second, threads - threads / 2) },
+            ensures { IfOk result (λ all. AddsText (IsTreeText (map (λ row. row.now) second.entry.now)) (string_bytes none) (string_bytes all)) }
+        { with_tree(rt, alloc, none, second, threads - threads / 2) },
     );
-    let mut text = left?;
-    text.push_str(&right?)?;
-    Ok(text)
+    let mut all = left?;
+    all.push_str(&right?)?;
+    Ok(all)
 }
 
-// The texts of these inodes, written by this thread.
-fn rows_text(alloc: Global, rows: &[&Row]) -> Result<String, AllocError>
-    ensures { IfOk result (λ text. IsTreeText (map (λ row. row.now) rows.now) (string_bytes text)) }
+// The same, written by this thread.
+fn with_rows(text: String, rows: &[&Row]) -> Result<String, AllocError>
+    ensures { IfOk result (λ all. AddsText (IsTreeText (map (λ row. row.now) rows.now)) (string_bytes text) (string_bytes all)) }
 {
-    let mut text = String::new(alloc);
+    let mut all = text;
     for row in rows {
-        push_row(&mut text, row)?;
+        push_row(&mut all, row)?;
     }
-    Ok(text)
+    Ok(all)
 }

@@ -27,12 +27,11 @@ use Rattle.nv_scan.specs.Faults.{Has, IsEntryFault, IsFaultOf, i1, i2, i3, l1, l
 use Rattle.nv_scan.specs.Scanned.{fault_of_end}
 use Rattle.nv_scan.specs.Rows.{IsRow}
 use Rattle.nv_scan.specs.declared.piece.Row.{Row}
-use Rattle.nv_scan.specs.declared.piece.Piece.{Piece}
 use Rattle.nv_scan.proofs.Blocks.{last_word-all, data_pages}
 use Rattle.nv_scan.proofs.EntryFaults.{fault_behind, found-more, found-none}
 use Rattle.nv_scan.proofs.InUse.{has_log}
 use Rattle.nv_scan.proofs.Only.{slot_in_use, kind_in_use}
-use Rattle.nv_scan.proofs.Pieces.{faults_are, right_faults, wrong_faults, empty_piece}
+use Rattle.nv_scan.proofs.Pieces.{faults_are, right_faults, wrong_faults, empty_faults}
 
 -- ---- vectors
 
@@ -75,14 +74,7 @@ module _ (R : Region) (l : Layout) (i a : ℕ) (here : slot_of l i ≡ Some a) w
   of_unused : kind_at R a ≡ None → (o : Option Fault) → ((f : Fault) → o ≡ Some f → IsFaultOf R l i f)
       → (1 < word R a → o ≡ Some (faults.I1 i)) → (word R a ≡ 1 → o ≡ Some (faults.I2 i)) → Found
   unfolding Found
-  of_unused no_kind o told one two =
-      let small : length (cons_option o []) < 2 ^ 63 = few o in
-      let p : Piece = record { inode = i; row = None; claims = record { items = [] }; faults = vec_of (cons_option o []) small } in
-      let is = empty_piece R l i a o p here no_kind told one two (record { inode = refl; row = refl; claims = refl; faults = vec_items (cons_option o []) small }) in
-      (cons_option o [], subst (λ (fs : List Fault). Has (IsFaultOf R l i) fs) (vec_items (cons_option o []) small) is.faults.has) where
-        few : (o : Option Fault) → length (cons_option o []) < 2 ^ 63
-        few None = omega arith
-        few (Some f) = omega arith
+  of_unused no_kind o told one two = (cons_option o [], (empty_faults R l i a here no_kind o told one two).has)
 
   unused_faults : kind_at R a ≡ None → Found
   unused_faults no_kind = elim (cases_lt 1 (word R a)) [

@@ -1,21 +1,10 @@
 pub mod Words
-pub mod ReadWithout
-pub mod SameIndexes
-pub mod Deciding
-pub mod InPages
-pub mod InTurn
-pub mod ReadWithoutPages
-pub mod DeadRuns
-pub mod Unspared
-pub mod Standing
-pub mod Pairing
-pub mod Stamping
-pub mod Changing
 pub mod EntryFaults
 pub mod FaultsOnce
 pub mod Steps
 pub mod ReadSoFar
 pub mod ClaimLists
+pub mod ChainBlocks
 pub mod Only
 pub mod Alone
 pub mod InUse
@@ -35,3 +24,4 @@ pub mod Work
 pub mod RowKeys
 pub mod RowClaims
 pub mod RowHeads
+pub use Rattle.nv_inode.proofs.FixedLayout

@@ -1,8 +1,8 @@
 -- A region holds one thing of each inode.
-use Rattle.std.proofs.Common.{◌≡◌, ℕ, ◌+◌, Bool, true, false, refl, ap, sym, ◌∙◌, subst, Some, slice_get}
+use Rattle.std.proofs.Common.{◌≡◌, ℕ, ◌+◌, true, false, ap, sym, ◌∙◌, subst, Some, slice_get}
 use Rattle.std.proofs.lemmas.Bool.{true≢false}
 use Rattle.nv_region.specs.Region.{Region, word}
-use Rattle.nv_super.specs.Layout.{Layout, slot_of}
+use Rattle.nv_super.specs.Layout.{Layout, slot_of, chain_of}
 use Rattle.nv_super.specs.declared.owners.Owner.{Owner}
 use Rattle.nv_super.specs.declared.owners.Owner.TheVariants as owners
 use Rattle.nv_super.proofs.Options.{some_is}
@@ -11,7 +11,9 @@ use Rattle.nv_logpage.specs.Reads.{Reads}
 use Rattle.nv_logpage.proofs.Once.{ReadsOn-only}
 use Rattle.nv_scan.specs.State.{block_of}
 use Rattle.nv_scan.specs.Inode.{Log, IsInode, right, wrong, empty_log, good_of}
-use Rattle.nv_scan.specs.Owners.{Owns, by_log, by_page}
+use Rattle.nv_scan.specs.Owners.{Owns, by_table, by_log, by_page}
+use Rattle.nv_scan.specs.ChainBlocks.{IsChainless}
+use Rattle.nv_scan.proofs.ChainBlocks.{no_place}
 
 same_log : (a b : Log) → a.kind ≡ b.kind → a.entries ≡ b.entries → a.pages ≡ b.pages → a.fault ≡ b.fault → a ≡ b
 same_log a b p q r s = λ i. record { kind = p i; entries = q i; pages = r i; fault = s i }
@@ -63,23 +65,17 @@ owned_log (by_log {a = a} {log = x} h e) = record { a = a; log = x; is = h; page
 pub owned_page : {R : Region} {l : Layout} {i p b : ℕ} → Owns R l b (owners.Data i p) → OwnsPage R l i p b
 owned_page (by_page {a = a} {log = x} h e) = record { a = a; log = x; is = h; maps = e }
 
--- an owner that is of an inode
-abbrev pub is_of_inode : Owner → Bool
-is_of_inode (owners.Table c k) = false
-is_of_inode (owners.Log i k) = true
-is_of_inode (owners.Data i p) = true
+-- the block of a chain
+pub owned_table : {R : Region} {l : Layout} {c k b : ℕ} → Owns R l b (owners.Table c k) → slice_get (chain_of l c) k ≡ Some b
+owned_table (by_table e) = e
 
-owned_by_inode : {R : Region} {l : Layout} {b : ℕ} {o : Owner} → Owns R l b o → is_of_inode o ≡ true
-owned_by_inode (by_log h e) = refl
-owned_by_inode (by_page h e) = refl
-
--- a table owns no block
-pub no_table : {R : Region} {l : Layout} {c k b : ℕ} → Owns R l b (owners.Table c k) → ⊥
-no_table h = let clash : false ≡ true = owned_by_inode h in cc
+-- without chains no table owns a block
+pub no_table : {R : Region} {l : Layout} {c k b : ℕ} → IsChainless l → Owns R l b (owners.Table c k) → ⊥
+no_table {l = l} {c = c} {k = k} {b = b} none h = no_place l c k b none (owned_table h)
 
 -- each owner has one block
 pub one_block : (R : Region) (l : Layout) (o : Owner) (b c : ℕ) → Owns R l b o → Owns R l c o → b ≡ c
-one_block R l (owners.Table n k) b c h q = absurd (no_table h)
+one_block R l (owners.Table n k) b c h q = some_is b c (slice_get (chain_of l n) k) (owned_table h) (owned_table q)
 one_block R l (owners.Log i k) b c h q =
     let u = owned_log h in let v = owned_log q in
     let same : u.log ≡ v.log = (IsInode-only u.is v.is).1 in

@@ -16,8 +16,8 @@ use Rattle.nv_super.specs.declared.owners.Owner.TheVariants as owners
 use Rattle.nv_super.specs.declared.faults.Fault.{Fault}
 use Rattle.nv_super.specs.declared.faults.Fault.TheVariants as faults
 use Rattle.nv_super.specs.Layout.{IsLayout, is_number, slot_address, slot_of, fixed_layout, Layout}
-use Rattle.nv_super.specs.Order.{Lists, owner_key}
-use Rattle.nv_super.proofs.Rising.{Contains-cons, Contains-head}
+use Rattle.nv_super.specs.Order.{owner_key}
+use Rattle.nv_super.proofs.Rising.{Contains-cons, Contains-head, rises_append}
 use Rattle.nv_super.proofs.Options.{some_is}
 use Rattle.nv_inode.specs.declared.slot.Slot.{Slot}
 use Rattle.nv_inode.specs.Slot.{slot_at, kind_of, kind_at, is_right_log}
@@ -29,19 +29,22 @@ use Rattle.nv_logpage.specs.Reads.{Reads}
 use Rattle.nv_radix.specs.Pages.{Pages, block_at}
 use Rattle.nv_scan.specs.State.{block_of}
 use Rattle.nv_scan.specs.Inode.{Log, IsInode, IsInUse, right, wrong, empty_log, good_of}
-use Rattle.nv_scan.specs.Owners.{Owns, by_log, by_page, inode_of, AreClaims}
+use Rattle.nv_scan.specs.Owners.{Owns, by_table, by_log, by_page, teller, IsTable, table, AreClaims}
+use Rattle.nv_scan.specs.ChainBlocks.{TellsTable, table_claims}
 use Rattle.nv_scan.specs.Faults.{Has, HasOnce, IsOnce, IsEntryFault, IsFaultOf, i1, i2, i3, l1, l2, l3, l4, entry}
 use Rattle.nv_scan.specs.Fold.{Holds}
 use Rattle.nv_scan.specs.Rows.{AreNumbers, IsRow, IsPiece}
 use Rattle.nv_names.specs.Names.{Names, name_at}
-use Rattle.nv_scan.specs.Claims.{IsClaim, of_log, of_page}
+use Rattle.nv_scan.specs.Claims.{IsClaim, of_log, of_page, AreClaimsBy}
 use Rattle.nv_scan.specs.Reading.{IsRead}
 use Rattle.nv_scan.specs.Scanned.{fault_by, fault_of_end, IsPieceOf, IsEmptyPiece}
+use Rattle.nv_scan.specs.declared.chain_block.ChainBlock.{ChainBlock}
 use Rattle.nv_scan.specs.declared.fold.Fold.{Fold}
 use Rattle.nv_scan.specs.declared.piece.Row.{Row}
 use Rattle.nv_scan.specs.declared.piece.Piece.{Piece}
 use Rattle.nv_scan.proofs.FaultsOnce.{IsOnce-option, IsOnce-more, end_apart, head_apart, inode_apart}
-use Rattle.nv_scan.proofs.Only.{IsInode-only, slot_in_use, kind_in_use, owned_log, owned_page, no_table}
+use Rattle.nv_scan.proofs.Only.{IsInode-only, slot_in_use, kind_in_use, owned_table, owned_log, owned_page}
+use Rattle.nv_scan.proofs.ChainBlocks.{told_before}
 
 -- an inode's slot stands in the fixed tables
 pub slot_is : (s : Super) (i : ℕ) → IsLayout s → IsTrue (is_number s i) → slot_of (fixed_layout s) i ≡ Some (slot_address s i)
@@ -54,34 +57,38 @@ slot_is s i layout number =
     let fixed : nat_lt (i / s.cpus) (32 * s.table_blocks) ≡ true = grind (arith, nat_tests) in
     rw (not_first, fixed) refl
 
+-- the block of a chain is owned, and told with the inode
+pub owns_table : {R : Region} {l : Layout} {i : ℕ} (x : ℕ × Owner) → IsTable l i x → Owns R l x.0 x.1 × (teller l x.1 ≡ i)
+owns_table _ (table has number) = (by_table has, number)
+
 module _ {R : Region} {l : Layout} {i a : ℕ} {log : Log} (is : IsInode R l i a log) where
   same_log : {b : ℕ} {other : Log} → IsInode R l i b other → other ≡ log
   same_log h = (IsInode-only h is).1
 
-  -- what the inode owns is what its log's pages and its index give
+  -- what is told with the inode is the block of a chain, or what its log's pages and its index give
   pub owned : (pages : List ℕ) (m : Pages) → pages ≡ log.pages → ((p : ℕ) → block_at m p ≡ block_of (good_of l log) p)
-      → (b : ℕ) (o : Owner) → Owns R l b o → inode_of o ≡ i → IsClaim i pages m (b, o)
-  owned pages m same index b (owners.Table c k) h e = absurd (no_table h)
+      → (b : ℕ) (o : Owner) → Owns R l b o → teller l o ≡ i → IsTable l i (b, o) ⊎ IsClaim i pages m (b, o)
+  owned pages m same index b (owners.Table c k) h e = inl (table (owned_table h) e)
   owned pages m same index b (owners.Log j k) h e =
       let w = owned_log (subst (λ (n : ℕ). Owns R l b (owners.Log n k)) e h) in
-      subst (λ (n : ℕ). IsClaim i pages m (b, owners.Log n k)) (sym e)
-      (of_log k b (ap (λ (xs : List ℕ). slice_get xs k) same ∙ ap (λ (x : Log). slice_get x.pages k) (sym (same_log w.is)) ∙ w.page))
+      inr (subst (λ (n : ℕ). IsClaim i pages m (b, owners.Log n k)) (sym e)
+      (of_log k b (ap (λ (xs : List ℕ). slice_get xs k) same ∙ ap (λ (x : Log). slice_get x.pages k) (sym (same_log w.is)) ∙ w.page)))
   owned pages m same index b (owners.Data j p) h e =
       let w = owned_page (subst (λ (n : ℕ). Owns R l b (owners.Data n p)) e h) in
-      subst (λ (n : ℕ). IsClaim i pages m (b, owners.Data n p)) (sym e)
-      (of_page p b (index p ∙ ap (λ (x : Log). block_of (good_of l x) p) (sym (same_log w.is)) ∙ w.maps))
+      inr (subst (λ (n : ℕ). IsClaim i pages m (b, owners.Data n p)) (sym e)
+      (of_page p b (index p ∙ ap (λ (x : Log). block_of (good_of l x) p) (sym (same_log w.is)) ∙ w.maps)))
 
   pub owns : (pages : List ℕ) (m : Pages) → pages ≡ log.pages → ((p : ℕ) → block_at m p ≡ block_of (good_of l log) p)
-      → (x : ℕ × Owner) → IsClaim i pages m x → Owns R l x.0 x.1 × (inode_of x.1 ≡ i)
+      → (x : ℕ × Owner) → IsClaim i pages m x → Owns R l x.0 x.1 × (teller l x.1 ≡ i)
   owns pages m same index _ (of_log k b h) = (by_log is (ap (λ (xs : List ℕ). slice_get xs k) (sym same) ∙ h), refl)
   owns pages m same index _ (of_page p b h) = (by_page is (sym (index p) ∙ h), refl)
 
-  pub claims_are : (pages : List ℕ) (m : Pages) (claims : List (ℕ × Owner)) → pages ≡ log.pages → ((p : ℕ) → block_at m p ≡ block_of (good_of l log) p)
-      → Lists (λ (x : ℕ × Owner). owner_key x.1) (IsClaim i pages m) claims → AreClaims R l i claims
-  claims_are pages m claims same index lists = record {
-    rising = lists.rising;
-    each = λ x c. owns pages m same index x (lists.each x c);
-    all = λ x h. lists.all x (owned pages m same index x.0 x.1 h.0 h.1);
+  pub claims_are : (told : Option ChainBlock) (pages : List ℕ) (m : Pages) (claims : List (ℕ × Owner)) → TellsTable l i told → pages ≡ log.pages → ((p : ℕ) → block_at m p ≡ block_of (good_of l log) p)
+      → AreClaimsBy told i pages m claims → AreClaims R l i claims
+  claims_are told pages m claims tells same index (own, split, lists) = subst (λ (cs : List (ℕ × Owner)). AreClaims R l i cs) (sym split) record {
+    rising = rises_append (λ (x : ℕ × Owner). owner_key x.1) (table_claims told) own tells.rising lists.rising (λ x y c d. told_before l i pages m x y (tells.each x c) (lists.each y d));
+    each = λ x c. elim (Contains-append_cases (table_claims told) own x c) [ inl w ↦ owns_table x (tells.each x w) | inr w ↦ owns pages m same index x (lists.each x w) ];
+    all = λ x h. elim (owned pages m same index x.0 x.1 h.0 h.1) [ inl w ↦ Contains-append_left (table_claims told) own x (tells.all x w) | inr w ↦ Contains-append_right (table_claims told) own x (lists.all x w) ];
   }
 
   -- the faults of an inode in use: those of its entries, and one by its log, if there is one
@@ -116,9 +123,9 @@ module _ {R : Region} {l : Layout} {i a : ℕ} {log : Log} (is : IsInode R l i a
   }
 
   -- the piece of an inode in use
-  pub piece_is : (kind : Kind) (slot : Slot) (pages : List ℕ) (fold : Fold) (fault : Option Fault) (p : Piece) → slot ≡ slot_at R a → log.kind ≡ kind → pages ≡ log.pages
-      → Holds l.sup kind i slot.created log.entries fold → FaultBy fault → IsPieceOf i kind slot pages fold fault p → IsPiece R l p
-  piece_is kind slot pages fold fault p words same_kind same_pages h by of =
+  pub piece_is : (told : Option ChainBlock) (kind : Kind) (slot : Slot) (pages : List ℕ) (fold : Fold) (fault : Option Fault) (p : Piece) → TellsTable l i told → slot ≡ slot_at R a → log.kind ≡ kind → pages ≡ log.pages
+      → Holds l.sup kind i slot.created log.entries fold → FaultBy fault → IsPieceOf i told kind slot pages fold fault p → IsPiece R l p
+  piece_is told kind slot pages fold fault p tells words same_kind same_pages h by of =
       let holds : Holds l.sup log.kind i slot.created log.entries fold = subst (λ (k : Kind). Holds l.sup k i slot.created log.entries fold) (sym same_kind) h in
       let r = of.row in
       let row = of.is_row in
@@ -135,7 +142,7 @@ module _ {R : Region} {l : Layout} {i a : ℕ} {log : Log} (is : IsInode R l i a
       } in
       record {
         row = subst (λ (o : Option Row). MatchOption o (IsInUse R l p.inode → ⊥) (λ r. (r.inode ≡ p.inode) × (a : ℕ) × (log : Log) × IsRow R l a log r)) (sym of.has_row) (row.0 ∙ sym of.inode, a, log, is_row);
-        claims = subst (λ (n : ℕ). AreClaims R l n p.claims.items) (sym of.inode) (claims_are pages r.index p.claims.items same_pages index of.claims);
+        claims = subst (λ (n : ℕ). AreClaims R l n p.claims.items) (sym of.inode) (claims_are told pages r.index p.claims.items tells same_pages index of.claims);
         faults = subst (λ (n : ℕ). HasOnce (IsFaultOf R l n) p.faults.items) (sym of.inode)
             (subst (λ (fs : List Fault). HasOnce (IsFaultOf R l i) fs) (sym of.faults) (faults_once fold.faults.items fault by holds.found (holds.once (inode_apart is))));
       }
@@ -222,75 +229,77 @@ wrong_faults {R} {l} {i} {a} {log} is none t = record {
     split f (entry h e) = inl (subst (λ (x : Log). IsEntryFault l.sup x.kind i x.entries f) (same_log is h) e)
 
 -- the piece of an inode whose head and tail are right
-pub right_piece : (R : Region) (l : Layout) (i a : ℕ) (kind : Kind) (slot : Slot) (fold : Fold) (pages : List ℕ) (end : Option LogEnd) (p : Piece) → slot_of l i ≡ Some a
+pub right_piece : (R : Region) (l : Layout) (i a : ℕ) (told : Option ChainBlock) (kind : Kind) (slot : Slot) (fold : Fold) (pages : List ℕ) (end : Option LogEnd) (p : Piece) → TellsTable l i told → slot_of l i ≡ Some a
     → slot ≡ slot_at R a → kind_of slot ≡ Some kind → is_right_log l.sup slot.head slot.tail ≡ true → IsRead R l.sup i kind slot fold pages end
-    → IsPieceOf i kind slot pages fold (fault_of_end i end) p → IsPiece R l p
-right_piece R l i a kind slot fold pages end p here words is_kind is_right r of =
+    → IsPieceOf i told kind slot pages fold (fault_of_end i end) p → IsPiece R l p
+right_piece R l i a told kind slot fold pages end p tells here words is_kind is_right r of =
     let log : Log = record { kind = kind; entries = r.entries; pages = pages; fault = end } in
     let right_at : is_right_log l.sup (word R (a + 16)) (word R (a + 24)) ≡ true = subst (λ (t : Slot). is_right_log l.sup t.head t.tail ≡ true) words is_right in
     let is : IsInode R l i a log = right here (subst (λ (t : Slot). kind_of t ≡ Some kind) words is_kind) right_at
     (subst (λ (t : Slot). Reads R l.sup t.head t.tail r.entries pages end) words r.reads) in
-    piece_is is kind slot pages fold (fault_of_end i end) p words refl refl r.holds (right_faults is right_at) of
+    piece_is is told kind slot pages fold (fault_of_end i end) p tells words refl refl r.holds (right_faults is right_at) of
 
 -- the piece of an inode whose head or tail isn't right
-pub wrong_piece : (R : Region) (l : Layout) (i a : ℕ) (kind : Kind) (slot : Slot) (fold : Fold) (p : Piece) → slot_of l i ≡ Some a
+pub wrong_piece : (R : Region) (l : Layout) (i a : ℕ) (told : Option ChainBlock) (kind : Kind) (slot : Slot) (fold : Fold) (p : Piece) → TellsTable l i told → slot_of l i ≡ Some a
     → slot ≡ slot_at R a → kind_of slot ≡ Some kind → is_right_log l.sup slot.head slot.tail ≡ false → Holds l.sup kind i slot.created [] fold
-    → IsPieceOf i kind slot [] fold (Some (faults.I3 i)) p → IsPiece R l p
-wrong_piece R l i a kind slot fold p here words is_kind is_wrong h of =
+    → IsPieceOf i told kind slot [] fold (Some (faults.I3 i)) p → IsPiece R l p
+wrong_piece R l i a told kind slot fold p tells here words is_kind is_wrong h of =
     let wrong_at : is_right_log l.sup (word R (a + 16)) (word R (a + 24)) ≡ false = subst (λ (t : Slot). is_right_log l.sup t.head t.tail ≡ false) words is_wrong in
     let is : IsInode R l i a (empty_log kind) = wrong here (subst (λ (t : Slot). kind_of t ≡ Some kind) words is_kind) wrong_at in
-    piece_is is kind slot [] fold (Some (faults.I3 i)) p words refl refl h (wrong_faults is refl wrong_at) of
+    piece_is is told kind slot [] fold (Some (faults.I3 i)) p tells words refl refl h (wrong_faults is refl wrong_at) of
 
--- the piece of an inode that isn't in use
-pub empty_piece : (R : Region) (l : Layout) (i a : ℕ) (fault : Option Fault) (p : Piece) → slot_of l i ≡ Some a → kind_of (slot_at R a) ≡ None
-    → ((f : Fault) → fault ≡ Some f → IsFaultOf R l i f) → (1 < word R a → fault ≡ Some (faults.I1 i)) → (word R a ≡ 1 → fault ≡ Some (faults.I2 i))
-    → IsEmptyPiece i fault p → IsPiece R l p
-empty_piece R l i a fault p here no_kind told one two e = record {
-  row = subst (λ (o : Option Row). MatchOption o (IsInUse R l p.inode → ⊥) (λ r. (r.inode ≡ p.inode) × (a : ℕ) × (log : Log) × IsRow R l a log r)) (sym e.row)
-      (subst (λ (n : ℕ). IsInUse R l n → ⊥) (sym e.inode) (λ u. unused u.2));
-  claims = subst (λ (n : ℕ). AreClaims R l n p.claims.items) (sym e.inode) (subst (λ (cs : List (ℕ × Owner)). AreClaims R l i cs) (sym e.claims) none);
-  faults = subst (λ (n : ℕ). HasOnce (IsFaultOf R l n) p.faults.items) (sym e.inode) (subst (λ (fs : List Fault). HasOnce (IsFaultOf R l i) fs) (sym e.faults) (found fault told one two));
-}
-  where
-    unused : {b : ℕ} {log : Log} → IsInode R l i b log → ⊥
-    unused {b} {log} h =
-        let same : b ≡ a = some_is b a (slot_of l i) (slot_in_use h) here in
-        let clash : Some log.kind ≡ None = sym (kind_in_use h) ∙ subst (λ (n : ℕ). kind_at R n ≡ None) (sym same) no_kind in
-        cc
+module _ (R : Region) (l : Layout) (i a : ℕ) (here : slot_of l i ≡ Some a) (no_kind : kind_of (slot_at R a) ≡ None) where
+  pub unused : {b : ℕ} {log : Log} → IsInode R l i b log → ⊥
+  unused {b} {log} h =
+      let same : b ≡ a = some_is b a (slot_of l i) (slot_in_use h) here in
+      let clash : Some log.kind ≡ None = sym (kind_in_use h) ∙ subst (λ (n : ℕ). kind_at R n ≡ None) (sym same) no_kind in
+      cc
 
-    owns_none : (b : ℕ) (o : Owner) → Owns R l b o → inode_of o ≡ i → ⊥
-    owns_none b (owners.Table c k) h same = no_table h
-    owns_none b (owners.Log j k) h same = unused (owned_log (subst (λ (n : ℕ). Owns R l b (owners.Log n k)) same h)).is
-    owns_none b (owners.Data j q) h same = unused (owned_page (subst (λ (n : ℕ). Owns R l b (owners.Data n q)) same h)).is
+  first : (f : Fault) (o : Option Fault) → o ≡ Some f → Contains (cons_option o []) f
+  first f None h = absurd (cc)
+  first f (Some t) h = let g : t ≡ f = cc in subst (Contains (t ∷ [])) g (Contains-head t [])
 
-    none : AreClaims R l i []
-    none = record {
-      rising = tt;
-      each = λ x c. absurd (omega (arith, c.1));
-      all = λ x h. absurd (owns_none x.0 x.1 h.0 h.1);
-    }
+  at_slot : {b : ℕ} → slot_of l i ≡ Some b → b ≡ a
+  at_slot {b} h = some_is b a (slot_of l i) h here
 
-    first : (f : Fault) (o : Option Fault) → o ≡ Some f → Contains (cons_option o []) f
-    first f None h = absurd (cc)
-    first f (Some t) h = let g : t ≡ f = cc in subst (Contains (t ∷ [])) g (Contains-head t [])
+  -- what is wrong with an inode that isn't in use
+  pub empty_faults : (o : Option Fault) → ((f : Fault) → o ≡ Some f → IsFaultOf R l i f) → (1 < word R a → o ≡ Some (faults.I1 i)) → (word R a ≡ 1 → o ≡ Some (faults.I2 i)) → HasOnce (IsFaultOf R l i) (cons_option o [])
+  empty_faults o told one two = record { has = record { each = each o told; all = all }; once = IsOnce-option o }
+    where
+      each : (o : Option Fault) → ((f : Fault) → o ≡ Some f → IsFaultOf R l i f) → (f : Fault) → Contains (cons_option o []) f → IsFaultOf R l i f
+      each None told f c = absurd (omega (arith, c.1))
+      each (Some t) told f c = elim (Contains-cons t [] f c) [ inl v ↦ told f (ap Some (sym v)) | inr v ↦ absurd (omega (arith, v.1)) ]
 
-    at_slot : {b : ℕ} → slot_of l i ≡ Some b → b ≡ a
-    at_slot {b} h = some_is b a (slot_of l i) h here
+      all : (f : Fault) → IsFaultOf R l i f → Contains (cons_option o []) f
+      all _ (i1 h big) = first (faults.I1 i) o (one (subst (λ (n : ℕ). 1 < word R n) (at_slot h) big))
+      all _ (i2 h valid none) = first (faults.I2 i) o (two (subst (λ (n : ℕ). word R n ≡ 1) (at_slot h) valid))
+      all _ (i3 h k t) = absurd (let clash = sym k ∙ subst (λ (n : ℕ). kind_at R n ≡ None) (sym (at_slot h)) no_kind in cc)
+      all _ (l1 h e) = absurd (unused h)
+      all _ (l2 h e) = absurd (unused h)
+      all _ (l3 h e) = absurd (unused h)
+      all _ (l4 h e) = absurd (unused h)
+      all f (entry h e) = absurd (unused h)
 
-    found : (o : Option Fault) → ((f : Fault) → o ≡ Some f → IsFaultOf R l i f) → (1 < word R a → o ≡ Some (faults.I1 i)) → (word R a ≡ 1 → o ≡ Some (faults.I2 i))
-        → HasOnce (IsFaultOf R l i) (cons_option o [])
-    found o told one two = record { has = record { each = each o told; all = all }; once = IsOnce-option o }
-      where
-        each : (o : Option Fault) → ((f : Fault) → o ≡ Some f → IsFaultOf R l i f) → (f : Fault) → Contains (cons_option o []) f → IsFaultOf R l i f
-        each None told f c = absurd (omega (arith, c.1))
-        each (Some t) told f c = elim (Contains-cons t [] f c) [ inl v ↦ told f (ap Some (sym v)) | inr v ↦ absurd (omega (arith, v.1)) ]
+  -- it claims the block of a chain alone
+  empty_claims : (told : Option ChainBlock) → TellsTable l i told → AreClaims R l i (table_claims told)
+  empty_claims told tells = record {
+    rising = tells.rising;
+    each = λ x c. owns_table x (tells.each x c);
+    all = λ x h. tells.all x (is_table x.0 x.1 h.0 h.1);
+  }
+    where
+      is_table : (b : ℕ) (o : Owner) → Owns R l b o → teller l o ≡ i → IsTable l i (b, o)
+      is_table b (owners.Table c k) h same = table (owned_table h) same
+      is_table b (owners.Log j k) h same = absurd (unused (owned_log (subst (λ (n : ℕ). Owns R l b (owners.Log n k)) same h)).is)
+      is_table b (owners.Data j q) h same = absurd (unused (owned_page (subst (λ (n : ℕ). Owns R l b (owners.Data n q)) same h)).is)
 
-        all : (f : Fault) → IsFaultOf R l i f → Contains (cons_option o []) f
-        all _ (i1 h big) = first (faults.I1 i) o (one (subst (λ (n : ℕ). 1 < word R n) (at_slot h) big))
-        all _ (i2 h valid none) = first (faults.I2 i) o (two (subst (λ (n : ℕ). word R n ≡ 1) (at_slot h) valid))
-        all _ (i3 h k t) = absurd (let clash = sym k ∙ subst (λ (n : ℕ). kind_at R n ≡ None) (sym (at_slot h)) no_kind in cc)
-        all _ (l1 h e) = absurd (unused h)
-        all _ (l2 h e) = absurd (unused h)
-        all _ (l3 h e) = absurd (unused h)
-        all _ (l4 h e) = absurd (unused h)
-        all f (entry h e) = absurd (unused h)
+  -- the piece of an inode that isn't in use
+  pub empty_piece : (told : Option ChainBlock) (fault : Option Fault) (p : Piece) → TellsTable l i told
+      → ((f : Fault) → fault ≡ Some f → IsFaultOf R l i f) → (1 < word R a → fault ≡ Some (faults.I1 i)) → (word R a ≡ 1 → fault ≡ Some (faults.I2 i))
+      → IsEmptyPiece i told fault p → IsPiece R l p
+  empty_piece told fault p tells is_one one two e = record {
+    row = subst (λ (o : Option Row). MatchOption o (IsInUse R l p.inode → ⊥) (λ r. (r.inode ≡ p.inode) × (a : ℕ) × (log : Log) × IsRow R l a log r)) (sym e.row)
+        (subst (λ (n : ℕ). IsInUse R l n → ⊥) (sym e.inode) (λ u. unused u.2));
+    claims = subst (λ (n : ℕ). AreClaims R l n p.claims.items) (sym e.inode) (subst (λ (cs : List (ℕ × Owner)). AreClaims R l i cs) (sym e.claims) (empty_claims told tells));
+    faults = subst (λ (n : ℕ). HasOnce (IsFaultOf R l n) p.faults.items) (sym e.inode) (subst (λ (fs : List Fault). HasOnce (IsFaultOf R l i) fs) (sym e.faults) (empty_faults fault is_one one two));
+  }

@@ -1,4 +1,4 @@
--- The claims of rows are those of their pieces.
+-- The claims of rows are those of their pieces, where there are no chains.
 use Rattle.std.proofs.Common.{◌≡◌, ℕ, List, [], ◌∷◌, ◌++◌, Option, Some, None, refl, ap, sym, ◌∙◌, subst, arith, append_assoc, append-nil}
 use Rattle.std.specs.Option.{MatchOption}
 use Rattle.std.specs.List.{All, AllByRecursion, cons_option}
@@ -12,7 +12,9 @@ use Rattle.nv_super.proofs.Rising.{Lists-only}
 use Rattle.nv_radix.specs.Pages.{block_at}
 use Rattle.nv_scan.specs.Claims.{AreSmall, AreRowClaims, AreClaimsOf}
 use Rattle.nv_scan.specs.Inode.{Log, IsInUse}
-use Rattle.nv_scan.specs.Owners.{Owns, inode_of, AreClaims}
+use Rattle.nv_scan.specs.Owners.{Owns, teller, AreClaims}
+use Rattle.nv_scan.specs.ChainBlocks.{IsChainless}
+use Rattle.nv_scan.proofs.ChainBlocks.{none_told, tells_none}
 use Rattle.nv_scan.specs.Rows.{IsRow, IsPiece}
 use Rattle.nv_scan.specs.Work.{rows_in, claims_in}
 use Rattle.nv_scan.specs.declared.piece.Row.{Row}
@@ -27,13 +29,13 @@ one_row_more [] row claims own none are = (own, [], ap (λ (xs : List (ℕ × Ow
 one_row_more (first ∷ rows) row claims own (its, rest, split, lists, others) are =
     (its, rest ++ own, ap (λ (xs : List (ℕ × Owner)). xs ++ own) split ∙ append_assoc its rest own, lists, one_row_more rows row rest own others are)
 
-module _ (R : Region) (l : Layout) where
+module _ (R : Region) (l : Layout) (chainless : IsChainless l) where
   -- an inode that isn't in use claims nothing
   claims_nothing : (p : Piece) → IsPiece R l p → (IsInUse R l p.inode → ⊥) → p.claims.items ≡ []
-  claims_nothing p is unused = Lists-only (λ (x : ℕ × Owner). owner_key x.1) (λ x. Owns R l x.0 x.1 × (inode_of x.1 ≡ p.inode)) p.claims.items [] is.claims none
+  claims_nothing p is unused = Lists-only (λ (x : ℕ × Owner). owner_key x.1) (λ x. Owns R l x.0 x.1 × (teller l x.1 ≡ p.inode)) p.claims.items [] is.claims none
     where
-      owns_none : (b : ℕ) (o : Owner) → Owns R l b o → inode_of o ≡ p.inode → ⊥
-      owns_none b (owners.Table c k) h same = no_table h
+      owns_none : (b : ℕ) (o : Owner) → Owns R l b o → teller l o ≡ p.inode → ⊥
+      owns_none b (owners.Table c k) h same = no_table chainless h
       owns_none b (owners.Log j k) h same = let w = owned_log (subst (λ (n : ℕ). Owns R l b (owners.Log n k)) same h) in unused (_, _, w.is)
       owns_none b (owners.Data j q) h same = let w = owned_page (subst (λ (n : ℕ). Owns R l b (owners.Data n q)) same h) in unused (_, _, w.is)
 
@@ -46,8 +48,8 @@ module _ (R : Region) (l : Layout) where
 
   -- an inode in use claims what its row gives
   claims_by_row : (p : Piece) (row : Row) (a : ℕ) (log : Log) (own : List (ℕ × Owner)) → IsPiece R l p → row.inode ≡ p.inode → IsRow R l a log row → AreRowClaims row own → own ≡ p.claims.items
-  claims_by_row p row a log own is same of lists = Lists-only (λ (x : ℕ × Owner). owner_key x.1) (λ x. Owns R l x.0 x.1 × (inode_of x.1 ≡ p.inode)) own p.claims.items
-      (subst (λ (n : ℕ). AreClaims R l n own) same (claims_are of.inode row.pages.items row.index own of.pages of.index lists)) is.claims
+  claims_by_row p row a log own is same of lists = Lists-only (λ (x : ℕ × Owner). owner_key x.1) (λ x. Owns R l x.0 x.1 × (teller l x.1 ≡ p.inode)) own p.claims.items
+      (subst (λ (n : ℕ). AreClaims R l n own) same (claims_are of.inode None row.pages.items row.index own (tells_none l row.inode (λ x h. none_told l row.inode x chainless h)) of.pages of.index (own, refl, lists))) is.claims
 
   -- what a piece's row gives, and then the others
   claims_first : (p : Piece) (o : Option Row) (rows : List Row) (claims : List (ℕ × Owner)) (others : List (ℕ × Owner)) → IsPiece R l p

@@ -1,5 +1,5 @@
--- Claiming what a piece claims, page by page and run by run.
-use Rattle.std.proofs.Common.{◌≡◌, ℕ, zero, suc, ◌+◌, ◌<◌, ◌≤◌, List, [], ◌∷◌, ◌++◌, length, get_or, take, Some, refl, ap, sym, ◌∙◌, subst, append-nil, append_assoc, arith}
+-- Claiming what a piece claims, block by block and run by run.
+use Rattle.std.proofs.Common.{◌≡◌, ℕ, zero, suc, ◌+◌, ◌<◌, ◌≤◌, List, [], ◌∷◌, ◌++◌, length, get_or, take, Option, Some, refl, ap, sym, ◌∙◌, subst, append-nil, append_assoc, arith}
 use Rattle.std.specs.List.{Contains, All, AllByRecursion}
 use Rattle.std.proofs.lemmas.Grind.{flat_map-append}
 use Rattle.std.proofs.lemmas.List.{map-append, take_more}
@@ -7,6 +7,7 @@ use Rattle.std.proofs.lemmas.Option.{slice_get-get_or}
 use Rattle.std.proofs.lemmas.List.Elements.{All-contains, All-contains_itself, All-pop, All-append, All-from_recursion, Contains-append_left, Contains-append_right}
 use Rattle.nv_region.specs.Region.{Region}
 use Rattle.nv_super.specs.Layout.{Layout}
+use Rattle.nv_inode.specs.Chains.{IsLaid}
 use Rattle.nv_super.specs.Owners.{MayOwn, pairs}
 use Rattle.nv_super.specs.declared.owners.Owner.{Owner}
 use Rattle.nv_super.specs.declared.owners.Owner.TheVariants as owners
@@ -17,6 +18,8 @@ use Rattle.nv_claimmap.specs.nv_claimcore.Claims.{Settled}
 use Rattle.nv_claimmap.specs.nv_claimcore.Finished.{pair_of}
 use Rattle.nv_claimmap.specs.nv_claimcore.Spans.{Adds}
 use Rattle.nv_scan.specs.Owners.{Owns, AreClaims}
+use Rattle.nv_scan.specs.ChainBlocks.{table_claims}
+use Rattle.nv_scan.specs.declared.chain_block.ChainBlock.{ChainBlock}
 use Rattle.nv_scan.specs.ClaimList.{ClaimList}
 use Rattle.nv_scan.specs.Claiming.{IsClaimable}
 use Rattle.nv_scan.specs.Claims.{log_claims, run_claims, data_claims}
@@ -44,21 +47,25 @@ each_of P [] h = tt
 each_of P (y ∷ xs) h = (h y (Contains-head y xs), each_of P xs (λ x c. h x (Contains-tail y xs x c)))
 
 -- what an inode owns can be claimed
-pub claims_fit : (R : Region) (l : Layout) (i : ℕ) (claims : List (ℕ × Owner)) → AreClaims R l i claims → All (IsClaimable l.sup.blocks) claims
-claims_fit R l i claims are = All-from_recursion (IsClaimable l.sup.blocks) claims (each_of (IsClaimable l.sup.blocks) claims
-    (λ x c. (let owns = (are.each x c).0 in ((owned_block R l x.0 x.1 owns).1, page_fits R l x.0 x.1 owns))))
+pub claims_fit : (R : Region) (l : Layout) (i : ℕ) (claims : List (ℕ × Owner)) → IsLaid l → AreClaims R l i claims → All (IsClaimable l.sup.blocks) claims
+claims_fit R l i claims laid are = All-from_recursion (IsClaimable l.sup.blocks) claims (each_of (IsClaimable l.sup.blocks) claims
+    (λ x c. (let owns = (are.each x c).0 in ((owned_block R l x.0 x.1 laid owns).1, page_fits R l x.0 x.1 owns))))
 
 -- those of some claims that stand among others
 all_among : {A : Type 0} (P : A → Type 0) (xs ys : List A) → All P ys → ((x : A) → Contains xs x → Contains ys x) → All P xs
 all_among P xs ys all among = All-from_recursion P xs (each_of P xs (λ x c. All-contains P ys x all (among x c)))
 
--- what is so of each claim is so of each of the log, and of each of the file
-pub claims_split : (P : ℕ × Owner → Type 0) (i : ℕ) (claims : List (ℕ × Owner)) (pages : List ℕ) (runs : List Extent) → claims ≡ log_claims i 0 pages ++ data_claims i runs → All P claims
-    → All P (log_claims i 0 pages) × All P (data_claims i runs)
-claims_split P i claims pages runs is all =
-    let both = subst (All P) is all in (
-      all_among P (log_claims i 0 pages) (log_claims i 0 pages ++ data_claims i runs) both (λ x c. Contains-append_left (log_claims i 0 pages) (data_claims i runs) x c),
-      all_among P (data_claims i runs) (log_claims i 0 pages ++ data_claims i runs) both (λ x c. Contains-append_right (log_claims i 0 pages) (data_claims i runs) x c),
+-- what is so of each claim is so of that of a chain's block, of each of the log, and of each of the file
+pub claims_split : (P : ℕ × Owner → Type 0) (table : Option ChainBlock) (i : ℕ) (claims : List (ℕ × Owner)) (pages : List ℕ) (runs : List Extent) → claims ≡ table_claims table ++ (log_claims i 0 pages ++ data_claims i runs) → All P claims
+    → All P (table_claims table) × (All P (log_claims i 0 pages) × All P (data_claims i runs))
+claims_split P table i claims pages runs is all =
+    let front = table_claims table in let log = log_claims i 0 pages in let file = data_claims i runs in
+    let each = subst (All P) is all in (
+      all_among P front (front ++ (log ++ file)) each (λ x c. Contains-append_left front (log ++ file) x c),
+      (
+        all_among P log (front ++ (log ++ file)) each (λ x c. Contains-append_right front (log ++ file) x (Contains-append_left log file x c)),
+        all_among P file (front ++ (log ++ file)) each (λ x c. Contains-append_right front (log ++ file) x (Contains-append_right log file x c)),
+      ),
     )
 
 -- what is so of each claim of a log is so of one of its pages
@@ -109,6 +116,13 @@ adds_both ps qs v u w a b = let one = a.2 in let two = b.2 in (
     All-append Settled one.0 two.0 one.3 two.3,
   ),
 )
+
+-- a block of a chain lies where its claim does
+pub table_fits : (blocks start n : ℕ) (t : ChainBlock) → start ≡ t.block → n ≡ 1 → All (IsClaimable blocks) (table_claims (Some t)) → start + n ≤ blocks
+table_fits blocks start n t block one all =
+    let x : ℕ × Owner = (t.block, owners.Table t.cpu t.place) in
+    let fits = All-contains (IsClaimable blocks) (x ∷ []) x all (Contains-head x []) in
+    omega (arith, block, one, fits.0)
 
 -- one page of a log, as a run
 pub page_pair : (b i k n : ℕ) → k ≡ n → pairs b (owners.Log i k) 1 ≡ (b, owners.Log i n) ∷ []

@@ -16,12 +16,11 @@ use Rattle.nv_inode.specs.declared.slot.Slot.{Slot}
 use Rattle.nv_inode.specs.Slot.{slot_at, kind_of, is_right_log}
 use Rattle.nv_logpage.specs.declared.found.LogEnd.{LogEnd}
 use Rattle.nv_logpage.specs.declared.found.Placed.{Placed}
-use Rattle.nv_super.specs.declared.owners.Owner.{Owner}
-use Rattle.nv_super.specs.Order.{Lists, owner_key}
 use Rattle.nv_radix.specs.Pages.{block_at}
 use Rattle.nv_radix.specs.Runs.{block_by}
 use Rattle.nv_scan.specs.ClaimList.{ClaimList}
-use Rattle.nv_scan.specs.Claims.{AreSmall, IsClaim}
+use Rattle.nv_scan.specs.ChainBlocks.{table_claims}
+use Rattle.nv_scan.specs.Claims.{AreClaimsBy, AreSmall}
 use Rattle.nv_scan.specs.Faults.{HasOnce, IsFaultOf, i1, i2}
 use Rattle.nv_scan.specs.Fold.{Holds}
 use Rattle.nv_scan.specs.Inode.{Log, IsInUse}
@@ -30,6 +29,7 @@ use Rattle.nv_scan.specs.Owners.{AreClaims}
 use Rattle.nv_scan.specs.Reading.{IsRead}
 use Rattle.nv_scan.specs.Rows.{IsRow, IsPiece}
 use Rattle.nv_scan.specs.Scanned.{fault_of_end, IsFilled, IsPieceOf, IsEmptyPiece}
+use Rattle.nv_scan.specs.declared.chain_block.ChainBlock.{ChainBlock}
 use Rattle.nv_scan.specs.declared.fold.Fold.{Fold}
 use Rattle.nv_scan.specs.declared.inodes.Inodes.{Inodes}
 use Rattle.nv_scan.specs.declared.piece.Row.{Row}
@@ -47,20 +47,20 @@ holds_small s kind i created entries f areas h = λ p b e.
 
 -- ---- the piece of an inode with its number
 
-module _ (R : Region) (s : Super) (l : Layout) (i : ℕ) (slot : Slot) (is_slot : IsSlotOf R s l i slot) where
+module _ (R : Region) (s : Super) (l : Layout) (i : ℕ) (told : Option ChainBlock) (slot : Slot) (is_slot : IsSlotOf R s l i told slot) where
   pub right_one : (kind : Kind) (fold : Fold) (pages : List ℕ) (end : Option LogEnd) (fault : Option Fault) → kind_of slot ≡ Some kind → is_right_log s slot.head slot.tail ≡ true → IsRead R s i kind slot fold pages end
-      → fault ≡ fault_of_end i end → (p : Piece) → IsPieceOf i kind slot pages fold fault p → IsPieceBy R l i p
+      → fault ≡ fault_of_end i end → (p : Piece) → IsPieceOf i told kind slot pages fold fault p → IsPieceBy R l i p
   right_one kind fold pages end fault is_kind is_right r by p of = (
     of.inode,
-    right_piece R l i is_slot.at kind slot fold pages end p is_slot.stands is_slot.words is_kind (subst (λ (x : Super). is_right_log x slot.head slot.tail ≡ true) (sym is_slot.sup) is_right)
-        (subst (λ (x : Super). IsRead R x i kind slot fold pages end) (sym is_slot.sup) r) (subst (λ (f : Option Fault). IsPieceOf i kind slot pages fold f p) by of),
+    right_piece R l i is_slot.at told kind slot fold pages end p is_slot.tells is_slot.stands is_slot.words is_kind (subst (λ (x : Super). is_right_log x slot.head slot.tail ≡ true) (sym is_slot.sup) is_right)
+        (subst (λ (x : Super). IsRead R x i kind slot fold pages end) (sym is_slot.sup) r) (subst (λ (f : Option Fault). IsPieceOf i told kind slot pages fold f p) by of),
   )
 
   pub wrong_one : (kind : Kind) (fold : Fold) → kind_of slot ≡ Some kind → is_right_log s slot.head slot.tail ≡ false → Holds s kind i slot.created [] fold
-      → (p : Piece) → IsPieceOf i kind slot [] fold (Some (faults.I3 i)) p → IsPieceBy R l i p
+      → (p : Piece) → IsPieceOf i told kind slot [] fold (Some (faults.I3 i)) p → IsPieceBy R l i p
   wrong_one kind fold is_kind is_wrong h p of = (
     of.inode,
-    wrong_piece R l i is_slot.at kind slot fold p is_slot.stands is_slot.words is_kind (subst (λ (x : Super). is_right_log x slot.head slot.tail ≡ false) (sym is_slot.sup) is_wrong)
+    wrong_piece R l i is_slot.at told kind slot fold p is_slot.tells is_slot.stands is_slot.words is_kind (subst (λ (x : Super). is_right_log x slot.head slot.tail ≡ false) (sym is_slot.sup) is_wrong)
         (subst (λ (x : Super). Holds x kind i slot.created [] fold) (sym is_slot.sup) h) of,
   )
 
@@ -71,27 +71,27 @@ module _ (R : Region) (s : Super) (l : Layout) (i : ℕ) (slot : Slot) (is_slot 
   valid_is = ap (λ (t : Slot). t.valid) is_slot.words
 
   -- a slot that was never used
-  pub unused_one : kind_of slot ≡ None → slot.valid ≡ 0 → (p : Piece) → IsEmptyPiece i None p → IsPieceBy R l i p
+  pub unused_one : kind_of slot ≡ None → slot.valid ≡ 0 → (p : Piece) → IsEmptyPiece i told None p → IsPieceBy R l i p
   unused_one none zero_word p e =
       let word_is = valid_is in
-      (e.inode, empty_piece R l i is_slot.at None p is_slot.stands (no_kind none) (λ f e. absurd (cc)) (λ big. absurd (omega (arith, big, zero_word, word_is))) (λ one. absurd (omega (arith, one, zero_word, word_is))) e)
+      (e.inode, empty_piece R l i is_slot.at is_slot.stands (no_kind none) told None p is_slot.tells (λ f e. absurd (cc)) (λ big. absurd (omega (arith, big, zero_word, word_is))) (λ one. absurd (omega (arith, one, zero_word, word_is))) e)
 
   -- a slot whose valid word is neither 0 nor 1
-  pub bad_valid_one : kind_of slot ≡ None → slot.valid ≢ 0 → slot.valid ≢ 1 → (p : Piece) → IsEmptyPiece i (Some (faults.I1 i)) p → IsPieceBy R l i p
+  pub bad_valid_one : kind_of slot ≡ None → slot.valid ≢ 0 → slot.valid ≢ 1 → (p : Piece) → IsEmptyPiece i told (Some (faults.I1 i)) p → IsPieceBy R l i p
   bad_valid_one none not_zero not_one p e =
       let word_is = valid_is in (
         e.inode,
-        empty_piece R l i is_slot.at (Some (faults.I1 i)) p is_slot.stands (no_kind none)
+        empty_piece R l i is_slot.at is_slot.stands (no_kind none) told (Some (faults.I1 i)) p is_slot.tells
             (λ f e. (let same : faults.I1 i ≡ f = cc in subst (IsFaultOf R l i) same (i1 is_slot.stands (omega (arith, not_zero, not_one, word_is)))))
             (λ big. refl) (λ one. absurd (not_one (word_is ∙ one))) e,
       )
 
   -- a valid slot of no kind
-  pub bad_kind_one : kind_of slot ≡ None → slot.valid ≡ 1 → (p : Piece) → IsEmptyPiece i (Some (faults.I2 i)) p → IsPieceBy R l i p
+  pub bad_kind_one : kind_of slot ≡ None → slot.valid ≡ 1 → (p : Piece) → IsEmptyPiece i told (Some (faults.I2 i)) p → IsPieceBy R l i p
   bad_kind_one none valid p e =
       let word_is = valid_is in (
         e.inode,
-        empty_piece R l i is_slot.at (Some (faults.I2 i)) p is_slot.stands (no_kind none)
+        empty_piece R l i is_slot.at is_slot.stands (no_kind none) told (Some (faults.I2 i)) p is_slot.tells
             (λ f e. (let same : faults.I2 i ≡ f = cc in subst (IsFaultOf R l i) same (i2 is_slot.stands (sym word_is ∙ valid) (no_kind none))))
             (λ big. absurd (omega (arith, big, valid, word_is))) (λ one. refl) e,
       )
@@ -111,11 +111,11 @@ pub last_set : (pushed rows : List Row) (row new : Row) {n : ℕ} → pushed ≡
 last_set pushed rows row new is end = (λ i. set (is i) (end i) new) ∙ set-append_seam rows row [] new
 
 -- what a row that was filled is
-pub filled : {E : Type 0} (pages : List ℕ) (blocks : ℕ → Option ℕ) (old new : Row) (claims : ClaimList) (result : Result (Unit {0}) E)
+pub filled : {E : Type 0} (told : Option ChainBlock) (pages : List ℕ) (blocks : ℕ → Option ℕ) (old new : Row) (claims : ClaimList) (result : Result (Unit {0}) E)
     → (new.inode ≡ old.inode) × (new.kind ≡ old.kind) × (new.numbers ≡ old.numbers) × (new.head ≡ old.head) × (new.tail ≡ old.tail) × (new.names ≡ old.names) → new.pages.items ≡ pages
-    → OnOk result ((p : ℕ) → block_at new.index p ≡ blocks p) → OnOk result (Lists (λ (x : ℕ × Owner). owner_key x.1) (IsClaim new.inode pages new.index) claims.items) → OnOk result (IsFilled pages blocks old new claims)
-filled pages blocks old new claims (Ok done) same pages_are index claims_are = record { same = same; pages_are = pages_are; index = index; claims_are = claims_are }
-filled pages blocks old new claims (Err e) same pages_are index claims_are = tt
+    → OnOk result ((p : ℕ) → block_at new.index p ≡ blocks p) → OnOk result (AreClaimsBy told new.inode pages new.index claims.items) → OnOk result (IsFilled told pages blocks old new claims)
+filled told pages blocks old new claims (Ok done) same pages_are index claims_are = record { same = same; pages_are = pages_are; index = index; claims_are = claims_are }
+filled told pages blocks old new claims (Err e) same pages_are index claims_are = tt
 
 -- fewer than can be told
 one_fault : (o : Option Fault) → length (cons_option o []) < 2 ^ 63
@@ -127,9 +127,9 @@ abbrev fault_piece : ℕ → Option Fault → ClaimList → Piece
 fault_piece i fault claims = record { inode = i; row = None; claims = claims; faults = vec_of (cons_option fault []) (one_fault fault) }
 
 -- its fault is kept
-pub keeps_fault : (i : ℕ) (fault : Option Fault) (old new : Inodes) (claims : ClaimList) → claims.items ≡ [] → new.rows.items ≡ old.rows.items → new.faults.items ≡ old.faults.items ++ cons_option fault []
-    → Keeps (IsEmptyPiece i fault) old new claims
-keeps_fault i fault old new claims none rows faults = record {
+pub keeps_fault : (i : ℕ) (told : Option ChainBlock) (fault : Option Fault) (old new : Inodes) (claims : ClaimList) → claims.items ≡ table_claims told → new.rows.items ≡ old.rows.items → new.faults.items ≡ old.faults.items ++ cons_option fault []
+    → Keeps (IsEmptyPiece i told fault) old new claims
+keeps_fault i told fault old new claims none rows faults = record {
   piece = fault_piece i fault claims;
   is = record { inode = refl; row = refl; claims = none; faults = vec_items (cons_option fault []) (one_fault fault) };
   rows = rows ∙ sym (append-nil old.rows.items);

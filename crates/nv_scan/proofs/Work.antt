@@ -12,6 +12,7 @@ use Rattle.nv_super.specs.declared.owners.Owner.{Owner}
 use Rattle.nv_super.specs.declared.faults.Fault.{Fault}
 use Rattle.nv_super.specs.Layout.{Layout, slot_of}
 use Rattle.nv_inode.specs.declared.blocks.SlotBlock.{SlotBlock}
+use Rattle.nv_inode.specs.Chains.{IsLaid}
 use Rattle.nv_inode.specs.SlotBlocks.{slot_blocks}
 use Rattle.nv_claimmap.specs.nv_claimcore.declared.view.View.{View}
 use Rattle.nv_claimmap.specs.nv_claimcore.Claims.{above, with_number, nothing, both_views}
@@ -129,12 +130,12 @@ module _ {R : Region} {l : Layout} where
   }
 
   -- what they own can be claimed
-  pub next_fit : {numbers : List ℕ} {old new : Inodes} {claims : List (ℕ × Owner)} → AreNext R l numbers old new claims → All (IsClaimable l.sup.blocks) claims
-  next_fit next = subst (All (IsClaimable l.sup.blocks)) (sym next.claims_are) (each_fits next.pieces next.are.each)
+  pub next_fit : {numbers : List ℕ} {old new : Inodes} {claims : List (ℕ × Owner)} → IsLaid l → AreNext R l numbers old new claims → All (IsClaimable l.sup.blocks) claims
+  next_fit laid next = subst (All (IsClaimable l.sup.blocks)) (sym next.claims_are) (each_fits next.pieces next.are.each)
     where
       each_fits : (pieces : List Piece) → AllByRecursion (IsPiece R l) pieces → All (IsClaimable l.sup.blocks) (claims_in pieces)
       each_fits [] each = All-nil (IsClaimable l.sup.blocks)
-      each_fits (p ∷ pieces) each = All-append (IsClaimable l.sup.blocks) p.claims.items (claims_in pieces) (claims_fit R l p.inode p.claims.items each.0.claims) (each_fits pieces each.1)
+      each_fits (p ∷ pieces) each = All-append (IsClaimable l.sup.blocks) p.claims.items (claims_in pieces) (claims_fit R l p.inode p.claims.items laid each.0.claims) (each_fits pieces each.1)
 
   -- and once that is claimed they are done
   pub next_done : {numbers : List ℕ} {old new : Inodes} {claims : List (ℕ × Owner)} {v w : View} → AreNext R l numbers old new claims → Adds claims v w

@@ -1,4 +1,4 @@
--- The claims of an inode, by the pages of its log and its file index.
+-- The claims of an inode, by the pages of its log and its file index, and of the block of a chain that is told with it.
 use Rattle.std.specs.Prelude.{◌≡◌, ℕ, ◌+◌, ◌<◌, ◌≤◌, ◌^◌, List, [], ◌∷◌, ◌++◌, Option, Some, slice_get}
 use Rattle.std.specs.List.{flat_map}
 use Rattle.nv_super.specs.Owners.{pairs}
@@ -7,12 +7,18 @@ use Rattle.nv_super.specs.declared.owners.Owner.TheVariants as owners
 use Rattle.nv_super.specs.Order.{Lists, owner_key}
 use Rattle.nv_radix.specs.Pages.{Pages, block_at}
 use Rattle.nv_radix.specs.declared.extent.Extent.{Extent}
+use Rattle.nv_scan.specs.ChainBlocks.{table_claims}
+use Rattle.nv_scan.specs.declared.chain_block.ChainBlock.{ChainBlock}
 use Rattle.nv_scan.specs.declared.piece.Row.{Row}
 
 -- a block with its owner: a page of the log, or the block of a page of the file
 pub data IsClaim (i : ℕ) (pages : List ℕ) (m : Pages) : ℕ × Owner → Type 0 where
   of_log : (k b : ℕ) → slice_get pages k ≡ Some b → IsClaim i pages m (b, owners.Log i k)
   of_page : (p b : ℕ) → block_at m p ≡ Some b → IsClaim i pages m (b, owners.Data i p)
+
+-- The block of a chain that is told with the inode, if there is one, and behind it the claims of its log and its file.
+abbrev pub AreClaimsBy : Option ChainBlock → ℕ → List ℕ → Pages → List (ℕ × Owner) → Type 0
+AreClaimsBy table i pages m claims = (own : List (ℕ × Owner)) × (claims ≡ table_claims table ++ own) × Lists (λ (x : ℕ × Owner). owner_key x.1) (IsClaim i pages m) own
 
 -- the pages of a log, the first of them its k-th
 abbrev pub log_claims : ℕ → ℕ → List ℕ → List (ℕ × Owner)

@@ -1,5 +1,5 @@
 -- What is kept of an inode that is scanned.
-use Rattle.std.specs.Prelude.{◌≡◌, ℕ, ◌++◌, [], Bool, true, false, Some, None}
+use Rattle.std.specs.Prelude.{◌≡◌, ℕ, ◌++◌, [], Bool, true, false, Option, Some, None}
 use Rattle.std.specs.List.{cons_option}
 use Rattle.nv_region.specs.Region.{Region}
 use Rattle.nv_super.specs.declared.superblock.Super.{Super}
@@ -7,8 +7,10 @@ use Rattle.nv_super.specs.Layout.{Layout, slot_of}
 use Rattle.nv_inode.specs.declared.slot.Slot.{Slot}
 use Rattle.nv_inode.specs.Slot.{slot_at}
 use Rattle.nv_scan.specs.ClaimList.{ClaimList}
+use Rattle.nv_scan.specs.ChainBlocks.{TellsTable}
 use Rattle.nv_scan.specs.Rows.{IsPiece}
 use Rattle.nv_scan.specs.Tickets.{IsFound}
+use Rattle.nv_scan.specs.declared.chain_block.ChainBlock.{ChainBlock}
 use Rattle.nv_scan.specs.declared.inodes.Inodes.{Inodes}
 use Rattle.nv_scan.specs.declared.piece.Piece.{Piece}
 
@@ -20,12 +22,14 @@ pub record Keeps (holds : Piece → Type 0) (old new : Inodes) (claims : ClaimLi
   pub faults : new.faults.items ≡ old.faults.items ++ piece.faults.items
   pub claims_are : piece.claims ≡ claims
 
--- The words of the slot of the inode with this number, by a layout of this superblock.
-pub record IsSlotOf (R : Region) (s : Super) (l : Layout) (i : ℕ) (slot : Slot) : Type 0 where
+-- The words of the slot of the inode with this number, and the block of a chain that is told with it, by a layout of this
+-- superblock.
+pub record IsSlotOf (R : Region) (s : Super) (l : Layout) (i : ℕ) (table : Option ChainBlock) (slot : Slot) : Type 0 where
   pub sup : l.sup ≡ s
   pub at : ℕ
   pub stands : slot_of l i ≡ Some at
   pub words : slot ≡ slot_at R at
+  pub tells : TellsTable l i table
 
 -- the piece of the inode with this number
 abbrev pub IsPieceBy : Region → Layout → ℕ → Piece → Type 0

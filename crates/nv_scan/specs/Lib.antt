@@ -2,6 +2,7 @@ pub mod LastWord
 pub mod State
 pub mod Inode
 pub mod Owners
+pub mod ChainBlocks
 pub mod Faults
 pub mod Rows
 pub mod Fold
@@ -14,14 +15,6 @@ pub mod Work
 pub mod Scanner
 pub mod Claiming
 pub mod Light
-pub mod Dead
-pub mod Needed
-pub mod Standing
-pub mod Pairs
-pub mod Stamps
-pub mod Changes
-pub mod ReadingWithout
-pub mod InTurn
 pub use Rattle.nv_logpage.specs as nv_logpage
 pub use Rattle.nv_claimmap.specs.ClaimList
 pub use Rattle.nv_claimmap.specs.nv_claimcore

@@ -3,18 +3,18 @@ use Rattle.std.specs.Prelude.{◌≡◌, ℕ, ◌+◌, List, [], ◌++◌, Optio
 use Rattle.std.specs.List.{cons_option}
 use Rattle.nv_region.specs.Region.{Region, word}
 use Rattle.nv_super.specs.declared.kind.Kind.{Kind}
-use Rattle.nv_super.specs.declared.owners.Owner.{Owner}
 use Rattle.nv_super.specs.declared.faults.Fault.{Fault}
 use Rattle.nv_super.specs.declared.faults.Fault.TheVariants as faults
-use Rattle.nv_super.specs.Order.{Lists, owner_key}
 use Rattle.nv_inode.specs.declared.slot.Slot.{Slot}
 use Rattle.nv_logpage.specs.declared.found.LogEnd.{LogEnd}
 use Rattle.nv_logpage.specs.declared.found.LogFault.{LogFault}
 use Rattle.nv_logpage.specs.declared.found.LogFault.TheVariants as logs
 use Rattle.nv_radix.specs.Pages.{block_at}
 use Rattle.nv_radix.specs.Runs.{block_by}
-use Rattle.nv_scan.specs.Claims.{IsClaim}
+use Rattle.nv_scan.specs.ChainBlocks.{table_claims}
+use Rattle.nv_scan.specs.Claims.{AreClaimsBy}
 use Rattle.nv_scan.specs.ClaimList.{ClaimList}
+use Rattle.nv_scan.specs.declared.chain_block.ChainBlock.{ChainBlock}
 use Rattle.nv_scan.specs.declared.fold.Fold.{Fold}
 use Rattle.nv_scan.specs.declared.in_use.InUse.{InUse}
 use Rattle.nv_scan.specs.declared.piece.Row.{Row}
@@ -37,12 +37,12 @@ abbrev pub IsRowOf : InUse → Fold → Row → Type 0
 IsRowOf used fold row =
     (row.inode ≡ used.inode) × (row.kind ≡ used.kind) × (row.numbers ≡ fold.numbers) × (row.head ≡ used.slot.head) × (row.tail ≡ used.slot.tail) × (row.names ≡ fold.names)
 
--- A row without pages has them now: those of its log, and those of its file. The claims are those of its inode.
-pub record IsFilled (pages : List ℕ) (blocks : ℕ → Option ℕ) (old new : Row) (claims : ClaimList) : Type 0 where
+-- A row without pages has them now: those of its log, and those of its file. The claims are those of its inode, behind the block of a chain that is told with it.
+pub record IsFilled (table : Option ChainBlock) (pages : List ℕ) (blocks : ℕ → Option ℕ) (old new : Row) (claims : ClaimList) : Type 0 where
   pub same : (new.inode ≡ old.inode) × (new.kind ≡ old.kind) × (new.numbers ≡ old.numbers) × (new.head ≡ old.head) × (new.tail ≡ old.tail) × (new.names ≡ old.names)
   pub pages_are : new.pages.items ≡ pages
   pub index : (p : ℕ) → block_at new.index p ≡ blocks p
-  pub claims_are : Lists (λ (x : ℕ × Owner). owner_key x.1) (IsClaim new.inode pages new.index) claims.items
+  pub claims_are : AreClaimsBy table new.inode pages new.index claims.items
 
 -- the row of a slot in use, with what its log says
 abbrev pub row_of : ℕ → Kind → Slot → List ℕ → Fold → Row → Type 0
@@ -50,20 +50,20 @@ row_of i kind slot pages fold row =
     (row.inode ≡ i) × (row.kind ≡ kind) × (row.numbers ≡ fold.numbers) × (row.head ≡ slot.head) × (row.tail ≡ slot.tail)
     × (row.pages.items ≡ pages) × ((p : ℕ) → block_at row.index p ≡ block_by fold.extents p) × (row.names ≡ fold.names)
 
--- a piece of a slot in use: what its log says, and one fault more, if there is one
-pub record IsPieceOf (i : ℕ) (kind : Kind) (slot : Slot) (pages : List ℕ) (fold : Fold) (fault : Option Fault) (p : Piece) : Type 0 where
+-- a piece of a slot in use: what its log says, and one fault more, if there is one; with the block of a chain, if one is told with it
+pub record IsPieceOf (i : ℕ) (table : Option ChainBlock) (kind : Kind) (slot : Slot) (pages : List ℕ) (fold : Fold) (fault : Option Fault) (p : Piece) : Type 0 where
   pub inode : p.inode ≡ i
   pub row : Row
   pub has_row : p.row ≡ Some row
   pub is_row : row_of i kind slot pages fold row
-  pub claims : Lists (λ (x : ℕ × Owner). owner_key x.1) (IsClaim i pages row.index) p.claims.items
+  pub claims : AreClaimsBy table i pages row.index p.claims.items
   pub faults : p.faults.items ≡ fold.faults.items ++ cons_option fault []
 
--- a piece of a slot that isn't in use
-pub record IsEmptyPiece (i : ℕ) (fault : Option Fault) (p : Piece) : Type 0 where
+-- a piece of a slot that isn't in use: it claims the block of a chain alone, if one is told with it
+pub record IsEmptyPiece (i : ℕ) (table : Option ChainBlock) (fault : Option Fault) (p : Piece) : Type 0 where
   pub inode : p.inode ≡ i
   pub row : p.row ≡ None
-  pub claims : p.claims.items ≡ []
+  pub claims : p.claims.items ≡ table_claims table
   pub faults : p.faults.items ≡ cons_option fault []
 
 -- the slots at an address have the same valid word, kind, head and tail; creation times aren't compared

@@ -2,11 +2,13 @@
 use Rattle.std.specs.Prelude.{◌≡◌, ℕ, ◌+◌, ◌*◌, nat_lt, Bool, true, ◌||◌, is_some, List, [], length, map, Option, Some, None, slice_get}
 use Rattle.std.specs.List.{filter, range_with_len}
 use Rattle.nv_region.specs.Region.{Region}
+use Rattle.nv_super.specs.declared.owners.Owner.{Owner}
 use Rattle.nv_super.specs.declared.faults.Fault.{Fault}
 use Rattle.nv_super.specs.Layout.{Layout, slot_of}
 use Rattle.nv_inode.specs.declared.blocks.SlotBlock.{SlotBlock}
 use Rattle.nv_inode.specs.SlotBlocks.{slot_blocks}
 use Rattle.nv_scan.specs.Inode.{IsInUse}
+use Rattle.nv_scan.specs.Owners.{IsTable}
 use Rattle.nv_scan.specs.Faults.{IsFaultOf}
 use Rattle.nv_scan.specs.Rows.{IsPiece}
 use Rattle.nv_scan.specs.declared.piece.Piece.{Piece}
@@ -34,13 +36,13 @@ numbers_of l ticket = numbers_by l (slice_get (slot_blocks l) ticket)
 
 -- ---- what is kept of the inodes
 
--- an inode that isn't in use, and with which nothing is wrong
+-- an inode that isn't in use, with which nothing is wrong, and with which no block of a chain is told
 abbrev pub IsBlank : Region → Layout → ℕ → Type 0
-IsBlank R l i = (IsInUse R l i → ⊥) × ((f : Fault) → IsFaultOf R l i f → ⊥)
+IsBlank R l i = (IsInUse R l i → ⊥) × ((f : Fault) → IsFaultOf R l i f → ⊥) × ((x : ℕ × Owner) → IsTable l i x → ⊥)
 
--- whether a piece tells anything: a row, or a fault
+-- whether a piece tells anything: a row, a fault or a claim
 abbrev pub is_told : Piece → Bool
-is_told p = is_some p.row || nat_lt 0 (length p.faults.items)
+is_told p = is_some p.row || (nat_lt 0 (length p.faults.items) || nat_lt 0 (length p.claims.items))
 
 -- What is found of an inode by its slot: its piece, which tells something, or nothing, where there is nothing to tell.
 abbrev pub IsFound : Region → Layout → ℕ → Option Piece → Type 0

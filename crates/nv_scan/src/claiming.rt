@@ -3,10 +3,12 @@
 ghost use Rattle.std.specs.Prelude.{◌≡◌, OnOk};
 ghost use Rattle.std.specs.List.{All};
 ghost use Rattle.nv_claimmap.specs.nv_claimcore.Spans.{Adds};
+ghost use Rattle.nv_scan.specs.ChainBlocks.{table_claims};
 ghost use Rattle.nv_scan.specs.Claims.{log_claims, data_claims};
 ghost use Rattle.nv_scan.specs.Claiming.{IsClaimable};
 ghost use Rattle.nv_scan.specs.Work.{claims_among};
 
+use crate::chain_block::ChainBlock;
 use crate::claims::Claims;
 use nv_claimmap::{ClaimMap, ClaimSeat};
 use nv_radix::Extent;
@@ -31,16 +33,34 @@ pub(crate) fn claim_each(
 }
 
 /// Claims what an inode claims, in its order: the map takes a run of a file's pages in few steps. Where a growth is refused,
-/// the pages and the runs before it are claimed.
+/// what stands before it is claimed.
 fn claim_all(map: &ClaimMap, seat: &mut ClaimSeat, claims: &Claims) -> Result<(), AllocError>
     requires own { seat.old.map ≡ map.now }
     requires each { All (IsClaimable map.now.sizes.blocks) claims.now.items }
     ensures same { (seat.new.map ≡ seat.old.map) × (seat.new.number ≡ seat.old.number) × (seat.new.view.seats ≡ seat.old.view.seats) }
     ensures ok { OnOk result (Adds claims.now.items seat.old.view seat.new.view) }
 {
-    let (inode, pages, runs) = claims.parts();
+    let (table, inode, pages, runs) = claims.parts();
+    claim_table(map, seat, table)?;
     claim_pages(map, seat, inode, pages)?;
     claim_runs(map, seat, inode, runs)
+}
+
+/// Claims the block of a chain, if there is one.
+fn claim_table(
+    map: &ClaimMap,
+    seat: &mut ClaimSeat,
+    table: Option<ChainBlock>,
+) -> Result<(), AllocError>
+    requires own { seat.old.map ≡ map.now }
+    requires each { All (IsClaimable map.now.sizes.blocks) (table_claims table) }
+    ensures same { (seat.new.map ≡ seat.old.map) × (seat.new.number ≡ seat.old.number) × (seat.new.view.seats ≡ seat.old.view.seats) }
+    ensures ok { OnOk result (Adds (table_claims table) seat.old.view seat.new.view) }
+{
+    match table {
+        None => Ok(()),
+        Some(table) => map.claim(seat, table.run(), table.owner()),
+    }
 }
 
 /// Claims the pages of a log.

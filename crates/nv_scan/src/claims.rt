@@ -7,11 +7,13 @@ ghost use Rattle.nv_super.specs.Layout.{IsLayout, Layout};
 ghost use Rattle.nv_super.specs.Order.{Lists, owner_key};
 ghost use Rattle.nv_radix.specs.Pages.{block_at};
 ghost use Rattle.nv_radix.specs.Runs.{block_by};
-ghost use Rattle.nv_scan.specs.Claims.{AreSmall, IsClaim, log_claims, data_claims, IsSmall};
+ghost use Rattle.nv_scan.specs.ChainBlocks.{IsChainless, table_claims};
+ghost use Rattle.nv_scan.specs.Claims.{AreClaimsBy, AreSmall, IsClaim, log_claims, data_claims, IsSmall};
 ghost use Rattle.nv_scan.specs.Rows.{IsPiece};
 ghost use Rattle.nv_scan.specs.Work.{rows_in, claims_in};
 ghost use Rattle.nv_scan.specs.declared.piece.Piece.{Piece};
 
+use crate::chain_block::ChainBlock;
 use crate::piece::{LogPages, Row, extend_pages};
 use nv_claimmap::ClaimedRuns;
 use nv_numbered::Chunks;
@@ -20,11 +22,13 @@ use nv_super::{Owner, Run};
 use std::alloc::{AllocError, Global};
 use std::marker::Model;
 
-/// What an inode claims, as the pages of its log and the runs of its file. Contracts see each block with its owner: first
-/// come the pages of the log in their order, then the blocks of the file, by page.
+/// What an inode claims, as the pages of its log and the runs of its file, and the block of a chain that is told with it.
+/// Contracts see each block with its owner: first comes that of the chain, then the pages of the log in their order, and
+/// then the blocks of the file, by page.
 #[derive(Drop)]
 pub struct Claims {
     inode: u64,
+    table: Option<ChainBlock>,
     pages: LogPages,
     runs: Vec<Extent>,
 }
@@ -36,9 +40,10 @@ impl Model for Claims {
 
     ghost Value = { ClaimList };
 
+    ghost use Rattle.nv_scan.specs.ChainBlocks.{table_claims};
     ghost use Rattle.nv_scan.specs.Claims.{log_claims, data_claims, IsSmall};
 
-    ghost view = { λ a. record { items = log_claims a.inode 0 a.pages.items ++ data_claims a.inode a.runs.items } };
+    ghost view = { λ a. record { items = table_claims a.table ++ (log_claims a.inode 0 a.pages.items ++ data_claims a.inode a.runs.items) } };
 
     ghost invariant = { λ a. All IsSmall a.runs.items };
 }
@@ -50,18 +55,19 @@ impl Claims {
     {
         Claims {
             inode: 0,
+            table: None,
             pages: LogPages::new(alloc),
             runs: Vec::new(alloc),
         }
     }
 
-    /// The inode, the blocks of its log's pages in their order, and the runs of its file by page. What a run ends before, in
-    /// blocks and in pages, is at most 2^64.
-    pub fn parts(&self) -> (u64, &[u64], &[Extent])
-        ensures claims { self.now.items ≡ log_claims result.0 0 result.1.now ++ data_claims result.0 result.2.now }
-        ensures small { All IsSmall result.2.now }
+    /// The block of a chain, if there is one; the inode, the blocks of its log's pages in their order, and the runs of its
+    /// file by page. What a run ends before, in blocks and in pages, is at most 2^64.
+    pub fn parts(&self) -> (Option<ChainBlock>, u64, &[u64], &[Extent])
+        ensures claims { self.now.items ≡ table_claims result.0 ++ (log_claims result.1 0 result.2.now ++ data_claims result.1 result.3.now) }
+        ensures small { All IsSmall result.3.now }
     {
-        (self.inode, &self.pages, &self.runs)
+        (self.table, self.inode, &self.pages, &self.runs)
     }
 
     /// Each block with its owner.
@@ -81,25 +87,28 @@ impl Claims {
     pub fn add_to(&self, others: &mut ClaimedRuns) -> Result<(), AllocError>
         ensures { OnOk result (others.new.items ≡ others.old.items ++ self.now.items) }
     {
+        add_table(others, self.table)?;
         add_pages(others, self.inode, &self.pages)?;
         add_runs(others, self.inode, &self.runs)
     }
 
-    /// Claims nothing more. What memory there was is used again.
-    pub(crate) fn clear(&mut self)
-        ensures { self.new.items ≡ [] }
+    /// Claims the block of a chain alone, if there is one. What memory there was is used again.
+    pub(crate) fn begin(&mut self, table: Option<ChainBlock>)
+        ensures { self.new.items ≡ table_claims table }
     {
+        self.table = table;
         self.pages.clear();
         self.runs.clear();
     }
 
-    /// Puts what an inode claims in place of what was claimed here, and its memory: the pages of its log, and the longest
-    /// extents of its file. The pages of the file are mapped in an index that maps none.
+    /// Puts what an inode claims in place of what was claimed here, and its memory: the block of a chain that is told with it,
+    /// the pages of its log, and the longest extents of its file. The pages of the file are mapped in an index that maps none.
     ///
     /// Errors: `AllocError` where a growth was refused; of the claims and the index nothing is said then.
     pub(crate) fn set(
         &mut self,
         inode: u64,
+        table: Option<ChainBlock>,
         pages: &[u64],
         extents: &ExtentMap,
         index: &mut FileIndex,
@@ -107,9 +116,10 @@ impl Claims {
         requires small { AreSmall (block_by extents.now) }
         requires none { (p : ℕ) → block_at index.old p ≡ None }
         ensures index { OnOk result ((p : ℕ) → block_at index.new p ≡ block_by extents.now p) }
-        ensures claims { OnOk result (Lists (λ x. owner_key x.1) (IsClaim inode pages.now index.new) self.new.items) }
+        ensures claims { OnOk result (AreClaimsBy table inode pages.now index.new self.new.items) }
     {
         self.inode = inode;
+        self.table = table;
         self.pages.clear();
         extend_pages(&mut self.pages, pages)?;
         // The extents are made where they stay, and moved no more.
@@ -122,13 +132,14 @@ impl Claims {
         }
     }
 
-    /// What the inode of a row claims.
+    /// What the inode of a row claims, without the block of a chain that may be told with it.
     fn of_row(alloc: Global, row: &Row) -> Result<Claims, AllocError>
         requires { AreSmall (block_at row.now.index) }
         ensures { IfOk result (λ claims. Lists (λ x. owner_key x.1) (IsClaim row.now.inode row.now.pages.items row.now.index) claims.items) }
     {
         Ok(Claims {
             inode: row.inode,
+            table: None,
             pages: LogPages::from_slice(alloc, &row.pages)?,
             runs: row.index.runs()?,
         })
@@ -136,12 +147,13 @@ impl Claims {
 }
 
 /// All that the inodes of these rows claim, one row after the other: what their pieces gave when they were scanned, for a
-/// caller that kept no claims.
+/// caller that kept no claims. No row tells of the blocks of chains, so it is for regions without such blocks.
 ///
 /// Errors: `AllocError` where a growth was refused.
 pub fn claims_of_rows(alloc: Global, rows: &Chunks<Row>) -> Result<ClaimedRuns, AllocError>
     requires scanned { (region : Region) × (l : Layout) × IsLayout l.sup × (pieces : List Piece) × AllByRecursion (IsPiece region l) pieces × (rows.now.items ≡ rows_in pieces) }
-    ensures { IfOk result (λ claims. (region : Region) (l : Layout) (pieces : List Piece) → AllByRecursion (IsPiece region l) pieces → rows.now.items ≡ rows_in pieces → claims.items ≡ claims_in pieces) }
+    ensures { IfOk result (λ claims. (region : Region) (l : Layout) (pieces : List Piece) → IsChainless l → AllByRecursion (IsPiece region l) pieces → rows.now.items ≡ rows_in pieces
+        → claims.items ≡ claims_in pieces) }
 {
     let mut claims = ClaimedRuns::new(alloc);
     for place in 0..rows.len() {
@@ -149,6 +161,15 @@ pub fn claims_of_rows(alloc: Global, rows: &Chunks<Row>) -> Result<ClaimedRuns, 
         own.add_to(&mut claims)?;
     }
     Ok(claims)
+}
+
+fn add_table(claims: &mut ClaimedRuns, table: Option<ChainBlock>) -> Result<(), AllocError>
+    ensures { OnOk result (claims.new.items ≡ claims.old.items ++ table_claims table) }
+{
+    match table {
+        None => Ok(()),
+        Some(table) => claims.push(table.run(), table.owner()),
+    }
 }
 
 fn add_pages(claims: &mut ClaimedRuns, inode: u64, pages: &[u64]) -> Result<(), AllocError>

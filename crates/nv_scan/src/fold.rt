@@ -26,11 +26,11 @@ use nv_super::{Fault, Kind, Super};
 use std::alloc::{AllocError, Global};
 
 /// Where a name is read. Whoever reads many logs keeps one, since to clear a new one costs more than most names do.
-pub(crate) type NameRoom = ArrayVec<u8, 255>;
+pub type NameRoom = ArrayVec<u8, 255>;
 
 /// What the entries read so far say, by the last word of each, and what is wrong with them.
 #[derive(Drop)]
-pub(crate) struct Fold {
+pub struct Fold {
     pub numbers: Numbers,
     pub extents: ExtentMap,
     pub names: NameIndex,
@@ -39,7 +39,7 @@ pub(crate) struct Fold {
 
 impl Fold {
     /// Before the first entry. It takes no memory.
-    pub(crate) fn new(alloc: Global, created: u64) -> Fold
+    pub fn new(alloc: Global, created: u64) -> Fold
         ensures { (s : SuperValue) (kind : KindValue) (inode : ℕ) → Holds s kind inode created [] result }
     {
         Fold {
@@ -52,7 +52,7 @@ impl Fold {
 
     /// Takes one entry more, and reads its name, if it has one, in place of what is in `name`. An entry that says what can't
     /// be is told as a fault, and changes nothing else.
-    pub(crate) fn take<P: Pmem>(
+    pub fn take<P: Pmem>(
         &mut self,
         memory: &P,
         sup: &Super,

@@ -36,8 +36,10 @@ pub fn one_inode()
 /// An inode is read from the words of its slot and from its log's pages alone, from that of its tail no further than where
 /// an entry ends at most that begins before the tail. Its row rests on the creation time too.
 pub fn inode_alone()
-    ensures log { (region other : Region) (l : Layout) (i a : ℕ) (log : Log) → SameSlot region other a → ((b : ℕ) → Contains log.pages b → SameToTail (word region (a + 24)) region other b) → IsInode region l i a log → IsInode other l i a log }
-    ensures row { (region other : Region) (l : Layout) (a : ℕ) (log : Log) (row : RowValue) → SameSlot region other a → word other (a + 32) ≡ word region (a + 32) → ((b : ℕ) → Contains log.pages b → SameToTail (word region (a + 24)) region other b) → IsRow region l a log row → IsRow other l a log row }
+    ensures log { (region other : Region) (l : Layout) (i a : ℕ) (log : Log) → SameSlot region other a → ((b : ℕ) → Contains log.pages b → SameToTail (word region (a + 24)) region other b)
+        → IsInode region l i a log → IsInode other l i a log }
+    ensures row { (region other : Region) (l : Layout) (a : ℕ) (log : Log) (row : RowValue) → SameSlot region other a → word other (a + 32) ≡ word region (a + 32)
+        → ((b : ℕ) → Contains log.pages b → SameToTail (word region (a + 24)) region other b) → IsRow region l a log row → IsRow other l a log row }
 {}
 
 /// An inode is in use exactly where its number has a slot, and the slot a kind; and then it has its log there.
@@ -49,8 +51,10 @@ pub fn in_use_by_the_slot()
 /// Each slot of a ticket's block of slots is that of the inode with the number in it, but for number 0. And each number
 /// that has a slot stands once in the blocks of slots of all tickets.
 pub fn tickets_are_blocks_of_slots()
-    ensures slots { (l : Layout) (ticket slot : ℕ) (block : SlotBlockValue) → IsLaid l → slice_get (slot_blocks l) ticket ≡ Some block → slot < block.slots → number_in l block slot ≢ 0 → slot_of l (number_in l block slot) ≡ Some (block.start + 128 * slot) }
-    ensures numbers { (l : Layout) (ticket slot : ℕ) (block : SlotBlockValue) → slice_get (slot_blocks l) ticket ≡ Some block → slot < block.slots → number_in l block slot ≢ 0 → Contains (numbers_of l ticket) (number_in l block slot) }
+    ensures slots { (l : Layout) (ticket slot : ℕ) (block : SlotBlockValue) → IsLaid l → slice_get (slot_blocks l) ticket ≡ Some block → slot < block.slots → number_in l block slot ≢ 0
+        → slot_of l (number_in l block slot) ≡ Some (block.start + 128 * slot) }
+    ensures numbers { (l : Layout) (ticket slot : ℕ) (block : SlotBlockValue) → slice_get (slot_blocks l) ticket ≡ Some block → slot < block.slots → number_in l block slot ≢ 0
+        → Contains (numbers_of l ticket) (number_in l block slot) }
     ensures once { (l : Layout) (i a : ℕ) → IsLaid l → slot_of l i ≡ Some a → times i (numbers_in l (range_with_len 0 (ticket_count l))) ≡ 1 }
 {}
 
@@ -64,9 +68,9 @@ pub fn names_are_listed()
     ensures { (index : Names) (listed : List (List ℕ × ℕ × ℕ)) → ListsNames index listed → Lists (λ (x : List ℕ × ℕ × ℕ). x.0) (λ x. name_at index x.0 ≡ Some (x.1, x.2)) listed }
 {}
 
-/// Each owned block is a data block.
+/// Each owned block is a data block, by a layout that a region can have.
 pub fn owned_blocks_are_data_blocks()
-    ensures { (region : Region) (l : Layout) (b : ℕ) (o : OwnerValue) → Owns region l b o → (system_blocks l.sup ≤ b) × (b < l.sup.blocks) }
+    ensures { (region : Region) (l : Layout) (b : ℕ) (o : OwnerValue) → IsLaid l → Owns region l b o → (system_blocks l.sup ≤ b) × (b < l.sup.blocks) }
 {}
 
 /// A file has no names, whatever its log says.

@@ -6,33 +6,27 @@
 //! all inodes can be made in any order, and on any thread, before they are put together.
 #![tactic(auto)]
 
-mod changes;
+mod chain_block;
 mod claiming;
 mod claims;
-mod dead;
 mod fold;
-mod in_turn;
 mod in_use;
 mod inodes;
 mod laws;
-mod marks;
 mod names;
-mod needed;
 mod numbers;
 mod pages;
-mod pairs;
 mod piece;
 mod reading;
 mod row_list;
 mod scan;
-mod stamps;
 mod tickets;
 mod touching;
 mod working;
 
+pub use chain_block::ChainBlock;
 pub use claims::{Claims, claims_of_rows};
-pub use dead::first_dead_page;
-pub use in_turn::{DeadPages, dead_pages};
+pub use fold::{Fold, NameRoom};
 pub use inodes::{Inodes, ListedInodes};
 pub use laws::{
     directories_have_no_pages, files_have_no_names, in_use_by_the_slot, inode_alone,
@@ -40,6 +34,7 @@ pub use laws::{
     owned_blocks_are_data_blocks, tickets_are_blocks_of_slots,
 };
 pub use numbers::Numbers;
+pub use pages::first_page_past;
 pub use piece::{LogPages, Piece, Row};
 pub use row_list::{RowHead, RowList, push_heads};
 pub use scan::{Scanner, scan_slot};

@@ -48,7 +48,7 @@ pub(crate) fn write_pages(
 }
 
 /// The first page that begins at the size or later.
-pub(crate) fn first_page_past(size: u64) -> u64
+pub fn first_page_past(size: u64) -> u64
     ensures { (p : ℕ) → nat_le result p ≡ nat_le size (p * 4096) }
 {
     size / BLOCK_SIZE + (size % BLOCK_SIZE).min(1)

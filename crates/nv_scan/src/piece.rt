@@ -46,7 +46,7 @@ pub struct Row {
 }
 
 /// All that is found of one inode by itself: its row, if it is in use, the blocks that it claims, and its faults, each once
-/// and in no order.
+/// and in no order. If its slot is the first of a chain's block, that block is among the claims.
 #[derive(Drop)]
 pub struct Piece {
     pub inode: u64,

@@ -55,7 +55,8 @@ fn take_writes<P: Pmem>(
     requires areas { HasAreas sup.now }
     requires blocks { HasBlocks (P.region memory.now) sup.now.blocks }
     requires sup { reader.old.sup ≡ sup.now }
-    ensures read { (head created : ℕ) → IsReadSoFar (P.region memory.now) head used.now.kind used.now.inode created reader.old fold.old → OnOk result (IsReadSoFar (P.region memory.now) head used.now.kind used.now.inode created reader.new fold.new) }
+    ensures read { (head created : ℕ) → IsReadSoFar (P.region memory.now) head used.now.kind used.now.inode created reader.old fold.old
+        → OnOk result (IsReadSoFar (P.region memory.now) head used.now.kind used.now.inode created reader.new fold.new) }
     ensures same_log { (reader.new.sup ≡ reader.old.sup) × (reader.new.tail ≡ reader.old.tail) }
     ensures less { remaining reader.new ≤ remaining reader.old }
 {

@@ -11,7 +11,7 @@ use std::alloc::{AllocError, Global};
 use std::marker::Model;
 
 /// What is read of a row again once all rows are there. It takes 16 bytes, and a row eleven times as many.
-#[derive(Clone, Copy, Debug)]
+#[derive(Clone, Copy)]
 pub struct RowHead {
     pub inode: u64,
     pub links: u32,

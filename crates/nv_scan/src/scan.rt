@@ -1,6 +1,6 @@
 //! One inode: its slot and its log become its row, the blocks that it claims and its faults.
 
-ghost use Rattle.std.specs.Prelude.{◌≡◌, ◌≢◌, ◌⊎◌, ◌≤◌, ◌+◌, ◌*◌, ◌%◌, ◌++◌, [], ℕ, IfOk, IfSome, IsSome, IsTrue, OnErr, OnOk, Some, false, true};
+ghost use Rattle.std.specs.Prelude.{◌≡◌, ◌≢◌, ◌⊎◌, ◌≤◌, ◌+◌, ◌*◌, ◌%◌, ◌++◌, [], ℕ, IfOk, IfSome, IsSome, IsTrue, None, OnErr, OnOk, Some, false, true};
 ghost use Rattle.nv_region.specs.Region.{HasBlocks, size, word};
 ghost use Rattle.nv_super.specs.Layout.{Layout, IsLayout, HasAreas, slot_of};
 ghost use Rattle.nv_inode.specs.Slot.{kind_of, is_right_log};
@@ -10,9 +10,11 @@ ghost use Rattle.nv_logpage.specs.Progress.{at_head};
 ghost use Rattle.nv_scan.specs.Claims.{AreSmall};
 ghost use Rattle.nv_scan.specs.Rows.{IsPiece};
 ghost use Rattle.nv_scan.specs.Scanned.{IsFilled, IsPieceOf, IsEmptyPiece, IsRowOf, fault_of_end};
+ghost use Rattle.nv_inode.specs.Chains.{IsLaid};
 ghost use Rattle.nv_inode.specs.SlotBlocks.{IsSmallBlock};
 ghost use Rattle.nv_scan.specs.Kept.{IsSlotOf, Keeps, KeepsFound, IsPieceBy, SameInodes};
 
+use crate::chain_block::{ChainBlock, chain_block_at};
 use crate::claims::Claims;
 use crate::fold::{Fold, NameRoom, push_fault};
 use crate::in_use::InUse;
@@ -86,7 +88,7 @@ impl Scanner {
     /// and, at the first log, for the reader.
     ///
     /// It answers false where nothing is to be told of it: at number 0, and where the valid word is 0, which is all that is
-    /// read of it then.
+    /// read of it then. With the inode of the first slot of a chain's block that block is told, whatever the slot holds.
     ///
     /// Errors: `AllocError` where a growth was refused. What is kept stays as it was, of the claims nothing is said, and the
     /// scanner can be used on.
@@ -103,36 +105,51 @@ impl Scanner {
         requires inside { at + 128 ≤ 4096 * self.old.blocks }
         ensures same { self.new ≡ self.old }
         // By each layout of the superblock whose slot of the number stands there.
-        ensures kept { IfOk result (λ found. (l : Layout) → l.sup ≡ self.old → (inode ≢ 0 → slot_of l inode ≡ Some at) → KeepsFound (P.region memory.now) l inode inodes.old inodes.new claims.new found) }
+        ensures kept { IfOk result (λ found. (l : Layout) → IsLaid l → l.sup ≡ self.old → (inode ≢ 0 → slot_of l inode ≡ Some at)
+            → KeepsFound (P.region memory.now) l inode inodes.old inodes.new claims.new found) }
         ensures refused { OnErr result (SameInodes inodes.old inodes.new) }
     {
-        if is_blank(memory, inode, at) {
+        let table = chain_block_at(&self.sup, inode, at);
+        if is_blank(memory, inode, at, table) {
             return Ok(false);
         }
         let slot = read_slot_at(memory, at);
-        self.scan_one(memory, inode, &slot, inodes, claims)?;
+        self.scan_one(memory, inode, table, &slot, inodes, claims)?;
         Ok(true)
     }
 
-    /// Scans the inode of this number, whose slot was read.
+    /// Scans the inode of this number, whose slot was read. The block of a chain is told with it, if there is one.
     fn scan_one<P: Pmem>(
         &mut self,
         memory: &P,
         inode: u64,
+        table: Option<ChainBlock>,
         slot: &Slot,
         inodes: &mut Inodes,
         claims: &mut Claims,
     ) -> Result<(), AllocError>
         requires blocks { HasBlocks (P.region memory.now) self.old.blocks }
         ensures same { self.new ≡ self.old }
-        ensures kept { (l : Layout) → IsSlotOf (P.region memory.now) self.old l inode slot.now → OnOk result (Keeps (IsPieceBy (P.region memory.now) l inode) inodes.old inodes.new claims.new) }
+        ensures kept { (l : Layout) → IsSlotOf (P.region memory.now) self.old l inode table slot.now → OnOk result (Keeps (IsPieceBy (P.region memory.now) l inode) inodes.old inodes.new claims.new) }
         ensures refused { OnErr result (SameInodes inodes.old inodes.new) }
     {
         let alloc = self.alloc;
         match slot.state() {
-            SlotState::Unused => keep_fault(inode, None, inodes, claims),
-            SlotState::BadValid => keep_fault(inode, Some(Fault::I1 { inode }), inodes, claims),
-            SlotState::BadKind => keep_fault(inode, Some(Fault::I2 { inode }), inodes, claims),
+            SlotState::Unused => keep_fault(inode, table, None, inodes, claims),
+            SlotState::BadValid => keep_fault(
+                inode,
+                table,
+                Some(Fault::I1 { inode }),
+                inodes,
+                claims,
+            ),
+            SlotState::BadKind => keep_fault(
+                inode,
+                table,
+                Some(Fault::I2 { inode }),
+                inodes,
+                claims,
+            ),
             SlotState::InUse(kind) => scan_log(
                 alloc,
                 memory,
@@ -141,6 +158,7 @@ impl Scanner {
                 &mut self.name,
                 &InUse {
                     inode,
+                    table,
                     kind,
                     slot: *slot,
                 },
@@ -151,22 +169,28 @@ impl Scanner {
     }
 }
 
-/// Whether nothing is to be told of the inode of this number, whose slot stands at this address.
-fn is_blank<P: Pmem>(memory: &P, inode: u64, at: u64) -> bool
+/// Whether nothing is to be told of the inode of this number, whose slot stands at this address, nor of a block of a chain
+/// with it.
+fn is_blank<P: Pmem>(memory: &P, inode: u64, at: u64, table: Option<ChainBlock>) -> bool
+    requires first { inode ≡ 0 → table ≡ None }
     requires whole { at % 128 ≡ 0 }
     requires inside { at + 128 ≤ size (P.region memory.now) }
-    ensures blank { IsTrue result → (inode ≡ 0) ⊎ (word (P.region memory.now) at ≡ 0) }
-    ensures told { result ≡ false → (inode ≢ 0) × (word (P.region memory.now) at ≢ 0) }
+    ensures blank { IsTrue result → (table ≡ None) × ((inode ≡ 0) ⊎ (word (P.region memory.now) at ≡ 0)) }
+    ensures told { result ≡ false → (inode ≢ 0) × (IsSome table ⊎ (word (P.region memory.now) at ≢ 0)) }
 {
-    match inode {
-        0 => true,
-        _ => memory.load(at) == 0,
+    match table {
+        Some(_) => false,
+        None => match inode {
+            0 => true,
+            _ => memory.load(at) == 0,
+        },
     }
 }
 
 /// Scans one inode: the words of its slot, and each page of its log once. Memory is taken for the pages, the indexes,
 /// the claims and the faults, and not for the entries; and, where there is a log to read, for a bit for each block of
-/// the region. A `Scanner` makes these bits once for many inodes.
+/// the region. A `Scanner` makes these bits once for many inodes. With the inode of the first slot of a chain's block that
+/// block is told, whatever the slot holds.
 pub fn scan_slot<P: Pmem>(
     alloc: Global,
     memory: &P,
@@ -184,8 +208,10 @@ pub fn scan_slot<P: Pmem>(
     let Some(at) = tables.slot_address(inode) else {
         unreachable!()
     };
+    let table = chain_block_at(tables.sup(), inode, at);
     let slot = read_slot_at(memory, at);
-    Scanner::new(alloc, tables.sup()).scan_one(memory, inode, &slot, &mut inodes, &mut claims)?;
+    let mut scanner = Scanner::new(alloc, tables.sup());
+    scanner.scan_one(memory, inode, table, &slot, &mut inodes, &mut claims)?;
     let Inodes { mut rows, faults } = inodes;
     Ok(Piece {
         inode,
@@ -212,7 +238,8 @@ fn scan_log<P: Pmem>(
     requires kind { kind_of used.now.slot ≡ Some used.now.kind }
     requires reader { IfSome reader.old (λ r. r.sup ≡ sup.now) }
     ensures reader { IfSome reader.new (λ r. r.sup ≡ sup.now) }
-    ensures kept { (l : Layout) → IsSlotOf (P.region memory.now) sup.now l used.now.inode used.now.slot → OnOk result (Keeps (IsPieceBy (P.region memory.now) l used.now.inode) inodes.old inodes.new claims.new) }
+    ensures kept { (l : Layout) → IsSlotOf (P.region memory.now) sup.now l used.now.inode used.now.table used.now.slot
+        → OnOk result (Keeps (IsPieceBy (P.region memory.now) l used.now.inode) inodes.old inodes.new claims.new) }
     ensures refused { OnErr result (SameInodes inodes.old inodes.new) }
 {
     if used.slot.has_right_log(sup) {
@@ -245,7 +272,8 @@ fn scan_from_head<P: Pmem>(
     requires right { is_right_log sup.now used.now.slot.head used.now.slot.tail ≡ true }
     requires head { reader.old ≡ at_head sup.now used.now.slot.head used.now.slot.tail }
     ensures reader { reader.new.sup ≡ sup.now }
-    ensures kept { (l : Layout) → IsSlotOf (P.region memory.now) sup.now l used.now.inode used.now.slot → OnOk result (Keeps (IsPieceBy (P.region memory.now) l used.now.inode) inodes.old inodes.new claims.new) }
+    ensures kept { (l : Layout) → IsSlotOf (P.region memory.now) sup.now l used.now.inode used.now.table used.now.slot
+        → OnOk result (Keeps (IsPieceBy (P.region memory.now) l used.now.inode) inodes.old inodes.new claims.new) }
     ensures refused { OnErr result (SameInodes inodes.old inodes.new) }
 {
     let mut fold = Fold::new(alloc, used.slot.created);
@@ -306,13 +334,19 @@ fn keep(
     claims: &mut Claims,
 ) -> Result<(), AllocError>
     requires { AreSmall (block_by fold.old.extents) }
-    ensures kept { OnOk result (Keeps (IsPieceOf used.now.inode used.now.kind used.now.slot pages.now fold.old fault) inodes.old inodes.new claims.new) }
+    ensures kept { OnOk result (Keeps (IsPieceOf used.now.inode used.now.table used.now.kind used.now.slot pages.now fold.old fault) inodes.old inodes.new claims.new) }
     ensures refused { OnErr result (SameInodes inodes.old inodes.new) }
 {
     push_fault(&mut fold.faults, fault)?;
     let (rows, faults) = (inodes.rows.len(), inodes.faults.len());
     inodes.push(row_without_pages(alloc, used, fold), &fold.faults)?;
-    match fill_row(pages, &fold.extents, inodes.rows.at_mut(rows), claims) {
+    match fill_row(
+        used.table,
+        pages,
+        &fold.extents,
+        inodes.rows.at_mut(rows),
+        claims,
+    ) {
         Ok(()) => Ok(()),
         Err(AllocError) => {
             let _row = inodes.rows.pop();
@@ -347,6 +381,7 @@ fn row_without_pages(alloc: Global, used: &InUse, fold: &mut Fold) -> Row
 /// Puts the pages of a log and of a file into their row. What the row's inode claims takes the place of the claims.
 // The index is made in the row, so that it is never copied.
 fn fill_row(
+    table: Option<ChainBlock>,
     pages: &[u64],
     extents: &ExtentMap,
     row: &mut Row,
@@ -355,22 +390,24 @@ fn fill_row(
     requires small { AreSmall (block_by extents.now) }
     requires no_pages { row.old.pages.items ≡ [] }
     requires no_index { (p : ℕ) → block_at row.old.index p ≡ None }
-    ensures { OnOk result (IsFilled pages.now (block_by extents.now) row.old row.new claims.new) }
+    ensures { OnOk result (IsFilled table pages.now (block_by extents.now) row.old row.new claims.new) }
 {
     extend_pages(&mut row.pages, pages)?;
-    claims.set(row.inode, pages, extents, &mut row.index)
+    claims.set(row.inode, table, pages, extents, &mut row.index)
 }
 
-/// Keeps the fault of an inode that isn't in use, if it has one. It claims nothing.
+/// Keeps the fault of an inode that isn't in use, if it has one. It claims nothing but the block of a chain that is told with
+/// it.
 fn keep_fault(
     _inode: u64,
+    table: Option<ChainBlock>,
     fault: Option<Fault>,
     inodes: &mut Inodes,
     claims: &mut Claims,
 ) -> Result<(), AllocError>
-    ensures kept { OnOk result (Keeps (IsEmptyPiece _inode fault) inodes.old inodes.new claims.new) }
+    ensures kept { OnOk result (Keeps (IsEmptyPiece _inode table fault) inodes.old inodes.new claims.new) }
     ensures refused { OnErr result (SameInodes inodes.old inodes.new) }
 {
-    claims.clear();
+    claims.begin(table);
     push_fault(&mut inodes.faults, fault)
 }

@@ -33,7 +33,7 @@ pub trait Gate {
 }
 
 /// A gate that holds nobody.
-#[derive(Clone, Copy, Debug)]
+#[derive(Clone, Copy)]
 pub struct NoGate;
 
 impl Gate for NoGate {
@@ -56,8 +56,9 @@ pub struct WorkerResult {
 }
 
 /// Draws tickets until none is left; a ticket is a block of slots. After each draw the gate is entered; then the inodes of
-/// the block's slots are scanned one after another, and the blocks that they own are claimed for their owners. A block
-/// of unused slots costs a few loads for each, and no log.
+/// the block's slots are scanned one after another, and the blocks that they own are claimed for their owners. If it is
+/// of a chain, the block itself is claimed first, whatever its slots hold. A block of unused slots costs a few loads for
+/// each, and no log.
 ///
 /// It stops early only where a growth is refused: then `refused` is true, and there are no rows and no faults.
 pub fn worker<P: Pmem, G: Gate>(
@@ -161,6 +162,7 @@ fn scan_ticket<P: Pmem, G: Gate>(
     ensures room { length each.new.items ≡ 32 }
     ensures done { OnOk result (IsDone (P.region memory.now) tables.now.layout (numbers_of tables.now.layout ticket) seat.old.view seat.new.view inodes.old.rows.items inodes.new.rows.items inodes.old.faults.items inodes.new.faults.items) }
 {
+    tables.are_laid();
     let count = scan_slots(memory, tables, scanner, inodes, each, ticket)?;
     claim_each(map, seat, &each[..count])
 }

@@ -8,7 +8,7 @@ use Rattle.std.proofs.lemmas.Bool.{cases_lt}
 use Rattle.nv_region.specs.Region.{Region}
 use Rattle.nv_super.specs.declared.superblock.Super.{Super}
 use Rattle.nv_commit.proofs.Left.{one_held}
-use Rattle.nv_calls.specs.nv_held.nv_scan.Dead.{IsFirstDead}
+use Rattle.nv_deadpages.specs.Dead.{IsFirstDead}
 use Rattle.nv_calls.specs.nv_held.Held.{Held, Store}
 use Rattle.nv_calls.specs.nv_held.Mounted.{ShowsSound}
 use Rattle.nv_calls.specs.CleanCall.{ShowsCleaned}

@@ -242,7 +242,8 @@ RefusesCall asks R S path old text new = (a : Asked asks R S path) × TellsRefus
 -- No test holds: the call is done, the line of its answer is told, and the region that it leaves is mounted.
 abbrev pub DoesCall : {A : Type 0} → Asks → Makes ⊤ → (A → Logs ⊤) → (A → List ℕ) → Region → Region → List ℕ → State → List ℕ → State → Type 0
 DoesCall {A} asks makes logs line R S path old text new = (a : Asked asks R S path) × (first_refusal a.tests ≡ None) × (names : List (List ℕ)) × (a.path_is ≡ Some names)
-    × (T : Region) × LeavesTree S T (seen_in a) (makes S (seen_in a) names) × (answer : A) × logs answer S (seen_in a) names T × (text ≡ line answer) × (new ≡ record old { region = Some T; mounted = Some T })
+    × (T : Region) × LeavesTree S T (seen_in a) (makes S (seen_in a) names) × (answer : A) × logs answer S (seen_in a) names T × (text ≡ line answer)
+    × (new ≡ record old { region = Some T; mounted = Some T })
 
 -- A call on what is mounted, if something is: of the mounted region, which came to the last recovery or which a call
 -- left, and of the one that there is.

@@ -115,7 +115,8 @@ PutsMount m old new = new ≡ record old { store = Some (stores.Mounted (with_fu
 -- which nothing is mounted.
 abbrev pub SettlesCall : {A : Type 0} → (A → List ℕ) → Mount RegionState → Result A CallRefusal → Session → List ℕ → Session → Type 0
 SettlesCall line m (Ok answer) old said new = (said ≡ line answer) × PutsMount m old new
-SettlesCall line m (Err refusal) old said new = ((refusal ≡ refusals.Stopped) × (said ≡ stopped_line) × (left : RegionState) × MayBeLeft m.memory.region (fenced_or_last m.memory) left.region × IsSettled left × (new ≡ record old { store = Some (stores.Alone left) }))
+SettlesCall line m (Err refusal) old said new = ((refusal ≡ refusals.Stopped) × (said ≡ stopped_line) × (left : RegionState)
+    × MayBeLeft m.memory.region (fenced_or_last m.memory) left.region × IsSettled left × (new ≡ record old { store = Some (stores.Alone left) }))
     ⊎ ((refusal ≢ refusals.Stopped) × (refusal ≢ refusals.Memory) × (said ≡ refused_line (refusal_word refusal)) × PutsMount m old new)
 
 -- ---- recoveries

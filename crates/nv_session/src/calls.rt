@@ -10,7 +10,7 @@ use crate::session::Session;
 use crate::stop::Stop;
 use crate::store::Store;
 use crate::texts::{cleaned_text, ok_text, stopped_text};
-use nv_calls::{Data, Fs};
+use nv_calls::{Cpu, Data, Fs, Time};
 use nv_region::{Fuse, Keep, MemRegion};
 use nv_report::refused_text;
 use nv_text::Refusal;
@@ -41,7 +41,7 @@ impl Session {
         let Some(mut mount) = self.take_mount(stop.fuse) else {
             return refused_text(alloc, Refusal::NotMounted);
         };
-        let answer = mount.create(cpu, path, FILE_MODE, self.time);
+        let answer = mount.create(Cpu(cpu), path, FILE_MODE, Time(self.time));
         self.settle_call(alloc, mount, answer, stop.keep)
     }
 
@@ -57,7 +57,7 @@ impl Session {
         let Some(mut mount) = self.take_mount(stop.fuse) else {
             return refused_text(alloc, Refusal::NotMounted);
         };
-        let answer = mount.mkdir(cpu, path, DIRECTORY_MODE, self.time);
+        let answer = mount.mkdir(Cpu(cpu), path, DIRECTORY_MODE, Time(self.time));
         self.settle_call(alloc, mount, answer, stop.keep)
     }
 
@@ -77,7 +77,7 @@ impl Session {
             return refused_text(alloc, Refusal::NotMounted);
         };
         let content = Data::Same { byte, count };
-        let answer = mount.write_data(cpu, path, offset, content, self.time);
+        let answer = mount.write_data(Cpu(cpu), path, offset, content, Time(self.time));
         self.settle_call(alloc, mount, answer, stop.keep)
     }
 
@@ -94,7 +94,7 @@ impl Session {
         let Some(mut mount) = self.take_mount(stop.fuse) else {
             return refused_text(alloc, Refusal::NotMounted);
         };
-        let answer = mount.set_size(cpu, path, size, self.time);
+        let answer = mount.set_size(Cpu(cpu), path, size, Time(self.time));
         self.settle_call(alloc, mount, answer, stop.keep)
     }
 
@@ -113,7 +113,7 @@ impl Session {
         let Some(mut mount) = self.take_mount(stop.fuse) else {
             return refused_text(alloc, Refusal::NotMounted);
         };
-        let answer = mount.set_attr(cpu, path, mode, owner, group, self.time);
+        let answer = mount.set_attr(Cpu(cpu), path, mode, owner, group, Time(self.time));
         self.settle_call(alloc, mount, answer, stop.keep)
     }
 
@@ -130,7 +130,7 @@ impl Session {
         let Some(mut mount) = self.take_mount(stop.fuse) else {
             return refused_text(alloc, Refusal::NotMounted);
         };
-        let answer = mount.link(cpu, old, new, self.time);
+        let answer = mount.link(Cpu(cpu), old, new, Time(self.time));
         self.settle_call(alloc, mount, answer, stop.keep)
     }
 
@@ -146,7 +146,7 @@ impl Session {
         let Some(mut mount) = self.take_mount(stop.fuse) else {
             return refused_text(alloc, Refusal::NotMounted);
         };
-        let answer = mount.unlink(cpu, path, self.time);
+        let answer = mount.unlink(Cpu(cpu), path, Time(self.time));
         self.settle_call(alloc, mount, answer, stop.keep)
     }
 
@@ -162,7 +162,7 @@ impl Session {
         let Some(mut mount) = self.take_mount(stop.fuse) else {
             return refused_text(alloc, Refusal::NotMounted);
         };
-        let answer = mount.rmdir(cpu, path, self.time);
+        let answer = mount.rmdir(Cpu(cpu), path, Time(self.time));
         self.settle_call(alloc, mount, answer, stop.keep)
     }
 
@@ -179,7 +179,7 @@ impl Session {
         let Some(mut mount) = self.take_mount(stop.fuse) else {
             return refused_text(alloc, Refusal::NotMounted);
         };
-        let answer = mount.rename(cpu, old, new, self.time);
+        let answer = mount.rename(Cpu(cpu), old, new, Time(self.time));
         self.settle_call(alloc, mount, answer, stop.keep)
     }
 
@@ -237,7 +237,7 @@ impl Session {
                 ok_text(alloc)
             }
             Err(CallRefusal::Stopped) => {
-                self.put(mount.into_region().after_stop(keep));
+                self.put(mount.into_memory().after_stop(keep));
                 stopped_text(alloc)
             }
             Err(refusal) => {

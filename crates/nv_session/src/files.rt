@@ -108,7 +108,7 @@ pub fn refused_call_text(alloc: Global, refusal: Refusal) -> Result<String, Allo
         return Err(AllocError);
     }
     let mut text = String::new(alloc);
-    writeln!(text, "refused {refusal}")?;
+    writeln!(text, "refused {}", refusal.name())?;
     Ok(text)
 }
 

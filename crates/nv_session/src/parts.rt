@@ -68,8 +68,10 @@ pub(crate) fn write_part<W: Write>(
     writer: &mut W,
 ) -> Result<(), ScriptError>
     requires { (file : IsReadable mount.now part.path.items) × (part.end ≤ file.node.size) }
-    ensures ok { (file : IsReadable mount.now part.path.items) → part.end ≤ file.node.size → OnOk result (Appends (W.contents writer.old) (W.contents writer.new) (part_line file.node part.offset part.end)) }
-    ensures short { (file : IsReadable mount.now part.path.items) → part.end ≤ file.node.size → OnErr result (AppendsShort (W.contents writer.old) (W.contents writer.new) (part_line file.node part.offset part.end)) }
+    ensures ok { (file : IsReadable mount.now part.path.items) → part.end ≤ file.node.size
+        → OnOk result (Appends (W.contents writer.old) (W.contents writer.new) (part_line file.node part.offset part.end)) }
+    ensures short { (file : IsReadable mount.now part.path.items) → part.end ≤ file.node.size
+        → OnErr result (AppendsShort (W.contents writer.old) (W.contents writer.new) (part_line file.node part.offset part.end)) }
     ensures kind { IfErr result (λ e. e ≡ ScriptError.Write) }
 {
     let FilePart {
@@ -102,8 +104,10 @@ fn write_piece<W: Write>(
 ) -> Result<(), ScriptError>
     requires room { length digits.old ≡ 2 * length bytes.old }
     requires there { (file : IsReadable mount.now path.now) × (at + length bytes.old ≤ file.node.size) }
-    ensures ok { (file : IsReadable mount.now path.now) → at + length bytes.old ≤ file.node.size → OnOk result (Appends (W.contents writer.old) (W.contents writer.new) (digits_of (bytes_from file.node at (length bytes.old)))) }
-    ensures short { (file : IsReadable mount.now path.now) → at + length bytes.old ≤ file.node.size → OnErr result (AppendsShort (W.contents writer.old) (W.contents writer.new) (digits_of (bytes_from file.node at (length bytes.old)))) }
+    ensures ok { (file : IsReadable mount.now path.now) → at + length bytes.old ≤ file.node.size
+        → OnOk result (Appends (W.contents writer.old) (W.contents writer.new) (digits_of (bytes_from file.node at (length bytes.old)))) }
+    ensures short { (file : IsReadable mount.now path.now) → at + length bytes.old ≤ file.node.size
+        → OnErr result (AppendsShort (W.contents writer.old) (W.contents writer.new) (digits_of (bytes_from file.node at (length bytes.old)))) }
     ensures kind { IfErr result (λ e. e ≡ ScriptError.Write) }
     ensures room { length digits.new ≡ length digits.old }
     ensures bytes { length bytes.new ≡ length bytes.old }

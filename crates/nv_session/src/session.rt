@@ -313,7 +313,8 @@ impl Session {
         length: u64,
     ) -> Result<String, AllocError>
         requires { length ≤ size memory.region }
-        ensures { IfOk result (λ text. (string_bytes text ≡ ok_line) × (m : RegionState) × (m.region ≡ front memory.region length) × IsSettled m × (self.new ≡ record self.old { store = Some (stores.Alone m) })) }
+        ensures { IfOk result (λ text. (string_bytes text ≡ ok_line) × (m : RegionState) × (m.region ≡ front memory.region length) × IsSettled m
+            × (self.new ≡ record self.old { store = Some (stores.Alone m) })) }
     {
         let front = memory.cut(length)?;
         self.put(front);
@@ -515,7 +516,7 @@ fn shown(mount: &Fs<MemRegion>) -> Shown<'_>
     ensures { shown_of result ≡ told mount.now.sup mount.now.rows mount.now.free [] mount.now.faults }
 {
     Shown {
-        sup: mount.sup(),
+        sup: mount.superblock(),
         rows: mount.rows(),
         free: mount.free(),
         faults: mount.faults(),

@@ -5,7 +5,7 @@ ghost use Rattle.std.specs.Prelude.{◌≡◌, false};
 use nv_region::{Fuse, Keep};
 
 /// The fuse that the next command sets on its memory, and what is kept of the region where it burns.
-#[derive(Clone, Copy, Debug, PartialEq, Eq)]
+#[derive(Clone, Copy, PartialEq, Eq)]
 pub struct Stop {
     pub fuse: Fuse,
     pub keep: Keep,

@@ -27,7 +27,7 @@ impl Store {
     {
         match self {
             Store::Alone(memory) => memory,
-            Store::Mounted(mount) => mount.region(),
+            Store::Mounted(mount) => mount.memory(),
         }
     }
 
@@ -37,7 +37,7 @@ impl Store {
     {
         match self {
             Store::Alone(memory) => memory,
-            Store::Mounted(mount) => mount.into_region(),
+            Store::Mounted(mount) => mount.into_memory(),
         }
     }
 }

@@ -29,7 +29,7 @@ pub fn refused_format_text(alloc: Global, refusal: FormatRefusal) -> Result<Stri
     ensures { IfOk result (λ text. string_bytes text ≡ refused_line (formats.refusal_name refusal)) }
 {
     let mut text = String::new(alloc);
-    writeln!(text, "refused {refusal}")?;
+    writeln!(text, "refused {}", refusal.name())?;
     Ok(text)
 }
 

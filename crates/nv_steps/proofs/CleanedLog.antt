@@ -21,10 +21,10 @@ use Rattle.nv_logpage.specs.Good.{good_entries}
 use Rattle.nv_logpage.specs.Reads.{Reads}
 use Rattle.nv_logpage.specs.declared.found.Placed.{Placed}
 use Rattle.nv_logpage.specs.Unlinked.{head_without, page_behind, word_to}
-use Rattle.nv_scan.specs.Dead.{IsFirstDead, IsSaidBy}
+use Rattle.nv_deadpages.specs.Dead.{IsFirstDead, IsSaidBy}
 use Rattle.nv_scan.specs.Faults.{IsEntryFault}
-use Rattle.nv_scan.specs.InTurn.{AreDeadPages, IsCleanLog}
-use Rattle.nv_scan.specs.declared.in_turn.DeadPages.{DeadPages}
+use Rattle.nv_deadpages.specs.InTurn.{AreDeadPages, IsCleanLog}
+use Rattle.nv_deadpages.specs.declared.in_turn.DeadPages.{DeadPages}
 use Rattle.nv_scan.specs.Rows.{AreNumbers}
 use Rattle.nv_scan.specs.State.{block_of, named}
 use Rattle.nv_scan.specs.declared.piece.Row.{Row}

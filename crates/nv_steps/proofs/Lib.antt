@@ -52,7 +52,9 @@ pub mod LinkedAt
 pub mod GivenBlocks
 pub mod LessName
 pub mod CutNames
+pub mod Less
 pub mod NumbersOwed
 pub mod UnlinkedAt
 pub mod MovedAt
 pub mod MovedRow
+pub mod Took

@@ -9,7 +9,7 @@ use Rattle.nv_alloc.specs.FreeValue.{FreeLists}
 use Rattle.nv_logpage.specs.declared.found.Placed.{Placed}
 use Rattle.nv_logpage.specs.Unlinked.{head_without}
 use Rattle.nv_scan.specs.declared.piece.Row.{Row}
-use Rattle.nv_held.specs.nv_scan.Dead.{IsFirstDead}
+use Rattle.nv_deadpages.specs.Dead.{IsFirstDead}
 use Rattle.nv_held.specs.Held.{Held, Store, with_inode}
 use Rattle.nv_held.specs.Blocks.{KeepsFree}
 use Rattle.nv_held.specs.Bytes.{byte_of}

@@ -18,3 +18,4 @@ pub mod Unlinks
 pub mod Moves
 pub mod Stopped
 pub mod Cleans
+pub mod Takes

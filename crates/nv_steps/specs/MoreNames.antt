@@ -96,7 +96,8 @@ pub record GrowsTwo (R S : Region) (s : Super) (free after : FreeLists) (cpu : �
   pub once : NamesOnce first first_now
   pub other_once : NamesOnce second second_now
   pub put : news ≡ set (set rows i first_now) j second_now
-  pub shows : (held : Store) (h g : Held) → ShowsRow R s held h first free → ShowsRow R s held g second free → ShowsNamed R S s cpu held (with_log (with_log held first.inode h entries fresh) second.inode g others more)
+  pub shows : (held : Store) (h g : Held) → ShowsRow R s held h first free → ShowsRow R s held g second free
+      → ShowsNamed R S s cpu held (with_log (with_log held first.inode h entries fresh) second.inode g others more)
 
 -- Both rows have their new tails and pages.
 pub record AppendsLogs (R S : Region) (s : Super) (free after : FreeLists) (cpu : ℕ) (rows news : List Row) (i : ℕ) (entries : List Entry) (j : ℕ) (others : List Entry) : Type 0 where

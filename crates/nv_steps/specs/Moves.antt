@@ -51,5 +51,6 @@ pub record MovesWithin (R S : Region) (s : Super) (free after : FreeLists) (cpu 
   pub taken : TakesEach free cpu fresh after
   pub count : length fresh ≡ needed (old.tail % 4096) (move_entries i name other time)
   pub row : HasMoved old fresh (end_of fresh 0 old.tail (move_entries i name other time)) name other i (move_place fresh old.tail i name other time) time new
-  pub moved : (held : Store) (h : Held) → CanExtend R s held old.inode h (slot_address s old.inode) old.tail (move_entries i name other time) fresh → ShowsMoved R s (with_log held old.inode h (move_entries i name other time) fresh) S
+  pub moved : (held : Store) (h : Held) → CanExtend R s held old.inode h (slot_address s old.inode) old.tail (move_entries i name other time) fresh
+      → ShowsMoved R s (with_log held old.inode h (move_entries i name other time) fresh) S
   pub mixed : IsMixed R (ExtendWords (slot_address s old.inode) old.tail (move_entries i name other time) fresh) S

@@ -29,7 +29,8 @@ Appended R s free cpu row entries S = (after : FreeLists) × (new : Row) × Appe
 
 -- and the row has what an attributes entry says
 abbrev pub Attributed : Region → Super → FreeLists → ℕ → Row → AttrEntry → Region → Type 0
-Attributed R s free cpu row x S = (after : FreeLists) × (new : Row) × ((held : Store) (h : Held) → ShowsRow R s held h row free → LogFollows R S s held h (Attr x ∷ []) free.pools cpu row new after) × HasAttributes row x new × (after.sup ≡ free.sup)
+Attributed R s free cpu row x S = (after : FreeLists) × (new : Row)
+    × ((held : Store) (h : Held) → ShowsRow R s held h row free → LogFollows R S s held h (Attr x ∷ []) free.pools cpu row new after) × HasAttributes row x new × (after.sup ≡ free.sup)
 
 -- and the file of a row has new bytes
 abbrev pub Wrote : Region → Super → FreeLists → ℕ → Plan → ℕ → List ℕ → Row → Region → Type 0
@@ -70,4 +71,5 @@ Resized R s free cpu row x S = (after : FreeLists) × (new : Row) × Resizes R S
 
 -- and a page went from the log of a row, the first that it can do without
 abbrev pub PageLess : Region → Super → FreeLists → Row → Region → Type 0
-PageLess R s free old S = (after : FreeLists) × (new : Row) × (b : ℕ) × ((held : Store) (h : Held) → ShowsRow R s held h old free → Cleans R S s held h old new free after (Some b)) × KeepsFile old new × (after.sup ≡ free.sup)
+PageLess R s free old S = (after : FreeLists) × (new : Row) × (b : ℕ) × ((held : Store) (h : Held) → ShowsRow R s held h old free → Cleans R S s held h old new free after (Some b))
+    × KeepsFile old new × (after.sup ≡ free.sup)

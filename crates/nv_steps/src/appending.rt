@@ -58,7 +58,8 @@ pub(crate) fn append_log<P: Pmem>(
     ensures wrote { (held : Store) (h : Held) → ShowsRow (P.region memory.old) sup.now held h row.old free.old → 0 < length entries.now
         → StoresIn sup.now held (one_log sup.now row.old.inode) (P.region memory.old) (P.region memory.new) }
     // What a stop leaves, at any exit.
-    ensures any_stop { (held : Store) (h : Held) → ShowsRow (P.region memory.old) sup.now held h row.old free.old → 0 < length entries.now → NothingPending (P.region memory.old) (P.may_hold memory.old)
+    ensures any_stop { (held : Store) (h : Held) → ShowsRow (P.region memory.old) sup.now held h row.old free.old → 0 < length entries.now
+        → NothingPending (P.region memory.old) (P.may_hold memory.old)
         → LeavesOnly (P.region memory.new) (P.may_hold memory.new) (LeavesEither (P.region memory.old) (fixed_layout sup.now) held (Appended (P.region memory.old) sup.now free.old cpu row.old entries.now)) }
 {
     let slot = sup.slot_address(row.inode);

@@ -10,8 +10,8 @@ ghost use Rattle.nv_inode.specs.Slot.{is_right_log};
 ghost use Rattle.nv_logpage.specs.declared.found.Placed.{Placed as PlacedValue};
 ghost use Rattle.nv_logpage.specs.Append.{EndBy};
 ghost use Rattle.nv_logpage.specs.Unlinked.{page_behind};
-ghost use Rattle.nv_scan.specs.Dead.{IsFirstDead, IsSaidBy};
-ghost use Rattle.nv_scan.specs.InTurn.{AreDeadPages};
+ghost use Rattle.nv_deadpages.specs.Dead.{IsFirstDead, IsSaidBy};
+ghost use Rattle.nv_deadpages.specs.InTurn.{AreDeadPages};
 ghost use Rattle.nv_held.specs.Held.{Held, Store};
 ghost use Rattle.nv_tree.specs.declared.refusal.Refusal.{Refusal as RefusalValue};
 ghost use Rattle.nv_commit.specs.Stopped.{LeavesEither};
@@ -25,9 +25,10 @@ ghost use Rattle.nv_steps.specs.Taken.{SamePools};
 
 use crate::giving::give_block;
 use nv_alloc::Allocators;
+use nv_deadpages::{DeadPages, dead_pages, first_dead_page};
 use nv_logpage::unlink_page;
 use nv_region::Pmem;
-use nv_scan::{DeadPages, Row, dead_pages, first_dead_page};
+use nv_scan::Row;
 use nv_super::{BLOCK_SIZE, Super};
 use nv_tree::Refusal;
 use std::alloc::{AllocError, Global};
@@ -52,7 +53,8 @@ pub fn dead_pages_of<P: Pmem>(
     requires inside { slot_address sup.now row.now.inode + 128 ≤ size (P.region memory.now) }
     requires blocks { HasBlocks (P.region memory.now) sup.now.blocks }
     requires right { is_right_log sup.now row.now.head row.now.tail ≡ true }
-    ensures { (held : Store) (h : Held) (free : FreeLists) → ShowsRow (P.region memory.now) sup.now held h row.now free → IfOk result (AreDeadPages sup.now h.kind row.now.inode h.created h.entries h.pages) }
+    ensures { (held : Store) (h : Held) (free : FreeLists) → ShowsRow (P.region memory.now) sup.now held h row.now free
+        → IfOk result (AreDeadPages sup.now h.kind row.now.inode h.created h.entries h.pages) }
 {
     // The region's length is a u64, and so is each address up to it.
     let _end = memory.len();
@@ -79,7 +81,8 @@ pub fn clean_log<P: Pmem>(
     requires inside { EndBy row.old.pages.items (size (P.region memory.old)) }
     requires own { AreOwn free.old row.old.pages.items }
     requires before_last { IfSome known (λ k. k + 1 < length row.old.pages.items) }
-    ensures log { (held : Store) (h : Held) → ShowsRow (P.region memory.old) sup.now held h row.old free.old → IsKnownDead sup.now h.kind row.old.inode h.created h.entries h.pages known → IfOk result (Cleans (P.region memory.old) (P.region memory.new) sup.now held h row.old row.new free.old free.new) }
+    ensures log { (held : Store) (h : Held) → ShowsRow (P.region memory.old) sup.now held h row.old free.old → IsKnownDead sup.now h.kind row.old.inode h.created h.entries h.pages known
+        → IfOk result (Cleans (P.region memory.old) (P.region memory.new) sup.now held h row.old row.new free.old free.new) }
     ensures settled { NothingPending (P.region memory.old) (P.may_hold memory.old) → OnOk result (NothingPending (P.region memory.new) (P.may_hold memory.new)) }
     ensures refused { IfErr result (λ e. (e ≡ RefusalValue.Memory) ⊎ (e ≡ RefusalValue.Stopped)) }
     // A block is given back once no log leads to it.
@@ -87,10 +90,12 @@ pub fn clean_log<P: Pmem>(
     ensures unchanged { IfErr result (λ e. (e ≡ RefusalValue.Stopped → ⊥) → LeavesStep memory.old memory.new free.old free.new row.old row.new) }
     ensures stopped { IfErr result (λ e. e ≡ RefusalValue.Stopped → IsTrue (P.fuse memory.new).has_burnt) }
     // Every word outside these places is as it was.
-    ensures wrote { (held : Store) (h : Held) (o : Option ℕ) → ShowsRow (P.region memory.old) sup.now held h row.old free.old → IsKnownDead sup.now h.kind row.old.inode h.created h.entries h.pages known → IsFirstDead sup.now h.kind row.old.inode h.created h.entries h.pages o
+    ensures wrote { (held : Store) (h : Held) (o : Option ℕ) → ShowsRow (P.region memory.old) sup.now held h row.old free.old
+        → IsKnownDead sup.now h.kind row.old.inode h.created h.entries h.pages known → IsFirstDead sup.now h.kind row.old.inode h.created h.entries h.pages o
         → StoresIn sup.now held (one_page_less sup.now row.old.inode h.pages o) (P.region memory.old) (P.region memory.new) }
     // Whatever a stop leaves: recovery finds what is held, or it without the page, without faults.
-    ensures any_stop { (held : Store) (h : Held) → ShowsRow (P.region memory.old) sup.now held h row.old free.old → IsKnownDead sup.now h.kind row.old.inode h.created h.entries h.pages known → NothingPending (P.region memory.old) (P.may_hold memory.old)
+    ensures any_stop { (held : Store) (h : Held) → ShowsRow (P.region memory.old) sup.now held h row.old free.old
+        → IsKnownDead sup.now h.kind row.old.inode h.created h.entries h.pages known → NothingPending (P.region memory.old) (P.may_hold memory.old)
         → LeavesOnly (P.region memory.new) (P.may_hold memory.new) (LeavesEither (P.region memory.old) (fixed_layout sup.now) held (PageLess (P.region memory.old) sup.now free.old row.old)) }
     ensures file { KeepsFile row.old row.new }
     ensures lists { free.new.sup ≡ free.old.sup }
@@ -135,7 +140,8 @@ fn known_or_first<P: Pmem>(
     requires right { is_right_log sup.now row.now.head row.now.tail ≡ true }
     requires before_last { IfSome known (λ k. k + 1 < length row.now.pages.items) }
     ensures before_last { IfOk result (λ found. IfSome found (λ k. k + 1 < length row.now.pages.items)) }
-    ensures first { IfOk result (λ found. (es : List PlacedValue) → IsSaidBy (P.region memory.now) sup.now created es row.now → IsKnownDead sup.now row.now.kind row.now.inode created es row.now.pages.items known
+    ensures first { IfOk result (λ found. (es : List PlacedValue) → IsSaidBy (P.region memory.now) sup.now created es row.now
+        → IsKnownDead sup.now row.now.kind row.now.inode created es row.now.pages.items known
         → IsFirstDead sup.now row.now.kind row.now.inode created es row.now.pages.items found) }
 {
     match known {

@@ -171,10 +171,12 @@ fn copy_end<P: Pmem>(
     ensures length { size (P.region memory.new) ≡ size (P.region memory.old) }
     ensures keeps_fuse { KeepsFuse (λ limit. size (P.region memory.old) ≤ limit) (P.fuse memory.old) (P.fuse memory.new) }
     // Every word outside these places is as it was.
-    ensures wrote { (s : SuperValue) (held : Store) (i : ℕ) (h : Held) → CanExtend (P.region memory.old) s held i h log.now.slot log.now.tail log.now.entries.now log.now.fresh.now → IsUnowned (fixed_layout s) held to
+    ensures wrote { (s : SuperValue) (held : Store) (i : ℕ) (h : Held) → CanExtend (P.region memory.old) s held i h log.now.slot log.now.tail log.now.entries.now log.now.fresh.now
+        → IsUnowned (fixed_layout s) held to
         → StoresIn s held (one_log s i) (P.region memory.old) (P.region memory.new) }
     // Whatever a stop leaves: recovery finds what is held, or it with the page copied and the log grown, without faults.
-    ensures any_stop { (s : SuperValue) (held : Store) (i : ℕ) (h : Held) → CanExtend (P.region memory.old) s held i h log.now.slot log.now.tail log.now.entries.now log.now.fresh.now → IsUnowned (fixed_layout s) held to → NothingPending (P.region memory.old) (P.may_hold memory.old)
+    ensures any_stop { (s : SuperValue) (held : Store) (i : ℕ) (h : Held) → CanExtend (P.region memory.old) s held i h log.now.slot log.now.tail log.now.entries.now log.now.fresh.now
+        → IsUnowned (fixed_layout s) held to → NothingPending (P.region memory.old) (P.may_hold memory.old)
         → LeavesOnly (P.region memory.new) (P.may_hold memory.new) (LeavesEither (P.region memory.old) (fixed_layout s) held (λ S. CopiesEnd (P.region memory.old) S from to bytes log.now.slot log.now.tail log.now.entries.now log.now.fresh.now)) }
 {
     copy_page(memory, from, to, bytes)?;

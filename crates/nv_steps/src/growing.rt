@@ -83,7 +83,8 @@ pub(crate) fn append_logs<P: Pmem>(
     ensures in_order { (held : Store) (h g : Held) → ShowsRow (P.region memory.old) sup.now held h row.old free.old → ShowsRow (P.region memory.old) sup.now held g other.old free.old
         → TailIsFirst (P.region memory.old) (P.region memory.new) sup.now free.old.pools cpu row.old.inode row.old.tail first.now.entries.now (tail_address sup.now other.old.inode) }
     // Whatever a stop leaves: recovery finds what is held, or it with both logs grown, without faults.
-    ensures any_stop { (held : Store) (h g : Held) → ShowsRow (P.region memory.old) sup.now held h row.old free.old → ShowsRow (P.region memory.old) sup.now held g other.old free.old → NothingPending (P.region memory.old) (P.may_hold memory.old)
+    ensures any_stop { (held : Store) (h g : Held) → ShowsRow (P.region memory.old) sup.now held h row.old free.old → ShowsRow (P.region memory.old) sup.now held g other.old free.old
+        → NothingPending (P.region memory.old) (P.may_hold memory.old)
         → LeavesOnly (P.region memory.new) (P.may_hold memory.new) (LeavesEither (P.region memory.old) (fixed_layout sup.now) held (AppendedBoth (P.region memory.old) sup.now free.old cpu row.old first.now.entries.now other.old second.now.entries.now)) }
 {
     let blocks = prepare_logs(alloc, free, cpu, row, first, other, second)?;

@@ -71,7 +71,8 @@ pub fn link_both<P: Pmem>(
     ensures in_order { (held : Store) (h g : Held) → ShowsRow (P.region memory.old) sup.now held h file.old free.old → ShowsRow (P.region memory.old) sup.now held g directory.old free.old
         → TailIsFirst (P.region memory.old) (P.region memory.new) sup.now free.old.pools cpu file.old.inode file.old.tail (links_entries (file.old.numbers.links + 1) time) (tail_address sup.now directory.old.inode) }
     // Whatever a stop leaves: recovery finds what is held, or it with the link and the name, without faults.
-    ensures any_stop { (held : Store) (h g : Held) → ShowsRow (P.region memory.old) sup.now held h file.old free.old → ShowsRow (P.region memory.old) sup.now held g directory.old free.old → name_at directory.old.names name.now ≡ Option.None → NothingPending (P.region memory.old) (P.may_hold memory.old)
+    ensures any_stop { (held : Store) (h g : Held) → ShowsRow (P.region memory.old) sup.now held h file.old free.old → ShowsRow (P.region memory.old) sup.now held g directory.old free.old
+        → name_at directory.old.names name.now ≡ Option.None → NothingPending (P.region memory.old) (P.may_hold memory.old)
         → LeavesOnly (P.region memory.new) (P.may_hold memory.new) (LeavesEither (P.region memory.old) (fixed_layout sup.now) held (Linked (P.region memory.old) sup.now free.old cpu file.old directory.old name.now time)) }
 {
     let inode = file.inode;

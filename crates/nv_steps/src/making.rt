@@ -85,7 +85,8 @@ pub fn make_named<P: Pmem>(
     ensures in_order { (held : Store) (h : Held) → ShowsRow (P.region memory.old) sup.now held h directory.old free.old → held new.now.inode ≡ None
         → FirstIsFirst (P.region memory.old) (slot_address sup.now new.now.inode) 1 (tail_address sup.now directory.old.inode) (P.region memory.new) }
     // What a stop leaves, at any exit.
-    ensures any_stop { (held : Store) (h : Held) → ShowsRow (P.region memory.old) sup.now held h directory.old free.old → held new.now.inode ≡ None → name_at directory.old.names new.now.name.now ≡ None → NothingPending (P.region memory.old) (P.may_hold memory.old)
+    ensures any_stop { (held : Store) (h : Held) → ShowsRow (P.region memory.old) sup.now held h directory.old free.old → held new.now.inode ≡ None
+        → name_at directory.old.names new.now.name.now ≡ None → NothingPending (P.region memory.old) (P.may_hold memory.old)
         → LeavesOnly (P.region memory.new) (P.may_hold memory.new) (LeavesEither (P.region memory.old) (fixed_layout sup.now) held (Named (P.region memory.old) sup.now free.old cpu directory.old new.now.kind new.now.mode new.now.time new.now.inode new.now.name.now)) }
 {
     let entries = [name_entry(Operation::Add, new.inode, new.name, new.time)];

@@ -103,7 +103,7 @@ pub fn cut_name<P: Pmem>(
 /// directory's row, and in the free lists for so many blocks that come.
 ///
 /// `NoSpace` where all pools together have fewer blocks, `Memory` where a growth was refused. Both leave the free lists.
-fn prepare_cut(
+pub(crate) fn prepare_cut(
     alloc: Global,
     free: &mut Allocators,
     cpu: u64,
@@ -119,6 +119,7 @@ fn prepare_cut(
     ensures enough { OnOk result (needed (directory.old.tail % 4096) entries.now ≤ all_blocks free.old.pools) }
     ensures once { EachOnce directory.old.names }
     ensures row { SameRow directory.old directory.new }
+    ensures names_room { directory.new.names.room ≡ directory.old.names.room }
     ensures refused { IfErr result (λ e. RefusesStep e (needed (directory.old.tail % 4096) entries.now) free.old) }
     ensures goes_on { IfErr result (λ e. e ≡ RefusalValue.Stopped → ⊥) }
     ensures unchanged { OnErr result (SamePools free.old free.new) }

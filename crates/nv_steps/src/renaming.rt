@@ -77,7 +77,8 @@ pub fn move_within<P: Pmem>(
     ensures wrote { (held : Store) (h : Held) → ShowsRow (P.region memory.old) sup.now held h directory.old free.old
         → StoresIn sup.now held (one_log sup.now directory.old.inode) (P.region memory.old) (P.region memory.new) }
     // Whatever a stop leaves: recovery finds what is held, or it with the other name, without faults.
-    ensures any_stop { (held : Store) (h : Held) → ShowsRow (P.region memory.old) sup.now held h directory.old free.old → name_at directory.old.names moved.now.other.now ≡ Option.None → NothingPending (P.region memory.old) (P.may_hold memory.old)
+    ensures any_stop { (held : Store) (h : Held) → ShowsRow (P.region memory.old) sup.now held h directory.old free.old → name_at directory.old.names moved.now.other.now ≡ Option.None
+        → NothingPending (P.region memory.old) (P.may_hold memory.old)
         → LeavesOnly (P.region memory.new) (P.may_hold memory.new) (LeavesEither (P.region memory.old) (fixed_layout sup.now) held (MovedHere (P.region memory.old) sup.now free.old cpu directory.old moved.now.inode moved.now.name.now moved.now.other.now moved.now.time)) }
 {
     let entries = [
@@ -136,7 +137,8 @@ pub fn move_both<P: Pmem>(
     ensures in_order { (held : Store) (h g : Held) → ShowsRow (P.region memory.old) sup.now held h from.old free.old → ShowsRow (P.region memory.old) sup.now held g to.old free.old
         → TailIsFirst (P.region memory.old) (P.region memory.new) sup.now free.old.pools cpu from.old.inode from.old.tail (name_entries Remove moved.now.inode moved.now.name.now moved.now.time) (tail_address sup.now to.old.inode) }
     // Whatever a stop leaves: recovery finds what is held, or it with the name in the other directory, without faults.
-    ensures any_stop { (held : Store) (h g : Held) → ShowsRow (P.region memory.old) sup.now held h from.old free.old → ShowsRow (P.region memory.old) sup.now held g to.old free.old → name_at to.old.names moved.now.other.now ≡ Option.None → NothingPending (P.region memory.old) (P.may_hold memory.old)
+    ensures any_stop { (held : Store) (h g : Held) → ShowsRow (P.region memory.old) sup.now held h from.old free.old → ShowsRow (P.region memory.old) sup.now held g to.old free.old
+        → name_at to.old.names moved.now.other.now ≡ Option.None → NothingPending (P.region memory.old) (P.may_hold memory.old)
         → LeavesOnly (P.region memory.new) (P.may_hold memory.new) (LeavesEither (P.region memory.old) (fixed_layout sup.now) held (MovedOver (P.region memory.old) sup.now free.old cpu from.old to.old moved.now.inode moved.now.name.now moved.now.other.now moved.now.time)) }
 {
     let removal = [name_entry(Operation::Remove, moved.inode, moved.name, moved.time)];

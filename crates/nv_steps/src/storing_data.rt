@@ -84,10 +84,12 @@ pub(crate) fn commit_data<P: Pmem>(
     ensures length { size (P.region memory.new) ≡ size (P.region memory.old) }
     ensures keeps_fuse { KeepsFuse (λ limit. size (P.region memory.old) ≤ limit) (P.fuse memory.old) (P.fuse memory.new) }
     // Every word outside these places is as it was.
-    ensures wrote { (s : Super) (held : Store) (inode : ℕ) (h : Held) → CanExtend (P.region memory.old) s held inode h slot tail log.now.entries.items log.now.fresh.items → ((b : ℕ) → HasBlock (entry_blocks log.now.entries.items) b → IsUnowned (fixed_layout s) held b)
+    ensures wrote { (s : Super) (held : Store) (inode : ℕ) (h : Held) → CanExtend (P.region memory.old) s held inode h slot tail log.now.entries.items log.now.fresh.items
+        → ((b : ℕ) → HasBlock (entry_blocks log.now.entries.items) b → IsUnowned (fixed_layout s) held b)
         → StoresIn s held (one_log s inode) (P.region memory.old) (P.region memory.new) }
     // What a stop leaves, at any exit: the data are stored where nothing is read from, and count once the tail has moved.
-    ensures any_stop { (s : Super) (held : Store) (inode : ℕ) (h : Held) → CanExtend (P.region memory.old) s held inode h slot tail log.now.entries.items log.now.fresh.items → ((b : ℕ) → HasBlock (entry_blocks log.now.entries.items) b → IsUnowned (fixed_layout s) held b)
+    ensures any_stop { (s : Super) (held : Store) (inode : ℕ) (h : Held) → CanExtend (P.region memory.old) s held inode h slot tail log.now.entries.items log.now.fresh.items
+        → ((b : ℕ) → HasBlock (entry_blocks log.now.entries.items) b → IsUnowned (fixed_layout s) held b)
         → NothingPending (P.region memory.old) (P.may_hold memory.old) → LeavesOnly (P.region memory.new) (P.may_hold memory.new) (LeavesEither (P.region memory.old) (fixed_layout s) held
         (λ S. Commits (P.region memory.old) S s inode slot tail (byte_after change.now.offset (data_bytes change.now.content) change.now.size (file_byte (P.region memory.old) index.now)) log.now.entries.items log.now.fresh.items)) }
 {

@@ -72,7 +72,8 @@ pub fn unlink_both<P: Pmem>(
     ensures in_order { (held : Store) (h f : Held) → ShowsRow (P.region memory.old) sup.now held h directory.old free.old → ShowsRow (P.region memory.old) sup.now held f file.old free.old
         → TailIsFirst (P.region memory.old) (P.region memory.new) sup.now free.old.pools cpu directory.old.inode directory.old.tail (name_entries Remove file.old.inode name.now time) (tail_address sup.now file.old.inode) }
     // Whatever a stop leaves: recovery finds what is held, or it without the name and the link, without faults.
-    ensures any_stop { (held : Store) (h f : Held) → ShowsRow (P.region memory.old) sup.now held h directory.old free.old → ShowsRow (P.region memory.old) sup.now held f file.old free.old → NothingPending (P.region memory.old) (P.may_hold memory.old)
+    ensures any_stop { (held : Store) (h f : Held) → ShowsRow (P.region memory.old) sup.now held h directory.old free.old → ShowsRow (P.region memory.old) sup.now held f file.old free.old
+        → NothingPending (P.region memory.old) (P.may_hold memory.old)
         → LeavesOnly (P.region memory.new) (P.may_hold memory.new) (LeavesEither (P.region memory.old) (fixed_layout sup.now) held (Unlinked (P.region memory.old) sup.now free.old cpu directory.old file.old name.now time)) }
 {
     let count = file.numbers.links - 1;

@@ -6,7 +6,7 @@ use std::fmt;
 const MOST_BYTES: usize = 247;
 
 /// The path of a new file beside a place: that of the place, whose name is cut where it is too long, `.new-` and a number.
-#[derive(Clone, Copy, Debug)]
+#[derive(Clone, Copy)]
 pub struct Beside<'a> {
     pub path: &'a str,
     pub number: u32,

@@ -12,7 +12,7 @@ use std::{fs, io};
 use thiserror::Error;
 
 /// What a file holds.
-#[derive(Debug, Drop)]
+#[derive(Drop)]
 pub enum Contents {
     /// These bytes.
     Whole(Vec<u8>),

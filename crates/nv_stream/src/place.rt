@@ -35,7 +35,7 @@ pub(crate) fn is_locked_now<F: Lock>(file: &F) -> bool {
 }
 
 /// What tells a file from all others, and from what it was before.
-#[derive(Clone, Copy, Debug, PartialEq, Eq)]
+#[derive(Clone, Copy, PartialEq, Eq)]
 pub struct Stamp {
     pub device: u64,
     pub inode: u64,
@@ -85,7 +85,7 @@ pub struct Place<F: Drop> {
 }
 
 /// What a command reads, and may put in the place of what is there.
-#[derive(Clone, Copy, Debug)]
+#[derive(Clone, Copy)]
 pub struct Allowed {
     /// The file that it reads, and never replaces.
     pub read: Option<Stamp>,

@@ -15,7 +15,7 @@ use std::io::{ErrorKind, Read};
 pub const LINE_LIMIT: usize = 4096;
 
 /// What came next from a reader.
-#[derive(Clone, Copy, Debug, PartialEq, Eq)]
+#[derive(Clone, Copy, PartialEq, Eq)]
 pub enum Next {
     /// A line, without the byte that ends it.
     Line,

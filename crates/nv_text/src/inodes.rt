@@ -9,7 +9,7 @@ use std::alloc::AllocError;
 use std::fmt::Write;
 
 /// What the first line of an inode shows. The size is in bytes.
-#[derive(Clone, Copy, Debug, PartialEq, Eq)]
+#[derive(Clone, Copy, PartialEq, Eq)]
 pub struct Attributes {
     pub inode: u64,
     pub kind: Kind,

@@ -7,7 +7,7 @@ use nv_super::SuperFault;
 use std::fmt;
 
 /// Why a command is refused.
-#[derive(Clone, Copy, Debug, PartialEq, Eq)]
+#[derive(Clone, Copy, PartialEq, Eq)]
 pub enum Refusal {
     /// There is no region.
     NoRegion,

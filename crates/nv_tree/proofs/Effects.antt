@@ -11,7 +11,7 @@ use Rattle.nv_tree.proofs.Named.{put_same, edit_same, name_set, name_cut, set_af
 use Rattle.nv_tree.proofs.Leads.{StaysInUse, GrowsName, put_stays, edit_stays, stays_on, walk_ends, used_now, path_grows, path_stays, stood_for_none}
 
 -- a path that leads somewhere leads to an inode in use
-found_used : (t : Tree) (names : List (List ℕ)) (i : ℕ) → found t names ≡ Some i → (a : Node) × (t i ≡ Some a)
+pub found_used : (t : Tree) (names : List (List ℕ)) (i : ℕ) → found t names ≡ Some i → (a : Node) × (t i ≡ Some a)
 found_used t [] i h = let r = used_now t (Some 1) i h in (r.0, r.2)
 found_used t (name ∷ names) i h = let r = used_now t (last_in t (walk t 1 (name ∷ names)) (name ∷ names)) i h in (r.0, r.2)
 

@@ -40,7 +40,7 @@ stays_on t s u first second = record {
 -- ---- what a step of a walk tells
 
 -- it ended at a directory in use
-ended : (e k : ℕ) (o : Option Node) → as_directory e o ≡ Ok k → (a : Node) × (o ≡ Some a) × (is_directory a.kind ≡ true) × (e ≡ k)
+pub ended : (e k : ℕ) (o : Option Node) → as_directory e o ≡ Ok k → (a : Node) × (o ≡ Some a) × (is_directory a.kind ≡ true) × (e ≡ k)
 ended e k None h = absurd (cc)
 ended e k (Some a) h = by (is_directory a.kind) refl h
   where
@@ -48,11 +48,11 @@ ended e k (Some a) h = by (is_directory a.kind) refl h
     by true is is_k = (a, refl, is, cc)
     by false is is_k = absurd (cc)
 
-went_on : (r : Result ℕ Refusal) (f : ℕ → Result ℕ Refusal) (k : ℕ) → and_then r f ≡ Ok k → (i : ℕ) × (r ≡ Ok i) × (f i ≡ Ok k)
+pub went_on : (r : Result ℕ Refusal) (f : ℕ → Result ℕ Refusal) (k : ℕ) → and_then r f ≡ Ok k → (i : ℕ) × (r ≡ Ok i) × (f i ≡ Ok k)
 went_on (Err refusal) f k h = absurd (cc)
 went_on (Ok i) f k h = (i, refl, h)
 
-had_name : (o : Option ℕ) (j : ℕ) → or_not_found o ≡ Ok j → o ≡ Some j
+pub had_name : (o : Option ℕ) (j : ℕ) → or_not_found o ≡ Ok j → o ≡ Some j
 had_name None j h = absurd (cc)
 had_name (Some i) j h = cc
 
@@ -80,7 +80,7 @@ used_now t (Some i) j h = by (t i) refl h
     by None e is = absurd (cc)
     by (Some a) e is = let same : i ≡ j = cc in (a, is, ap t (sym same) ∙ e)
 
-in_use_at : (u : Tree) (j : ℕ) (b : Node) → u j ≡ Some b → in_use u (Some j) ≡ Some j
+pub in_use_at : (u : Tree) (j : ℕ) (b : Node) → u j ≡ Some b → in_use u (Some j) ≡ Some j
 in_use_at u j b used =
     let chosen : Option Node → Option ℕ = λ o. cond (is_some o) (Some j) None in
     ap chosen used

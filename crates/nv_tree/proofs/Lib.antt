@@ -8,5 +8,7 @@ pub mod Contents
 pub mod First
 pub mod Named
 pub mod Leads
+pub mod Cuts
 pub mod Effects
+pub mod Replaced
 pub mod Replies

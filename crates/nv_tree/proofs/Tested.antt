@@ -10,11 +10,11 @@ use Rattle.nv_tree.proofs.Alike.{walk_alike, found_alike, passed_alike, director
 
 -- ---- each test
 
-walks_alike : (t u : Tree) → SameTree t u → (p : Path) → walk_tests t p ≡ walk_tests u p
+pub walks_alike : (t u : Tree) → SameTree t u → (p : Path) → walk_tests t p ≡ walk_tests u p
 walks_alike t u same None = refl
 walks_alike t u same (Some names) = ap refused_walk (walk_alike t u same 1 names)
 
-target_alike : (t u : Tree) → SameTree t u → (p : Path) → target t p ≡ target u p
+pub target_alike : (t u : Tree) → SameTree t u → (p : Path) → target t p ≡ target u p
 target_alike t u same None = refl
 target_alike t u same (Some names) = found_alike t u same names
 
@@ -23,10 +23,10 @@ passes_alike t u same None i = refl
 passes_alike t u same (Some names) i = ap (λ l. list_any (eqb i) l) (passed_alike t u same 1 names)
 
 -- a test with its refusal
-abbrev test : Refusal → Bool → Bool × Refusal
+abbrev pub test : Refusal → Bool → Bool × Refusal
 test r b = (b, r)
 
-missing_alike : (t u : Tree) → SameTree t u → (p : Path) → is_missing t p ≡ is_missing u p
+pub missing_alike : (t u : Tree) → SameTree t u → (p : Path) → is_missing t p ≡ is_missing u p
 missing_alike t u same p = ap (λ (o : Option ℕ). test NotFound (is_none o)) (target_alike t u same p)
 
 present_alike : (t u : Tree) → SameTree t u → (p : Path) → is_there t p ≡ is_there u p
@@ -44,19 +44,19 @@ names_alike t u same p = ap (test NotEmpty) (mapped (λ i. nat_lt 0 (count_at t 
 most_links_alike : (t u : Tree) → SameTree t u → (p : Path) → has_most_links t p ≡ has_most_links u p
 most_links_alike t u same p = ap (test LinkLimit) (mapped (λ i. nat_le 1000 (links_at t i)) (λ i. nat_le 1000 (links_at u i)) false (λ i. ap (nat_le 1000) (links_alike t u same i)) (target t p) (target u p) (target_alike t u same p))
 
-into_itself_alike : (t u : Tree) → SameTree t u → (p q : Path) → is_into_itself t p q ≡ is_into_itself u p q
+pub into_itself_alike : (t u : Tree) → SameTree t u → (p q : Path) → is_into_itself t p q ≡ is_into_itself u p q
 into_itself_alike t u same p q = ap (test IntoItself) (mapped (λ i. is_directory_at t i && passes t q i) (λ i. is_directory_at u i && passes u q i) false
     (λ i. ap (λ b. b && passes t q i) (directory_alike t u same i) ∙ ap (λ b. is_directory_at u i && b) (passes_alike t u same q i)) (target t p) (target u p) (target_alike t u same p))
 
 -- ---- lists of tests
 
-and_tests : {a b x y : Tests} → a ≡ b → x ≡ y → a ++ x ≡ b ++ y
+pub and_tests : {a b x y : Tests} → a ≡ b → x ≡ y → a ++ x ≡ b ++ y
 and_tests {a} {b} {x} {y} e f = ap (λ (l : Tests). l ++ x) e ∙ ap (λ (l : Tests). b ++ l) f
 
-and_test : {x y : Bool × Refusal} {l m : Tests} → x ≡ y → l ≡ m → x ∷ l ≡ y ∷ m
+pub and_test : {x y : Bool × Refusal} {l m : Tests} → x ≡ y → l ≡ m → x ∷ l ≡ y ∷ m
 and_test {x} {y} {l} {m} e f = ap (λ (v : Bool × Refusal). v ∷ l) e ∙ ap (λ (r : Tests). y ∷ r) f
 
-behind : (w : World) (cpu : ℕ) {l m : Tests} → l ≡ m → writing w cpu l ≡ writing w cpu m
+pub behind : (w : World) (cpu : ℕ) {l m : Tests} → l ≡ m → writing w cpu l ≡ writing w cpu m
 behind w cpu e = ap (λ (l : Tests). writing w cpu l) e
 
 pub create_alike : (w : World) (cpu : ℕ) (p : Path) (needed : ℕ) (t u : Tree) → SameTree t u → create_tests w t cpu p needed ≡ create_tests w u cpu p needed

@@ -3,4 +3,6 @@ pub mod Names
 pub mod Tree
 pub mod Calls
 pub mod Refusals
+pub mod Replace
+pub mod Sentences
 pub mod Laws

@@ -88,9 +88,11 @@ pub fn names_after_create()
 /// Where an inode got one more name, which stood for no inode in use, the new path leads there. Each path that led to an
 /// inode leads there still, and every other name stands for what it did.
 pub fn names_after_link()
-    ensures found { (t : Tree) (old : List (List ℕ)) (i d : ℕ) (name : List ℕ) (names : List (List ℕ)) (time : ℕ) → found t old ≡ Some i → walk t 1 (name ∷ names) ≡ Ok d → found t (name ∷ names) ≡ None
+    ensures found { (t : Tree) (old : List (List ℕ)) (i d : ℕ) (name : List ℕ) (names : List (List ℕ)) (time : ℕ) → found t old ≡ Some i → walk t 1 (name ∷ names) ≡ Ok d
+        → found t (name ∷ names) ≡ None
         → found (linked old (name ∷ names) time t) (name ∷ names) ≡ Some i }
-    ensures paths { (t : Tree) (old : List (List ℕ)) (i d : ℕ) (name : List ℕ) (names : List (List ℕ)) (time : ℕ) → found t old ≡ Some i → walk t 1 (name ∷ names) ≡ Ok d → found t (name ∷ names) ≡ None
+    ensures paths { (t : Tree) (old : List (List ℕ)) (i d : ℕ) (name : List ℕ) (names : List (List ℕ)) (time : ℕ) → found t old ≡ Some i → walk t 1 (name ∷ names) ≡ Ok d
+        → found t (name ∷ names) ≡ None
         → (path : List (List ℕ)) (j : ℕ) → found t path ≡ Some j → found (linked old (name ∷ names) time t) path ≡ Some j }
     ensures names { (t : Tree) (old : List (List ℕ)) (i d : ℕ) (name : List ℕ) (names : List (List ℕ)) (time : ℕ) → found t old ≡ Some i → walk t 1 (name ∷ names) ≡ Ok d
         → SetsName t d (last_name (name ∷ names)) (Some i) (linked old (name ∷ names) time t) }

@@ -8,6 +8,7 @@
 mod laws;
 mod path;
 mod refusal;
+mod replacing;
 
 pub use laws::{
     calls_keep_sameness, each_text_says_one, first_refusal_is_first, names_after_create,
@@ -16,3 +17,6 @@ pub use laws::{
 };
 pub use path::{is_path, is_path_name, split_name};
 pub use refusal::Refusal;
+pub use replacing::{
+    inode_after_replace, names_after_replace, replace_is_rename, replace_keeps_sameness,
+};

@@ -2,6 +2,7 @@
 
 ghost use Rattle.std.specs.Prelude.{◌≡◌};
 ghost use Rattle.nv_tree.specs.Refusals.{refusal_word};
+ghost use Rattle.nv_tree.specs.Sentences.{refusal_sentence};
 
 use std::error::Error;
 use std::fmt;
@@ -64,15 +65,39 @@ impl Refusal {
             Refusal::Stopped => "Stopped",
         }
     }
+
+    /// What is shown of it to people.
+    fn sentence(self) -> &'static str
+        ensures { result.now ≡ refusal_sentence self }
+    {
+        match self {
+            Refusal::NotFound => "there is no such inode",
+            Refusal::Exists => "there is an inode of that name",
+            Refusal::NotDirectory => "a file stands where a directory is wanted",
+            Refusal::IsDirectory => "a directory stands where a file is wanted",
+            Refusal::NotEmpty => "the directory has names",
+            Refusal::BadName => "the text is no path, or it is / where a name is wanted",
+            Refusal::NoSpace => "fewer blocks are free than the call needs",
+            Refusal::NoInodes => "the table of that CPU has no unused slot",
+            Refusal::TooLarge => "the file would have more than 1,073,741,824 bytes",
+            Refusal::ReadOnly => "the region was mounted with faults, so it can only be read",
+            Refusal::LinkLimit => "the file has 1,000 links",
+            Refusal::IntoItself => "the directory would lie in itself",
+            Refusal::BadCpu => "there is no CPU of that number",
+            Refusal::Memory => "out of memory",
+            Refusal::Stopped => "the memory has been stopped",
+        }
+    }
 }
 
+/// Shows a sentence. The word of scripts is its `name`.
 impl fmt::Display for Refusal {
     ghost use Rattle.std.specs.Prelude.{Some};
 
-    ghost output = { λ refusal. Some (refusal_word refusal) };
+    ghost output = { λ refusal. Some (refusal_sentence refusal) };
 
     fn fmt<W: fmt::Write>(&self, f: &mut fmt::Formatter<W>) -> fmt::Result {
-        f.write_str(self.name())
+        f.write_str(self.sentence())
     }
 }
 

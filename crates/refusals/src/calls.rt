@@ -1,6 +1,6 @@
 //! The calls that are made, one behind the other.
 
-use nv_calls::Fs;
+use nv_calls::{Cpu, Fs, Time};
 use nv_region::MemRegion;
 use nv_tree::Refusal;
 
@@ -79,25 +79,25 @@ pub(crate) fn name_of(call: Call) -> &'static str {
 /// Makes a call.
 pub(crate) fn make(fs: &mut Fs<MemRegion>, call: Call) -> Result<(), Refusal> {
     match call {
-        Call::MakeDirectory => fs.mkdir(0, b"/d", 493, 1),
-        Call::MakeDirectoryInIt => fs.mkdir(0, b"/d/e", 493, 2),
-        Call::CreateDeep => fs.create(0, b"/d/e/y", 420, 3),
-        Call::Create => fs.create(0, b"/a", 420, 4),
-        Call::Link => fs.link(0, b"/a", b"/b", 5),
-        Call::CreateAnother => fs.create(0, b"/c", 420, 6),
-        Call::Write => fs.write(0, b"/a", 0, &[65; 5000], 7),
-        Call::WriteBehindTheEnd => fs.write(0, b"/a", 9000, &[66; 10], 8),
-        Call::Overwrite => fs.write(1, b"/b", 4000, &[67; 200], 9),
-        Call::Shorten => fs.set_size(0, b"/a", 4100, 10),
-        Call::Lengthen => fs.set_size(0, b"/a", 9000, 11),
-        Call::SetAttributes => fs.set_attr(0, b"/d", 448, 1, 2, 12),
-        Call::RenameWithin => fs.rename(0, b"/c", b"/f", 13),
-        Call::RenameAcross => fs.rename(0, b"/d/e", b"/e", 14),
+        Call::MakeDirectory => fs.mkdir(Cpu(0), b"/d", 493, Time(1)),
+        Call::MakeDirectoryInIt => fs.mkdir(Cpu(0), b"/d/e", 493, Time(2)),
+        Call::CreateDeep => fs.create(Cpu(0), b"/d/e/y", 420, Time(3)),
+        Call::Create => fs.create(Cpu(0), b"/a", 420, Time(4)),
+        Call::Link => fs.link(Cpu(0), b"/a", b"/b", Time(5)),
+        Call::CreateAnother => fs.create(Cpu(0), b"/c", 420, Time(6)),
+        Call::Write => fs.write(Cpu(0), b"/a", 0, &[65; 5000], Time(7)),
+        Call::WriteBehindTheEnd => fs.write(Cpu(0), b"/a", 9000, &[66; 10], Time(8)),
+        Call::Overwrite => fs.write(Cpu(1), b"/b", 4000, &[67; 200], Time(9)),
+        Call::Shorten => fs.set_size(Cpu(0), b"/a", 4100, Time(10)),
+        Call::Lengthen => fs.set_size(Cpu(0), b"/a", 9000, Time(11)),
+        Call::SetAttributes => fs.set_attr(Cpu(0), b"/d", 448, 1, 2, Time(12)),
+        Call::RenameWithin => fs.rename(Cpu(0), b"/c", b"/f", Time(13)),
+        Call::RenameAcross => fs.rename(Cpu(0), b"/d/e", b"/e", Time(14)),
         Call::List => list(fs, b"/"),
         Call::Read => read(fs, b"/b"),
-        Call::UnlinkOne => fs.unlink(0, b"/a", 15),
-        Call::UnlinkLast => fs.unlink(0, b"/b", 16),
-        Call::RemoveDirectory => fs.rmdir(0, b"/d", 17),
+        Call::UnlinkOne => fs.unlink(Cpu(0), b"/a", Time(15)),
+        Call::UnlinkLast => fs.unlink(Cpu(0), b"/b", Time(16)),
+        Call::RemoveDirectory => fs.rmdir(Cpu(0), b"/d", Time(17)),
     }
 }
 

@@ -19,7 +19,7 @@ pub(crate) fn mounted(alloc: Global) -> Option<Fs<MemRegion>> {
 
 /// The bytes of the region.
 pub(crate) fn bytes_of(fs: &Fs<MemRegion>) -> Result<Vec<u8>, AllocError> {
-    fs.region().to_bytes()
+    fs.memory().to_bytes()
 }
 
 /// Whether the rows, the free lists and the faults are those that a recovery finds; `None` where memory is refused.

@@ -37,7 +37,8 @@ fn opened(
     tickets: u64,
 ) -> Result<(ClaimMap, ClaimSeat, ClaimSeat), AllocError>
     requires { tickets < 1000000 }
-    ensures { IfOk result (λ r. (r.1.map ≡ r.0) × (r.1.view ≡ nothing 1) × (r.2.map ≡ r.0) × (r.2.view ≡ nothing 1) × (r.0.sizes.blocks ≡ blocks) × (r.0.sizes.tickets ≡ tickets) × (r.0.sizes.workers ≡ 2)) }
+    ensures { IfOk result (λ r. (r.1.map ≡ r.0) × (r.1.view ≡ nothing 1) × (r.2.map ≡ r.0) × (r.2.view ≡ nothing 1) × (r.0.sizes.blocks ≡ blocks) × (r.0.sizes.tickets ≡ tickets)
+        × (r.0.sizes.workers ≡ 2)) }
 {
     let (map, mut seats) = ClaimMap::open(alloc, sizes(blocks, tickets, 2))?;
     let (Some(two), Some(one)) = (seats.pop(), seats.pop()) else {

@@ -1,7 +1,7 @@
 //! As many names as a page of a log takes, as a file may have, and as there are inodes.
 
 use crate::story::{Asked, Made, follow, follow_on};
-use nv_calls::Fs;
+use nv_calls::{Cpu, Fs, Time};
 use nv_region::{MemRegion, Pmem};
 use std::alloc::Global;
 use std::process::Abort;
@@ -16,7 +16,7 @@ fn link_each<P: Pmem + Drop>(
 ) -> Result<(), Fail> {
     for number in from..to {
         let path = format!(in alloc; "/n{number}")?;
-        fs.link(0, b"/n0", path.as_bytes(), 7)?;
+        fs.link(Cpu(0), b"/n0", path.as_bytes(), Time(7))?;
     }
     Ok(())
 }
@@ -30,7 +30,7 @@ fn create_each<P: Pmem + Drop>(
 ) -> Result<(), Fail> {
     for number in from..to {
         let path = format!(in alloc; "/n{number}")?;
-        fs.create(0, path.as_bytes(), 420, 7)?;
+        fs.create(Cpu(0), path.as_bytes(), 420, Time(7))?;
     }
     Ok(())
 }

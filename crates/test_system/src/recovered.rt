@@ -99,6 +99,6 @@ fn is_recovered_from(
 
 /// Recovery of the region's bytes finds the rows, the free lists and the faults that are mounted.
 pub fn assert_recovered(rt: &impl Abort, alloc: Global, fs: &Fs<MemRegion>) -> Result<(), Fail> {
-    let bytes = fs.region().to_bytes()?;
+    let bytes = fs.memory().to_bytes()?;
     is_recovered_from(rt, alloc, fs, &bytes)
 }

@@ -379,6 +379,11 @@ const IN_A_CHAIN: [(u64, u64); 6] = [
     (12288, DIRECTORY_MODE),
 ];
 
+/// The block is told with inode 32, whose slot stands first there and isn't in use.
+const OWNED_BY_TABLE: [(u64, Owner); 1] = [(10, Owner::Table { cpu: 0, place: 0 })];
+
+const OWNED_IN_THE_CHAIN: [(u64, Owner); 1] = [(3, Owner::Log { inode: 34, page: 0 })];
+
 /// The second ticket stands for the block of the chain.
 fn finds_in_a_chain(
     rt: &impl Abort,
@@ -396,8 +401,10 @@ fn finds_in_a_chain(
     let tickets = ticket_count(tables);
     assert!(rt; tickets == 2);
     let count = scan_slots(memory, tables, &mut scanner, &mut inodes, &mut each, 1)?;
-    assert!(rt; count == 1);
+    assert!(rt; count == 2);
     assert!(rt; first_inode(&inodes.rows) == Some(34));
+    assert_claims(rt, alloc, &each[0], &OWNED_BY_TABLE);
+    assert_claims(rt, alloc, &each[1], &OWNED_IN_THE_CHAIN);
     Ok(())
 }
 

@@ -3,7 +3,7 @@
 use crate::mounted::{mount, two_pages_but};
 use crate::recovered::assert_recovered;
 use crate::story::{Asked, Made, follow, follow_on};
-use nv_calls::Fs;
+use nv_calls::{Cpu, Fs, Time};
 use nv_region::{Fuse, Keep, MemRegion};
 use nv_tree::Refusal;
 use std::alloc::Global;
@@ -40,12 +40,12 @@ fn after_a_stop_each_call_is_refused(rt: HostRuntime) -> Result<(), Fail> {
 
 /// What a stop leaves of the region, mounted.
 fn after_stop(alloc: Global, fs: Fs<MemRegion>, keep: Keep) -> Result<Fs<MemRegion>, Fail> {
-    mount(alloc, fs.into_region().after_stop(keep))
+    mount(alloc, fs.into_memory().after_stop(keep))
 }
 
 /// Sets the time of the file to 12, where it was 9. Whether it was set.
 fn set_time(fs: &mut Fs<MemRegion>) -> bool {
-    fs.set_attr(0, b"/a", 420, 7, 8, 12).is_ok()
+    fs.set_attr(Cpu(0), b"/a", 420, 7, 8, Time(12)).is_ok()
 }
 
 /// The time is 12, or where it was not set it may be 9.

@@ -30,7 +30,7 @@ fn read<P: Pmem + Drop>(alloc: Global, fs: &Fs<P>, line: &Line<'_>) -> Result<St
     let [offset, count, _] = line.numbers;
     match fs.read(line.path, offset, count) {
         Ok(bytes) => shown(alloc, &bytes),
-        Err(refusal) => format!(in alloc; "{refusal}"),
+        Err(refusal) => format!(in alloc; "{}", refusal.name()),
     }
 }
 
@@ -50,7 +50,7 @@ fn answer<P: Pmem + Drop>(
     };
     match number {
         Ok(number) => format!(in alloc; "{number}"),
-        Err(refusal) => format!(in alloc; "{refusal}"),
+        Err(refusal) => format!(in alloc; "{}", refusal.name()),
     }
 }
 

@@ -1,9 +1,9 @@
 //! Rows of words, with what they ask for.
 
-use nv_args::{CheckOutput, Todo, Which, read_words};
+use nv_args::{CheckOutput, Todo, View, Which, read_words};
 use std::alloc::Global;
 
-const REFUSED: [&[&str]; 25] = [
+const REFUSED: [&[&str]; 28] = [
     &["--version", "-V"],
     &["version"],
     &["check", "a", "--workers", "65"],
@@ -37,11 +37,14 @@ const REFUSED: [&[&str]; 25] = [
     &["map", "i", "s"],
     &["shell", "i", "/"],
     &["explain"],
+    &["log", "i"],
+    &["log", "i", "/", "--all"],
+    &["block", "i", "x"],
     &["--help"],
 ];
 
 /// Words, and what they ask for.
-const ASKED: [(&[&str], Todo<'static>); 25] = [
+const ASKED: [(&[&str], Todo<'static>); 29] = [
     (&["--version"], Todo::Version),
     (&["-V"], Todo::Version),
     (
@@ -125,6 +128,7 @@ const ASKED: [(&[&str], Todo<'static>); 25] = [
         Todo::Ls {
             image: "i",
             which: Which::Path("/"),
+            long: false,
         },
     ),
     (
@@ -146,7 +150,35 @@ const ASKED: [(&[&str], Todo<'static>); 25] = [
         Todo::Ls {
             image: "i",
             which: Which::Number(12),
+            long: false,
         },
+    ),
+    (
+        &["ls", "-l", "i"],
+        Todo::Ls {
+            image: "i",
+            which: Which::Path("/"),
+            long: true,
+        },
+    ),
+    (
+        &["log", "--all", "i"],
+        Todo::View(View::Logs { image: "i" }),
+    ),
+    (
+        &["block", "i", "12", "--hex"],
+        Todo::View(View::Block {
+            image: "i",
+            block: 12,
+            hex: true,
+        }),
+    ),
+    (
+        &["du", "i"],
+        Todo::View(View::Usage {
+            image: "i",
+            which: Which::Path("/"),
+        }),
     ),
     (
         &["stat", "i", "<12>"],

@@ -6,5 +6,5 @@ use Rattle.nv_args.proofs.command_line.nova.Goals as goal
 
 pub returns : goal.returns
 returns c =
-    let commands = c.in_ok-commands.ensures in
-    IfOk-weaker c.subcommands.result _ _ (λ program adds. with_subcommands _ program _ adds commands.local ∙ ap₂ with_commands c.in_ok-bare.ensures (commands.shapes ∙ c.forms.ensures)) c.subcommands.ensures
+    let changes = c.in_ok-changes.ensures in
+    IfOk-weaker c.subcommands.result _ _ (λ program adds. with_subcommands _ program _ adds changes.local ∙ ap₂ with_commands c.in_ok-without_changes.ensures (changes.shapes ∙ c.change_forms.ensures)) c.subcommands.ensures

@@ -7,7 +7,7 @@ use Rattle.nv_cli.proofs.Cleanings.{all_done, all_needed, few_lost, layout_here,
 use Rattle.nv_cli.proofs.cleaning.clean_all_logs.Goals as goal
 
 pub inode_limit-inode-end-requires : goal.inode_limit-inode-end-requires
-inode_limit-inode-end-requires c = subst HasAreas (sym c.sup.ensures) (layout_here c.args.mount.now c.keeps.ensures c.requires).areas
+inode_limit-inode-end-requires c = subst HasAreas (sym c.superblock.ensures) (layout_here c.args.mount.now c.keeps.ensures c.requires).areas
 
 pub loop-inode-init : goal.loop-inode-init
 loop-inode-init c = record { lost = loses_none c.args.mount.now (IsOneOf which.All) c.requires; done = λ i below. absurd (omega (arith, below)) }
@@ -28,7 +28,7 @@ returns-clause-pages c = c.loop-inode.invariant.lost
 pub returns-clause-short : goal.returns-clause-short
 returns-clause-short c = λ i one.
     let lost = c.loop-inode.invariant.lost in
-    let limit : inode_limit c.loop-inode.mount.sup ≡ c.inode_limit-inode-end.result = ap inode_limit (lost.sup ∙ sym c.sup.ensures) ∙ sym c.inode_limit-inode-end.ensures in
+    let limit : inode_limit c.loop-inode.mount.sup ≡ c.inode_limit-inode-end.result = ap inode_limit (lost.sup ∙ sym c.superblock.ensures) ∙ sym c.inode_limit-inode-end.ensures in
     all_needed c.loop-inode.mount (subst IsLayout (sym lost.sup) (layout_here c.args.mount.now c.keeps.ensures c.requires)) (λ x below. c.loop-inode.invariant.done x (omega (arith, below, limit, c.loop-inode-test.false))) i
 
 pub overflow_add-pages : goal.overflow_add-pages

@@ -20,7 +20,7 @@ pub returns-in_ok-pages-in-Ok : goal.returns-in_ok-pages-in-Ok
 returns-in_ok-pages-in-Ok c = λ R o is.
     let path = option_map (λ text. text.now) c.args.path in
     let n = c.clean_logs.new.mount in
-    subst (λ (m : RegionState). IsShortened R path m c.in_ok-pages-in-Ok.pages) (sym c.into_region-region.ensures)
+    subst (λ (m : RegionState). IsShortened R path m c.in_ok-pages-in-Ok.pages) (sym c.into_memory-region.ensures)
     (shortened R o c.args.mount n is path c.in-Ok.logs c.in_ok-pages-in-Ok.pages c.in-Ok.ensures.asked c.in-Ok.ensures.tests c.in_ok-pages-in-Ok.ensures.pages c.in_ok-pages-in-Ok.ensures.short c.keeps.ensures
     (let can = c.in_ok-pages-in-Ok.ensures.pages.can in c.nothing_is_pending.ensures can.runs))
 

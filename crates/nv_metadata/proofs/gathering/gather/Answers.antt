@@ -1,9 +1,8 @@
-use Rattle.std.proofs.Common.{◌∙◌, ℕ, List, length, ap, sym, subst}
+use Rattle.std.proofs.Common.{ℕ, List, sym, subst}
 use Rattle.nv_region.specs.Region.{region_of}
 use Rattle.nv_journal.specs.Undo.{undone}
 use Rattle.nv_metadata.specs.Blocks.{AreBytesAt}
 use Rattle.nv_metadata.specs.Fronts.{IsFrontOf, IsSoundFront}
-use Rattle.nv_metadata.specs.Parts.{IsFront}
 use Rattle.nv_metadata.specs.Walk.{AreLogs}
 use Rattle.nv_metadata.specs.declared.gathering.Front.{Front}
 use Rattle.nv_metadata.specs.declared.gathering.Front.TheVariants.{Accepted}
@@ -16,10 +15,7 @@ returns-in_ok-memory-in-Accepted-clause-gathered g c image known =
     let s = c.in-Accepted.sup in
     let are : IsFrontOf image (Accepted s c.in-Accepted.front) = subst (λ (f : Front). IsFrontOf image f) c.in-Accepted.is (c.in_ok-sup.ensures.read image known) in
     let sound : IsSoundFront (Accepted s c.in-Accepted.front) = subst (λ (f : Front). IsSoundFront f) c.in-Accepted.is c.in_ok-sup.ensures.sound in
-    let front = c.deref-in-Accepted.ensures.value in
-    let bytes : AreBytesAt image 0 c.deref-in-Accepted.result.now = subst (λ (l : List ℕ). AreBytesAt image 0 l) (sym front) are.1 in
-    let first : IsFront s c.deref-in-Accepted.result.now = subst (λ (l : List ℕ). IsFront s l) (sym front) sound.2 in
     let logs = c.in_ok-logs-in-Accepted.ensures.logs image (subst (λ (l : List ℕ). AreBytesAt image 0 l) (sym c.deref.ensures.value) are.1) are.0 in
-    let logs_are : AreLogs (undone s (region_of image)) s c.deref-in-Accepted-2.result.now = subst (λ (l : List LogEnds). AreLogs (undone s (region_of image)) s l) (sym c.deref-in-Accepted-2.ensures.value) logs in
+    let logs_are : AreLogs (undone s (region_of image)) s c.deref-in-Accepted.result.now = subst (λ (l : List LogEnds). AreLogs (undone s (region_of image)) s l) (sym c.deref-in-Accepted.ensures.value) logs in
     let part = c.in_ok-memory-in-Accepted.ensures in
-    gathered_of s image c.deref-in-Accepted.result.now c.deref-in-Accepted-2.result.now c.in_ok-memory-in-Accepted.memory are.0 bytes first (ap (λ (l : List ℕ). length l) front ∙ sound.3) part.opens.0 logs_are (part.fetched image known are.0 bytes)
+    gathered_of s image c.in-Accepted.front.items c.deref-in-Accepted.result.now c.in_ok-memory-in-Accepted.memory are.0 are.1 sound.2 sound.3 part.opens.0 logs_are (part.fetched image known are.0 are.1)

@@ -23,14 +23,14 @@ returns-then-length-ne0-clause-read g c image known =
 
 pub returns-in_ok-front-in-Ok-clause-sound : goal.returns-in_ok-front-in-Ok-clause-sound
 returns-in_ok-front-in-Ok-clause-sound g c =
-    let made = c.in_ok-alone.ensures in
+    let made = c.new-alone.ensures in
     let items = c.deref.ensures.value in
     let s = c.in-Ok.sup in
     let count = c.in_ok-front-in-Ok.ensures.count in
-    let first_says : SaysSuper c.in_ok-first.first.items s = says s c.in_ok-first.first.items c.in_ok-alone.alone.memory.region c.in_ok-first.ensures.count c.in-Ok.ensures.blocks
+    let first_says : SaysSuper c.in_ok-first.first.items s = says s c.in_ok-first.first.items c.new-alone.result.region c.in_ok-first.ensures.count c.in-Ok.ensures.blocks
     (λ at aligned within. made.front at aligned (omega (arith, within, ap length items)) ∙ ap (λ (l : List ℕ). little_number 8 (drop at l)) items) c.in-Ok.ensures.accepted in (
       c.in-Ok.ensures.layout,
-      version_of_super c.in_ok-alone.alone.memory.region s c.in-Ok.ensures.accepted,
+      version_of_super c.new-alone.result.region s c.in-Ok.ensures.accepted,
       record {
         begins = omega (arith, count);
         whole = omega (arith, count);
@@ -44,18 +44,18 @@ pub returns-in_ok-front-in-Ok-clause-read : goal.returns-in_ok-front-in-Ok-claus
 returns-in_ok-front-in-Ok-clause-read g c image known =
     let as_long : c.in_ok-length.length ≡ length image = c.in_ok-length.ensures.count image known in
     let words = c.in-Ok.ensures.blocks.0 in
-    let same_words = c.in_ok-alone.ensures.blocks.0 in
+    let same_words = c.new-alone.ensures.blocks.0 in
     (omega (arith, as_long, words, same_words, c.if-length-ne0.false), c.in_ok-front-in-Ok.ensures.read image known (c.in_ok-first.ensures.read image known))
 
 pub returns-in-Err-clause-read : goal.returns-in-Err-clause-read
 returns-in-Err-clause-read g c image known =
     let as_long : c.in_ok-length.length ≡ length image = c.in_ok-length.ensures.count image known in
-    let made = c.in_ok-alone.ensures in
+    let made = c.new-alone.ensures in
     let words = made.blocks.0 in
     let rest = made.blocks.1 in
     let items = c.deref.ensures.value in
     let count : length c.deref.result.now ≡ 4096 = omega (arith, ap length items, c.in_ok-first.ensures.count) in
-    refused_there (region_of image) c.in_ok-alone.alone.memory.region (omega (arith, as_long, words, rest, size_of_bytes image, c.if-length-ne0.false))
+    refused_there (region_of image) c.new-alone.result.region (omega (arith, as_long, words, rest, size_of_bytes image, c.if-length-ne0.false))
     (λ at aligned low. made.front at aligned (omega (arith, low, aligned, count)) ∙ ap (λ (l : List ℕ). little_number 8 (drop at l)) items
     ∙ word_read image c.in_ok-first.first.items 0 at (c.in_ok-first.ensures.read image known) refl aligned (omega (arith, low, aligned, c.in_ok-first.ensures.count)) ∙ ap (word (region_of image)) (let same : 0 + at ≡ at = omega arith in same))
     c.in-Err.fault c.in-Err.ensures.refused
@@ -73,6 +73,6 @@ pub returns-in_err-front-in-Ok-clause-known : goal.returns-in_err-front-in-Ok-cl
 returns-in_err-front-in-Ok-clause-known g c image known =
     let as_long : c.in_ok-length.length ≡ length image = c.in_ok-length.ensures.count image known in
     let words = c.in-Ok.ensures.blocks.0 in
-    let same_words = c.in_ok-alone.ensures.blocks.0 in
+    let same_words = c.new-alone.ensures.blocks.0 in
     let error = err_from_is_err_and c.from_residual-in_err-front-in-Ok.result c.from_residual-in_err-front-in-Ok.ensures.1 in
     passed_on c.from_residual-in_err-front-in-Ok.result c.in_err-front-in-Ok.field-0.0 error.0 error.1 error.2 (c.in_err-front-in-Ok.ensures.known image known (omega (arith, as_long, words, same_words, c.if-length-ne0.false)))

@@ -1,15 +1,19 @@
-use Rattle.std.proofs.Common.{◌∙◌, ◌++◌, List, ℕ, take, ap, sym, subst}
-use Rattle.std.proofs.Math.Seq.{take-append_seam}
+use Rattle.std.proofs.Common.{◌≡◌, ◌∙◌, ◌*◌, List, ℕ, length, take, ap, sym, subst, arith}
+use Rattle.std.proofs.lemmas.List.{take_at}
 use Rattle.nv_metadata.specs.Blocks.{AreBytesAt}
-use Rattle.nv_metadata.proofs.Shown.{read_on}
+use Rattle.nv_metadata.proofs.Shown.{first_of_more}
 use Rattle.nv_metadata.proofs.gathering.read_rest.Goals as goal
 
 pub returns-clause-begins : goal.returns-clause-begins
 returns-clause-begins g c =
-    let items = c.in_ok-extend_from_slice.ensures.items in
-    ap (take 4096) items ∙ ap (λ (n : ℕ). take n (c.args.first.items ++ c.deref.result.now)) (sym c.requires.first) ∙ take-append_seam c.args.first.items c.deref.result.now
+    let lent = c.deref_mut.ensures.value in
+    let back = take_at c.read_behind.new.front _ c.resize.new.self.len (omega (arith, c.read_behind.ensures.as_long, ap length lent, c.resize.new.self.ok)) in
+    let first : take 4096 c.deref_mut.result.now ≡ c.args.first.items = first_of_more c.args.first.items _ c.deref_mut.result.now (c.system_blocks.result * 4096) (lent ∙ c.in_ok-resize.ensures.items) c.requires.first (omega (arith, c.system_blocks.ensures)) in
+    ap (take 4096) back ∙ c.read_behind.ensures.begins ∙ first
 
 pub returns-clause-read : goal.returns-clause-read
 returns-clause-read g c image known begins =
-    let items = c.in_ok-extend_from_slice.ensures.items ∙ ap (λ (l : List ℕ). c.args.first.items ++ l) c.deref.ensures.value in
-    subst (λ (l : List ℕ). AreBytesAt image 0 l) (sym items) (read_on image c.args.first.items c.in_ok-rest.rest.items 4096 begins (c.in_ok-rest.ensures.read image known) c.requires.first)
+    let lent = c.deref_mut.ensures.value in
+    let back = take_at c.read_behind.new.front _ c.resize.new.self.len (omega (arith, c.read_behind.ensures.as_long, ap length lent, c.resize.new.self.ok)) in
+    let first : take 4096 c.deref_mut.result.now ≡ c.args.first.items = first_of_more c.args.first.items _ c.deref_mut.result.now (c.system_blocks.result * 4096) (lent ∙ c.in_ok-resize.ensures.items) c.requires.first (omega (arith, c.system_blocks.ensures)) in
+    subst (λ (l : List ℕ). AreBytesAt image 0 l) (sym back) (c.in_ok-read_behind.ensures.read image known (subst (λ (l : List ℕ). AreBytesAt image 0 l) (sym first) begins))

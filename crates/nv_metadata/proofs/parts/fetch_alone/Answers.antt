@@ -7,7 +7,7 @@ use Rattle.nv_metadata.proofs.Shown.{shows_first}
 use Rattle.nv_metadata.proofs.parts.fetch_alone.Goals as goal
 
 pub fetch_logs-requires-clause-can : goal.fetch_logs-requires-clause-can
-fetch_logs-requires-clause-can g c = (let made = c.in_ok-memory.ensures in can_first c.args.sup.now c.args.front.now c.in_ok-memory.memory c.requires.layout c.requires.front made.blocks made.front made.open)
+fetch_logs-requires-clause-can g c = (let made = c.in_ok-memory.ensures in can_first c.args.sup.now c.args.front.items c.in_ok-memory.memory c.requires.layout c.requires.front made.blocks made.front made.open)
 
 pub fetch_logs-requires-clause-right : goal.fetch_logs-requires-clause-right
 fetch_logs-requires-clause-right g c = c.requires.right
@@ -18,7 +18,7 @@ returns g c = record {
   opens = (c.fetch_logs.ensures.front.0 ∙ c.in_ok-memory.ensures.open.0, c.fetch_logs.ensures.front.1 ∙ c.in_ok-memory.ensures.open.1);
   fetched = λ image known long are. (
       let made = c.in_ok-memory.ensures in
-      let shows = shows_first image c.args.front.now c.args.sup.now.blocks c.in_ok-memory.memory long are made.open.0 c.requires.front.whole made.blocks made.front made.zeros made.none in
+      let shows = shows_first image c.args.front.items c.args.sup.now.blocks c.in_ok-memory.memory long are made.open.0 c.requires.front.whole made.blocks made.front made.zeros made.none in
       fetched_first c.args.sup.now (region_of image) c.args.logs.now c.in_ok-memory.memory c.fetch_logs.new.memory made.none (c.in_ok-fetch_logs.ensures.fetched image known shows));
   known = λ image known long. tt;
 }

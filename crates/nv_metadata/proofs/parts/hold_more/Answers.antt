@@ -1,22 +1,23 @@
-use Rattle.std.proofs.Common.{sym, subst, arith}
+use Rattle.std.proofs.Common.{◌≤◌, ◌*◌, sym, ◌∙◌, subst, arith}
 use Rattle.nv_metadata.specs.Memory.{MetadataState, CanHold}
 use Rattle.nv_metadata.proofs.Joined.{joined_kept, joined_more}
 use Rattle.nv_metadata.proofs.Ready.{hold_more}
 use Rattle.nv_metadata.proofs.parts.hold_more.Goals as goal
 
-pub returns-then-piece-held-clause-joined : goal.returns-then-piece-held-clause-joined
-returns-then-piece-held-clause-joined c = joined_kept c.args.block _ _ (omega (arith, c.if-piece-held.true, c.held.ensures, c.piece-piece.ensures.count))
+pub returns-then-known-held-clause-joined : goal.returns-then-known-held-clause-joined
+returns-then-known-held-clause-joined c = joined_kept c.args.block _ _ (omega (arith, c.if-known-held.true, c.held.ensures, c.held-known.ensures))
 
 pub returns-clause-joined : goal.returns-clause-joined
 returns-clause-joined c =
-    let held = c.in_ok-hold.ensures in
-    joined_more c.args.block c.piece-piece.result.now c.args.memory.now c.args.other.now c.hold.new.self (omega (arith, c.requires.behind, c.requires.other.front)) (omega (arith, c.requires.behind, c.requires.can.front)) c.hold.ensures.open.0
-    c.piece-piece.ensures.count (omega (arith, c.if-piece-held.false, c.held.ensures)) (c.piece-piece.ensures.words (omega (arith, c.requires.behind, c.requires.other.front))) held.piece held.zeros held.others held.held.0 held.held.1 c.hold.ensures.as_long c.hold.ensures.rest
+    let held = c.in_ok-hold_piece.ensures in
+    let behind : c.args.other.now.memory.front ≤ 4096 * c.args.block = omega (arith, c.requires.behind, c.requires.other.front) in
+    joined_more c.args.block c.piece.result.now c.args.memory.now c.args.other.now c.hold_piece.new.self behind (omega (arith, c.requires.behind, c.requires.can.front)) c.hold_piece.ensures.open.0
+    (omega (arith, c.if-known-held.false, c.held.ensures, c.held-known.ensures)) (c.piece.ensures.words behind) (c.piece.ensures.zeros behind) held.piece held.zeros held.others (held.held.0 ∙ c.held-known.ensures) held.held.1 c.hold_piece.ensures.as_long c.hold_piece.ensures.rest
 
 pub returns-clause-can : goal.returns-clause-can
 returns-clause-can c =
-    let held = c.in_ok-hold.ensures in
-    hold_more c.args.sup.now c.args.memory.now c.hold.new.self c.args.block c.requires.can c.requires.behind held.others c.hold.ensures.as_long c.hold.ensures.rest c.hold.ensures.open
+    let held = c.in_ok-hold_piece.ensures in
+    hold_more c.args.sup.now c.args.memory.now c.hold_piece.new.self c.args.block c.requires.can c.requires.behind held.others c.hold_piece.ensures.as_long c.hold_piece.ensures.rest c.hold_piece.ensures.open
 
-pub returns-in_err-hold-clause-can : goal.returns-in_err-hold-clause-can
-returns-in_err-hold-clause-can c = subst (λ (m : MetadataState). CanHold c.args.sup.now m) (sym c.in_err-hold.ensures.refused) c.requires.can
+pub returns-in_err-hold_piece-clause-can : goal.returns-in_err-hold_piece-clause-can
+returns-in_err-hold_piece-clause-can c = subst (λ (m : MetadataState). CanHold c.args.sup.now m) (sym c.in_err-hold_piece.ensures.refused) c.requires.can

@@ -51,7 +51,7 @@ claim_each-requires g c =
     let second = l.sets.second.items in
     let own = claims_among (take n c.scan_slots.new.each.items) in
     let next = subst (λ (x : Layout). AreNext R x (numbers_of x l.ticket) l.inodes c.scan_slots.new.inodes own) c.requires.tables c.in_ok-count.ensures.next in
-    let within = subst (AreWithin s) (sym next.claims_are) (pieces_within R s next.pieces next.are.each) in
+    let within = subst (AreWithin s) (sym next.claims_are) (pieces_within R s next.pieces c.requires.layout next.are.each) in
     record { within = subst (λ (each : List ClaimList). All (Fits first second) (claims_among (take n each))) (sym c.deref.ensures.value) (within_cover s.blocks own first second within l.invariant.cover.0 l.invariant.cover.1) }
 
 pub loop-ticket-preserved : goal.loop-ticket-preserved

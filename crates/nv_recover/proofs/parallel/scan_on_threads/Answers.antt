@@ -11,7 +11,7 @@ pub cross_faults-requires-clause-numbers : goal.cross_faults-requires-clause-num
 cross_faults-requires-clause-numbers g c = (rows_apart c.requires.layout c.in_ok-inodes.ensures.1 _ refl).numbers
 
 pub owned_of-requires : goal.owned_of-requires
-owned_of-requires g c = let is = c.in_ok-inodes.ensures in record { covers = claims_covered c.args.sup.now is.0 c.in_ok-inodes.claimed is.1.pieces_are is.2 refl refl }
+owned_of-requires g c = let is = c.in_ok-inodes.ensures in record { covers = claims_covered c.args.sup.now is.0 c.in_ok-inodes.claimed c.requires.layout is.1.pieces_are is.2 refl refl }
 
 pub returns : goal.returns
 returns g c = let is = c.in_ok-inodes.ensures in record {

@@ -6,7 +6,7 @@ use Rattle.nv_recover.proofs.replaying.scan_by_schedule.Goals as goal
 
 pub claim_all-requires-clause-inside : goal.claim_all-requires-clause-inside
 claim_all-requires-clause-inside g c = let is = c.in_ok-inodes.ensures.inodes in
-    work_inside c.args.sup.now is.0 is.1.pieces_are c.in_ok-inodes.work.items is.2
+    work_inside c.args.sup.now is.0 c.requires.layout is.1.pieces_are c.in_ok-inodes.work.items is.2
 
 pub cross_faults-requires-clause-apart : goal.cross_faults-requires-clause-apart
 cross_faults-requires-clause-apart g c = (rows_apart c.requires.layout c.in_ok-inodes.ensures.inodes.1 _ refl).apart
@@ -18,7 +18,7 @@ pub owned_of-requires : goal.owned_of-requires
 owned_of-requires g c =
     let is = c.in_ok-inodes.ensures.inodes in
     let claimed = claimed_by_sets c.args.sup.now is.0 c.in_ok-inodes.work.items c.in_ok-claimed.claimed is.2 c.in_ok-claimed.ensures.claims c.in_ok-claimed.ensures.sets in
-    record { covers = claims_covered c.args.sup.now is.0 c.in_ok-claimed.claimed is.1.pieces_are claimed refl refl }
+    record { covers = claims_covered c.args.sup.now is.0 c.in_ok-claimed.claimed c.requires.layout is.1.pieces_are claimed refl refl }
 
 pub returns : goal.returns
 returns g c = let is = c.in_ok-inodes.ensures.inodes in record {

@@ -37,5 +37,5 @@ loop-place-preserved c =
 pub returns : goal.returns
 returns c =
     let past = subst (λ n. n ≤ c.loop-place.place) c.len-place-end.ensures c.loop-place-test.false in
-    λ region l pieces each are. by_rows region l pieces c.loop-place.claims.items each
+    λ region l pieces chainless each are. by_rows region l chainless pieces c.loop-place.claims.items each
     (subst (λ (rows : List Row). AreClaimsOf rows c.loop-place.claims.items) (take_all c.loop-place.place c.args.rows.now.items past ∙ are) c.loop-place.invariant)

@@ -1,10 +1,8 @@
 use Rattle.std.proofs.Common.{◌≡◌, ◌++◌, ℕ, List, ap, refl, subst, sym, ◌∙◌, Some}
 use Rattle.std.proofs.lemmas.Option.{get_or_from_slice_get}
-use Rattle.nv_super.specs.declared.owners.Owner.{Owner}
 use Rattle.nv_super.specs.declared.faults.Fault.{Fault}
-use Rattle.nv_super.specs.Order.{Lists, owner_key}
 use Rattle.nv_radix.specs.Runs.{block_by}
-use Rattle.nv_scan.specs.Claims.{IsClaim}
+use Rattle.nv_scan.specs.Claims.{AreClaimsBy}
 use Rattle.nv_scan.specs.declared.piece.Row.{Row}
 use Rattle.nv_scan.proofs.Scanning.{last_row, last_set}
 use Rattle.nv_scan.proofs.scan.keep.Goals as goal
@@ -38,7 +36,7 @@ returns-in-Ok-clause-kept c =
           λ p. filled.index p ∙ ap (λ extents. block_by extents p) c.row_without_pages.ensures.others.0,
           filled.same.5 ∙ ap (λ (r : Row). r.names) was ∙ is.5,
         );
-        claims = subst (λ (i : ℕ). Lists (λ (x : ℕ × Owner). owner_key x.1) (IsClaim i c.args.pages.now row.index) claims.items) inode filled.claims_are;
+        claims = subst (λ (i : ℕ). AreClaimsBy used.table i c.args.pages.now row.index claims.items) inode filled.claims_are;
         faults = c.in_ok-push_fault.ensures.pushed;
       };
       rows = last_set _ c.args.inodes.now.rows.items blank row c.in_ok-push.ensures.rows end;

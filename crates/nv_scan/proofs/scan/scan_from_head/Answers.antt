@@ -13,7 +13,7 @@ keep-requires g c = holds_small c.args.sup.now c.args.used.now.kind c.args.used.
 
 pub returns-clause-kept : goal.returns-clause-kept
 returns-clause-kept g c = λ l is. keeps_more _ _ _ c.keep.result
-    (right_one (g.P.Pmem.region c.args.memory.now) c.args.sup.now l c.args.used.now.inode c.args.used.now.slot is c.args.used.now.kind c.read_log.new.fold c.pages.result.now c.in_ok-end.end c.fault_of_end-fault.result
+    (right_one (g.P.Pmem.region c.args.memory.now) c.args.sup.now l c.args.used.now.inode c.args.used.now.table c.args.used.now.slot is c.args.used.now.kind c.read_log.new.fold c.pages.result.now c.in_ok-end.end c.fault_of_end-fault.result
     c.requires.kind c.requires.right
     (subst (λ (pages : List ℕ). IsRead (g.P.Pmem.region c.args.memory.now) c.args.sup.now c.args.used.now.inode c.args.used.now.kind c.args.used.now.slot c.read_log.new.fold pages c.in_ok-end.end) (sym c.pages.ensures) c.in_ok-end.ensures.read) c.fault_of_end-fault.ensures) c.keep.ensures.kept
 

@@ -36,7 +36,7 @@ loop-preserved g c =
     let less : n < length each = (let below = c.loop-test.true in let count = l.count in let long = l.room in let few = slots.few in omega (arith, below, count, long, few)) in
     let stands = slots_are lay block k (number_in lay block k) c.requires.laid c.requires.block record { within = c.loop-test.true; number = refl } in
     let found = subst (λ (i : ℕ). KeepsFound R lay i c.loop.inodes c.scan_at.new.inodes own c.in_ok-found.found) l.inode
-    (c.in_ok-found.ensures.kept lay (c.requires.tables ∙ sym l.scanner) (λ some. subst (λ (i : ℕ). slot_of lay i ≡ Some c.loop.at) (sym l.inode) (stands (subst (λ (i : ℕ). i ≢ 0) l.inode some) ∙ ap Some (sym l.at)))) in
+    (c.in_ok-found.ensures.kept lay c.requires.laid (c.requires.tables ∙ sym l.scanner) (λ some. subst (λ (i : ℕ). slot_of lay i ≡ Some c.loop.at) (sym l.inode) (stands (subst (λ (i : ℕ). i ≢ 0) l.inode some) ∙ ap Some (sym l.at)))) in
     let at_next : c.loop.at + 128 ≡ block.start + 128 * (k + 1) = (let at = l.at in omega (arith, at)) in
     let inode_next : c.loop.inode + c.cpus-cpus.result ≡ number_in lay block (k + 1) = next_number lay block k l.inode c.cpus-cpus.ensures in
     elim c.if-found.branch [

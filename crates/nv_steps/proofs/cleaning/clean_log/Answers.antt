@@ -5,7 +5,7 @@ use Rattle.nv_region.proofs.Fuses.{keeps_within}
 use Rattle.nv_alloc.specs.FreeLists.{CanJoin}
 use Rattle.nv_alloc.specs.Taking.{block_run}
 use Rattle.nv_logpage.specs.Unlinked.{page_behind, word_to}
-use Rattle.nv_scan.specs.Dead.{IsFirstDead}
+use Rattle.nv_deadpages.specs.Dead.{IsFirstDead}
 use Rattle.nv_commit.proofs.Left.{still}
 use Rattle.nv_steps.specs.Stopped.{PageLess}
 use Rattle.nv_steps.proofs.CleanedLog as made

@@ -1,4 +1,4 @@
-use Rattle.nv_scan.proofs.Deciding.{where_done}
+use Rattle.nv_deadpages.proofs.Deciding.{where_done}
 use Rattle.nv_steps.proofs.CleanedLog as made
 use Rattle.nv_steps.proofs.cleaning.dead_pages_of.Goals as goal
 

@@ -128,3 +128,15 @@ returns-then-is_err-clause-goes_on c = memory_goes_on
 
 pub returns-then-is_err-clause-unchanged : goal.returns-then-is_err-clause-unchanged
 returns-then-is_err-clause-unchanged c = let same = c.reserve.ensures.same in record { sup = same.sup; pools = same.pools }
+
+pub returns-in-Ok-clause-names_room : goal.returns-in-Ok-clause-names_room
+returns-in-Ok-clause-names_room c = refl
+
+pub returns-in-Err-NoSpace-clause-names_room : goal.returns-in-Err-NoSpace-clause-names_room
+returns-in-Err-NoSpace-clause-names_room c = refl
+
+pub returns-in-Err-Memory-clause-names_room : goal.returns-in-Err-Memory-clause-names_room
+returns-in-Err-Memory-clause-names_room c = refl
+
+pub returns-then-is_err-clause-names_room : goal.returns-then-is_err-clause-names_room
+returns-then-is_err-clause-names_room c = refl

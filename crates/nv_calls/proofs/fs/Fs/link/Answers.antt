@@ -37,10 +37,12 @@ use Rattle.nv_calls.proofs.fs.Fs.link.Goals as goal
 use Rattle.nv_calls.proofs.FrontsKept.{both_front}
 
 pub returns-in_err-writable-clause-refused : goal.returns-in_err-writable-clause-refused
-returns-in_err-writable-clause-refused g c runs p q says says_new =
+returns-in_err-writable-clause-refused g c =
+    rw (← c.cpu.view_is) (λ runs p q says says_new.
     let w = err_from_is_err_and c.from_residual.result c.from_residual.ensures.1 in
-    refused_by c.from_residual.result c.in_err-writable.field-0.0 w.0 (IsRefusedBy (first_refusal (link_tests (world_of c.args.self.now) (tree_of (g.P.Pmem.region c.args.self.now.memory) c.args.self.now.rows) c.args.cpu p q (link_blocks c.args.self.now.rows (tree_of (g.P.Pmem.region c.args.self.now.memory) c.args.self.now.rows) p q)))) w.1 w.2
+    refused_by c.from_residual.result c.in_err-writable.field-0.0 w.0 (IsRefusedBy (first_refusal (link_tests (world_of c.args.self.now) (tree_of (g.P.Pmem.region c.args.self.now.memory) c.args.self.now.rows) c.cpu.inside.0 p q (link_blocks c.args.self.now.rows (tree_of (g.P.Pmem.region c.args.self.now.memory) c.args.self.now.rows) p q)))) w.1 w.2
     (inr (inr (c.in_err-writable.ensures.refused runs (is_bad p ∷ is_bad_name q ∷ walk_tests (tree_of (g.P.Pmem.region c.args.self.now.memory) c.args.self.now.rows) p ++ walk_tests (tree_of (g.P.Pmem.region c.args.self.now.memory) c.args.self.now.rows) q ++ is_missing (tree_of (g.P.Pmem.region c.args.self.now.memory) c.args.self.now.rows) p ∷ is_dir (tree_of (g.P.Pmem.region c.args.self.now.memory) c.args.self.now.rows) p ∷ is_there (tree_of (g.P.Pmem.region c.args.self.now.memory) c.args.self.now.rows) q ∷ has_most_links (tree_of (g.P.Pmem.region c.args.self.now.memory) c.args.self.now.rows) p ∷ has_no_space (world_of c.args.self.now) (link_blocks c.args.self.now.rows (tree_of (g.P.Pmem.region c.args.self.now.memory) c.args.self.now.rows) p q) ∷ []))))
+    )
 
 pub returns-in_err-writable-clause-unchanged : goal.returns-in_err-writable-clause-unchanged
 returns-in_err-writable-clause-unchanged g c =
@@ -50,16 +52,18 @@ pub returns-in_err-writable-clause-stopped : goal.returns-in_err-writable-clause
 returns-in_err-writable-clause-stopped g c runs =
     let w = err_from_is_err_and c.from_residual.result c.from_residual.ensures.1 in
     early_reply c.args.self.now.stopped c.from_residual.result c.in_err-writable.field-0.0 w.0 w.1 w.2
-    (λ is. writing_goes_on (world_of c.args.self.now) c.args.cpu (c.in_err-writable.ensures.refused runs [] ∙ ap (λ (e : Refusal). Some e) is)) runs
+    (λ is. writing_goes_on (world_of c.args.self.now) c.cpu.inside.0 (c.in_err-writable.ensures.refused runs [] ∙ ap (λ (e : Refusal). Some e) is)) runs
 
 pub returns-in_err-named-clause-refused : goal.returns-in_err-named-clause-refused
-returns-in_err-named-clause-refused g c still p q says says_new =
+returns-in_err-named-clause-refused g c =
+    rw (← c.cpu.view_is) (λ still p q says says_new.
     let told : first_refusal (link_spot_tests (tree_of (g.P.Pmem.region c.args.self.now.memory) c.args.self.now.rows) p q) ≡ Some c.in_err-named.field-0.0 =
     subst (λ (m : Mount g.row.P.Denot). first_refusal (link_spot_tests (tree_of (g.P.Pmem.region m.memory) m.rows) p q) ≡ Some c.in_err-named.field-0.0) c.self.view_is
     (c.in_err-named.ensures.refused (g.P.Pmem.region c.self.inside.memory) p q says says_new) in
     let w = err_from_is_err_and c.from_residual-in_err-named.result c.from_residual-in_err-named.ensures.1 in
-    refused_by c.from_residual-in_err-named.result c.in_err-named.field-0.0 w.0 (IsRefusedBy (first_refusal (link_tests (world_of c.args.self.now) (tree_of (g.P.Pmem.region c.args.self.now.memory) c.args.self.now.rows) c.args.cpu p q (link_blocks c.args.self.now.rows (tree_of (g.P.Pmem.region c.args.self.now.memory) c.args.self.now.rows) p q)))) w.1 w.2
-    (inr (inr (link_refuses (world_of c.args.self.now) (tree_of (g.P.Pmem.region c.args.self.now.memory) c.args.self.now.rows) c.args.cpu c.in_ok-writable.ensures.passed p q (link_blocks c.args.self.now.rows (tree_of (g.P.Pmem.region c.args.self.now.memory) c.args.self.now.rows) p q) c.in_err-named.field-0.0 told)))
+    refused_by c.from_residual-in_err-named.result c.in_err-named.field-0.0 w.0 (IsRefusedBy (first_refusal (link_tests (world_of c.args.self.now) (tree_of (g.P.Pmem.region c.args.self.now.memory) c.args.self.now.rows) c.cpu.inside.0 p q (link_blocks c.args.self.now.rows (tree_of (g.P.Pmem.region c.args.self.now.memory) c.args.self.now.rows) p q)))) w.1 w.2
+    (inr (inr (link_refuses (world_of c.args.self.now) (tree_of (g.P.Pmem.region c.args.self.now.memory) c.args.self.now.rows) c.cpu.inside.0 c.in_ok-writable.ensures.passed p q (link_blocks c.args.self.now.rows (tree_of (g.P.Pmem.region c.args.self.now.memory) c.args.self.now.rows) p q) c.in_err-named.field-0.0 told)))
+    )
 
 pub returns-in_err-named-clause-unchanged : goal.returns-in_err-named-clause-unchanged
 returns-in_err-named-clause-unchanged g c =
@@ -98,15 +102,15 @@ pub link_at-requires-clause-stands : goal.link_at-requires-clause-stands
 link_at-requires-clause-stands g c row at =
     let runs : c.self.inside.stopped ≡ false = ap (λ (m : Mount g.row.P.Denot). m.stopped) c.self.view_is ∙ c.in_ok-writable.ensures.runs in
     let writes : c.self.inside.read_only ≡ false = ap (λ (m : Mount g.row.P.Denot). m.read_only) c.self.view_is ∙ c.in_ok-writable.ensures.writes in
-    let low : c.args.cpu < c.self.inside.sup.cpus = subst (λ (m : Mount g.row.P.Denot). c.args.cpu < m.sup.cpus) (sym c.self.view_is) c.in_ok-writable.ensures.cpu in
-    row_commits c.self.invariant.0 runs writes row (stands c.self.inside.rows.items (place_in c.self.inside.rows.items c.in_ok-named.named.target) row (at_place c.self.inside.rows.items c.in_ok-named.named.target ∙ at)) c.args.cpu low
+    let low : c.cpu.inside.0 < c.self.inside.sup.cpus = subst (λ (m : Mount g.row.P.Denot). c.cpu.inside.0 < m.sup.cpus) (sym c.self.view_is) c.in_ok-writable.ensures.cpu in
+    row_commits c.self.invariant.0 runs writes row (stands c.self.inside.rows.items (place_in c.self.inside.rows.items c.in_ok-named.named.target) row (at_place c.self.inside.rows.items c.in_ok-named.named.target ∙ at)) c.cpu.inside.0 low
 
 pub link_at-requires-clause-directory_stands : goal.link_at-requires-clause-directory_stands
 link_at-requires-clause-directory_stands g c row at =
     let runs : c.self.inside.stopped ≡ false = ap (λ (m : Mount g.row.P.Denot). m.stopped) c.self.view_is ∙ c.in_ok-writable.ensures.runs in
     let writes : c.self.inside.read_only ≡ false = ap (λ (m : Mount g.row.P.Denot). m.read_only) c.self.view_is ∙ c.in_ok-writable.ensures.writes in
-    let low : c.args.cpu < c.self.inside.sup.cpus = subst (λ (m : Mount g.row.P.Denot). c.args.cpu < m.sup.cpus) (sym c.self.view_is) c.in_ok-writable.ensures.cpu in
-    row_commits c.self.invariant.0 runs writes row (stands c.self.inside.rows.items (place_in c.self.inside.rows.items c.in_ok-named.named.directory) row (at_place c.self.inside.rows.items c.in_ok-named.named.directory ∙ at)) c.args.cpu low
+    let low : c.cpu.inside.0 < c.self.inside.sup.cpus = subst (λ (m : Mount g.row.P.Denot). c.cpu.inside.0 < m.sup.cpus) (sym c.self.view_is) c.in_ok-writable.ensures.cpu in
+    row_commits c.self.invariant.0 runs writes row (stands c.self.inside.rows.items (place_in c.self.inside.rows.items c.in_ok-named.named.directory) row (at_place c.self.inside.rows.items c.in_ok-named.named.directory ∙ at)) c.cpu.inside.0 low
 
 pub invariant_of-self : goal.invariant_of-self
 invariant_of-self g c =
@@ -127,7 +131,8 @@ invariant_of-self-in-Err g c =
     )
 
 pub returns-in-Ok-clause-allowed : goal.returns-in-Ok-clause-allowed
-returns-in-Ok-clause-allowed g c p q says says_new =
+returns-in-Ok-clause-allowed g c =
+    rw (← c.cpu.view_is) (λ p q says says_new.
     let runs : c.self.inside.stopped ≡ false = ap (λ (m : Mount g.row.P.Denot). m.stopped) c.self.view_is ∙ c.in_ok-writable.ensures.runs in
     let spot : (names others : List (List ℕ)) → IsPath c.args.old.now names → IsPath c.args.new.now others → IsLinkSpot (tree_of (g.P.Pmem.region c.self.inside.memory) c.self.inside.rows.items) c.self.inside.rows.items names others (place_in c.self.inside.rows.items c.in_ok-named.named.directory) c.in_ok-named.named.name.now (place_in c.self.inside.rows.items c.in_ok-named.named.target) =
     λ names others path other_path. c.in_ok-named.ensures.spot (g.P.Pmem.region c.self.inside.memory) names others path other_path in
@@ -137,37 +142,45 @@ returns-in-Ok-clause-allowed g c p q says says_new =
     let other_is : row_of c.self.inside.rows.items directory.0.inode ≡ Some directory.0 = own_row c.self.inside.rows.items c.in_ok-named.named.directory directory.0 directory.1 in
     let none : first_refusal (link_spot_tests (tree_of (g.P.Pmem.region c.self.inside.memory) c.self.inside.rows.items) p q) ≡ None =
     c.in_ok-named.ensures.allowed (g.P.Pmem.region c.self.inside.memory) p q says says_new in
-    link_allowed g.P.Pmem.region c.self.view_is c.args.cpu c.in_ok-writable.ensures.passed (place_in c.self.inside.rows.items c.in_ok-named.named.target) (place_in c.self.inside.rows.items c.in_ok-named.named.directory) file.0 directory.0 (at_place c.self.inside.rows.items c.in_ok-named.named.target ∙ file.1) (at_place c.self.inside.rows.items c.in_ok-named.named.directory ∙ directory.1) is other_is c.in_ok-named.named.name.now c.args.time c.args.old.now c.args.new.now spot p q says says_new none (c.in-Ok.ensures.enough file.0 directory.0 file.1 directory.1)
+    link_allowed g.P.Pmem.region c.self.view_is c.cpu.inside.0 c.in_ok-writable.ensures.passed (place_in c.self.inside.rows.items c.in_ok-named.named.target) (place_in c.self.inside.rows.items c.in_ok-named.named.directory) file.0 directory.0 (at_place c.self.inside.rows.items c.in_ok-named.named.target ∙ file.1) (at_place c.self.inside.rows.items c.in_ok-named.named.directory ∙ directory.1) is other_is c.in_ok-named.named.name.now c.time.inside.0 c.args.old.now c.args.new.now spot p q says says_new none (c.in-Ok.ensures.enough file.0 directory.0 file.1 directory.1)
+    )
 
 pub returns-in-Ok-clause-changed : goal.returns-in-Ok-clause-changed
-returns-in-Ok-clause-changed g c names others path other_path =
+returns-in-Ok-clause-changed g c =
+    rw (← c.time.view_is) (λ names others path other_path.
     let runs : c.self.inside.stopped ≡ false = ap (λ (m : Mount g.row.P.Denot). m.stopped) c.self.view_is ∙ c.in_ok-writable.ensures.runs in
     let writes : c.self.inside.read_only ≡ false = ap (λ (m : Mount g.row.P.Denot). m.read_only) c.self.view_is ∙ c.in_ok-writable.ensures.writes in
     let spot : (names others : List (List ℕ)) → IsPath c.args.old.now names → IsPath c.args.new.now others → IsLinkSpot (tree_of (g.P.Pmem.region c.self.inside.memory) c.self.inside.rows.items) c.self.inside.rows.items names others (place_in c.self.inside.rows.items c.in_ok-named.named.directory) c.in_ok-named.named.name.now (place_in c.self.inside.rows.items c.in_ok-named.named.target) =
     λ names others path other_path. c.in_ok-named.ensures.spot (g.P.Pmem.region c.self.inside.memory) names others path other_path in
-    subst (λ (m : Mount g.row.P.Denot). SameTree (tree_of (g.P.Pmem.region c.link_at.new.memory) c.link_at.new.rows.items) (linked names others c.args.time (tree_of (g.P.Pmem.region m.memory) m.rows))) c.self.view_is
+    subst (λ (m : Mount g.row.P.Denot). SameTree (tree_of (g.P.Pmem.region c.link_at.new.memory) c.link_at.new.rows.items) (linked names others c.time.inside.0 (tree_of (g.P.Pmem.region m.memory) m.rows))) c.self.view_is
     (linked_tree c.self.invariant.0 runs writes c.in-Ok.ensures.linked c.in_ok-named.ensures.name names others (spot names others path other_path))
+    )
 
 pub returns-in-Ok-clause-log : goal.returns-in-Ok-clause-log
-returns-in-Ok-clause-log g c names others i d node held f h path other_path led ended sound is other_is =
+returns-in-Ok-clause-log g c =
+    rw (← c.cpu.view_is, ← c.time.view_is) (λ names others i d node held f h path other_path led ended sound is other_is.
     let runs : c.self.inside.stopped ≡ false = ap (λ (m : Mount g.row.P.Denot). m.stopped) c.self.view_is ∙ c.in_ok-writable.ensures.runs in
     let writes : c.self.inside.read_only ≡ false = ap (λ (m : Mount g.row.P.Denot). m.read_only) c.self.view_is ∙ c.in_ok-writable.ensures.writes in
     let spot : (names others : List (List ℕ)) → IsPath c.args.old.now names → IsPath c.args.new.now others → IsLinkSpot (tree_of (g.P.Pmem.region c.self.inside.memory) c.self.inside.rows.items) c.self.inside.rows.items names others (place_in c.self.inside.rows.items c.in_ok-named.named.directory) c.in_ok-named.named.name.now (place_in c.self.inside.rows.items c.in_ok-named.named.target) =
     λ names others path other_path. c.in_ok-named.ensures.spot (g.P.Pmem.region c.self.inside.memory) names others path other_path in
     subst (λ (m : Mount g.row.P.Denot). LeadsTo (tree_of (g.P.Pmem.region m.memory) m.rows) names i node → walk (tree_of (g.P.Pmem.region m.memory) m.rows) 1 others ≡ Ok d → ShowsSound (g.P.Pmem.region m.memory) m.sup held
-    → ShowsBothGrew (g.P.Pmem.region c.link_at.new.memory) m.sup m.free.pools c.args.cpu held i f (links_entries (node.links + 1) c.args.time) d h (name_entries Add i (last_name others) c.args.time)) c.self.view_is
+    → ShowsBothGrew (g.P.Pmem.region c.link_at.new.memory) m.sup m.free.pools c.cpu.inside.0 held i f (links_entries (node.links + 1) c.time.inside.0) d h (name_entries Add i (last_name others) c.time.inside.0)) c.self.view_is
     (λ leads walked shown. linked_logs c.self.invariant.0 runs writes c.in-Ok.ensures.linked c.in_ok-named.ensures.name names others (spot names others path other_path) i d node held f h leads walked shown is other_is) led ended sound
+    )
 
 pub returns-in-Ok-clause-journals : goal.returns-in-Ok-clause-journals
 returns-in-Ok-clause-journals g c =
+    rw (← c.cpu.view_is) (
     let runs : c.self.inside.stopped ≡ false = ap (λ (m : Mount g.row.P.Denot). m.stopped) c.self.view_is ∙ c.in_ok-writable.ensures.runs in
     let writes : c.self.inside.read_only ≡ false = ap (λ (m : Mount g.row.P.Denot). m.read_only) c.self.view_is ∙ c.in_ok-writable.ensures.writes in
     let linked = c.in-Ok.ensures.linked in
-    subst (λ (m : Mount g.row.P.Denot). SameFrontBut m.sup.cpus c.args.cpu (g.P.Pmem.region m.memory) (g.P.Pmem.region c.link_at.new.memory)) c.self.view_is
+    subst (λ (m : Mount g.row.P.Denot). SameFrontBut m.sup.cpus c.cpu.inside.0 (g.P.Pmem.region m.memory) (g.P.Pmem.region c.link_at.new.memory)) c.self.view_is
     (both_front c.self.invariant.0 runs writes linked.step)
+    )
 
 pub returns-in-Err-clause-refused : goal.returns-in-Err-clause-refused
-returns-in-Err-clause-refused g c still p q says says_new =
+returns-in-Err-clause-refused g c =
+    rw (← c.cpu.view_is) (λ still p q says says_new.
     let runs : c.self.inside.stopped ≡ false = ap (λ (m : Mount g.row.P.Denot). m.stopped) c.self.view_is ∙ c.in_ok-writable.ensures.runs in
     let spot : (names others : List (List ℕ)) → IsPath c.args.old.now names → IsPath c.args.new.now others → IsLinkSpot (tree_of (g.P.Pmem.region c.self.inside.memory) c.self.inside.rows.items) c.self.inside.rows.items names others (place_in c.self.inside.rows.items c.in_ok-named.named.directory) c.in_ok-named.named.name.now (place_in c.self.inside.rows.items c.in_ok-named.named.target) =
     λ names others path other_path. c.in_ok-named.ensures.spot (g.P.Pmem.region c.self.inside.memory) names others path other_path in
@@ -177,7 +190,8 @@ returns-in-Err-clause-refused g c still p q says says_new =
     let other_is : row_of c.self.inside.rows.items directory.0.inode ≡ Some directory.0 = own_row c.self.inside.rows.items c.in_ok-named.named.directory directory.0 directory.1 in
     let none : first_refusal (link_spot_tests (tree_of (g.P.Pmem.region c.self.inside.memory) c.self.inside.rows.items) p q) ≡ None =
     c.in_ok-named.ensures.allowed (g.P.Pmem.region c.self.inside.memory) p q says says_new in
-    link_refused g.P.Pmem.region c.self.view_is c.args.cpu c.in_ok-writable.ensures.passed (place_in c.self.inside.rows.items c.in_ok-named.named.target) (place_in c.self.inside.rows.items c.in_ok-named.named.directory) file.0 directory.0 (at_place c.self.inside.rows.items c.in_ok-named.named.target ∙ file.1) (at_place c.self.inside.rows.items c.in_ok-named.named.directory ∙ directory.1) is other_is c.in_ok-named.named.name.now c.args.time c.args.old.now c.args.new.now spot p q says says_new none c.in-Err.refusal (c.in-Err.ensures.refused file.0 directory.0 file.1 directory.1)
+    link_refused g.P.Pmem.region c.self.view_is c.cpu.inside.0 c.in_ok-writable.ensures.passed (place_in c.self.inside.rows.items c.in_ok-named.named.target) (place_in c.self.inside.rows.items c.in_ok-named.named.directory) file.0 directory.0 (at_place c.self.inside.rows.items c.in_ok-named.named.target ∙ file.1) (at_place c.self.inside.rows.items c.in_ok-named.named.directory ∙ directory.1) is other_is c.in_ok-named.named.name.now c.time.inside.0 c.args.old.now c.args.new.now spot p q says says_new none c.in-Err.refusal (c.in-Err.ensures.refused file.0 directory.0 file.1 directory.1)
+    )
 
 pub returns-in-Err-clause-unchanged : goal.returns-in-Err-clause-unchanged
 returns-in-Err-clause-unchanged g c off =
@@ -207,24 +221,28 @@ pub returns-in_err-named-clause-any_stop : goal.returns-in_err-named-clause-any_
 returns-in_err-named-clause-any_stop g c names others path other_path on able = call_stays g.P.Pmem.region c.args.self.now (makes_link c.args.time (Some others)) (logs_link c.args.cpu c.args.time (Some others)) names c.in_ok-writable.ensures.kept on able _ (c.in_ok-writable.ensures.settled on)
 
 pub returns-in-Ok-clause-any_stop : goal.returns-in-Ok-clause-any_stop
-returns-in-Ok-clause-any_stop g c names others path other_path on able =
+returns-in-Ok-clause-any_stop g c =
+    rw (← c.cpu.view_is, ← c.time.view_is) (λ names others path other_path on able.
     let runs : c.self.inside.stopped ≡ false = ap (λ (m : Mount g.row.P.Denot). m.stopped) c.self.view_is ∙ c.in_ok-writable.ensures.runs in
     let writes : c.self.inside.read_only ≡ false = ap (λ (m : Mount g.row.P.Denot). m.read_only) c.self.view_is ∙ c.in_ok-writable.ensures.writes in
     let file = row_in_use c.self.inside.rows.items c.in_ok-named.named.target c.in_ok-named.ensures.target in
     let directory = row_in_use c.self.inside.rows.items c.in_ok-named.named.directory c.in_ok-named.ensures.directory in
-    link_left g.P.Pmem.region c.self.view_is c.self.invariant.0 runs writes c.in_ok-named.named.target c.in_ok-named.named.directory file.0 directory.0 file.1 directory.1 c.in_ok-named.named.name.now c.args.cpu c.args.time c.in_ok-named.ensures.name names others
+    link_left g.P.Pmem.region c.self.view_is c.self.invariant.0 runs writes c.in_ok-named.named.target c.in_ok-named.named.directory file.0 directory.0 file.1 directory.1 c.in_ok-named.named.name.now c.cpu.inside.0 c.time.inside.0 c.in_ok-named.ensures.name names others
     (c.in_ok-named.ensures.spot (g.P.Pmem.region c.self.inside.memory) names others path other_path) _ _ _
     (λ held f h here other absent pending. c.link_at.ensures.any_stop file.0 directory.0 held f h file.1 directory.1 here other absent pending) (c.self.invariant.2 runs)
+    )
 
 pub returns-in-Err-clause-any_stop : goal.returns-in-Err-clause-any_stop
-returns-in-Err-clause-any_stop g c names others path other_path on able =
+returns-in-Err-clause-any_stop g c =
+    rw (← c.cpu.view_is, ← c.time.view_is) (λ names others path other_path on able.
     let runs : c.self.inside.stopped ≡ false = ap (λ (m : Mount g.row.P.Denot). m.stopped) c.self.view_is ∙ c.in_ok-writable.ensures.runs in
     let writes : c.self.inside.read_only ≡ false = ap (λ (m : Mount g.row.P.Denot). m.read_only) c.self.view_is ∙ c.in_ok-writable.ensures.writes in
     let file = row_in_use c.self.inside.rows.items c.in_ok-named.named.target c.in_ok-named.ensures.target in
     let directory = row_in_use c.self.inside.rows.items c.in_ok-named.named.directory c.in_ok-named.ensures.directory in
-    link_left g.P.Pmem.region c.self.view_is c.self.invariant.0 runs writes c.in_ok-named.named.target c.in_ok-named.named.directory file.0 directory.0 file.1 directory.1 c.in_ok-named.named.name.now c.args.cpu c.args.time c.in_ok-named.ensures.name names others
+    link_left g.P.Pmem.region c.self.view_is c.self.invariant.0 runs writes c.in_ok-named.named.target c.in_ok-named.named.directory file.0 directory.0 file.1 directory.1 c.in_ok-named.named.name.now c.cpu.inside.0 c.time.inside.0 c.in_ok-named.ensures.name names others
     (c.in_ok-named.ensures.spot (g.P.Pmem.region c.self.inside.memory) names others path other_path) _ _ _
     (λ held f h here other absent pending. c.link_at.ensures.any_stop file.0 directory.0 held f h file.1 directory.1 here other absent pending) (c.self.invariant.2 runs)
+    )
 
 pub returns-in_err-writable-clause-bad_text : goal.returns-in_err-writable-clause-bad_text
 returns-in_err-writable-clause-bad_text g c bad = same_mount c.args.self.now
@@ -245,14 +263,18 @@ pub returns-in_err-named-clause-in_order : goal.returns-in_err-named-clause-in_o
 returns-in_err-named-clause-in_order g c names others i d node held f path other_path led ended sound is = ∣ inl refl ∣₁
 
 pub returns-in-Ok-clause-in_order : goal.returns-in-Ok-clause-in_order
-returns-in-Ok-clause-in_order g c names others i d node held f path other_path led ended sound is =
-    link_ordered g.P.Pmem.region c.self.view_is c.self.invariant.0 c.in_ok-writable.ensures.runs (g.P.Pmem.region c.link_at.new.memory) c.args.cpu c.in_ok-named.named.target c.in_ok-named.named.directory c.in_ok-named.ensures.target c.in_ok-named.ensures.directory
-    c.args.time c.in_ok-named.named.name.now names others (c.in_ok-named.ensures.spot (g.P.Pmem.region c.self.inside.memory) names others path other_path) c.link_at.ensures.in_order i d node held f led ended sound is
+returns-in-Ok-clause-in_order g c =
+    rw (← c.cpu.view_is, ← c.time.view_is) (λ names others i d node held f path other_path led ended sound is.
+    link_ordered g.P.Pmem.region c.self.view_is c.self.invariant.0 c.in_ok-writable.ensures.runs (g.P.Pmem.region c.link_at.new.memory) c.cpu.inside.0 c.in_ok-named.named.target c.in_ok-named.named.directory c.in_ok-named.ensures.target c.in_ok-named.ensures.directory
+    c.time.inside.0 c.in_ok-named.named.name.now names others (c.in_ok-named.ensures.spot (g.P.Pmem.region c.self.inside.memory) names others path other_path) c.link_at.ensures.in_order i d node held f led ended sound is
+    )
 
 pub returns-in-Err-clause-in_order : goal.returns-in-Err-clause-in_order
-returns-in-Err-clause-in_order g c names others i d node held f path other_path led ended sound is =
-    link_ordered g.P.Pmem.region c.self.view_is c.self.invariant.0 c.in_ok-writable.ensures.runs (g.P.Pmem.region c.link_at.new.memory) c.args.cpu c.in_ok-named.named.target c.in_ok-named.named.directory c.in_ok-named.ensures.target c.in_ok-named.ensures.directory
-    c.args.time c.in_ok-named.named.name.now names others (c.in_ok-named.ensures.spot (g.P.Pmem.region c.self.inside.memory) names others path other_path) c.link_at.ensures.in_order i d node held f led ended sound is
+returns-in-Err-clause-in_order g c =
+    rw (← c.cpu.view_is, ← c.time.view_is) (λ names others i d node held f path other_path led ended sound is.
+    link_ordered g.P.Pmem.region c.self.view_is c.self.invariant.0 c.in_ok-writable.ensures.runs (g.P.Pmem.region c.link_at.new.memory) c.cpu.inside.0 c.in_ok-named.named.target c.in_ok-named.named.directory c.in_ok-named.ensures.target c.in_ok-named.ensures.directory
+    c.time.inside.0 c.in_ok-named.named.name.now names others (c.in_ok-named.ensures.spot (g.P.Pmem.region c.self.inside.memory) names others path other_path) c.link_at.ensures.in_order i d node held f led ended sound is
+    )
 
 pub returns-in_err-writable-clause-wrote : goal.returns-in_err-writable-clause-wrote
 returns-in_err-writable-clause-wrote g c names others i d node held path other_path led ended sound = λ at whole away. refl
@@ -261,11 +283,15 @@ pub returns-in_err-named-clause-wrote : goal.returns-in_err-named-clause-wrote
 returns-in_err-named-clause-wrote g c names others i d node held path other_path led ended sound = λ at whole away. refl
 
 pub returns-in-Ok-clause-wrote : goal.returns-in-Ok-clause-wrote
-returns-in-Ok-clause-wrote g c names others i d node held path other_path led ended sound =
-    link_stored g.P.Pmem.region c.self.view_is c.self.invariant.0 c.in_ok-writable.ensures.runs (g.P.Pmem.region c.link_at.new.memory) c.args.cpu c.in_ok-named.named.target c.in_ok-named.named.directory c.in_ok-named.ensures.target c.in_ok-named.ensures.directory
-    c.args.time c.in_ok-named.named.name.now names others (c.in_ok-named.ensures.spot (g.P.Pmem.region c.self.inside.memory) names others path other_path) c.link_at.ensures.wrote i d node held led ended sound
+returns-in-Ok-clause-wrote g c =
+    rw (← c.cpu.view_is) (λ names others i d node held path other_path led ended sound.
+    link_stored g.P.Pmem.region c.self.view_is c.self.invariant.0 c.in_ok-writable.ensures.runs (g.P.Pmem.region c.link_at.new.memory) c.cpu.inside.0 c.in_ok-named.named.target c.in_ok-named.named.directory c.in_ok-named.ensures.target c.in_ok-named.ensures.directory
+    c.time.inside.0 c.in_ok-named.named.name.now names others (c.in_ok-named.ensures.spot (g.P.Pmem.region c.self.inside.memory) names others path other_path) c.link_at.ensures.wrote i d node held led ended sound
+    )
 
 pub returns-in-Err-clause-wrote : goal.returns-in-Err-clause-wrote
-returns-in-Err-clause-wrote g c names others i d node held path other_path led ended sound =
-    link_stored g.P.Pmem.region c.self.view_is c.self.invariant.0 c.in_ok-writable.ensures.runs (g.P.Pmem.region c.link_at.new.memory) c.args.cpu c.in_ok-named.named.target c.in_ok-named.named.directory c.in_ok-named.ensures.target c.in_ok-named.ensures.directory
-    c.args.time c.in_ok-named.named.name.now names others (c.in_ok-named.ensures.spot (g.P.Pmem.region c.self.inside.memory) names others path other_path) c.link_at.ensures.wrote i d node held led ended sound
+returns-in-Err-clause-wrote g c =
+    rw (← c.cpu.view_is) (λ names others i d node held path other_path led ended sound.
+    link_stored g.P.Pmem.region c.self.view_is c.self.invariant.0 c.in_ok-writable.ensures.runs (g.P.Pmem.region c.link_at.new.memory) c.cpu.inside.0 c.in_ok-named.named.target c.in_ok-named.named.directory c.in_ok-named.ensures.target c.in_ok-named.ensures.directory
+    c.time.inside.0 c.in_ok-named.named.name.now names others (c.in_ok-named.ensures.spot (g.P.Pmem.region c.self.inside.memory) names others path other_path) c.link_at.ensures.wrote i d node held led ended sound
+    )

@@ -37,12 +37,14 @@ use Rattle.nv_calls.proofs.fs.Fs.make.Goals as goal
 use Rattle.nv_calls.proofs.FrontsKept.{created_front}
 
 pub returns-in_err-writable-clause-refused : goal.returns-in_err-writable-clause-refused
-returns-in_err-writable-clause-refused g c runs p says =
+returns-in_err-writable-clause-refused g c =
+    rw (← c.cpu.view_is) (λ runs p says.
     let tree = tree_of (g.P.Pmem.region c.args.self.now.memory) c.args.self.now.rows in
     let count = create_blocks c.args.self.now.rows tree p in
     let w = err_from_is_err_and c.from_residual.result c.from_residual.ensures.1 in
-    refused_by c.from_residual.result c.in_err-writable.field-0.0 w.0 (IsRefusedBy (first_refusal (create_tests (world_of c.args.self.now) tree c.args.cpu p count))) w.1 w.2
-    (inr (inr (c.in_err-writable.ensures.refused runs (is_bad_name p ∷ walk_tests tree p ++ is_there tree p ∷ has_no_slot (world_of c.args.self.now) c.args.cpu ∷ has_no_space (world_of c.args.self.now) count ∷ []))))
+    refused_by c.from_residual.result c.in_err-writable.field-0.0 w.0 (IsRefusedBy (first_refusal (create_tests (world_of c.args.self.now) tree c.cpu.inside.0 p count))) w.1 w.2
+    (inr (inr (c.in_err-writable.ensures.refused runs (is_bad_name p ∷ walk_tests tree p ++ is_there tree p ∷ has_no_slot (world_of c.args.self.now) c.cpu.inside.0 ∷ has_no_space (world_of c.args.self.now) count ∷ []))))
+    )
 
 pub returns-in_err-writable-clause-unchanged : goal.returns-in_err-writable-clause-unchanged
 returns-in_err-writable-clause-unchanged g c = if_err c.from_residual.result _ (λ e on. same_mount c.args.self.now)
@@ -51,23 +53,25 @@ pub returns-in_err-writable-clause-stopped : goal.returns-in_err-writable-clause
 returns-in_err-writable-clause-stopped g c runs =
     let w = err_from_is_err_and c.from_residual.result c.from_residual.ensures.1 in
     early_reply c.args.self.now.stopped c.from_residual.result c.in_err-writable.field-0.0 w.0 w.1 w.2
-    (λ is. writing_goes_on (world_of c.args.self.now) c.args.cpu (c.in_err-writable.ensures.refused runs [] ∙ ap (λ (e : Refusal). Some e) is)) runs
+    (λ is. writing_goes_on (world_of c.args.self.now) c.cpu.inside.0 (c.in_err-writable.ensures.refused runs [] ∙ ap (λ (e : Refusal). Some e) is)) runs
 
 pub spot_for-requires : goal.spot_for-requires
 spot_for-requires g c =
-    let low : c.args.cpu < c.self.inside.sup.cpus = subst (λ (m : Mount g.row.P.Denot). c.args.cpu < m.sup.cpus) (sym c.self.view_is) c.in_ok-writable.ensures.cpu in
-    record { cpu = subst (λ (s : Super). c.args.cpu < s.cpus) (sym c.self.invariant.1) low }
+    let low : c.cpu.inside.0 < c.self.inside.sup.cpus = subst (λ (m : Mount g.row.P.Denot). c.cpu.inside.0 < m.sup.cpus) (sym c.self.view_is) c.in_ok-writable.ensures.cpu in
+    record { cpu = subst (λ (s : Super). c.cpu.inside.0 < s.cpus) (sym c.self.invariant.1) low }
 
 pub returns-in_err-spot-clause-refused : goal.returns-in_err-spot-clause-refused
-returns-in_err-spot-clause-refused g c still p says =
-    let told : first_refusal (spot_tests (tree_of (g.P.Pmem.region c.args.self.now.memory) c.args.self.now.rows) (unused_number c.args.self.now.sup c.args.self.now.rows c.args.cpu) p) ≡ Some c.in_err-spot.field-0.0 =
-    subst (λ (m : Mount g.row.P.Denot). first_refusal (spot_tests (tree_of (g.P.Pmem.region m.memory) m.rows) (unused_number m.sup m.rows c.args.cpu) p) ≡ Some c.in_err-spot.field-0.0) c.self.view_is
-    (subst (λ (s : Super). first_refusal (spot_tests (tree_of (g.P.Pmem.region c.self.inside.memory) c.self.inside.rows.items) (unused_number s c.self.inside.rows.items c.args.cpu) p) ≡ Some c.in_err-spot.field-0.0) c.self.invariant.1 (c.in_err-spot.ensures.refused (g.P.Pmem.region c.self.inside.memory) p says)) in
+returns-in_err-spot-clause-refused g c =
+    rw (← c.cpu.view_is) (λ still p says.
+    let told : first_refusal (spot_tests (tree_of (g.P.Pmem.region c.args.self.now.memory) c.args.self.now.rows) (unused_number c.args.self.now.sup c.args.self.now.rows c.cpu.inside.0) p) ≡ Some c.in_err-spot.field-0.0 =
+    subst (λ (m : Mount g.row.P.Denot). first_refusal (spot_tests (tree_of (g.P.Pmem.region m.memory) m.rows) (unused_number m.sup m.rows c.cpu.inside.0) p) ≡ Some c.in_err-spot.field-0.0) c.self.view_is
+    (subst (λ (s : Super). first_refusal (spot_tests (tree_of (g.P.Pmem.region c.self.inside.memory) c.self.inside.rows.items) (unused_number s c.self.inside.rows.items c.cpu.inside.0) p) ≡ Some c.in_err-spot.field-0.0) c.self.invariant.1 (c.in_err-spot.ensures.refused (g.P.Pmem.region c.self.inside.memory) p says)) in
     let tree = tree_of (g.P.Pmem.region c.args.self.now.memory) c.args.self.now.rows in
     let count = create_blocks c.args.self.now.rows tree p in
     let w = err_from_is_err_and c.from_residual-in_err-spot.result c.from_residual-in_err-spot.ensures.1 in
-    refused_by c.from_residual-in_err-spot.result c.in_err-spot.field-0.0 w.0 (IsRefusedBy (first_refusal (create_tests (world_of c.args.self.now) tree c.args.cpu p count))) w.1 w.2
-    (inr (inr (spot_refuses (world_of c.args.self.now) tree c.args.cpu c.in_ok-writable.ensures.passed p count c.in_err-spot.field-0.0 told)))
+    refused_by c.from_residual-in_err-spot.result c.in_err-spot.field-0.0 w.0 (IsRefusedBy (first_refusal (create_tests (world_of c.args.self.now) tree c.cpu.inside.0 p count))) w.1 w.2
+    (inr (inr (spot_refuses (world_of c.args.self.now) tree c.cpu.inside.0 c.in_ok-writable.ensures.passed p count c.in_err-spot.field-0.0 told)))
+    )
 
 pub returns-in_err-spot-clause-unchanged : goal.returns-in_err-spot-clause-unchanged
 returns-in_err-spot-clause-unchanged g c =
@@ -79,24 +83,24 @@ returns-in_err-spot-clause-stopped g c runs =
     let said = text_says c.args.path.now in
     let told = c.in_err-spot.ensures.refused (g.P.Pmem.region c.self.inside.memory) said.0 said.1 in
     early_reply c.args.self.now.stopped c.from_residual-in_err-spot.result c.in_err-spot.field-0.0 w.0 w.1 w.2
-    (λ is. spot_goes_on (tree_of (g.P.Pmem.region c.self.inside.memory) c.self.inside.rows.items) (unused_number c.self.inside.rows.sup c.self.inside.rows.items c.args.cpu) said.0
-    (subst (λ (e : Refusal). first_refusal (spot_tests (tree_of (g.P.Pmem.region c.self.inside.memory) c.self.inside.rows.items) (unused_number c.self.inside.rows.sup c.self.inside.rows.items c.args.cpu) said.0) ≡ Some e) is told)) runs
+    (λ is. spot_goes_on (tree_of (g.P.Pmem.region c.self.inside.memory) c.self.inside.rows.items) (unused_number c.self.inside.rows.sup c.self.inside.rows.items c.cpu.inside.0) said.0
+    (subst (λ (e : Refusal). first_refusal (spot_tests (tree_of (g.P.Pmem.region c.self.inside.memory) c.self.inside.rows.items) (unused_number c.self.inside.rows.sup c.self.inside.rows.items c.cpu.inside.0) said.0) ≡ Some e) is told)) runs
 
 pub create_at-requires-clause-limit : goal.create_at-requires-clause-limit
 create_at-requires-clause-limit g c =
-    let low : c.args.cpu < c.self.inside.sup.cpus = subst (λ (m : Mount g.row.P.Denot). c.args.cpu < m.sup.cpus) (sym c.self.view_is) c.in_ok-writable.ensures.cpu in
-    let spot : (names : List (List ℕ)) → IsPath c.args.path.now names → IsSpot (tree_of (g.P.Pmem.region c.self.inside.memory) c.self.inside.rows.items) c.self.inside.rows.items c.self.inside.sup c.args.cpu names (place_in c.self.inside.rows.items c.in_ok-spot.spot.directory) c.in_ok-spot.spot.name.now c.in_ok-spot.spot.inode =
-    λ names path. subst (λ (s : Super). IsSpot (tree_of (g.P.Pmem.region c.self.inside.memory) c.self.inside.rows.items) c.self.inside.rows.items s c.args.cpu names (place_in c.self.inside.rows.items c.in_ok-spot.spot.directory) c.in_ok-spot.spot.name.now c.in_ok-spot.spot.inode) c.self.invariant.1 (c.in_ok-spot.ensures.spot (g.P.Pmem.region c.self.inside.memory) names path) in
+    let low : c.cpu.inside.0 < c.self.inside.sup.cpus = subst (λ (m : Mount g.row.P.Denot). c.cpu.inside.0 < m.sup.cpus) (sym c.self.view_is) c.in_ok-writable.ensures.cpu in
+    let spot : (names : List (List ℕ)) → IsPath c.args.path.now names → IsSpot (tree_of (g.P.Pmem.region c.self.inside.memory) c.self.inside.rows.items) c.self.inside.rows.items c.self.inside.sup c.cpu.inside.0 names (place_in c.self.inside.rows.items c.in_ok-spot.spot.directory) c.in_ok-spot.spot.name.now c.in_ok-spot.spot.inode =
+    λ names path. subst (λ (s : Super). IsSpot (tree_of (g.P.Pmem.region c.self.inside.memory) c.self.inside.rows.items) c.self.inside.rows.items s c.cpu.inside.0 names (place_in c.self.inside.rows.items c.in_ok-spot.spot.directory) c.in_ok-spot.spot.name.now c.in_ok-spot.spot.inode) c.self.invariant.1 (c.in_ok-spot.ensures.spot (g.P.Pmem.region c.self.inside.memory) names path) in
     let path = c.in_ok-spot.ensures.path in
-    subst (λ (s : Super). c.in_ok-spot.spot.inode < inode_limit s) (sym c.self.invariant.1) (number_below c.self.inside.sup c.in_ok-spot.spot.inode (unused_is c.self.inside.sup c.self.inside.rows.items c.args.cpu c.in_ok-spot.spot.inode low (spot path.0 path.1).unused).1)
+    subst (λ (s : Super). c.in_ok-spot.spot.inode < inode_limit s) (sym c.self.invariant.1) (number_below c.self.inside.sup c.in_ok-spot.spot.inode (unused_is c.self.inside.sup c.self.inside.rows.items c.cpu.inside.0 c.in_ok-spot.spot.inode low (spot path.0 path.1).unused).1)
 
 pub create_at-requires-clause-unused : goal.create_at-requires-clause-unused
 create_at-requires-clause-unused g c =
-    let low : c.args.cpu < c.self.inside.sup.cpus = subst (λ (m : Mount g.row.P.Denot). c.args.cpu < m.sup.cpus) (sym c.self.view_is) c.in_ok-writable.ensures.cpu in
-    let spot : (names : List (List ℕ)) → IsPath c.args.path.now names → IsSpot (tree_of (g.P.Pmem.region c.self.inside.memory) c.self.inside.rows.items) c.self.inside.rows.items c.self.inside.sup c.args.cpu names (place_in c.self.inside.rows.items c.in_ok-spot.spot.directory) c.in_ok-spot.spot.name.now c.in_ok-spot.spot.inode =
-    λ names path. subst (λ (s : Super). IsSpot (tree_of (g.P.Pmem.region c.self.inside.memory) c.self.inside.rows.items) c.self.inside.rows.items s c.args.cpu names (place_in c.self.inside.rows.items c.in_ok-spot.spot.directory) c.in_ok-spot.spot.name.now c.in_ok-spot.spot.inode) c.self.invariant.1 (c.in_ok-spot.ensures.spot (g.P.Pmem.region c.self.inside.memory) names path) in
+    let low : c.cpu.inside.0 < c.self.inside.sup.cpus = subst (λ (m : Mount g.row.P.Denot). c.cpu.inside.0 < m.sup.cpus) (sym c.self.view_is) c.in_ok-writable.ensures.cpu in
+    let spot : (names : List (List ℕ)) → IsPath c.args.path.now names → IsSpot (tree_of (g.P.Pmem.region c.self.inside.memory) c.self.inside.rows.items) c.self.inside.rows.items c.self.inside.sup c.cpu.inside.0 names (place_in c.self.inside.rows.items c.in_ok-spot.spot.directory) c.in_ok-spot.spot.name.now c.in_ok-spot.spot.inode =
+    λ names path. subst (λ (s : Super). IsSpot (tree_of (g.P.Pmem.region c.self.inside.memory) c.self.inside.rows.items) c.self.inside.rows.items s c.cpu.inside.0 names (place_in c.self.inside.rows.items c.in_ok-spot.spot.directory) c.in_ok-spot.spot.name.now c.in_ok-spot.spot.inode) c.self.invariant.1 (c.in_ok-spot.ensures.spot (g.P.Pmem.region c.self.inside.memory) names path) in
     let path = c.in_ok-spot.ensures.path in
-    (unused_is c.self.inside.sup c.self.inside.rows.items c.args.cpu c.in_ok-spot.spot.inode low (spot path.0 path.1).unused).0
+    (unused_is c.self.inside.sup c.self.inside.rows.items c.cpu.inside.0 c.in_ok-spot.spot.inode low (spot path.0 path.1).unused).0
 
 pub create_at-requires-clause-stands : goal.create_at-requires-clause-stands
 create_at-requires-clause-stands g c row at =
@@ -108,20 +112,20 @@ pub create_at-requires-clause-can : goal.create_at-requires-clause-can
 create_at-requires-clause-can g c row at =
     let runs : c.self.inside.stopped ≡ false = ap (λ (m : Mount g.row.P.Denot). m.stopped) c.self.view_is ∙ c.in_ok-writable.ensures.runs in
     let writes : c.self.inside.read_only ≡ false = ap (λ (m : Mount g.row.P.Denot). m.read_only) c.self.view_is ∙ c.in_ok-writable.ensures.writes in
-    let low : c.args.cpu < c.self.inside.sup.cpus = subst (λ (m : Mount g.row.P.Denot). c.args.cpu < m.sup.cpus) (sym c.self.view_is) c.in_ok-writable.ensures.cpu in
-    let spot : (names : List (List ℕ)) → IsPath c.args.path.now names → IsSpot (tree_of (g.P.Pmem.region c.self.inside.memory) c.self.inside.rows.items) c.self.inside.rows.items c.self.inside.sup c.args.cpu names (place_in c.self.inside.rows.items c.in_ok-spot.spot.directory) c.in_ok-spot.spot.name.now c.in_ok-spot.spot.inode =
-    λ names path. subst (λ (s : Super). IsSpot (tree_of (g.P.Pmem.region c.self.inside.memory) c.self.inside.rows.items) c.self.inside.rows.items s c.args.cpu names (place_in c.self.inside.rows.items c.in_ok-spot.spot.directory) c.in_ok-spot.spot.name.now c.in_ok-spot.spot.inode) c.self.invariant.1 (c.in_ok-spot.ensures.spot (g.P.Pmem.region c.self.inside.memory) names path) in
+    let low : c.cpu.inside.0 < c.self.inside.sup.cpus = subst (λ (m : Mount g.row.P.Denot). c.cpu.inside.0 < m.sup.cpus) (sym c.self.view_is) c.in_ok-writable.ensures.cpu in
+    let spot : (names : List (List ℕ)) → IsPath c.args.path.now names → IsSpot (tree_of (g.P.Pmem.region c.self.inside.memory) c.self.inside.rows.items) c.self.inside.rows.items c.self.inside.sup c.cpu.inside.0 names (place_in c.self.inside.rows.items c.in_ok-spot.spot.directory) c.in_ok-spot.spot.name.now c.in_ok-spot.spot.inode =
+    λ names path. subst (λ (s : Super). IsSpot (tree_of (g.P.Pmem.region c.self.inside.memory) c.self.inside.rows.items) c.self.inside.rows.items s c.cpu.inside.0 names (place_in c.self.inside.rows.items c.in_ok-spot.spot.directory) c.in_ok-spot.spot.name.now c.in_ok-spot.spot.inode) c.self.invariant.1 (c.in_ok-spot.ensures.spot (g.P.Pmem.region c.self.inside.memory) names path) in
     let path = c.in_ok-spot.ensures.path in
-    can_name c.self.invariant.0 runs writes c.args.cpu c.in_ok-spot.spot.inode low (unused_is c.self.inside.sup c.self.inside.rows.items c.args.cpu c.in_ok-spot.spot.inode low (spot path.0 path.1).unused).1 row
+    can_name c.self.invariant.0 runs writes c.cpu.inside.0 c.in_ok-spot.spot.inode low (unused_is c.self.inside.sup c.self.inside.rows.items c.cpu.inside.0 c.in_ok-spot.spot.inode low (spot path.0 path.1).unused).1 row
     (stands c.self.inside.rows.items (place_in c.self.inside.rows.items c.in_ok-spot.spot.directory) row (at_place c.self.inside.rows.items c.in_ok-spot.spot.directory ∙ at))
 
 pub invariant_of-self : goal.invariant_of-self
 invariant_of-self g c =
     let runs : c.self.inside.stopped ≡ false = ap (λ (m : Mount g.row.P.Denot). m.stopped) c.self.view_is ∙ c.in_ok-writable.ensures.runs in
     let writes : c.self.inside.read_only ≡ false = ap (λ (m : Mount g.row.P.Denot). m.read_only) c.self.view_is ∙ c.in_ok-writable.ensures.writes in
-    let low : c.args.cpu < c.self.inside.sup.cpus = subst (λ (m : Mount g.row.P.Denot). c.args.cpu < m.sup.cpus) (sym c.self.view_is) c.in_ok-writable.ensures.cpu in
-    let spot : (names : List (List ℕ)) → IsPath c.args.path.now names → IsSpot (tree_of (g.P.Pmem.region c.self.inside.memory) c.self.inside.rows.items) c.self.inside.rows.items c.self.inside.sup c.args.cpu names (place_in c.self.inside.rows.items c.in_ok-spot.spot.directory) c.in_ok-spot.spot.name.now c.in_ok-spot.spot.inode =
-    λ names path. subst (λ (s : Super). IsSpot (tree_of (g.P.Pmem.region c.self.inside.memory) c.self.inside.rows.items) c.self.inside.rows.items s c.args.cpu names (place_in c.self.inside.rows.items c.in_ok-spot.spot.directory) c.in_ok-spot.spot.name.now c.in_ok-spot.spot.inode) c.self.invariant.1 (c.in_ok-spot.ensures.spot (g.P.Pmem.region c.self.inside.memory) names path) in
+    let low : c.cpu.inside.0 < c.self.inside.sup.cpus = subst (λ (m : Mount g.row.P.Denot). c.cpu.inside.0 < m.sup.cpus) (sym c.self.view_is) c.in_ok-writable.ensures.cpu in
+    let spot : (names : List (List ℕ)) → IsPath c.args.path.now names → IsSpot (tree_of (g.P.Pmem.region c.self.inside.memory) c.self.inside.rows.items) c.self.inside.rows.items c.self.inside.sup c.cpu.inside.0 names (place_in c.self.inside.rows.items c.in_ok-spot.spot.directory) c.in_ok-spot.spot.name.now c.in_ok-spot.spot.inode =
+    λ names path. subst (λ (s : Super). IsSpot (tree_of (g.P.Pmem.region c.self.inside.memory) c.self.inside.rows.items) c.self.inside.rows.items s c.cpu.inside.0 names (place_in c.self.inside.rows.items c.in_ok-spot.spot.directory) c.in_ok-spot.spot.name.now c.in_ok-spot.spot.inode) c.self.invariant.1 (c.in_ok-spot.ensures.spot (g.P.Pmem.region c.self.inside.memory) names path) in
     let path = c.in_ok-spot.ensures.path in
     (created_kept c.self.invariant.0 runs writes c.in-Ok.ensures.created low c.in_ok-spot.ensures.name path.0 (spot path.0 path.1) c.self.inside.stopped, c.create_at.ensures.limit ∙ c.self.invariant.1, λ on. c.in-Ok.ensures.settled)
 
@@ -135,48 +139,56 @@ invariant_of-self-in-Err g c =
     )
 
 pub returns-in-Ok-clause-allowed : goal.returns-in-Ok-clause-allowed
-returns-in-Ok-clause-allowed g c p says =
+returns-in-Ok-clause-allowed g c =
+    rw (← c.cpu.view_is) (λ p says.
     let runs : c.self.inside.stopped ≡ false = ap (λ (m : Mount g.row.P.Denot). m.stopped) c.self.view_is ∙ c.in_ok-writable.ensures.runs in
-    let spot : (names : List (List ℕ)) → IsPath c.args.path.now names → IsSpot (tree_of (g.P.Pmem.region c.self.inside.memory) c.self.inside.rows.items) c.self.inside.rows.items c.self.inside.sup c.args.cpu names (place_in c.self.inside.rows.items c.in_ok-spot.spot.directory) c.in_ok-spot.spot.name.now c.in_ok-spot.spot.inode =
-    λ names path. subst (λ (s : Super). IsSpot (tree_of (g.P.Pmem.region c.self.inside.memory) c.self.inside.rows.items) c.self.inside.rows.items s c.args.cpu names (place_in c.self.inside.rows.items c.in_ok-spot.spot.directory) c.in_ok-spot.spot.name.now c.in_ok-spot.spot.inode) c.self.invariant.1 (c.in_ok-spot.ensures.spot (g.P.Pmem.region c.self.inside.memory) names path) in
+    let spot : (names : List (List ℕ)) → IsPath c.args.path.now names → IsSpot (tree_of (g.P.Pmem.region c.self.inside.memory) c.self.inside.rows.items) c.self.inside.rows.items c.self.inside.sup c.cpu.inside.0 names (place_in c.self.inside.rows.items c.in_ok-spot.spot.directory) c.in_ok-spot.spot.name.now c.in_ok-spot.spot.inode =
+    λ names path. subst (λ (s : Super). IsSpot (tree_of (g.P.Pmem.region c.self.inside.memory) c.self.inside.rows.items) c.self.inside.rows.items s c.cpu.inside.0 names (place_in c.self.inside.rows.items c.in_ok-spot.spot.directory) c.in_ok-spot.spot.name.now c.in_ok-spot.spot.inode) c.self.invariant.1 (c.in_ok-spot.ensures.spot (g.P.Pmem.region c.self.inside.memory) names path) in
     let r = row_in_use c.self.inside.rows.items c.in_ok-spot.spot.directory c.in_ok-spot.ensures.in_use in
     let at : slice_get c.self.inside.rows.items (place_in c.self.inside.rows.items c.in_ok-spot.spot.directory) ≡ Some r.0 = at_place c.self.inside.rows.items c.in_ok-spot.spot.directory ∙ r.1 in
     let numbered = own_row c.self.inside.rows.items c.in_ok-spot.spot.directory r.0 r.1 in
-    let none : first_refusal (spot_tests (tree_of (g.P.Pmem.region c.self.inside.memory) c.self.inside.rows.items) (unused_number c.self.inside.sup c.self.inside.rows.items c.args.cpu) p) ≡ None =
-    subst (λ (s : Super). first_refusal (spot_tests (tree_of (g.P.Pmem.region c.self.inside.memory) c.self.inside.rows.items) (unused_number s c.self.inside.rows.items c.args.cpu) p) ≡ None) c.self.invariant.1 (c.in_ok-spot.ensures.allowed (g.P.Pmem.region c.self.inside.memory) p says) in
-    create_allowed g.P.Pmem.region c.self.view_is c.args.cpu c.in_ok-writable.ensures.passed (place_in c.self.inside.rows.items c.in_ok-spot.spot.directory) r.0 at numbered c.in_ok-spot.spot.name.now c.in_ok-spot.spot.inode c.args.time c.args.path.now spot p says none (c.in-Ok.ensures.enough r.0 r.1)
+    let none : first_refusal (spot_tests (tree_of (g.P.Pmem.region c.self.inside.memory) c.self.inside.rows.items) (unused_number c.self.inside.sup c.self.inside.rows.items c.cpu.inside.0) p) ≡ None =
+    subst (λ (s : Super). first_refusal (spot_tests (tree_of (g.P.Pmem.region c.self.inside.memory) c.self.inside.rows.items) (unused_number s c.self.inside.rows.items c.cpu.inside.0) p) ≡ None) c.self.invariant.1 (c.in_ok-spot.ensures.allowed (g.P.Pmem.region c.self.inside.memory) p says) in
+    create_allowed g.P.Pmem.region c.self.view_is c.cpu.inside.0 c.in_ok-writable.ensures.passed (place_in c.self.inside.rows.items c.in_ok-spot.spot.directory) r.0 at numbered c.in_ok-spot.spot.name.now c.in_ok-spot.spot.inode c.time.inside.0 c.args.path.now spot p says none (c.in-Ok.ensures.enough r.0 r.1)
+    )
 
 pub returns-in-Ok-clause-changed : goal.returns-in-Ok-clause-changed
-returns-in-Ok-clause-changed g c names path =
+returns-in-Ok-clause-changed g c =
+    rw (← c.cpu.view_is, ← c.time.view_is) (λ names path.
     let runs : c.self.inside.stopped ≡ false = ap (λ (m : Mount g.row.P.Denot). m.stopped) c.self.view_is ∙ c.in_ok-writable.ensures.runs in
     let writes : c.self.inside.read_only ≡ false = ap (λ (m : Mount g.row.P.Denot). m.read_only) c.self.view_is ∙ c.in_ok-writable.ensures.writes in
-    let low : c.args.cpu < c.self.inside.sup.cpus = subst (λ (m : Mount g.row.P.Denot). c.args.cpu < m.sup.cpus) (sym c.self.view_is) c.in_ok-writable.ensures.cpu in
-    let spot : (names : List (List ℕ)) → IsPath c.args.path.now names → IsSpot (tree_of (g.P.Pmem.region c.self.inside.memory) c.self.inside.rows.items) c.self.inside.rows.items c.self.inside.sup c.args.cpu names (place_in c.self.inside.rows.items c.in_ok-spot.spot.directory) c.in_ok-spot.spot.name.now c.in_ok-spot.spot.inode =
-    λ names path. subst (λ (s : Super). IsSpot (tree_of (g.P.Pmem.region c.self.inside.memory) c.self.inside.rows.items) c.self.inside.rows.items s c.args.cpu names (place_in c.self.inside.rows.items c.in_ok-spot.spot.directory) c.in_ok-spot.spot.name.now c.in_ok-spot.spot.inode) c.self.invariant.1 (c.in_ok-spot.ensures.spot (g.P.Pmem.region c.self.inside.memory) names path) in
-    subst (λ (m : Mount g.row.P.Denot). SameTree (tree_of (g.P.Pmem.region c.create_at.new.memory) c.create_at.new.rows.items) (created c.args.kind (unused_number m.sup m.rows c.args.cpu) names c.args.mode c.args.time (tree_of (g.P.Pmem.region m.memory) m.rows))) c.self.view_is
+    let low : c.cpu.inside.0 < c.self.inside.sup.cpus = subst (λ (m : Mount g.row.P.Denot). c.cpu.inside.0 < m.sup.cpus) (sym c.self.view_is) c.in_ok-writable.ensures.cpu in
+    let spot : (names : List (List ℕ)) → IsPath c.args.path.now names → IsSpot (tree_of (g.P.Pmem.region c.self.inside.memory) c.self.inside.rows.items) c.self.inside.rows.items c.self.inside.sup c.cpu.inside.0 names (place_in c.self.inside.rows.items c.in_ok-spot.spot.directory) c.in_ok-spot.spot.name.now c.in_ok-spot.spot.inode =
+    λ names path. subst (λ (s : Super). IsSpot (tree_of (g.P.Pmem.region c.self.inside.memory) c.self.inside.rows.items) c.self.inside.rows.items s c.cpu.inside.0 names (place_in c.self.inside.rows.items c.in_ok-spot.spot.directory) c.in_ok-spot.spot.name.now c.in_ok-spot.spot.inode) c.self.invariant.1 (c.in_ok-spot.ensures.spot (g.P.Pmem.region c.self.inside.memory) names path) in
+    subst (λ (m : Mount g.row.P.Denot). SameTree (tree_of (g.P.Pmem.region c.create_at.new.memory) c.create_at.new.rows.items) (created c.args.kind (unused_number m.sup m.rows c.cpu.inside.0) names c.args.mode c.time.inside.0 (tree_of (g.P.Pmem.region m.memory) m.rows))) c.self.view_is
     (created_tree c.self.invariant.0 runs writes c.in-Ok.ensures.created low c.in_ok-spot.ensures.name names (spot names path))
+    )
 
 pub returns-in-Ok-clause-log : goal.returns-in-Ok-clause-log
-returns-in-Ok-clause-log g c names d j held h path led number sound is =
+returns-in-Ok-clause-log g c =
+    rw (← c.cpu.view_is, ← c.time.view_is) (λ names d j held h path led number sound is.
     let runs : c.self.inside.stopped ≡ false = ap (λ (m : Mount g.row.P.Denot). m.stopped) c.self.view_is ∙ c.in_ok-writable.ensures.runs in
     let writes : c.self.inside.read_only ≡ false = ap (λ (m : Mount g.row.P.Denot). m.read_only) c.self.view_is ∙ c.in_ok-writable.ensures.writes in
-    let low : c.args.cpu < c.self.inside.sup.cpus = subst (λ (m : Mount g.row.P.Denot). c.args.cpu < m.sup.cpus) (sym c.self.view_is) c.in_ok-writable.ensures.cpu in
-    let spot : (names : List (List ℕ)) → IsPath c.args.path.now names → IsSpot (tree_of (g.P.Pmem.region c.self.inside.memory) c.self.inside.rows.items) c.self.inside.rows.items c.self.inside.sup c.args.cpu names (place_in c.self.inside.rows.items c.in_ok-spot.spot.directory) c.in_ok-spot.spot.name.now c.in_ok-spot.spot.inode =
-    λ names path. subst (λ (s : Super). IsSpot (tree_of (g.P.Pmem.region c.self.inside.memory) c.self.inside.rows.items) c.self.inside.rows.items s c.args.cpu names (place_in c.self.inside.rows.items c.in_ok-spot.spot.directory) c.in_ok-spot.spot.name.now c.in_ok-spot.spot.inode) c.self.invariant.1 (c.in_ok-spot.ensures.spot (g.P.Pmem.region c.self.inside.memory) names path) in
-    subst (λ (m : Mount g.row.P.Denot). walk (tree_of (g.P.Pmem.region m.memory) m.rows) 1 names ≡ Ok d → unused_number m.sup m.rows c.args.cpu ≡ Some j → ShowsSound (g.P.Pmem.region m.memory) m.sup held → ShowsCreated (g.P.Pmem.region c.create_at.new.memory) m.sup m.free.pools c.args.cpu held c.args.kind c.args.mode c.args.time j d h (last_name names)) c.self.view_is
+    let low : c.cpu.inside.0 < c.self.inside.sup.cpus = subst (λ (m : Mount g.row.P.Denot). c.cpu.inside.0 < m.sup.cpus) (sym c.self.view_is) c.in_ok-writable.ensures.cpu in
+    let spot : (names : List (List ℕ)) → IsPath c.args.path.now names → IsSpot (tree_of (g.P.Pmem.region c.self.inside.memory) c.self.inside.rows.items) c.self.inside.rows.items c.self.inside.sup c.cpu.inside.0 names (place_in c.self.inside.rows.items c.in_ok-spot.spot.directory) c.in_ok-spot.spot.name.now c.in_ok-spot.spot.inode =
+    λ names path. subst (λ (s : Super). IsSpot (tree_of (g.P.Pmem.region c.self.inside.memory) c.self.inside.rows.items) c.self.inside.rows.items s c.cpu.inside.0 names (place_in c.self.inside.rows.items c.in_ok-spot.spot.directory) c.in_ok-spot.spot.name.now c.in_ok-spot.spot.inode) c.self.invariant.1 (c.in_ok-spot.ensures.spot (g.P.Pmem.region c.self.inside.memory) names path) in
+    subst (λ (m : Mount g.row.P.Denot). walk (tree_of (g.P.Pmem.region m.memory) m.rows) 1 names ≡ Ok d → unused_number m.sup m.rows c.cpu.inside.0 ≡ Some j → ShowsSound (g.P.Pmem.region m.memory) m.sup held → ShowsCreated (g.P.Pmem.region c.create_at.new.memory) m.sup m.free.pools c.cpu.inside.0 held c.args.kind c.args.mode c.time.inside.0 j d h (last_name names)) c.self.view_is
     (λ walked free_number shown. created_log c.self.invariant.0 runs writes c.in-Ok.ensures.created low c.in_ok-spot.ensures.name names (spot names path) d j held h walked free_number shown is) led number sound
+    )
 
 pub returns-in-Err-clause-refused : goal.returns-in-Err-clause-refused
-returns-in-Err-clause-refused g c still p says =
+returns-in-Err-clause-refused g c =
+    rw (← c.cpu.view_is) (λ still p says.
     let runs : c.self.inside.stopped ≡ false = ap (λ (m : Mount g.row.P.Denot). m.stopped) c.self.view_is ∙ c.in_ok-writable.ensures.runs in
-    let spot : (names : List (List ℕ)) → IsPath c.args.path.now names → IsSpot (tree_of (g.P.Pmem.region c.self.inside.memory) c.self.inside.rows.items) c.self.inside.rows.items c.self.inside.sup c.args.cpu names (place_in c.self.inside.rows.items c.in_ok-spot.spot.directory) c.in_ok-spot.spot.name.now c.in_ok-spot.spot.inode =
-    λ names path. subst (λ (s : Super). IsSpot (tree_of (g.P.Pmem.region c.self.inside.memory) c.self.inside.rows.items) c.self.inside.rows.items s c.args.cpu names (place_in c.self.inside.rows.items c.in_ok-spot.spot.directory) c.in_ok-spot.spot.name.now c.in_ok-spot.spot.inode) c.self.invariant.1 (c.in_ok-spot.ensures.spot (g.P.Pmem.region c.self.inside.memory) names path) in
+    let spot : (names : List (List ℕ)) → IsPath c.args.path.now names → IsSpot (tree_of (g.P.Pmem.region c.self.inside.memory) c.self.inside.rows.items) c.self.inside.rows.items c.self.inside.sup c.cpu.inside.0 names (place_in c.self.inside.rows.items c.in_ok-spot.spot.directory) c.in_ok-spot.spot.name.now c.in_ok-spot.spot.inode =
+    λ names path. subst (λ (s : Super). IsSpot (tree_of (g.P.Pmem.region c.self.inside.memory) c.self.inside.rows.items) c.self.inside.rows.items s c.cpu.inside.0 names (place_in c.self.inside.rows.items c.in_ok-spot.spot.directory) c.in_ok-spot.spot.name.now c.in_ok-spot.spot.inode) c.self.invariant.1 (c.in_ok-spot.ensures.spot (g.P.Pmem.region c.self.inside.memory) names path) in
     let r = row_in_use c.self.inside.rows.items c.in_ok-spot.spot.directory c.in_ok-spot.ensures.in_use in
     let at : slice_get c.self.inside.rows.items (place_in c.self.inside.rows.items c.in_ok-spot.spot.directory) ≡ Some r.0 = at_place c.self.inside.rows.items c.in_ok-spot.spot.directory ∙ r.1 in
     let numbered = own_row c.self.inside.rows.items c.in_ok-spot.spot.directory r.0 r.1 in
-    let none : first_refusal (spot_tests (tree_of (g.P.Pmem.region c.self.inside.memory) c.self.inside.rows.items) (unused_number c.self.inside.sup c.self.inside.rows.items c.args.cpu) p) ≡ None =
-    subst (λ (s : Super). first_refusal (spot_tests (tree_of (g.P.Pmem.region c.self.inside.memory) c.self.inside.rows.items) (unused_number s c.self.inside.rows.items c.args.cpu) p) ≡ None) c.self.invariant.1 (c.in_ok-spot.ensures.allowed (g.P.Pmem.region c.self.inside.memory) p says) in
-    create_refused g.P.Pmem.region c.self.view_is c.args.cpu c.in_ok-writable.ensures.passed (place_in c.self.inside.rows.items c.in_ok-spot.spot.directory) r.0 at numbered c.in_ok-spot.spot.name.now c.in_ok-spot.spot.inode c.args.time c.args.path.now spot p says none c.in-Err.refusal (c.in-Err.ensures.refused r.0 r.1)
+    let none : first_refusal (spot_tests (tree_of (g.P.Pmem.region c.self.inside.memory) c.self.inside.rows.items) (unused_number c.self.inside.sup c.self.inside.rows.items c.cpu.inside.0) p) ≡ None =
+    subst (λ (s : Super). first_refusal (spot_tests (tree_of (g.P.Pmem.region c.self.inside.memory) c.self.inside.rows.items) (unused_number s c.self.inside.rows.items c.cpu.inside.0) p) ≡ None) c.self.invariant.1 (c.in_ok-spot.ensures.allowed (g.P.Pmem.region c.self.inside.memory) p says) in
+    create_refused g.P.Pmem.region c.self.view_is c.cpu.inside.0 c.in_ok-writable.ensures.passed (place_in c.self.inside.rows.items c.in_ok-spot.spot.directory) r.0 at numbered c.in_ok-spot.spot.name.now c.in_ok-spot.spot.inode c.time.inside.0 c.args.path.now spot p says none c.in-Err.refusal (c.in-Err.ensures.refused r.0 r.1)
+    )
 
 pub returns-in-Err-clause-unchanged : goal.returns-in-Err-clause-unchanged
 returns-in-Err-clause-unchanged g c off =
@@ -249,14 +261,16 @@ returns-in-Ok-clause-unchanged g c = tt
 
 pub returns-in-Ok-clause-journals : goal.returns-in-Ok-clause-journals
 returns-in-Ok-clause-journals g c =
+    rw (← c.cpu.view_is) (
     let runs : c.self.inside.stopped ≡ false = ap (λ (m : Mount g.row.P.Denot). m.stopped) c.self.view_is ∙ c.in_ok-writable.ensures.runs in
     let writes : c.self.inside.read_only ≡ false = ap (λ (m : Mount g.row.P.Denot). m.read_only) c.self.view_is ∙ c.in_ok-writable.ensures.writes in
-    let low : c.args.cpu < c.self.inside.sup.cpus = subst (λ (m : Mount g.row.P.Denot). c.args.cpu < m.sup.cpus) (sym c.self.view_is) c.in_ok-writable.ensures.cpu in
-    let spot : (names : List (List ℕ)) → IsPath c.args.path.now names → IsSpot (tree_of (g.P.Pmem.region c.self.inside.memory) c.self.inside.rows.items) c.self.inside.rows.items c.self.inside.sup c.args.cpu names (place_in c.self.inside.rows.items c.in_ok-spot.spot.directory) c.in_ok-spot.spot.name.now c.in_ok-spot.spot.inode =
-    λ names path. subst (λ (s : Super). IsSpot (tree_of (g.P.Pmem.region c.self.inside.memory) c.self.inside.rows.items) c.self.inside.rows.items s c.args.cpu names (place_in c.self.inside.rows.items c.in_ok-spot.spot.directory) c.in_ok-spot.spot.name.now c.in_ok-spot.spot.inode) c.self.invariant.1 (c.in_ok-spot.ensures.spot (g.P.Pmem.region c.self.inside.memory) names path) in
+    let low : c.cpu.inside.0 < c.self.inside.sup.cpus = subst (λ (m : Mount g.row.P.Denot). c.cpu.inside.0 < m.sup.cpus) (sym c.self.view_is) c.in_ok-writable.ensures.cpu in
+    let spot : (names : List (List ℕ)) → IsPath c.args.path.now names → IsSpot (tree_of (g.P.Pmem.region c.self.inside.memory) c.self.inside.rows.items) c.self.inside.rows.items c.self.inside.sup c.cpu.inside.0 names (place_in c.self.inside.rows.items c.in_ok-spot.spot.directory) c.in_ok-spot.spot.name.now c.in_ok-spot.spot.inode =
+    λ names path. subst (λ (s : Super). IsSpot (tree_of (g.P.Pmem.region c.self.inside.memory) c.self.inside.rows.items) c.self.inside.rows.items s c.cpu.inside.0 names (place_in c.self.inside.rows.items c.in_ok-spot.spot.directory) c.in_ok-spot.spot.name.now c.in_ok-spot.spot.inode) c.self.invariant.1 (c.in_ok-spot.ensures.spot (g.P.Pmem.region c.self.inside.memory) names path) in
     let path = c.in_ok-spot.ensures.path in
-    subst (λ (m : Mount g.row.P.Denot). SameFrontBut m.sup.cpus c.args.cpu (g.P.Pmem.region m.memory) (g.P.Pmem.region c.create_at.new.memory)) c.self.view_is
-    (created_front c.self.invariant.0 runs writes c.in-Ok.ensures.created (unused_is c.self.inside.sup c.self.inside.rows.items c.args.cpu c.in_ok-spot.spot.inode low (spot path.0 path.1).unused).0)
+    subst (λ (m : Mount g.row.P.Denot). SameFrontBut m.sup.cpus c.cpu.inside.0 (g.P.Pmem.region m.memory) (g.P.Pmem.region c.create_at.new.memory)) c.self.view_is
+    (created_front c.self.invariant.0 runs writes c.in-Ok.ensures.created (unused_is c.self.inside.sup c.self.inside.rows.items c.cpu.inside.0 c.in_ok-spot.spot.inode low (spot path.0 path.1).unused).0)
+    )
 
 pub returns-in-Ok-clause-settled : goal.returns-in-Ok-clause-settled
 returns-in-Ok-clause-settled g c = c.in-Ok.ensures.settled
@@ -303,28 +317,32 @@ pub returns-in_err-spot-clause-any_stop : goal.returns-in_err-spot-clause-any_st
 returns-in_err-spot-clause-any_stop g c names path on able = call_stays g.P.Pmem.region c.args.self.now (makes_inode c.args.kind c.args.cpu c.args.mode c.args.time) (logs_inode c.args.kind c.args.cpu c.args.mode c.args.time) names c.in_ok-writable.ensures.kept on able _ (c.in_ok-writable.ensures.settled on)
 
 pub returns-in-Ok-clause-any_stop : goal.returns-in-Ok-clause-any_stop
-returns-in-Ok-clause-any_stop g c names path on able =
+returns-in-Ok-clause-any_stop g c =
+    rw (← c.cpu.view_is, ← c.time.view_is) (λ names path on able.
     let runs : c.self.inside.stopped ≡ false = ap (λ (m : Mount g.row.P.Denot). m.stopped) c.self.view_is ∙ c.in_ok-writable.ensures.runs in
     let writes : c.self.inside.read_only ≡ false = ap (λ (m : Mount g.row.P.Denot). m.read_only) c.self.view_is ∙ c.in_ok-writable.ensures.writes in
-    let low : c.args.cpu < c.self.inside.sup.cpus = subst (λ (m : Mount g.row.P.Denot). c.args.cpu < m.sup.cpus) (sym c.self.view_is) c.in_ok-writable.ensures.cpu in
-    let spot : IsSpot (tree_of (g.P.Pmem.region c.self.inside.memory) c.self.inside.rows.items) c.self.inside.rows.items c.self.inside.sup c.args.cpu names (place_in c.self.inside.rows.items c.in_ok-spot.spot.directory) c.in_ok-spot.spot.name.now c.in_ok-spot.spot.inode =
-    subst (λ (s : Super). IsSpot (tree_of (g.P.Pmem.region c.self.inside.memory) c.self.inside.rows.items) c.self.inside.rows.items s c.args.cpu names (place_in c.self.inside.rows.items c.in_ok-spot.spot.directory) c.in_ok-spot.spot.name.now c.in_ok-spot.spot.inode) c.self.invariant.1 (c.in_ok-spot.ensures.spot (g.P.Pmem.region c.self.inside.memory) names path) in
+    let low : c.cpu.inside.0 < c.self.inside.sup.cpus = subst (λ (m : Mount g.row.P.Denot). c.cpu.inside.0 < m.sup.cpus) (sym c.self.view_is) c.in_ok-writable.ensures.cpu in
+    let spot : IsSpot (tree_of (g.P.Pmem.region c.self.inside.memory) c.self.inside.rows.items) c.self.inside.rows.items c.self.inside.sup c.cpu.inside.0 names (place_in c.self.inside.rows.items c.in_ok-spot.spot.directory) c.in_ok-spot.spot.name.now c.in_ok-spot.spot.inode =
+    subst (λ (s : Super). IsSpot (tree_of (g.P.Pmem.region c.self.inside.memory) c.self.inside.rows.items) c.self.inside.rows.items s c.cpu.inside.0 names (place_in c.self.inside.rows.items c.in_ok-spot.spot.directory) c.in_ok-spot.spot.name.now c.in_ok-spot.spot.inode) c.self.invariant.1 (c.in_ok-spot.ensures.spot (g.P.Pmem.region c.self.inside.memory) names path) in
     let r = row_in_use c.self.inside.rows.items c.in_ok-spot.spot.directory c.in_ok-spot.ensures.in_use in
     let at : slice_get c.self.inside.rows.items (place_in c.self.inside.rows.items c.in_ok-spot.spot.directory) ≡ Some r.0 = at_place c.self.inside.rows.items c.in_ok-spot.spot.directory ∙ r.1 in
-    create_left g.P.Pmem.region c.self.view_is c.self.invariant.0 runs writes (place_in c.self.inside.rows.items c.in_ok-spot.spot.directory) r.0 at c.args.kind c.args.mode c.args.time c.in_ok-spot.spot.inode c.in_ok-spot.spot.name.now c.args.cpu low c.in_ok-spot.ensures.name names spot _ _ _
+    create_left g.P.Pmem.region c.self.view_is c.self.invariant.0 runs writes (place_in c.self.inside.rows.items c.in_ok-spot.spot.directory) r.0 at c.args.kind c.args.mode c.time.inside.0 c.in_ok-spot.spot.inode c.in_ok-spot.spot.name.now c.cpu.inside.0 low c.in_ok-spot.ensures.name names spot _ _ _
     (λ held h shows out absent pending. c.create_at.ensures.any_stop r.0 held h r.1 shows out absent pending) (c.self.invariant.2 runs)
+    )
 
 pub returns-in-Err-clause-any_stop : goal.returns-in-Err-clause-any_stop
-returns-in-Err-clause-any_stop g c names path on able =
+returns-in-Err-clause-any_stop g c =
+    rw (← c.cpu.view_is, ← c.time.view_is) (λ names path on able.
     let runs : c.self.inside.stopped ≡ false = ap (λ (m : Mount g.row.P.Denot). m.stopped) c.self.view_is ∙ c.in_ok-writable.ensures.runs in
     let writes : c.self.inside.read_only ≡ false = ap (λ (m : Mount g.row.P.Denot). m.read_only) c.self.view_is ∙ c.in_ok-writable.ensures.writes in
-    let low : c.args.cpu < c.self.inside.sup.cpus = subst (λ (m : Mount g.row.P.Denot). c.args.cpu < m.sup.cpus) (sym c.self.view_is) c.in_ok-writable.ensures.cpu in
-    let spot : IsSpot (tree_of (g.P.Pmem.region c.self.inside.memory) c.self.inside.rows.items) c.self.inside.rows.items c.self.inside.sup c.args.cpu names (place_in c.self.inside.rows.items c.in_ok-spot.spot.directory) c.in_ok-spot.spot.name.now c.in_ok-spot.spot.inode =
-    subst (λ (s : Super). IsSpot (tree_of (g.P.Pmem.region c.self.inside.memory) c.self.inside.rows.items) c.self.inside.rows.items s c.args.cpu names (place_in c.self.inside.rows.items c.in_ok-spot.spot.directory) c.in_ok-spot.spot.name.now c.in_ok-spot.spot.inode) c.self.invariant.1 (c.in_ok-spot.ensures.spot (g.P.Pmem.region c.self.inside.memory) names path) in
+    let low : c.cpu.inside.0 < c.self.inside.sup.cpus = subst (λ (m : Mount g.row.P.Denot). c.cpu.inside.0 < m.sup.cpus) (sym c.self.view_is) c.in_ok-writable.ensures.cpu in
+    let spot : IsSpot (tree_of (g.P.Pmem.region c.self.inside.memory) c.self.inside.rows.items) c.self.inside.rows.items c.self.inside.sup c.cpu.inside.0 names (place_in c.self.inside.rows.items c.in_ok-spot.spot.directory) c.in_ok-spot.spot.name.now c.in_ok-spot.spot.inode =
+    subst (λ (s : Super). IsSpot (tree_of (g.P.Pmem.region c.self.inside.memory) c.self.inside.rows.items) c.self.inside.rows.items s c.cpu.inside.0 names (place_in c.self.inside.rows.items c.in_ok-spot.spot.directory) c.in_ok-spot.spot.name.now c.in_ok-spot.spot.inode) c.self.invariant.1 (c.in_ok-spot.ensures.spot (g.P.Pmem.region c.self.inside.memory) names path) in
     let r = row_in_use c.self.inside.rows.items c.in_ok-spot.spot.directory c.in_ok-spot.ensures.in_use in
     let at : slice_get c.self.inside.rows.items (place_in c.self.inside.rows.items c.in_ok-spot.spot.directory) ≡ Some r.0 = at_place c.self.inside.rows.items c.in_ok-spot.spot.directory ∙ r.1 in
-    create_left g.P.Pmem.region c.self.view_is c.self.invariant.0 runs writes (place_in c.self.inside.rows.items c.in_ok-spot.spot.directory) r.0 at c.args.kind c.args.mode c.args.time c.in_ok-spot.spot.inode c.in_ok-spot.spot.name.now c.args.cpu low c.in_ok-spot.ensures.name names spot _ _ _
+    create_left g.P.Pmem.region c.self.view_is c.self.invariant.0 runs writes (place_in c.self.inside.rows.items c.in_ok-spot.spot.directory) r.0 at c.args.kind c.args.mode c.time.inside.0 c.in_ok-spot.spot.inode c.in_ok-spot.spot.name.now c.cpu.inside.0 low c.in_ok-spot.ensures.name names spot _ _ _
     (λ held h shows out absent pending. c.create_at.ensures.any_stop r.0 held h r.1 shows out absent pending) (c.self.invariant.2 runs)
+    )
 
 pub returns-in_err-writable-clause-read_only : goal.returns-in_err-writable-clause-read_only
 returns-in_err-writable-clause-read_only g c only = same_mount c.args.self.now
@@ -357,14 +375,18 @@ pub returns-in_err-spot-clause-in_order : goal.returns-in_err-spot-clause-in_ord
 returns-in_err-spot-clause-in_order g c names d j path ended number = ∣ inl refl ∣₁
 
 pub returns-in-Ok-clause-in_order : goal.returns-in-Ok-clause-in_order
-returns-in-Ok-clause-in_order g c names d j path ended number =
-    create_ordered g.P.Pmem.region c.self.view_is c.self.invariant.0 c.in_ok-writable.ensures.runs (g.P.Pmem.region c.create_at.new.memory) c.args.cpu c.in_ok-writable.ensures.writes c.in_ok-spot.spot.directory c.in_ok-spot.spot.inode c.in_ok-spot.ensures.in_use c.in_ok-writable.ensures.cpu _ c.self.invariant.1
+returns-in-Ok-clause-in_order g c =
+    rw (← c.cpu.view_is) (λ names d j path ended number.
+    create_ordered g.P.Pmem.region c.self.view_is c.self.invariant.0 c.in_ok-writable.ensures.runs (g.P.Pmem.region c.create_at.new.memory) c.cpu.inside.0 c.in_ok-writable.ensures.writes c.in_ok-spot.spot.directory c.in_ok-spot.spot.inode c.in_ok-spot.ensures.in_use c.in_ok-writable.ensures.cpu _ c.self.invariant.1
     c.in_ok-spot.spot.name.now names (c.in_ok-spot.ensures.spot (g.P.Pmem.region c.self.inside.memory) names path) c.create_at.ensures.in_order d j ended number
+    )
 
 pub returns-in-Err-clause-in_order : goal.returns-in-Err-clause-in_order
-returns-in-Err-clause-in_order g c names d j path ended number =
-    create_ordered g.P.Pmem.region c.self.view_is c.self.invariant.0 c.in_ok-writable.ensures.runs (g.P.Pmem.region c.create_at.new.memory) c.args.cpu c.in_ok-writable.ensures.writes c.in_ok-spot.spot.directory c.in_ok-spot.spot.inode c.in_ok-spot.ensures.in_use c.in_ok-writable.ensures.cpu _ c.self.invariant.1
+returns-in-Err-clause-in_order g c =
+    rw (← c.cpu.view_is) (λ names d j path ended number.
+    create_ordered g.P.Pmem.region c.self.view_is c.self.invariant.0 c.in_ok-writable.ensures.runs (g.P.Pmem.region c.create_at.new.memory) c.cpu.inside.0 c.in_ok-writable.ensures.writes c.in_ok-spot.spot.directory c.in_ok-spot.spot.inode c.in_ok-spot.ensures.in_use c.in_ok-writable.ensures.cpu _ c.self.invariant.1
     c.in_ok-spot.spot.name.now names (c.in_ok-spot.ensures.spot (g.P.Pmem.region c.self.inside.memory) names path) c.create_at.ensures.in_order d j ended number
+    )
 
 pub returns-in_err-writable-clause-wrote : goal.returns-in_err-writable-clause-wrote
 returns-in_err-writable-clause-wrote g c names d j held path ended number sound = λ at whole away. refl
@@ -373,11 +395,15 @@ pub returns-in_err-spot-clause-wrote : goal.returns-in_err-spot-clause-wrote
 returns-in_err-spot-clause-wrote g c names d j held path ended number sound = λ at whole away. refl
 
 pub returns-in-Ok-clause-wrote : goal.returns-in-Ok-clause-wrote
-returns-in-Ok-clause-wrote g c names d j held path ended number sound =
-    create_stored g.P.Pmem.region c.self.view_is c.self.invariant.0 c.in_ok-writable.ensures.runs (g.P.Pmem.region c.create_at.new.memory) c.args.cpu c.in_ok-writable.ensures.writes c.in_ok-spot.spot.directory c.in_ok-spot.spot.inode c.in_ok-spot.ensures.in_use c.in_ok-writable.ensures.cpu _ c.self.invariant.1
+returns-in-Ok-clause-wrote g c =
+    rw (← c.cpu.view_is) (λ names d j held path ended number sound.
+    create_stored g.P.Pmem.region c.self.view_is c.self.invariant.0 c.in_ok-writable.ensures.runs (g.P.Pmem.region c.create_at.new.memory) c.cpu.inside.0 c.in_ok-writable.ensures.writes c.in_ok-spot.spot.directory c.in_ok-spot.spot.inode c.in_ok-spot.ensures.in_use c.in_ok-writable.ensures.cpu _ c.self.invariant.1
     c.in_ok-spot.spot.name.now names (c.in_ok-spot.ensures.spot (g.P.Pmem.region c.self.inside.memory) names path) c.create_at.ensures.wrote d j held ended number sound
+    )
 
 pub returns-in-Err-clause-wrote : goal.returns-in-Err-clause-wrote
-returns-in-Err-clause-wrote g c names d j held path ended number sound =
-    create_stored g.P.Pmem.region c.self.view_is c.self.invariant.0 c.in_ok-writable.ensures.runs (g.P.Pmem.region c.create_at.new.memory) c.args.cpu c.in_ok-writable.ensures.writes c.in_ok-spot.spot.directory c.in_ok-spot.spot.inode c.in_ok-spot.ensures.in_use c.in_ok-writable.ensures.cpu _ c.self.invariant.1
+returns-in-Err-clause-wrote g c =
+    rw (← c.cpu.view_is) (λ names d j held path ended number sound.
+    create_stored g.P.Pmem.region c.self.view_is c.self.invariant.0 c.in_ok-writable.ensures.runs (g.P.Pmem.region c.create_at.new.memory) c.cpu.inside.0 c.in_ok-writable.ensures.writes c.in_ok-spot.spot.directory c.in_ok-spot.spot.inode c.in_ok-spot.ensures.in_use c.in_ok-writable.ensures.cpu _ c.self.invariant.1
     c.in_ok-spot.spot.name.now names (c.in_ok-spot.ensures.spot (g.P.Pmem.region c.self.inside.memory) names path) c.create_at.ensures.wrote d j held ended number sound
+    )

@@ -43,10 +43,12 @@ use Rattle.nv_calls.proofs.fs.Fs.rename.Goals as goal
 use Rattle.nv_calls.proofs.FrontsKept.{moved_front}
 
 pub returns-in_err-writable-clause-refused : goal.returns-in_err-writable-clause-refused
-returns-in_err-writable-clause-refused g c runs p q says says_new =
+returns-in_err-writable-clause-refused g c =
+    rw (← c.cpu.view_is) (λ runs p q says says_new.
     let w = err_from_is_err_and c.from_residual.result c.from_residual.ensures.1 in
-    refused_by c.from_residual.result c.in_err-writable.field-0.0 w.0 (IsRefusedBy (first_refusal (rename_tests (world_of c.args.self.now) (tree_of (g.P.Pmem.region c.args.self.now.memory) c.args.self.now.rows) c.args.cpu p q (rename_blocks c.args.self.now.rows (tree_of (g.P.Pmem.region c.args.self.now.memory) c.args.self.now.rows) p q)))) w.1 w.2
+    refused_by c.from_residual.result c.in_err-writable.field-0.0 w.0 (IsRefusedBy (first_refusal (rename_tests (world_of c.args.self.now) (tree_of (g.P.Pmem.region c.args.self.now.memory) c.args.self.now.rows) c.cpu.inside.0 p q (rename_blocks c.args.self.now.rows (tree_of (g.P.Pmem.region c.args.self.now.memory) c.args.self.now.rows) p q)))) w.1 w.2
     (inr (inr (c.in_err-writable.ensures.refused runs (is_bad_name p ∷ is_bad_name q ∷ walk_tests (tree_of (g.P.Pmem.region c.args.self.now.memory) c.args.self.now.rows) p ++ walk_tests (tree_of (g.P.Pmem.region c.args.self.now.memory) c.args.self.now.rows) q ++ is_missing (tree_of (g.P.Pmem.region c.args.self.now.memory) c.args.self.now.rows) p ∷ is_into_itself (tree_of (g.P.Pmem.region c.args.self.now.memory) c.args.self.now.rows) p q ∷ is_there (tree_of (g.P.Pmem.region c.args.self.now.memory) c.args.self.now.rows) q ∷ has_no_space (world_of c.args.self.now) (rename_blocks c.args.self.now.rows (tree_of (g.P.Pmem.region c.args.self.now.memory) c.args.self.now.rows) p q) ∷ []))))
+    )
 
 pub returns-in_err-writable-clause-unchanged : goal.returns-in_err-writable-clause-unchanged
 returns-in_err-writable-clause-unchanged g c =
@@ -56,16 +58,18 @@ pub returns-in_err-writable-clause-stopped : goal.returns-in_err-writable-clause
 returns-in_err-writable-clause-stopped g c runs =
     let w = err_from_is_err_and c.from_residual.result c.from_residual.ensures.1 in
     early_reply c.args.self.now.stopped c.from_residual.result c.in_err-writable.field-0.0 w.0 w.1 w.2
-    (λ is. writing_goes_on (world_of c.args.self.now) c.args.cpu (c.in_err-writable.ensures.refused runs [] ∙ ap (λ (e : Refusal). Some e) is)) runs
+    (λ is. writing_goes_on (world_of c.args.self.now) c.cpu.inside.0 (c.in_err-writable.ensures.refused runs [] ∙ ap (λ (e : Refusal). Some e) is)) runs
 
 pub returns-in_err-moved-clause-refused : goal.returns-in_err-moved-clause-refused
-returns-in_err-moved-clause-refused g c still p q says says_new =
+returns-in_err-moved-clause-refused g c =
+    rw (← c.cpu.view_is) (λ still p q says says_new.
     let told : first_refusal (rename_spot_tests (tree_of (g.P.Pmem.region c.args.self.now.memory) c.args.self.now.rows) p q) ≡ Some c.in_err-moved.field-0.0 =
     subst (λ (m : Mount g.row.P.Denot). first_refusal (rename_spot_tests (tree_of (g.P.Pmem.region m.memory) m.rows) p q) ≡ Some c.in_err-moved.field-0.0) c.self.view_is
     (c.in_err-moved.ensures.refused (g.P.Pmem.region c.self.inside.memory) p q says says_new) in
     let w = err_from_is_err_and c.from_residual-in_err-moved.result c.from_residual-in_err-moved.ensures.1 in
-    refused_by c.from_residual-in_err-moved.result c.in_err-moved.field-0.0 w.0 (IsRefusedBy (first_refusal (rename_tests (world_of c.args.self.now) (tree_of (g.P.Pmem.region c.args.self.now.memory) c.args.self.now.rows) c.args.cpu p q (rename_blocks c.args.self.now.rows (tree_of (g.P.Pmem.region c.args.self.now.memory) c.args.self.now.rows) p q)))) w.1 w.2
-    (inr (inr (rename_refuses (world_of c.args.self.now) (tree_of (g.P.Pmem.region c.args.self.now.memory) c.args.self.now.rows) c.args.cpu c.in_ok-writable.ensures.passed p q (rename_blocks c.args.self.now.rows (tree_of (g.P.Pmem.region c.args.self.now.memory) c.args.self.now.rows) p q) c.in_err-moved.field-0.0 told)))
+    refused_by c.from_residual-in_err-moved.result c.in_err-moved.field-0.0 w.0 (IsRefusedBy (first_refusal (rename_tests (world_of c.args.self.now) (tree_of (g.P.Pmem.region c.args.self.now.memory) c.args.self.now.rows) c.cpu.inside.0 p q (rename_blocks c.args.self.now.rows (tree_of (g.P.Pmem.region c.args.self.now.memory) c.args.self.now.rows) p q)))) w.1 w.2
+    (inr (inr (rename_refuses (world_of c.args.self.now) (tree_of (g.P.Pmem.region c.args.self.now.memory) c.args.self.now.rows) c.cpu.inside.0 c.in_ok-writable.ensures.passed p q (rename_blocks c.args.self.now.rows (tree_of (g.P.Pmem.region c.args.self.now.memory) c.args.self.now.rows) p q) c.in_err-moved.field-0.0 told)))
+    )
 
 pub returns-in_err-moved-clause-unchanged : goal.returns-in_err-moved-clause-unchanged
 returns-in_err-moved-clause-unchanged g c =
@@ -84,15 +88,15 @@ pub move_at-requires-clause-stands : goal.move_at-requires-clause-stands
 move_at-requires-clause-stands g c row at =
     let runs : c.self.inside.stopped ≡ false = ap (λ (m : Mount g.row.P.Denot). m.stopped) c.self.view_is ∙ c.in_ok-writable.ensures.runs in
     let writes : c.self.inside.read_only ≡ false = ap (λ (m : Mount g.row.P.Denot). m.read_only) c.self.view_is ∙ c.in_ok-writable.ensures.writes in
-    let low : c.args.cpu < c.self.inside.sup.cpus = subst (λ (m : Mount g.row.P.Denot). c.args.cpu < m.sup.cpus) (sym c.self.view_is) c.in_ok-writable.ensures.cpu in
-    row_commits c.self.invariant.0 runs writes row (stands c.self.inside.rows.items (place_in c.self.inside.rows.items c.in_ok-moved.moved.from.directory) row (at_place c.self.inside.rows.items c.in_ok-moved.moved.from.directory ∙ at)) c.args.cpu low
+    let low : c.cpu.inside.0 < c.self.inside.sup.cpus = subst (λ (m : Mount g.row.P.Denot). c.cpu.inside.0 < m.sup.cpus) (sym c.self.view_is) c.in_ok-writable.ensures.cpu in
+    row_commits c.self.invariant.0 runs writes row (stands c.self.inside.rows.items (place_in c.self.inside.rows.items c.in_ok-moved.moved.from.directory) row (at_place c.self.inside.rows.items c.in_ok-moved.moved.from.directory ∙ at)) c.cpu.inside.0 low
 
 pub move_at-requires-clause-other_stands : goal.move_at-requires-clause-other_stands
 move_at-requires-clause-other_stands g c row at =
     let runs : c.self.inside.stopped ≡ false = ap (λ (m : Mount g.row.P.Denot). m.stopped) c.self.view_is ∙ c.in_ok-writable.ensures.runs in
     let writes : c.self.inside.read_only ≡ false = ap (λ (m : Mount g.row.P.Denot). m.read_only) c.self.view_is ∙ c.in_ok-writable.ensures.writes in
-    let low : c.args.cpu < c.self.inside.sup.cpus = subst (λ (m : Mount g.row.P.Denot). c.args.cpu < m.sup.cpus) (sym c.self.view_is) c.in_ok-writable.ensures.cpu in
-    row_commits c.self.invariant.0 runs writes row (stands c.self.inside.rows.items (place_in c.self.inside.rows.items c.in_ok-moved.moved.directory) row (at_place c.self.inside.rows.items c.in_ok-moved.moved.directory ∙ at)) c.args.cpu low
+    let low : c.cpu.inside.0 < c.self.inside.sup.cpus = subst (λ (m : Mount g.row.P.Denot). c.cpu.inside.0 < m.sup.cpus) (sym c.self.view_is) c.in_ok-writable.ensures.cpu in
+    row_commits c.self.invariant.0 runs writes row (stands c.self.inside.rows.items (place_in c.self.inside.rows.items c.in_ok-moved.moved.directory) row (at_place c.self.inside.rows.items c.in_ok-moved.moved.directory ∙ at)) c.cpu.inside.0 low
 
 pub invariant_of-self : goal.invariant_of-self
 invariant_of-self g c =
@@ -114,7 +118,8 @@ invariant_of-self-in-Err g c =
     )
 
 pub returns-in-Ok-clause-allowed : goal.returns-in-Ok-clause-allowed
-returns-in-Ok-clause-allowed g c p q says says_new =
+returns-in-Ok-clause-allowed g c =
+    rw (← c.cpu.view_is) (λ p q says says_new.
     let runs : c.self.inside.stopped ≡ false = ap (λ (m : Mount g.row.P.Denot). m.stopped) c.self.view_is ∙ c.in_ok-writable.ensures.runs in
     let spot = c.in_ok-moved.ensures.spot (g.P.Pmem.region c.self.inside.memory) in
     let from = row_in_use c.self.inside.rows.items c.in_ok-moved.moved.from.directory c.in_ok-moved.ensures.from in
@@ -126,54 +131,64 @@ returns-in-Ok-clause-allowed g c p q says says_new =
     let is = own_row c.self.inside.rows.items c.in_ok-moved.moved.from.directory from.0 from.1 in
     let other_is = own_row c.self.inside.rows.items c.in_ok-moved.moved.directory to.0 to.1 in
     let none = c.in_ok-moved.ensures.allowed (g.P.Pmem.region c.self.inside.memory) p q says says_new in
-    rename_allowed g.P.Pmem.region c.self.view_is c.args.cpu c.in_ok-writable.ensures.passed (place_in c.self.inside.rows.items c.in_ok-moved.moved.from.directory) (place_in c.self.inside.rows.items c.in_ok-moved.moved.from.target) (place_in c.self.inside.rows.items c.in_ok-moved.moved.directory) from.0 to.0 inode.0 rises from_at to_at is other_is c.in_ok-moved.moved.from.name.now c.in_ok-moved.moved.name.now c.args.time c.args.old.now c.args.new.now spot p q says says_new none (c.in-Ok.ensures.enough from.0 to.0 inode.0 from.1 to.1 inode.1)
+    rename_allowed g.P.Pmem.region c.self.view_is c.cpu.inside.0 c.in_ok-writable.ensures.passed (place_in c.self.inside.rows.items c.in_ok-moved.moved.from.directory) (place_in c.self.inside.rows.items c.in_ok-moved.moved.from.target) (place_in c.self.inside.rows.items c.in_ok-moved.moved.directory) from.0 to.0 inode.0 rises from_at to_at is other_is c.in_ok-moved.moved.from.name.now c.in_ok-moved.moved.name.now c.time.inside.0 c.args.old.now c.args.new.now spot p q says says_new none (c.in-Ok.ensures.enough from.0 to.0 inode.0 from.1 to.1 inode.1)
+    )
 
 pub returns-in-Ok-clause-changed : goal.returns-in-Ok-clause-changed
-returns-in-Ok-clause-changed g c names others path other_path =
+returns-in-Ok-clause-changed g c =
+    rw (← c.time.view_is) (λ names others path other_path.
     let runs : c.self.inside.stopped ≡ false = ap (λ (m : Mount g.row.P.Denot). m.stopped) c.self.view_is ∙ c.in_ok-writable.ensures.runs in
     let writes : c.self.inside.read_only ≡ false = ap (λ (m : Mount g.row.P.Denot). m.read_only) c.self.view_is ∙ c.in_ok-writable.ensures.writes in
     let spot = c.in_ok-moved.ensures.spot (g.P.Pmem.region c.self.inside.memory) in
     let long = long_text c.args.new.now c.in_ok-moved.ensures.paths.1 in
     let v = longer c.args.new.now others other_path long in
     let others_path : IsPath c.args.new.now (v.0 ∷ v.1) = subst (IsPath c.args.new.now) v.2 other_path in
-    subst (λ (xs : List (List ℕ)). SameTree (tree_of (g.P.Pmem.region c.move_at.new.memory) c.move_at.new.rows.items) (renamed names xs c.args.time (tree_of (g.P.Pmem.region c.args.self.now.memory) c.args.self.now.rows))) (sym v.2)
-    (subst (λ (m : Mount g.row.P.Denot). SameTree (tree_of (g.P.Pmem.region c.move_at.new.memory) c.move_at.new.rows.items) (renamed names (v.0 ∷ v.1) c.args.time (tree_of (g.P.Pmem.region m.memory) m.rows))) c.self.view_is (moved_tree c.self.invariant.0 runs writes c.in_ok-moved.ensures.former c.in_ok-moved.ensures.name names v.0 v.1 (spot names (v.0 ∷ v.1) path others_path) c.in-Ok.ensures.moved))
+    subst (λ (xs : List (List ℕ)). SameTree (tree_of (g.P.Pmem.region c.move_at.new.memory) c.move_at.new.rows.items) (renamed names xs c.time.inside.0 (tree_of (g.P.Pmem.region c.args.self.now.memory) c.args.self.now.rows))) (sym v.2)
+    (subst (λ (m : Mount g.row.P.Denot). SameTree (tree_of (g.P.Pmem.region c.move_at.new.memory) c.move_at.new.rows.items) (renamed names (v.0 ∷ v.1) c.time.inside.0 (tree_of (g.P.Pmem.region m.memory) m.rows))) c.self.view_is (moved_tree c.self.invariant.0 runs writes c.in_ok-moved.ensures.former c.in_ok-moved.ensures.name names v.0 v.1 (spot names (v.0 ∷ v.1) path others_path) c.in-Ok.ensures.moved))
+    )
 
 pub returns-in-Ok-clause-log : goal.returns-in-Ok-clause-log
-returns-in-Ok-clause-log g c names others i d e node held h k path other_path led walked ended differ sound is other_is =
+returns-in-Ok-clause-log g c =
+    rw (← c.cpu.view_is, ← c.time.view_is) (λ names others i d e node held h k path other_path led walked ended differ sound is other_is.
     let runs : c.self.inside.stopped ≡ false = ap (λ (m : Mount g.row.P.Denot). m.stopped) c.self.view_is ∙ c.in_ok-writable.ensures.runs in
     let writes : c.self.inside.read_only ≡ false = ap (λ (m : Mount g.row.P.Denot). m.read_only) c.self.view_is ∙ c.in_ok-writable.ensures.writes in
     let spot = c.in_ok-moved.ensures.spot (g.P.Pmem.region c.self.inside.memory) in
     let long = long_text c.args.new.now c.in_ok-moved.ensures.paths.1 in
     let v = longer c.args.new.now others other_path long in
     let others_path : IsPath c.args.new.now (v.0 ∷ v.1) = subst (IsPath c.args.new.now) v.2 other_path in
-    subst (λ (xs : List (List ℕ)). walk (tree_of (g.P.Pmem.region c.args.self.now.memory) c.args.self.now.rows) 1 xs ≡ Ok e → ShowsBothGrew (g.P.Pmem.region c.move_at.new.memory) c.args.self.now.sup c.args.self.now.free.pools c.args.cpu held d h (name_entries Remove i (last_name names) c.args.time) e k (name_entries Add i (last_name xs) c.args.time)) (sym v.2)
+    subst (λ (xs : List (List ℕ)). walk (tree_of (g.P.Pmem.region c.args.self.now.memory) c.args.self.now.rows) 1 xs ≡ Ok e → ShowsBothGrew (g.P.Pmem.region c.move_at.new.memory) c.args.self.now.sup c.args.self.now.free.pools c.cpu.inside.0 held d h (name_entries Remove i (last_name names) c.time.inside.0) e k (name_entries Add i (last_name xs) c.time.inside.0)) (sym v.2)
     (subst (λ (m : Mount g.row.P.Denot). LeadsTo (tree_of (g.P.Pmem.region m.memory) m.rows) names i node → walk (tree_of (g.P.Pmem.region m.memory) m.rows) 1 names ≡ Ok d → ShowsSound (g.P.Pmem.region m.memory) m.sup held → walk (tree_of (g.P.Pmem.region m.memory) m.rows) 1 (v.0 ∷ v.1) ≡ Ok e
-    → ShowsBothGrew (g.P.Pmem.region c.move_at.new.memory) m.sup m.free.pools c.args.cpu held d h (name_entries Remove i (last_name names) c.args.time) e k (name_entries Add i (last_name (v.0 ∷ v.1)) c.args.time)) c.self.view_is
+    → ShowsBothGrew (g.P.Pmem.region c.move_at.new.memory) m.sup m.free.pools c.cpu.inside.0 held d h (name_entries Remove i (last_name names) c.time.inside.0) e k (name_entries Add i (last_name (v.0 ∷ v.1)) c.time.inside.0)) c.self.view_is
     (λ leads first shown second. moved_logs c.self.invariant.0 runs writes c.in_ok-moved.ensures.former c.in_ok-moved.ensures.name names v.0 v.1 (spot names (v.0 ∷ v.1) path others_path) c.in-Ok.ensures.moved i d e node held h k leads first second differ shown is other_is) led walked sound) ended
+    )
 
 pub returns-in-Ok-clause-journals : goal.returns-in-Ok-clause-journals
 returns-in-Ok-clause-journals g c =
+    rw (← c.cpu.view_is) (
     let runs : c.self.inside.stopped ≡ false = ap (λ (m : Mount g.row.P.Denot). m.stopped) c.self.view_is ∙ c.in_ok-writable.ensures.runs in
     let writes : c.self.inside.read_only ≡ false = ap (λ (m : Mount g.row.P.Denot). m.read_only) c.self.view_is ∙ c.in_ok-writable.ensures.writes in
-    subst (λ (m : Mount g.row.P.Denot). SameFrontBut m.sup.cpus c.args.cpu (g.P.Pmem.region m.memory) (g.P.Pmem.region c.move_at.new.memory)) c.self.view_is
+    subst (λ (m : Mount g.row.P.Denot). SameFrontBut m.sup.cpus c.cpu.inside.0 (g.P.Pmem.region m.memory) (g.P.Pmem.region c.move_at.new.memory)) c.self.view_is
     (moved_front c.self.invariant.0 runs writes c.in-Ok.ensures.moved)
+    )
 
 pub returns-in-Ok-clause-within : goal.returns-in-Ok-clause-within
-returns-in-Ok-clause-within g c names others i d node held h path other_path led walked ended sound is =
+returns-in-Ok-clause-within g c =
+    rw (← c.cpu.view_is, ← c.time.view_is) (λ names others i d node held h path other_path led walked ended sound is.
     let runs : c.self.inside.stopped ≡ false = ap (λ (m : Mount g.row.P.Denot). m.stopped) c.self.view_is ∙ c.in_ok-writable.ensures.runs in
     let writes : c.self.inside.read_only ≡ false = ap (λ (m : Mount g.row.P.Denot). m.read_only) c.self.view_is ∙ c.in_ok-writable.ensures.writes in
     let spot = c.in_ok-moved.ensures.spot (g.P.Pmem.region c.self.inside.memory) in
     let long = long_text c.args.new.now c.in_ok-moved.ensures.paths.1 in
     let v = longer c.args.new.now others other_path long in
     let others_path : IsPath c.args.new.now (v.0 ∷ v.1) = subst (IsPath c.args.new.now) v.2 other_path in
-    subst (λ (xs : List (List ℕ)). walk (tree_of (g.P.Pmem.region c.args.self.now.memory) c.args.self.now.rows) 1 xs ≡ Ok d → ShowsGrownLog (g.P.Pmem.region c.move_at.new.memory) c.args.self.now.sup c.args.self.now.free.pools c.args.cpu held d h (move_entries i (last_name names) (last_name xs) c.args.time)) (sym v.2)
+    subst (λ (xs : List (List ℕ)). walk (tree_of (g.P.Pmem.region c.args.self.now.memory) c.args.self.now.rows) 1 xs ≡ Ok d → ShowsGrownLog (g.P.Pmem.region c.move_at.new.memory) c.args.self.now.sup c.args.self.now.free.pools c.cpu.inside.0 held d h (move_entries i (last_name names) (last_name xs) c.time.inside.0)) (sym v.2)
     (subst (λ (m : Mount g.row.P.Denot). LeadsTo (tree_of (g.P.Pmem.region m.memory) m.rows) names i node → walk (tree_of (g.P.Pmem.region m.memory) m.rows) 1 names ≡ Ok d → ShowsSound (g.P.Pmem.region m.memory) m.sup held → walk (tree_of (g.P.Pmem.region m.memory) m.rows) 1 (v.0 ∷ v.1) ≡ Ok d
-    → ShowsGrownLog (g.P.Pmem.region c.move_at.new.memory) m.sup m.free.pools c.args.cpu held d h (move_entries i (last_name names) (last_name (v.0 ∷ v.1)) c.args.time)) c.self.view_is
+    → ShowsGrownLog (g.P.Pmem.region c.move_at.new.memory) m.sup m.free.pools c.cpu.inside.0 held d h (move_entries i (last_name names) (last_name (v.0 ∷ v.1)) c.time.inside.0)) c.self.view_is
     (λ leads first shown second. moved_log c.self.invariant.0 runs writes c.in_ok-moved.ensures.former c.in_ok-moved.ensures.name names v.0 v.1 (spot names (v.0 ∷ v.1) path others_path) c.in-Ok.ensures.moved i d node held h leads first second shown is) led walked sound) ended
+    )
 
 pub returns-in-Err-clause-refused : goal.returns-in-Err-clause-refused
-returns-in-Err-clause-refused g c still p q says says_new =
+returns-in-Err-clause-refused g c =
+    rw (← c.cpu.view_is) (λ still p q says says_new.
     let runs : c.self.inside.stopped ≡ false = ap (λ (m : Mount g.row.P.Denot). m.stopped) c.self.view_is ∙ c.in_ok-writable.ensures.runs in
     let spot = c.in_ok-moved.ensures.spot (g.P.Pmem.region c.self.inside.memory) in
     let from = row_in_use c.self.inside.rows.items c.in_ok-moved.moved.from.directory c.in_ok-moved.ensures.from in
@@ -185,7 +200,8 @@ returns-in-Err-clause-refused g c still p q says says_new =
     let is = own_row c.self.inside.rows.items c.in_ok-moved.moved.from.directory from.0 from.1 in
     let other_is = own_row c.self.inside.rows.items c.in_ok-moved.moved.directory to.0 to.1 in
     let none = c.in_ok-moved.ensures.allowed (g.P.Pmem.region c.self.inside.memory) p q says says_new in
-    rename_refused g.P.Pmem.region c.self.view_is c.args.cpu c.in_ok-writable.ensures.passed (place_in c.self.inside.rows.items c.in_ok-moved.moved.from.directory) (place_in c.self.inside.rows.items c.in_ok-moved.moved.from.target) (place_in c.self.inside.rows.items c.in_ok-moved.moved.directory) from.0 to.0 inode.0 rises from_at to_at is other_is c.in_ok-moved.moved.from.name.now c.in_ok-moved.moved.name.now c.args.time c.args.old.now c.args.new.now spot p q says says_new none c.in-Err.refusal (c.in-Err.ensures.refused from.0 to.0 inode.0 from.1 to.1 inode.1)
+    rename_refused g.P.Pmem.region c.self.view_is c.cpu.inside.0 c.in_ok-writable.ensures.passed (place_in c.self.inside.rows.items c.in_ok-moved.moved.from.directory) (place_in c.self.inside.rows.items c.in_ok-moved.moved.from.target) (place_in c.self.inside.rows.items c.in_ok-moved.moved.directory) from.0 to.0 inode.0 rises from_at to_at is other_is c.in_ok-moved.moved.from.name.now c.in_ok-moved.moved.name.now c.time.inside.0 c.args.old.now c.args.new.now spot p q says says_new none c.in-Err.refusal (c.in-Err.ensures.refused from.0 to.0 inode.0 from.1 to.1 inode.1)
+    )
 
 pub returns-in-Err-clause-unchanged : goal.returns-in-Err-clause-unchanged
 returns-in-Err-clause-unchanged g c off =
@@ -215,7 +231,8 @@ pub returns-in_err-moved-clause-any_stop : goal.returns-in_err-moved-clause-any_
 returns-in_err-moved-clause-any_stop g c names others path other_path on able = call_stays g.P.Pmem.region c.args.self.now (makes_rename c.args.time (Some others)) (logs_rename c.args.cpu c.args.time (Some others)) names c.in_ok-writable.ensures.kept on able _ (c.in_ok-writable.ensures.settled on)
 
 pub returns-in-Ok-clause-any_stop : goal.returns-in-Ok-clause-any_stop
-returns-in-Ok-clause-any_stop g c names others path other_path on able =
+returns-in-Ok-clause-any_stop g c =
+    rw (← c.cpu.view_is, ← c.time.view_is) (λ names others path other_path on able.
     let runs : c.self.inside.stopped ≡ false = ap (λ (m : Mount g.row.P.Denot). m.stopped) c.self.view_is ∙ c.in_ok-writable.ensures.runs in
     let writes : c.self.inside.read_only ≡ false = ap (λ (m : Mount g.row.P.Denot). m.read_only) c.self.view_is ∙ c.in_ok-writable.ensures.writes in
     let long = long_text c.args.new.now c.in_ok-moved.ensures.paths.1 in
@@ -224,13 +241,15 @@ returns-in-Ok-clause-any_stop g c names others path other_path on able =
     let from = row_in_use c.self.inside.rows.items c.in_ok-moved.moved.from.directory c.in_ok-moved.ensures.from in
     let to = row_in_use c.self.inside.rows.items c.in_ok-moved.moved.directory c.in_ok-moved.ensures.directory in
     let inode = row_in_use c.self.inside.rows.items c.in_ok-moved.moved.from.target c.in_ok-moved.ensures.target in
-    subst (λ (xs : List (List ℕ)). LeavesOnly (g.P.Pmem.region c.move_at.new.memory) (g.P.Pmem.may_hold c.move_at.new.memory) (LeavesCall (makes_rename c.args.time (Some xs)) (logs_rename c.args.cpu c.args.time (Some xs)) (g.P.Pmem.region c.args.self.now.memory) c.args.self.now names)) (sym v.2)
-    (rename_left g.P.Pmem.region c.self.view_is c.self.invariant.0 runs writes c.in_ok-moved.moved.from.directory c.in_ok-moved.moved.from.target c.in_ok-moved.moved.directory from.0 inode.0 to.0 from.1 inode.1 to.1 c.in_ok-moved.moved.from.name.now c.in_ok-moved.moved.name.now c.args.cpu c.args.time c.in_ok-moved.ensures.former c.in_ok-moved.ensures.name
+    subst (λ (xs : List (List ℕ)). LeavesOnly (g.P.Pmem.region c.move_at.new.memory) (g.P.Pmem.may_hold c.move_at.new.memory) (LeavesCall (makes_rename c.time.inside.0 (Some xs)) (logs_rename c.cpu.inside.0 c.time.inside.0 (Some xs)) (g.P.Pmem.region c.args.self.now.memory) c.args.self.now names)) (sym v.2)
+    (rename_left g.P.Pmem.region c.self.view_is c.self.invariant.0 runs writes c.in_ok-moved.moved.from.directory c.in_ok-moved.moved.from.target c.in_ok-moved.moved.directory from.0 inode.0 to.0 from.1 inode.1 to.1 c.in_ok-moved.moved.from.name.now c.in_ok-moved.moved.name.now c.cpu.inside.0 c.time.inside.0 c.in_ok-moved.ensures.former c.in_ok-moved.ensures.name
     names v.0 v.1 (c.in_ok-moved.ensures.spot (g.P.Pmem.region c.self.inside.memory) names (v.0 ∷ v.1) path others_path) _ _ _
     (λ held h k here other absent pending. c.move_at.ensures.any_stop from.0 to.0 inode.0 held h k from.1 to.1 inode.1 here other absent pending) (c.self.invariant.2 runs))
+    )
 
 pub returns-in-Err-clause-any_stop : goal.returns-in-Err-clause-any_stop
-returns-in-Err-clause-any_stop g c names others path other_path on able =
+returns-in-Err-clause-any_stop g c =
+    rw (← c.cpu.view_is, ← c.time.view_is) (λ names others path other_path on able.
     let runs : c.self.inside.stopped ≡ false = ap (λ (m : Mount g.row.P.Denot). m.stopped) c.self.view_is ∙ c.in_ok-writable.ensures.runs in
     let writes : c.self.inside.read_only ≡ false = ap (λ (m : Mount g.row.P.Denot). m.read_only) c.self.view_is ∙ c.in_ok-writable.ensures.writes in
     let long = long_text c.args.new.now c.in_ok-moved.ensures.paths.1 in
@@ -239,10 +258,11 @@ returns-in-Err-clause-any_stop g c names others path other_path on able =
     let from = row_in_use c.self.inside.rows.items c.in_ok-moved.moved.from.directory c.in_ok-moved.ensures.from in
     let to = row_in_use c.self.inside.rows.items c.in_ok-moved.moved.directory c.in_ok-moved.ensures.directory in
     let inode = row_in_use c.self.inside.rows.items c.in_ok-moved.moved.from.target c.in_ok-moved.ensures.target in
-    subst (λ (xs : List (List ℕ)). LeavesOnly (g.P.Pmem.region c.move_at.new.memory) (g.P.Pmem.may_hold c.move_at.new.memory) (LeavesCall (makes_rename c.args.time (Some xs)) (logs_rename c.args.cpu c.args.time (Some xs)) (g.P.Pmem.region c.args.self.now.memory) c.args.self.now names)) (sym v.2)
-    (rename_left g.P.Pmem.region c.self.view_is c.self.invariant.0 runs writes c.in_ok-moved.moved.from.directory c.in_ok-moved.moved.from.target c.in_ok-moved.moved.directory from.0 inode.0 to.0 from.1 inode.1 to.1 c.in_ok-moved.moved.from.name.now c.in_ok-moved.moved.name.now c.args.cpu c.args.time c.in_ok-moved.ensures.former c.in_ok-moved.ensures.name
+    subst (λ (xs : List (List ℕ)). LeavesOnly (g.P.Pmem.region c.move_at.new.memory) (g.P.Pmem.may_hold c.move_at.new.memory) (LeavesCall (makes_rename c.time.inside.0 (Some xs)) (logs_rename c.cpu.inside.0 c.time.inside.0 (Some xs)) (g.P.Pmem.region c.args.self.now.memory) c.args.self.now names)) (sym v.2)
+    (rename_left g.P.Pmem.region c.self.view_is c.self.invariant.0 runs writes c.in_ok-moved.moved.from.directory c.in_ok-moved.moved.from.target c.in_ok-moved.moved.directory from.0 inode.0 to.0 from.1 inode.1 to.1 c.in_ok-moved.moved.from.name.now c.in_ok-moved.moved.name.now c.cpu.inside.0 c.time.inside.0 c.in_ok-moved.ensures.former c.in_ok-moved.ensures.name
     names v.0 v.1 (c.in_ok-moved.ensures.spot (g.P.Pmem.region c.self.inside.memory) names (v.0 ∷ v.1) path others_path) _ _ _
     (λ held h k here other absent pending. c.move_at.ensures.any_stop from.0 to.0 inode.0 held h k from.1 to.1 inode.1 here other absent pending) (c.self.invariant.2 runs))
+    )
 
 pub returns-in_err-writable-clause-bad_text : goal.returns-in_err-writable-clause-bad_text
 returns-in_err-writable-clause-bad_text g c bad = same_mount c.args.self.now
@@ -263,14 +283,18 @@ pub returns-in_err-moved-clause-in_order : goal.returns-in_err-moved-clause-in_o
 returns-in_err-moved-clause-in_order g c names others i d e node held h path other_path led walked ended differ sound is = ∣ inl refl ∣₁
 
 pub returns-in-Ok-clause-in_order : goal.returns-in-Ok-clause-in_order
-returns-in-Ok-clause-in_order g c names others i d e node held h path other_path led walked ended differ sound is =
-    rename_ordered g.P.Pmem.region c.self.view_is c.self.invariant.0 c.in_ok-writable.ensures.runs (g.P.Pmem.region c.move_at.new.memory) c.args.cpu c.in_ok-moved.moved.from.directory c.in_ok-moved.moved.directory c.in_ok-moved.ensures.from c.in_ok-moved.ensures.directory c.in_ok-moved.moved.from.target c.in_ok-moved.ensures.target
-    c.args.time c.in_ok-moved.moved.from.name.now c.in_ok-moved.moved.name.now names others (c.in_ok-moved.ensures.spot (g.P.Pmem.region c.self.inside.memory) names others path other_path) c.move_at.ensures.in_order i d e node held h led walked ended differ sound is
+returns-in-Ok-clause-in_order g c =
+    rw (← c.cpu.view_is, ← c.time.view_is) (λ names others i d e node held h path other_path led walked ended differ sound is.
+    rename_ordered g.P.Pmem.region c.self.view_is c.self.invariant.0 c.in_ok-writable.ensures.runs (g.P.Pmem.region c.move_at.new.memory) c.cpu.inside.0 c.in_ok-moved.moved.from.directory c.in_ok-moved.moved.directory c.in_ok-moved.ensures.from c.in_ok-moved.ensures.directory c.in_ok-moved.moved.from.target c.in_ok-moved.ensures.target
+    c.time.inside.0 c.in_ok-moved.moved.from.name.now c.in_ok-moved.moved.name.now names others (c.in_ok-moved.ensures.spot (g.P.Pmem.region c.self.inside.memory) names others path other_path) c.move_at.ensures.in_order i d e node held h led walked ended differ sound is
+    )
 
 pub returns-in-Err-clause-in_order : goal.returns-in-Err-clause-in_order
-returns-in-Err-clause-in_order g c names others i d e node held h path other_path led walked ended differ sound is =
-    rename_ordered g.P.Pmem.region c.self.view_is c.self.invariant.0 c.in_ok-writable.ensures.runs (g.P.Pmem.region c.move_at.new.memory) c.args.cpu c.in_ok-moved.moved.from.directory c.in_ok-moved.moved.directory c.in_ok-moved.ensures.from c.in_ok-moved.ensures.directory c.in_ok-moved.moved.from.target c.in_ok-moved.ensures.target
-    c.args.time c.in_ok-moved.moved.from.name.now c.in_ok-moved.moved.name.now names others (c.in_ok-moved.ensures.spot (g.P.Pmem.region c.self.inside.memory) names others path other_path) c.move_at.ensures.in_order i d e node held h led walked ended differ sound is
+returns-in-Err-clause-in_order g c =
+    rw (← c.cpu.view_is, ← c.time.view_is) (λ names others i d e node held h path other_path led walked ended differ sound is.
+    rename_ordered g.P.Pmem.region c.self.view_is c.self.invariant.0 c.in_ok-writable.ensures.runs (g.P.Pmem.region c.move_at.new.memory) c.cpu.inside.0 c.in_ok-moved.moved.from.directory c.in_ok-moved.moved.directory c.in_ok-moved.ensures.from c.in_ok-moved.ensures.directory c.in_ok-moved.moved.from.target c.in_ok-moved.ensures.target
+    c.time.inside.0 c.in_ok-moved.moved.from.name.now c.in_ok-moved.moved.name.now names others (c.in_ok-moved.ensures.spot (g.P.Pmem.region c.self.inside.memory) names others path other_path) c.move_at.ensures.in_order i d e node held h led walked ended differ sound is
+    )
 
 pub returns-in_err-writable-clause-wrote : goal.returns-in_err-writable-clause-wrote
 returns-in_err-writable-clause-wrote g c names others i d e node held path other_path led walked ended differ sound = λ at whole away. refl
@@ -279,14 +303,18 @@ pub returns-in_err-moved-clause-wrote : goal.returns-in_err-moved-clause-wrote
 returns-in_err-moved-clause-wrote g c names others i d e node held path other_path led walked ended differ sound = λ at whole away. refl
 
 pub returns-in-Ok-clause-wrote : goal.returns-in-Ok-clause-wrote
-returns-in-Ok-clause-wrote g c names others i d e node held path other_path led walked ended differ sound =
-    rename_stored g.P.Pmem.region c.self.view_is c.self.invariant.0 c.in_ok-writable.ensures.runs (g.P.Pmem.region c.move_at.new.memory) c.args.cpu c.in_ok-moved.moved.from.directory c.in_ok-moved.moved.directory c.in_ok-moved.ensures.from c.in_ok-moved.ensures.directory c.in_ok-moved.moved.from.target c.in_ok-moved.ensures.target
-    c.args.time c.in_ok-moved.moved.from.name.now c.in_ok-moved.moved.name.now names others (c.in_ok-moved.ensures.spot (g.P.Pmem.region c.self.inside.memory) names others path other_path) c.move_at.ensures.wrote d e held walked ended differ sound
+returns-in-Ok-clause-wrote g c =
+    rw (← c.cpu.view_is) (λ names others i d e node held path other_path led walked ended differ sound.
+    rename_stored g.P.Pmem.region c.self.view_is c.self.invariant.0 c.in_ok-writable.ensures.runs (g.P.Pmem.region c.move_at.new.memory) c.cpu.inside.0 c.in_ok-moved.moved.from.directory c.in_ok-moved.moved.directory c.in_ok-moved.ensures.from c.in_ok-moved.ensures.directory c.in_ok-moved.moved.from.target c.in_ok-moved.ensures.target
+    c.time.inside.0 c.in_ok-moved.moved.from.name.now c.in_ok-moved.moved.name.now names others (c.in_ok-moved.ensures.spot (g.P.Pmem.region c.self.inside.memory) names others path other_path) c.move_at.ensures.wrote d e held walked ended differ sound
+    )
 
 pub returns-in-Err-clause-wrote : goal.returns-in-Err-clause-wrote
-returns-in-Err-clause-wrote g c names others i d e node held path other_path led walked ended differ sound =
-    rename_stored g.P.Pmem.region c.self.view_is c.self.invariant.0 c.in_ok-writable.ensures.runs (g.P.Pmem.region c.move_at.new.memory) c.args.cpu c.in_ok-moved.moved.from.directory c.in_ok-moved.moved.directory c.in_ok-moved.ensures.from c.in_ok-moved.ensures.directory c.in_ok-moved.moved.from.target c.in_ok-moved.ensures.target
-    c.args.time c.in_ok-moved.moved.from.name.now c.in_ok-moved.moved.name.now names others (c.in_ok-moved.ensures.spot (g.P.Pmem.region c.self.inside.memory) names others path other_path) c.move_at.ensures.wrote d e held walked ended differ sound
+returns-in-Err-clause-wrote g c =
+    rw (← c.cpu.view_is) (λ names others i d e node held path other_path led walked ended differ sound.
+    rename_stored g.P.Pmem.region c.self.view_is c.self.invariant.0 c.in_ok-writable.ensures.runs (g.P.Pmem.region c.move_at.new.memory) c.cpu.inside.0 c.in_ok-moved.moved.from.directory c.in_ok-moved.moved.directory c.in_ok-moved.ensures.from c.in_ok-moved.ensures.directory c.in_ok-moved.moved.from.target c.in_ok-moved.ensures.target
+    c.time.inside.0 c.in_ok-moved.moved.from.name.now c.in_ok-moved.moved.name.now names others (c.in_ok-moved.ensures.spot (g.P.Pmem.region c.self.inside.memory) names others path other_path) c.move_at.ensures.wrote d e held walked ended differ sound
+    )
 
 pub returns-in_err-writable-clause-within_wrote : goal.returns-in_err-writable-clause-within_wrote
 returns-in_err-writable-clause-within_wrote g c names others d held path other_path walked ended sound = λ at whole away. refl

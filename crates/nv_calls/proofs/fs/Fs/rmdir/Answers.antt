@@ -42,12 +42,14 @@ use Rattle.nv_calls.proofs.fs.Fs.rmdir.Goals as goal
 use Rattle.nv_calls.proofs.FrontsKept.{cut_front}
 
 pub returns-in_err-writable-clause-refused : goal.returns-in_err-writable-clause-refused
-returns-in_err-writable-clause-refused g c runs p says =
+returns-in_err-writable-clause-refused g c =
+    rw (← c.cpu.view_is) (λ runs p says.
     let tree = tree_of (g.P.Pmem.region c.args.self.now.memory) c.args.self.now.rows in
     let count = name_blocks c.args.self.now.rows tree p in
     let w = err_from_is_err_and c.from_residual.result c.from_residual.ensures.1 in
-    refused_by c.from_residual.result c.in_err-writable.field-0.0 w.0 (IsRefusedBy (first_refusal (rmdir_tests (world_of c.args.self.now) tree c.args.cpu p count))) w.1 w.2
+    refused_by c.from_residual.result c.in_err-writable.field-0.0 w.0 (IsRefusedBy (first_refusal (rmdir_tests (world_of c.args.self.now) tree c.cpu.inside.0 p count))) w.1 w.2
     (inr (inr (c.in_err-writable.ensures.refused runs (is_bad_name p ∷ walk_tests tree p ++ is_missing tree p ∷ is_no_dir tree p ∷ has_names tree p ∷ has_no_space (world_of c.args.self.now) count ∷ []))))
+    )
 
 pub returns-in_err-writable-clause-unchanged : goal.returns-in_err-writable-clause-unchanged
 returns-in_err-writable-clause-unchanged g c = if_err c.from_residual.result _ (λ e on. same_mount c.args.self.now)
@@ -56,18 +58,20 @@ pub returns-in_err-writable-clause-stopped : goal.returns-in_err-writable-clause
 returns-in_err-writable-clause-stopped g c runs =
     let w = err_from_is_err_and c.from_residual.result c.from_residual.ensures.1 in
     early_reply c.args.self.now.stopped c.from_residual.result c.in_err-writable.field-0.0 w.0 w.1 w.2
-    (λ is. writing_goes_on (world_of c.args.self.now) c.args.cpu (c.in_err-writable.ensures.refused runs [] ∙ ap (λ (e : Refusal). Some e) is)) runs
+    (λ is. writing_goes_on (world_of c.args.self.now) c.cpu.inside.0 (c.in_err-writable.ensures.refused runs [] ∙ ap (λ (e : Refusal). Some e) is)) runs
 
 pub returns-in_err-named-clause-refused : goal.returns-in_err-named-clause-refused
-returns-in_err-named-clause-refused g c still p says =
+returns-in_err-named-clause-refused g c =
+    rw (← c.cpu.view_is) (λ still p says.
     let told : first_refusal (rmdir_spot_tests (tree_of (g.P.Pmem.region c.args.self.now.memory) c.args.self.now.rows) p) ≡ Some c.in_err-named.field-0.0 =
     subst (λ (m : Mount g.row.P.Denot). first_refusal (rmdir_spot_tests (tree_of (g.P.Pmem.region m.memory) m.rows) p) ≡ Some c.in_err-named.field-0.0) c.self.view_is
     (c.in_err-named.ensures.refused (g.P.Pmem.region c.self.inside.memory) p says) in
     let tree = tree_of (g.P.Pmem.region c.args.self.now.memory) c.args.self.now.rows in
     let count = name_blocks c.args.self.now.rows tree p in
     let w = err_from_is_err_and c.from_residual-in_err-named.result c.from_residual-in_err-named.ensures.1 in
-    refused_by c.from_residual-in_err-named.result c.in_err-named.field-0.0 w.0 (IsRefusedBy (first_refusal (rmdir_tests (world_of c.args.self.now) tree c.args.cpu p count))) w.1 w.2
-    (inr (inr (rmdir_refuses tree p (world_of c.args.self.now) c.args.cpu c.in_ok-writable.ensures.passed count c.in_err-named.field-0.0 told)))
+    refused_by c.from_residual-in_err-named.result c.in_err-named.field-0.0 w.0 (IsRefusedBy (first_refusal (rmdir_tests (world_of c.args.self.now) tree c.cpu.inside.0 p count))) w.1 w.2
+    (inr (inr (rmdir_refuses tree p (world_of c.args.self.now) c.cpu.inside.0 c.in_ok-writable.ensures.passed count c.in_err-named.field-0.0 told)))
+    )
 
 pub returns-in_err-named-clause-unchanged : goal.returns-in_err-named-clause-unchanged
 returns-in_err-named-clause-unchanged g c =
@@ -91,11 +95,11 @@ pub remove_named-requires-clause-can : goal.remove_named-requires-clause-can
 remove_named-requires-clause-can g c row gone at there =
     let runs : c.self.inside.stopped ≡ false = ap (λ (m : Mount g.row.P.Denot). m.stopped) c.self.view_is ∙ c.in_ok-writable.ensures.runs in
     let writes : c.self.inside.read_only ≡ false = ap (λ (m : Mount g.row.P.Denot). m.read_only) c.self.view_is ∙ c.in_ok-writable.ensures.writes in
-    let low : c.args.cpu < c.self.inside.sup.cpus = subst (λ (m : Mount g.row.P.Denot). c.args.cpu < m.sup.cpus) (sym c.self.view_is) c.in_ok-writable.ensures.cpu in
+    let low : c.cpu.inside.0 < c.self.inside.sup.cpus = subst (λ (m : Mount g.row.P.Denot). c.cpu.inside.0 < m.sup.cpus) (sym c.self.view_is) c.in_ok-writable.ensures.cpu in
     let spot = c.in_ok-named.ensures.spot (g.P.Pmem.region c.self.inside.memory) in
     let path = c.in_ok-named.ensures.path in
     let can_go : (gone : Row) → slice_get c.self.inside.rows.items (place_in c.self.inside.rows.items c.in_ok-named.named.target) ≡ Some gone → CanGo gone = λ gone at. inl (c.in_ok-named.ensures.empty gone (sym (at_place c.self.inside.rows.items c.in_ok-named.named.target) ∙ at)) in
-    can_cut c.self.invariant.0 runs writes c.args.cpu low (place_in c.self.inside.rows.items c.in_ok-named.named.directory) (place_in c.self.inside.rows.items c.in_ok-named.named.target) c.in_ok-named.named.name.now path.0 (spot path.0 path.1) row gone (at_place c.self.inside.rows.items c.in_ok-named.named.directory ∙ at) (at_place c.self.inside.rows.items c.in_ok-named.named.target ∙ there) (can_go gone (at_place c.self.inside.rows.items c.in_ok-named.named.target ∙ there))
+    can_cut c.self.invariant.0 runs writes c.cpu.inside.0 low (place_in c.self.inside.rows.items c.in_ok-named.named.directory) (place_in c.self.inside.rows.items c.in_ok-named.named.target) c.in_ok-named.named.name.now path.0 (spot path.0 path.1) row gone (at_place c.self.inside.rows.items c.in_ok-named.named.directory ∙ at) (at_place c.self.inside.rows.items c.in_ok-named.named.target ∙ there) (can_go gone (at_place c.self.inside.rows.items c.in_ok-named.named.target ∙ there))
 
 pub remove_named-requires-clause-owns : goal.remove_named-requires-clause-owns
 remove_named-requires-clause-owns g c gone at =
@@ -123,7 +127,8 @@ invariant_of-self-in-Err g c =
     )
 
 pub returns-in-Ok-clause-allowed : goal.returns-in-Ok-clause-allowed
-returns-in-Ok-clause-allowed g c p says =
+returns-in-Ok-clause-allowed g c =
+    rw (← c.cpu.view_is) (λ p says.
     let runs : c.self.inside.stopped ≡ false = ap (λ (m : Mount g.row.P.Denot). m.stopped) c.self.view_is ∙ c.in_ok-writable.ensures.runs in
     let spot = c.in_ok-named.ensures.spot (g.P.Pmem.region c.self.inside.memory) in
     let r = row_in_use c.self.inside.rows.items c.in_ok-named.named.directory c.in_ok-named.ensures.directory in
@@ -131,39 +136,47 @@ returns-in-Ok-clause-allowed g c p says =
     let i = row_in_use c.self.inside.rows.items c.in_ok-named.named.target c.in_ok-named.ensures.target in
     let numbered = own_row c.self.inside.rows.items c.in_ok-named.named.directory r.0 r.1 in
     let none = c.in_ok-named.ensures.allowed (g.P.Pmem.region c.self.inside.memory) p says in
-    let last = rmdir_last g.P.Pmem.region c.self.view_is c.args.cpu c.in_ok-writable.ensures.passed (place_in c.self.inside.rows.items c.in_ok-named.named.directory) (place_in c.self.inside.rows.items c.in_ok-named.named.target) r.0 i.0 at numbered c.in_ok-named.named.name.now c.args.time c.args.path.now spot p says none in
-    let tests = rmdir_refusal g.P.Pmem.region c.self.view_is c.args.cpu c.in_ok-writable.ensures.passed (place_in c.self.inside.rows.items c.in_ok-named.named.directory) (place_in c.self.inside.rows.items c.in_ok-named.named.target) r.0 i.0 at numbered c.in_ok-named.named.name.now c.args.time c.args.path.now spot p says none in
-    space_allows c.self.view_is tests (needed (r.0.tail % 4096) (name_entries Remove i.0.inode c.in_ok-named.named.name.now c.args.time)) last (c.in-Ok.ensures.enough r.0 i.0 r.1 i.1)
+    let last = rmdir_last g.P.Pmem.region c.self.view_is c.cpu.inside.0 c.in_ok-writable.ensures.passed (place_in c.self.inside.rows.items c.in_ok-named.named.directory) (place_in c.self.inside.rows.items c.in_ok-named.named.target) r.0 i.0 at numbered c.in_ok-named.named.name.now c.time.inside.0 c.args.path.now spot p says none in
+    let tests = rmdir_refusal g.P.Pmem.region c.self.view_is c.cpu.inside.0 c.in_ok-writable.ensures.passed (place_in c.self.inside.rows.items c.in_ok-named.named.directory) (place_in c.self.inside.rows.items c.in_ok-named.named.target) r.0 i.0 at numbered c.in_ok-named.named.name.now c.time.inside.0 c.args.path.now spot p says none in
+    space_allows c.self.view_is tests (needed (r.0.tail % 4096) (name_entries Remove i.0.inode c.in_ok-named.named.name.now c.time.inside.0)) last (c.in-Ok.ensures.enough r.0 i.0 r.1 i.1)
+    )
 
 pub returns-in-Ok-clause-changed : goal.returns-in-Ok-clause-changed
-returns-in-Ok-clause-changed g c names path =
+returns-in-Ok-clause-changed g c =
+    rw (← c.time.view_is) (λ names path.
     let runs : c.self.inside.stopped ≡ false = ap (λ (m : Mount g.row.P.Denot). m.stopped) c.self.view_is ∙ c.in_ok-writable.ensures.runs in
     let writes : c.self.inside.read_only ≡ false = ap (λ (m : Mount g.row.P.Denot). m.read_only) c.self.view_is ∙ c.in_ok-writable.ensures.writes in
     let spot = c.in_ok-named.ensures.spot (g.P.Pmem.region c.self.inside.memory) in
     let can_go : (gone : Row) → slice_get c.self.inside.rows.items (place_in c.self.inside.rows.items c.in_ok-named.named.target) ≡ Some gone → CanGo gone = λ gone at. inl (c.in_ok-named.ensures.empty gone (sym (at_place c.self.inside.rows.items c.in_ok-named.named.target) ∙ at)) in
     let step = c.in-Ok.ensures.removed in
-    subst (λ (m : Mount g.row.P.Denot). SameTree (tree_of (g.P.Pmem.region c.remove_named.new.memory) c.remove_named.new.rows.items) (removed names c.args.time (tree_of (g.P.Pmem.region m.memory) m.rows))) c.self.view_is
+    subst (λ (m : Mount g.row.P.Denot). SameTree (tree_of (g.P.Pmem.region c.remove_named.new.memory) c.remove_named.new.rows.items) (removed names c.time.inside.0 (tree_of (g.P.Pmem.region m.memory) m.rows))) c.self.view_is
     (rmdir_tree c.self.invariant.0 runs writes (cut_of step) c.in_ok-named.ensures.name (can_go step.gone step.gone_at) names (spot names path))
+    )
 
 pub returns-in-Ok-clause-log : goal.returns-in-Ok-clause-log
-returns-in-Ok-clause-log g c names i d node held h path led ended sound is =
+returns-in-Ok-clause-log g c =
+    rw (← c.cpu.view_is, ← c.time.view_is) (λ names i d node held h path led ended sound is.
     let runs : c.self.inside.stopped ≡ false = ap (λ (m : Mount g.row.P.Denot). m.stopped) c.self.view_is ∙ c.in_ok-writable.ensures.runs in
     let writes : c.self.inside.read_only ≡ false = ap (λ (m : Mount g.row.P.Denot). m.read_only) c.self.view_is ∙ c.in_ok-writable.ensures.writes in
     let spot = c.in_ok-named.ensures.spot (g.P.Pmem.region c.self.inside.memory) in
     let can_go : (gone : Row) → slice_get c.self.inside.rows.items (place_in c.self.inside.rows.items c.in_ok-named.named.target) ≡ Some gone → CanGo gone = λ gone at. inl (c.in_ok-named.ensures.empty gone (sym (at_place c.self.inside.rows.items c.in_ok-named.named.target) ∙ at)) in
     let step = c.in-Ok.ensures.removed in
-    subst (λ (m : Mount g.row.P.Denot). LeadsTo (tree_of (g.P.Pmem.region m.memory) m.rows) names i node → walk (tree_of (g.P.Pmem.region m.memory) m.rows) 1 names ≡ Ok d → ShowsSound (g.P.Pmem.region m.memory) m.sup held → ShowsRemoved (g.P.Pmem.region c.remove_named.new.memory) m.sup m.free.pools c.args.cpu held d h (name_entries Remove i (last_name names) c.args.time) i) c.self.view_is
+    subst (λ (m : Mount g.row.P.Denot). LeadsTo (tree_of (g.P.Pmem.region m.memory) m.rows) names i node → walk (tree_of (g.P.Pmem.region m.memory) m.rows) 1 names ≡ Ok d → ShowsSound (g.P.Pmem.region m.memory) m.sup held → ShowsRemoved (g.P.Pmem.region c.remove_named.new.memory) m.sup m.free.pools c.cpu.inside.0 held d h (name_entries Remove i (last_name names) c.time.inside.0) i) c.self.view_is
     (λ leads walked shown. removed_log c.self.invariant.0 runs writes (cut_of step) c.in_ok-named.ensures.name (can_go step.gone step.gone_at) names (spot names path) i d node held h leads walked shown is) led ended sound
+    )
 
 pub returns-in-Ok-clause-journals : goal.returns-in-Ok-clause-journals
 returns-in-Ok-clause-journals g c =
+    rw (← c.cpu.view_is) (
     let runs : c.self.inside.stopped ≡ false = ap (λ (m : Mount g.row.P.Denot). m.stopped) c.self.view_is ∙ c.in_ok-writable.ensures.runs in
     let writes : c.self.inside.read_only ≡ false = ap (λ (m : Mount g.row.P.Denot). m.read_only) c.self.view_is ∙ c.in_ok-writable.ensures.writes in
-    subst (λ (m : Mount g.row.P.Denot). SameFrontBut m.sup.cpus c.args.cpu (g.P.Pmem.region m.memory) (g.P.Pmem.region c.remove_named.new.memory)) c.self.view_is
+    subst (λ (m : Mount g.row.P.Denot). SameFrontBut m.sup.cpus c.cpu.inside.0 (g.P.Pmem.region m.memory) (g.P.Pmem.region c.remove_named.new.memory)) c.self.view_is
     (cut_front c.self.invariant.0 runs writes (cut_of c.in-Ok.ensures.removed))
+    )
 
 pub returns-in-Err-clause-refused : goal.returns-in-Err-clause-refused
-returns-in-Err-clause-refused g c still p says =
+returns-in-Err-clause-refused g c =
+    rw (← c.cpu.view_is) (λ still p says.
     let runs : c.self.inside.stopped ≡ false = ap (λ (m : Mount g.row.P.Denot). m.stopped) c.self.view_is ∙ c.in_ok-writable.ensures.runs in
     let spot = c.in_ok-named.ensures.spot (g.P.Pmem.region c.self.inside.memory) in
     let r = row_in_use c.self.inside.rows.items c.in_ok-named.named.directory c.in_ok-named.ensures.directory in
@@ -171,9 +184,10 @@ returns-in-Err-clause-refused g c still p says =
     let i = row_in_use c.self.inside.rows.items c.in_ok-named.named.target c.in_ok-named.ensures.target in
     let numbered = own_row c.self.inside.rows.items c.in_ok-named.named.directory r.0 r.1 in
     let none = c.in_ok-named.ensures.allowed (g.P.Pmem.region c.self.inside.memory) p says in
-    let last = rmdir_last g.P.Pmem.region c.self.view_is c.args.cpu c.in_ok-writable.ensures.passed (place_in c.self.inside.rows.items c.in_ok-named.named.directory) (place_in c.self.inside.rows.items c.in_ok-named.named.target) r.0 i.0 at numbered c.in_ok-named.named.name.now c.args.time c.args.path.now spot p says none in
-    let tests = rmdir_refusal g.P.Pmem.region c.self.view_is c.args.cpu c.in_ok-writable.ensures.passed (place_in c.self.inside.rows.items c.in_ok-named.named.directory) (place_in c.self.inside.rows.items c.in_ok-named.named.target) r.0 i.0 at numbered c.in_ok-named.named.name.now c.args.time c.args.path.now spot p says none in
-    space_refuses c.self.view_is tests (needed (r.0.tail % 4096) (name_entries Remove i.0.inode c.in_ok-named.named.name.now c.args.time)) last c.in-Err.refusal (c.in-Err.ensures.refused r.0 i.0 r.1 i.1)
+    let last = rmdir_last g.P.Pmem.region c.self.view_is c.cpu.inside.0 c.in_ok-writable.ensures.passed (place_in c.self.inside.rows.items c.in_ok-named.named.directory) (place_in c.self.inside.rows.items c.in_ok-named.named.target) r.0 i.0 at numbered c.in_ok-named.named.name.now c.time.inside.0 c.args.path.now spot p says none in
+    let tests = rmdir_refusal g.P.Pmem.region c.self.view_is c.cpu.inside.0 c.in_ok-writable.ensures.passed (place_in c.self.inside.rows.items c.in_ok-named.named.directory) (place_in c.self.inside.rows.items c.in_ok-named.named.target) r.0 i.0 at numbered c.in_ok-named.named.name.now c.time.inside.0 c.args.path.now spot p says none in
+    space_refuses c.self.view_is tests (needed (r.0.tail % 4096) (name_entries Remove i.0.inode c.in_ok-named.named.name.now c.time.inside.0)) last c.in-Err.refusal (c.in-Err.ensures.refused r.0 i.0 r.1 i.1)
+    )
 
 pub returns-in-Err-clause-unchanged : goal.returns-in-Err-clause-unchanged
 returns-in-Err-clause-unchanged g c off =
@@ -203,24 +217,28 @@ pub returns-in_err-named-clause-any_stop : goal.returns-in_err-named-clause-any_
 returns-in_err-named-clause-any_stop g c names path on able = call_stays g.P.Pmem.region c.args.self.now (makes_removal c.args.time) (logs_removal c.args.cpu c.args.time) names c.in_ok-writable.ensures.kept on able _ (c.in_ok-writable.ensures.settled on)
 
 pub returns-in-Ok-clause-any_stop : goal.returns-in-Ok-clause-any_stop
-returns-in-Ok-clause-any_stop g c names path on able =
+returns-in-Ok-clause-any_stop g c =
+    rw (← c.cpu.view_is, ← c.time.view_is) (λ names path on able.
     let runs : c.self.inside.stopped ≡ false = ap (λ (m : Mount g.row.P.Denot). m.stopped) c.self.view_is ∙ c.in_ok-writable.ensures.runs in
     let writes : c.self.inside.read_only ≡ false = ap (λ (m : Mount g.row.P.Denot). m.read_only) c.self.view_is ∙ c.in_ok-writable.ensures.writes in
     let r = row_in_use c.self.inside.rows.items c.in_ok-named.named.directory c.in_ok-named.ensures.directory in
     let i = row_in_use c.self.inside.rows.items c.in_ok-named.named.target c.in_ok-named.ensures.target in
-    rmdir_left g.P.Pmem.region c.self.view_is c.self.invariant.0 runs writes c.in_ok-named.named.directory c.in_ok-named.named.target r.0 i.0 r.1 i.1 c.in_ok-named.named.name.now c.args.cpu c.args.time c.in_ok-named.ensures.name names
+    rmdir_left g.P.Pmem.region c.self.view_is c.self.invariant.0 runs writes c.in_ok-named.named.directory c.in_ok-named.named.target r.0 i.0 r.1 i.1 c.in_ok-named.named.name.now c.cpu.inside.0 c.time.inside.0 c.in_ok-named.ensures.name names
     (c.in_ok-named.ensures.spot (g.P.Pmem.region c.self.inside.memory) names path) (inl (c.in_ok-named.ensures.empty i.0 i.1)) _ _ _
     (λ held h here pending. c.remove_named.ensures.any_stop r.0 i.0 held h r.1 i.1 here pending) (c.self.invariant.2 runs)
+    )
 
 pub returns-in-Err-clause-any_stop : goal.returns-in-Err-clause-any_stop
-returns-in-Err-clause-any_stop g c names path on able =
+returns-in-Err-clause-any_stop g c =
+    rw (← c.cpu.view_is, ← c.time.view_is) (λ names path on able.
     let runs : c.self.inside.stopped ≡ false = ap (λ (m : Mount g.row.P.Denot). m.stopped) c.self.view_is ∙ c.in_ok-writable.ensures.runs in
     let writes : c.self.inside.read_only ≡ false = ap (λ (m : Mount g.row.P.Denot). m.read_only) c.self.view_is ∙ c.in_ok-writable.ensures.writes in
     let r = row_in_use c.self.inside.rows.items c.in_ok-named.named.directory c.in_ok-named.ensures.directory in
     let i = row_in_use c.self.inside.rows.items c.in_ok-named.named.target c.in_ok-named.ensures.target in
-    rmdir_left g.P.Pmem.region c.self.view_is c.self.invariant.0 runs writes c.in_ok-named.named.directory c.in_ok-named.named.target r.0 i.0 r.1 i.1 c.in_ok-named.named.name.now c.args.cpu c.args.time c.in_ok-named.ensures.name names
+    rmdir_left g.P.Pmem.region c.self.view_is c.self.invariant.0 runs writes c.in_ok-named.named.directory c.in_ok-named.named.target r.0 i.0 r.1 i.1 c.in_ok-named.named.name.now c.cpu.inside.0 c.time.inside.0 c.in_ok-named.ensures.name names
     (c.in_ok-named.ensures.spot (g.P.Pmem.region c.self.inside.memory) names path) (inl (c.in_ok-named.ensures.empty i.0 i.1)) _ _ _
     (λ held h here pending. c.remove_named.ensures.any_stop r.0 i.0 held h r.1 i.1 here pending) (c.self.invariant.2 runs)
+    )
 
 pub returns-in_err-writable-clause-bad_text : goal.returns-in_err-writable-clause-bad_text
 returns-in_err-writable-clause-bad_text g c bad = same_mount c.args.self.now
@@ -241,16 +259,20 @@ pub returns-in_err-named-clause-in_order : goal.returns-in_err-named-clause-in_o
 returns-in_err-named-clause-in_order g c names k d node held h path led ended sound is = ∣ inl refl ∣₁
 
 pub returns-in-Ok-clause-in_order : goal.returns-in-Ok-clause-in_order
-returns-in-Ok-clause-in_order g c names k d node held h path led ended sound is =
-    gone_ordered g.P.Pmem.region c.self.view_is c.self.invariant.0 c.in_ok-writable.ensures.runs (g.P.Pmem.region c.remove_named.new.memory) c.args.cpu c.in_ok-named.named.directory c.in_ok-named.named.target c.in_ok-named.ensures.directory c.in_ok-named.ensures.target
-    c.args.time c.in_ok-named.named.name.now names (c.in_ok-named.ensures.spot (g.P.Pmem.region c.self.inside.memory) names path) (λ count. Unit {0}) slot_address
+returns-in-Ok-clause-in_order g c =
+    rw (← c.cpu.view_is, ← c.time.view_is) (λ names k d node held h path led ended sound is.
+    gone_ordered g.P.Pmem.region c.self.view_is c.self.invariant.0 c.in_ok-writable.ensures.runs (g.P.Pmem.region c.remove_named.new.memory) c.cpu.inside.0 c.in_ok-named.named.directory c.in_ok-named.named.target c.in_ok-named.ensures.directory c.in_ok-named.ensures.target
+    c.time.inside.0 c.in_ok-named.named.name.now names (c.in_ok-named.ensures.spot (g.P.Pmem.region c.self.inside.memory) names path) (λ count. Unit {0}) slot_address
     (λ row gone st h f at gone_at here there any. c.remove_named.ensures.in_order row gone st h at gone_at here) k d node held h led ended sound is tt
+    )
 
 pub returns-in-Err-clause-in_order : goal.returns-in-Err-clause-in_order
-returns-in-Err-clause-in_order g c names k d node held h path led ended sound is =
-    gone_ordered g.P.Pmem.region c.self.view_is c.self.invariant.0 c.in_ok-writable.ensures.runs (g.P.Pmem.region c.remove_named.new.memory) c.args.cpu c.in_ok-named.named.directory c.in_ok-named.named.target c.in_ok-named.ensures.directory c.in_ok-named.ensures.target
-    c.args.time c.in_ok-named.named.name.now names (c.in_ok-named.ensures.spot (g.P.Pmem.region c.self.inside.memory) names path) (λ count. Unit {0}) slot_address
+returns-in-Err-clause-in_order g c =
+    rw (← c.cpu.view_is, ← c.time.view_is) (λ names k d node held h path led ended sound is.
+    gone_ordered g.P.Pmem.region c.self.view_is c.self.invariant.0 c.in_ok-writable.ensures.runs (g.P.Pmem.region c.remove_named.new.memory) c.cpu.inside.0 c.in_ok-named.named.directory c.in_ok-named.named.target c.in_ok-named.ensures.directory c.in_ok-named.ensures.target
+    c.time.inside.0 c.in_ok-named.named.name.now names (c.in_ok-named.ensures.spot (g.P.Pmem.region c.self.inside.memory) names path) (λ count. Unit {0}) slot_address
     (λ row gone st h f at gone_at here there any. c.remove_named.ensures.in_order row gone st h at gone_at here) k d node held h led ended sound is tt
+    )
 
 pub returns-in_err-writable-clause-wrote : goal.returns-in_err-writable-clause-wrote
 returns-in_err-writable-clause-wrote g c names k d node held path led ended sound = λ at whole away. refl
@@ -259,13 +281,17 @@ pub returns-in_err-named-clause-wrote : goal.returns-in_err-named-clause-wrote
 returns-in_err-named-clause-wrote g c names k d node held path led ended sound = λ at whole away. refl
 
 pub returns-in-Ok-clause-wrote : goal.returns-in-Ok-clause-wrote
-returns-in-Ok-clause-wrote g c names k d node held path led ended sound =
-    gone_stored g.P.Pmem.region c.self.view_is c.self.invariant.0 c.in_ok-writable.ensures.runs (g.P.Pmem.region c.remove_named.new.memory) c.args.cpu c.in_ok-named.named.directory c.in_ok-named.named.target c.in_ok-named.ensures.directory c.in_ok-named.ensures.target
-    c.args.time c.in_ok-named.named.name.now names (c.in_ok-named.ensures.spot (g.P.Pmem.region c.self.inside.memory) names path) (λ count. Unit {0}) (λ t. one_less t c.args.cpu)
+returns-in-Ok-clause-wrote g c =
+    rw (← c.cpu.view_is) (λ names k d node held path led ended sound.
+    gone_stored g.P.Pmem.region c.self.view_is c.self.invariant.0 c.in_ok-writable.ensures.runs (g.P.Pmem.region c.remove_named.new.memory) c.cpu.inside.0 c.in_ok-named.named.directory c.in_ok-named.named.target c.in_ok-named.ensures.directory c.in_ok-named.ensures.target
+    c.time.inside.0 c.in_ok-named.named.name.now names (c.in_ok-named.ensures.spot (g.P.Pmem.region c.self.inside.memory) names path) (λ count. Unit {0}) (λ t. one_less t c.cpu.inside.0)
     (λ row gone st h f at gone_at here there any. c.remove_named.ensures.wrote row gone st h at gone_at here) k d node held led ended sound tt
+    )
 
 pub returns-in-Err-clause-wrote : goal.returns-in-Err-clause-wrote
-returns-in-Err-clause-wrote g c names k d node held path led ended sound =
-    gone_stored g.P.Pmem.region c.self.view_is c.self.invariant.0 c.in_ok-writable.ensures.runs (g.P.Pmem.region c.remove_named.new.memory) c.args.cpu c.in_ok-named.named.directory c.in_ok-named.named.target c.in_ok-named.ensures.directory c.in_ok-named.ensures.target
-    c.args.time c.in_ok-named.named.name.now names (c.in_ok-named.ensures.spot (g.P.Pmem.region c.self.inside.memory) names path) (λ count. Unit {0}) (λ t. one_less t c.args.cpu)
+returns-in-Err-clause-wrote g c =
+    rw (← c.cpu.view_is) (λ names k d node held path led ended sound.
+    gone_stored g.P.Pmem.region c.self.view_is c.self.invariant.0 c.in_ok-writable.ensures.runs (g.P.Pmem.region c.remove_named.new.memory) c.cpu.inside.0 c.in_ok-named.named.directory c.in_ok-named.named.target c.in_ok-named.ensures.directory c.in_ok-named.ensures.target
+    c.time.inside.0 c.in_ok-named.named.name.now names (c.in_ok-named.ensures.spot (g.P.Pmem.region c.self.inside.memory) names path) (λ count. Unit {0}) (λ t. one_less t c.cpu.inside.0)
     (λ row gone st h f at gone_at here there any. c.remove_named.ensures.wrote row gone st h at gone_at here) k d node held led ended sound tt
+    )

@@ -39,12 +39,14 @@ give_back-requires g c =
     last_used c.self.inside.rows.items c.lend-row.new.self.items c.in_ok-inode.field-0.now.inode c.change_attributes-changed.new.row (in_use c.self.inside.rows.items c.in_ok-inode.field-0.now.inode c.lend-row.result c.lend-row.ensures.row) c.lend-row.ensures.lent (c.change_attributes-changed.ensures.inode ∙ c.lend-row.ensures.number)
 
 pub returns-in_err-writable-clause-refused : goal.returns-in_err-writable-clause-refused
-returns-in_err-writable-clause-refused g c runs p says =
+returns-in_err-writable-clause-refused g c =
+    rw (← c.cpu.view_is) (λ runs p says.
     let tree = tree_of (g.P.Pmem.region c.args.self.now.memory) c.args.self.now.rows in
     let count = attributes_blocks c.args.self.now.rows tree p in
     let w = err_from_is_err_and c.from_residual.result c.from_residual.ensures.1 in
-    refused_by c.from_residual.result c.in_err-writable.field-0.0 w.0 (IsRefusedBy (first_refusal (set_attr_tests (world_of c.args.self.now) tree c.args.cpu p count))) w.1 w.2
+    refused_by c.from_residual.result c.in_err-writable.field-0.0 w.0 (IsRefusedBy (first_refusal (set_attr_tests (world_of c.args.self.now) tree c.cpu.inside.0 p count))) w.1 w.2
     (inr (inr (c.in_err-writable.ensures.refused runs (is_bad p ∷ walk_tests tree p ++ is_missing tree p ∷ has_no_space (world_of c.args.self.now) count ∷ []))))
+    )
 
 pub returns-in_err-writable-clause-unchanged : goal.returns-in_err-writable-clause-unchanged
 returns-in_err-writable-clause-unchanged g c = if_err c.from_residual.result _ (λ e on. same_mount c.args.self.now)
@@ -53,17 +55,19 @@ pub returns-in_err-writable-clause-stopped : goal.returns-in_err-writable-clause
 returns-in_err-writable-clause-stopped g c runs =
     let w = err_from_is_err_and c.from_residual.result c.from_residual.ensures.1 in
     early_reply c.args.self.now.stopped c.from_residual.result c.in_err-writable.field-0.0 w.0 w.1 w.2
-    (λ is. writing_goes_on (world_of c.args.self.now) c.args.cpu (c.in_err-writable.ensures.refused runs [] ∙ ap (λ (e : Refusal). Some e) is)) runs
+    (λ is. writing_goes_on (world_of c.args.self.now) c.cpu.inside.0 (c.in_err-writable.ensures.refused runs [] ∙ ap (λ (e : Refusal). Some e) is)) runs
 
 pub returns-in_err-inode-clause-refused : goal.returns-in_err-inode-clause-refused
-returns-in_err-inode-clause-refused g c runs p says =
+returns-in_err-inode-clause-refused g c =
+    rw (← c.cpu.view_is) (λ runs p says.
     let tree = tree_of (g.P.Pmem.region c.args.self.now.memory) c.args.self.now.rows in
     let count = attributes_blocks c.args.self.now.rows tree p in
     let w = err_from_is_err_and c.from_residual-in_err-inode.result c.from_residual-in_err-inode.ensures.1 in
     let told = c.in_err-inode.ensures.refused (g.P.Pmem.region c.self.inside.memory) p says in
     let refused = refused_as g.P.Pmem.region p (Some c.in_err-inode.field-0.0) c.self.view_is told in
-    refused_by c.from_residual-in_err-inode.result c.in_err-inode.field-0.0 w.0 (IsRefusedBy (first_refusal (set_attr_tests (world_of c.args.self.now) tree c.args.cpu p count))) w.1 w.2
-    (inr (inr (stat_refuses (world_of c.args.self.now) tree c.args.cpu c.in_ok-writable.ensures.passed p (has_no_space (world_of c.args.self.now) count ∷ []) c.in_err-inode.field-0.0 refused)))
+    refused_by c.from_residual-in_err-inode.result c.in_err-inode.field-0.0 w.0 (IsRefusedBy (first_refusal (set_attr_tests (world_of c.args.self.now) tree c.cpu.inside.0 p count))) w.1 w.2
+    (inr (inr (stat_refuses (world_of c.args.self.now) tree c.cpu.inside.0 c.in_ok-writable.ensures.passed p (has_no_space (world_of c.args.self.now) count ∷ []) c.in_err-inode.field-0.0 refused)))
+    )
 
 pub returns-in_err-inode-clause-unchanged : goal.returns-in_err-inode-clause-unchanged
 returns-in_err-inode-clause-unchanged g c = if_err c.from_residual-in_err-inode.result _ (λ e on. same_mount c.args.self.now)
@@ -93,7 +97,7 @@ invariant_of-self g c =
     let inode = c.in_ok-inode.field-0.now.inode in
     let at = at_place rows inode ∙ c.lend-row.ensures.row in
     let put = back_one rows c.lend-row.new.self.items c.give_back.new.self.items inode c.change_attributes-changed.new.row c.lend-row.ensures.lent (c.change_attributes-changed.ensures.inode ∙ c.lend-row.ensures.number) c.give_back.ensures.rows in
-    (rw put (kept_after c.self.invariant.0 runs writes (place_in rows inode) c.lend-row.result c.change_attributes-changed.new.row at (attributes c.lend-row.result.numbers.size c.args.mode c.args.owner c.args.group c.args.time) (λ held h shows. c.in-Ok.ensures.log held h shows) c.change_attributes-changed.ensures.lists c.self.inside.stopped), c.give_back.ensures.sup ∙ c.lend-row.ensures.sup ∙ c.self.invariant.1, λ on. c.in-Ok.ensures.settled)
+    (rw put (kept_after c.self.invariant.0 runs writes (place_in rows inode) c.lend-row.result c.change_attributes-changed.new.row at (attributes c.lend-row.result.numbers.size c.args.mode c.args.owner c.args.group c.time.inside.0) (λ held h shows. c.in-Ok.ensures.log held h shows) c.change_attributes-changed.ensures.lists c.self.inside.stopped), c.give_back.ensures.sup ∙ c.lend-row.ensures.sup ∙ c.self.invariant.1, λ on. c.in-Ok.ensures.settled)
 
 pub invariant_of-self-in-Err : goal.invariant_of-self-in-Err
 invariant_of-self-in-Err g c =
@@ -109,7 +113,8 @@ invariant_of-self-in-Err g c =
     )
 
 pub returns-in-Ok-clause-allowed : goal.returns-in-Ok-clause-allowed
-returns-in-Ok-clause-allowed g c p says =
+returns-in-Ok-clause-allowed g c =
+    rw (← c.cpu.view_is) (λ p says.
     let runs : c.self.inside.stopped ≡ false = ap (λ (m : Mount g.row.P.Denot). m.stopped) c.self.view_is ∙ c.in_ok-writable.ensures.runs in
     let writes : c.self.inside.read_only ≡ false = ap (λ (m : Mount g.row.P.Denot). m.read_only) c.self.view_is ∙ c.in_ok-writable.ensures.writes in
     let rows = c.self.inside.rows.items in
@@ -118,10 +123,12 @@ returns-in-Ok-clause-allowed g c p says =
     let leads : (names : List (List ℕ)) → IsPath c.args.path.now names → LeadsTo (tree_of (g.P.Pmem.region c.self.inside.memory) rows) names c.lend-row.result.inode (node_of (g.P.Pmem.region c.self.inside.memory) c.lend-row.result) = λ names path. subst (λ (r : Row). LeadsTo (tree_of (g.P.Pmem.region c.self.inside.memory) rows) names r.inode (node_of (g.P.Pmem.region c.self.inside.memory) r)) (same_Some _ _ (sym c.in_ok-inode.ensures.held ∙ c.lend-row.ensures.row)) (c.in_ok-inode.ensures.row (g.P.Pmem.region c.self.inside.memory) names path) in
     let numbered = own_row rows inode c.lend-row.result c.lend-row.ensures.row in
     let none = c.in_ok-inode.ensures.refused (g.P.Pmem.region c.self.inside.memory) p says in
-    attr_allowed g.P.Pmem.region c.self.view_is c.args.cpu c.in_ok-writable.ensures.passed c.args.path.now c.lend-row.result (node_of (g.P.Pmem.region c.self.inside.memory) c.lend-row.result) numbered leads p says none c.in-Ok.ensures.enough
+    attr_allowed g.P.Pmem.region c.self.view_is c.cpu.inside.0 c.in_ok-writable.ensures.passed c.args.path.now c.lend-row.result (node_of (g.P.Pmem.region c.self.inside.memory) c.lend-row.result) numbered leads p says none c.in-Ok.ensures.enough
+    )
 
 pub returns-in-Ok-clause-changed : goal.returns-in-Ok-clause-changed
-returns-in-Ok-clause-changed g c names path =
+returns-in-Ok-clause-changed g c =
+    rw (← c.time.view_is) (λ names path.
     let runs : c.self.inside.stopped ≡ false = ap (λ (m : Mount g.row.P.Denot). m.stopped) c.self.view_is ∙ c.in_ok-writable.ensures.runs in
     let writes : c.self.inside.read_only ≡ false = ap (λ (m : Mount g.row.P.Denot). m.read_only) c.self.view_is ∙ c.in_ok-writable.ensures.writes in
     let rows = c.self.inside.rows.items in
@@ -132,24 +139,28 @@ returns-in-Ok-clause-changed g c names path =
     let has = c.in-Ok.ensures.row in
     let led = leads names path in
     let put = back_one rows c.lend-row.new.self.items c.give_back.new.self.items inode c.change_attributes-changed.new.row c.lend-row.ensures.lent (c.change_attributes-changed.ensures.inode ∙ c.lend-row.ensures.number) c.give_back.ensures.rows in
-    rw put (attr_changed g.P.Pmem.region c.self.view_is names c.lend-row.result.inode c.args.mode c.args.owner c.args.group c.args.time (tree_of (g.P.Pmem.region c.change_attributes-changed.new.memory) (set c.self.inside.rows.items (place_in rows inode) c.change_attributes-changed.new.row)) led.leads
-    (tree_after c.self.invariant.0 runs writes (place_in rows inode) c.lend-row.result c.change_attributes-changed.new.row at (attributes c.lend-row.result.numbers.size c.args.mode c.args.owner c.args.group c.args.time) follows (with_attributes c.args.mode c.args.owner c.args.group c.args.time) has.inode
-    (attributed_node (g.P.Pmem.region c.self.inside.memory) (g.P.Pmem.region c.change_attributes-changed.new.memory) c.args.mode c.args.owner c.args.group c.args.time c.lend-row.result.numbers.size has
-    (λ x. row_bytes c.self.invariant.0 runs writes (place_in rows inode) c.lend-row.result c.change_attributes-changed.new.row at (attributes c.lend-row.result.numbers.size c.args.mode c.args.owner c.args.group c.args.time) follows c.lend-row.result (stands c.self.inside.rows.items (place_in rows inode) c.lend-row.result at) x))))
+    rw put (attr_changed g.P.Pmem.region c.self.view_is names c.lend-row.result.inode c.args.mode c.args.owner c.args.group c.time.inside.0 (tree_of (g.P.Pmem.region c.change_attributes-changed.new.memory) (set c.self.inside.rows.items (place_in rows inode) c.change_attributes-changed.new.row)) led.leads
+    (tree_after c.self.invariant.0 runs writes (place_in rows inode) c.lend-row.result c.change_attributes-changed.new.row at (attributes c.lend-row.result.numbers.size c.args.mode c.args.owner c.args.group c.time.inside.0) follows (with_attributes c.args.mode c.args.owner c.args.group c.time.inside.0) has.inode
+    (attributed_node (g.P.Pmem.region c.self.inside.memory) (g.P.Pmem.region c.change_attributes-changed.new.memory) c.args.mode c.args.owner c.args.group c.time.inside.0 c.lend-row.result.numbers.size has
+    (λ x. row_bytes c.self.invariant.0 runs writes (place_in rows inode) c.lend-row.result c.change_attributes-changed.new.row at (attributes c.lend-row.result.numbers.size c.args.mode c.args.owner c.args.group c.time.inside.0) follows c.lend-row.result (stands c.self.inside.rows.items (place_in rows inode) c.lend-row.result at) x))))
+    )
 
 pub returns-in-Ok-clause-log : goal.returns-in-Ok-clause-log
-returns-in-Ok-clause-log g c names i node held h path led sound is =
+returns-in-Ok-clause-log g c =
+    rw (← c.cpu.view_is, ← c.time.view_is) (λ names i node held h path led sound is.
     let runs : c.self.inside.stopped ≡ false = ap (λ (m : Mount g.row.P.Denot). m.stopped) c.self.view_is ∙ c.in_ok-writable.ensures.runs in
     let writes : c.self.inside.read_only ≡ false = ap (λ (m : Mount g.row.P.Denot). m.read_only) c.self.view_is ∙ c.in_ok-writable.ensures.writes in
     let rows = c.self.inside.rows.items in
     let inode = c.in_ok-inode.field-0.now.inode in
     let at = at_place rows inode ∙ c.lend-row.ensures.row in
     let leads : (names : List (List ℕ)) → IsPath c.args.path.now names → LeadsTo (tree_of (g.P.Pmem.region c.self.inside.memory) rows) names c.lend-row.result.inode (node_of (g.P.Pmem.region c.self.inside.memory) c.lend-row.result) = λ names path. subst (λ (r : Row). LeadsTo (tree_of (g.P.Pmem.region c.self.inside.memory) rows) names r.inode (node_of (g.P.Pmem.region c.self.inside.memory) r)) (same_Some _ _ (sym c.in_ok-inode.ensures.held ∙ c.lend-row.ensures.row)) (c.in_ok-inode.ensures.row (g.P.Pmem.region c.self.inside.memory) names path) in
-    attr_logged g.P.Pmem.region c.self.view_is (g.P.Pmem.region c.change_attributes-changed.new.memory) names c.lend-row.result c.args.mode c.args.owner c.args.group c.args.time i node held h (leads names path)
-    (λ st k shown holds. log_grew c.self.invariant.0 runs writes (place_in rows inode) c.lend-row.result c.change_attributes-changed.new.row at (attributes c.lend-row.result.numbers.size c.args.mode c.args.owner c.args.group c.args.time) (λ first g' shows. c.in-Ok.ensures.log first g' shows) st k shown holds) led sound is
+    attr_logged g.P.Pmem.region c.self.view_is (g.P.Pmem.region c.change_attributes-changed.new.memory) names c.lend-row.result c.args.mode c.args.owner c.args.group c.time.inside.0 i node held h (leads names path)
+    (λ st k shown holds. log_grew c.self.invariant.0 runs writes (place_in rows inode) c.lend-row.result c.change_attributes-changed.new.row at (attributes c.lend-row.result.numbers.size c.args.mode c.args.owner c.args.group c.time.inside.0) (λ first g' shows. c.in-Ok.ensures.log first g' shows) st k shown holds) led sound is
+    )
 
 pub returns-in-Err-clause-refused : goal.returns-in-Err-clause-refused
-returns-in-Err-clause-refused g c still p says =
+returns-in-Err-clause-refused g c =
+    rw (← c.cpu.view_is) (λ still p says.
     let runs : c.self.inside.stopped ≡ false = ap (λ (m : Mount g.row.P.Denot). m.stopped) c.self.view_is ∙ c.in_ok-writable.ensures.runs in
     let writes : c.self.inside.read_only ≡ false = ap (λ (m : Mount g.row.P.Denot). m.read_only) c.self.view_is ∙ c.in_ok-writable.ensures.writes in
     let rows = c.self.inside.rows.items in
@@ -158,7 +169,8 @@ returns-in-Err-clause-refused g c still p says =
     let leads : (names : List (List ℕ)) → IsPath c.args.path.now names → LeadsTo (tree_of (g.P.Pmem.region c.self.inside.memory) rows) names c.lend-row.result.inode (node_of (g.P.Pmem.region c.self.inside.memory) c.lend-row.result) = λ names path. subst (λ (r : Row). LeadsTo (tree_of (g.P.Pmem.region c.self.inside.memory) rows) names r.inode (node_of (g.P.Pmem.region c.self.inside.memory) r)) (same_Some _ _ (sym c.in_ok-inode.ensures.held ∙ c.lend-row.ensures.row)) (c.in_ok-inode.ensures.row (g.P.Pmem.region c.self.inside.memory) names path) in
     let numbered = own_row rows inode c.lend-row.result c.lend-row.ensures.row in
     let none = c.in_ok-inode.ensures.refused (g.P.Pmem.region c.self.inside.memory) p says in
-    attr_refused g.P.Pmem.region c.self.view_is c.args.cpu c.in_ok-writable.ensures.passed c.args.path.now c.lend-row.result (node_of (g.P.Pmem.region c.self.inside.memory) c.lend-row.result) numbered leads p says none c.in-Err.refusal c.in-Err.ensures.refused
+    attr_refused g.P.Pmem.region c.self.view_is c.cpu.inside.0 c.in_ok-writable.ensures.passed c.args.path.now c.lend-row.result (node_of (g.P.Pmem.region c.self.inside.memory) c.lend-row.result) numbered leads p says none c.in-Err.refusal c.in-Err.ensures.refused
+    )
 
 pub returns-in-Err-clause-unchanged : goal.returns-in-Err-clause-unchanged
 returns-in-Err-clause-unchanged g c off =
@@ -261,8 +273,8 @@ returns-in-Err-clause-keeps_fuse g c =
 
 pub change_attributes-changed-requires-clause-cpu : goal.change_attributes-changed-requires-clause-cpu
 change_attributes-changed-requires-clause-cpu g c =
-    let low : c.args.cpu < c.self.inside.sup.cpus = subst (λ (m : Mount g.row.P.Denot). c.args.cpu < m.sup.cpus) (sym c.self.view_is) c.in_ok-writable.ensures.cpu in
-    low_pools c.self.invariant.0 c.args.cpu low
+    let low : c.cpu.inside.0 < c.self.inside.sup.cpus = subst (λ (m : Mount g.row.P.Denot). c.cpu.inside.0 < m.sup.cpus) (sym c.self.view_is) c.in_ok-writable.ensures.cpu in
+    low_pools c.self.invariant.0 c.cpu.inside.0 low
 
 pub change_attributes-changed-requires-clause-mode : goal.change_attributes-changed-requires-clause-mode
 change_attributes-changed-requires-clause-mode g c = low_bits c.args.mode
@@ -291,26 +303,30 @@ pub returns-in_err-inode-clause-any_stop : goal.returns-in_err-inode-clause-any_
 returns-in_err-inode-clause-any_stop g c names path on able = call_stays g.P.Pmem.region c.args.self.now (makes_attributes c.args.mode c.args.owner c.args.group c.args.time) (logs_attributes c.args.cpu c.args.mode c.args.owner c.args.group c.args.time) names c.in_ok-writable.ensures.kept on able _ (c.in_ok-writable.ensures.settled on)
 
 pub returns-in-Ok-clause-any_stop : goal.returns-in-Ok-clause-any_stop
-returns-in-Ok-clause-any_stop g c names path on able =
+returns-in-Ok-clause-any_stop g c =
+    rw (← c.cpu.view_is, ← c.time.view_is) (λ names path on able.
     let runs : c.self.inside.stopped ≡ false = ap (λ (m : Mount g.row.P.Denot). m.stopped) c.self.view_is ∙ c.in_ok-writable.ensures.runs in
     let writes : c.self.inside.read_only ≡ false = ap (λ (m : Mount g.row.P.Denot). m.read_only) c.self.view_is ∙ c.in_ok-writable.ensures.writes in
     let rows = c.self.inside.rows.items in
     let inode = c.in_ok-inode.field-0.now.inode in
     let at = at_place rows inode ∙ c.lend-row.ensures.row in
     let leads : LeadsTo (tree_of (g.P.Pmem.region c.self.inside.memory) rows) names c.lend-row.result.inode (node_of (g.P.Pmem.region c.self.inside.memory) c.lend-row.result) = subst (λ (r : Row). LeadsTo (tree_of (g.P.Pmem.region c.self.inside.memory) rows) names r.inode (node_of (g.P.Pmem.region c.self.inside.memory) r)) (same_Some _ _ (sym c.in_ok-inode.ensures.held ∙ c.lend-row.ensures.row)) (c.in_ok-inode.ensures.row (g.P.Pmem.region c.self.inside.memory) names path) in
-    attributes_left g.P.Pmem.region c.self.view_is c.self.invariant.0 runs writes (place_in rows inode) c.lend-row.result at c.args.cpu c.args.mode c.args.owner c.args.group c.args.time names leads _ _ _
+    attributes_left g.P.Pmem.region c.self.view_is c.self.invariant.0 runs writes (place_in rows inode) c.lend-row.result at c.cpu.inside.0 c.args.mode c.args.owner c.args.group c.time.inside.0 names leads _ _ _
     (λ held h shows pending. c.change_attributes-changed.ensures.any_stop held h shows pending) (c.self.invariant.2 runs)
+    )
 
 pub returns-in-Err-clause-any_stop : goal.returns-in-Err-clause-any_stop
-returns-in-Err-clause-any_stop g c names path on able =
+returns-in-Err-clause-any_stop g c =
+    rw (← c.cpu.view_is, ← c.time.view_is) (λ names path on able.
     let runs : c.self.inside.stopped ≡ false = ap (λ (m : Mount g.row.P.Denot). m.stopped) c.self.view_is ∙ c.in_ok-writable.ensures.runs in
     let writes : c.self.inside.read_only ≡ false = ap (λ (m : Mount g.row.P.Denot). m.read_only) c.self.view_is ∙ c.in_ok-writable.ensures.writes in
     let rows = c.self.inside.rows.items in
     let inode = c.in_ok-inode.field-0.now.inode in
     let at = at_place rows inode ∙ c.lend-row.ensures.row in
     let leads : LeadsTo (tree_of (g.P.Pmem.region c.self.inside.memory) rows) names c.lend-row.result.inode (node_of (g.P.Pmem.region c.self.inside.memory) c.lend-row.result) = subst (λ (r : Row). LeadsTo (tree_of (g.P.Pmem.region c.self.inside.memory) rows) names r.inode (node_of (g.P.Pmem.region c.self.inside.memory) r)) (same_Some _ _ (sym c.in_ok-inode.ensures.held ∙ c.lend-row.ensures.row)) (c.in_ok-inode.ensures.row (g.P.Pmem.region c.self.inside.memory) names path) in
-    attributes_left g.P.Pmem.region c.self.view_is c.self.invariant.0 runs writes (place_in rows inode) c.lend-row.result at c.args.cpu c.args.mode c.args.owner c.args.group c.args.time names leads _ _ _
+    attributes_left g.P.Pmem.region c.self.view_is c.self.invariant.0 runs writes (place_in rows inode) c.lend-row.result at c.cpu.inside.0 c.args.mode c.args.owner c.args.group c.time.inside.0 names leads _ _ _
     (λ held h shows pending. c.change_attributes-changed.ensures.any_stop held h shows pending) (c.self.invariant.2 runs)
+    )
 
 pub returns-in_err-writable-clause-read_only : goal.returns-in_err-writable-clause-read_only
 returns-in_err-writable-clause-read_only g c only = same_mount c.args.self.now

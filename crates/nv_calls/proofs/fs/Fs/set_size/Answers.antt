@@ -38,12 +38,14 @@ give_back-requires g c =
     last_used c.self.inside.rows.items c.lend-row.new.self.items c.in_ok-inode.field-0.now.inode c.resize-resized.new.row (in_use c.self.inside.rows.items c.in_ok-inode.field-0.now.inode c.lend-row.result c.lend-row.ensures.row) c.lend-row.ensures.lent (c.resize-resized.ensures.inode ∙ c.lend-row.ensures.number)
 
 pub returns-in_err-writable-clause-refused : goal.returns-in_err-writable-clause-refused
-returns-in_err-writable-clause-refused g c runs p says =
+returns-in_err-writable-clause-refused g c =
+    rw (← c.cpu.view_is) (λ runs p says.
     let tree = tree_of (g.P.Pmem.region c.args.self.now.memory) c.args.self.now.rows in
     let count = resized_blocks c.args.self.now.rows tree p c.args.size in
     let w = err_from_is_err_and c.from_residual.result c.from_residual.ensures.1 in
-    refused_by c.from_residual.result c.in_err-writable.field-0.0 w.0 (IsRefusedBy (first_refusal (set_size_tests (world_of c.args.self.now) tree c.args.cpu p c.args.size count))) w.1 w.2
+    refused_by c.from_residual.result c.in_err-writable.field-0.0 w.0 (IsRefusedBy (first_refusal (set_size_tests (world_of c.args.self.now) tree c.cpu.inside.0 p c.args.size count))) w.1 w.2
     (inr (inr (c.in_err-writable.ensures.refused runs (is_bad p ∷ walk_tests tree p ++ is_missing tree p ∷ is_dir tree p ∷ is_too_large c.args.size ∷ has_no_space (world_of c.args.self.now) count ∷ []))))
+    )
 
 pub returns-in_err-writable-clause-unchanged : goal.returns-in_err-writable-clause-unchanged
 returns-in_err-writable-clause-unchanged g c = if_err c.from_residual.result _ (λ e on. same_mount c.args.self.now)
@@ -52,15 +54,17 @@ pub returns-in_err-writable-clause-stopped : goal.returns-in_err-writable-clause
 returns-in_err-writable-clause-stopped g c runs =
     let w = err_from_is_err_and c.from_residual.result c.from_residual.ensures.1 in
     early_reply c.args.self.now.stopped c.from_residual.result c.in_err-writable.field-0.0 w.0 w.1 w.2
-    (λ is. writing_goes_on (world_of c.args.self.now) c.args.cpu (c.in_err-writable.ensures.refused runs [] ∙ ap (λ (e : Refusal). Some e) is)) runs
+    (λ is. writing_goes_on (world_of c.args.self.now) c.cpu.inside.0 (c.in_err-writable.ensures.refused runs [] ∙ ap (λ (e : Refusal). Some e) is)) runs
 
 pub returns-in_err-inode-clause-refused : goal.returns-in_err-inode-clause-refused
-returns-in_err-inode-clause-refused g c runs p says =
+returns-in_err-inode-clause-refused g c =
+    rw (← c.cpu.view_is) (λ runs p says.
     let tree = tree_of (g.P.Pmem.region c.args.self.now.memory) c.args.self.now.rows in
     let w = err_from_is_err_and c.from_residual-in_err-inode.result c.from_residual-in_err-inode.ensures.1 in
     let told = c.in_err-inode.ensures.refused (g.P.Pmem.region c.self.inside.memory) p says in
-    refused_by c.from_residual-in_err-inode.result c.in_err-inode.field-0.0 w.0 (IsRefusedBy (first_refusal (set_size_tests (world_of c.args.self.now) tree c.args.cpu p c.args.size (resized_blocks c.args.self.now.rows tree p c.args.size)))) w.1 w.2
-    (inr (inr (size_front g.P.Pmem.region c.self.view_is c.args.cpu c.args.size c.in_ok-writable.ensures.passed p c.in_err-inode.field-0.0 told)))
+    refused_by c.from_residual-in_err-inode.result c.in_err-inode.field-0.0 w.0 (IsRefusedBy (first_refusal (set_size_tests (world_of c.args.self.now) tree c.cpu.inside.0 p c.args.size (resized_blocks c.args.self.now.rows tree p c.args.size)))) w.1 w.2
+    (inr (inr (size_front g.P.Pmem.region c.self.view_is c.cpu.inside.0 c.args.size c.in_ok-writable.ensures.passed p c.in_err-inode.field-0.0 told)))
+    )
 
 pub returns-in_err-inode-clause-unchanged : goal.returns-in_err-inode-clause-unchanged
 returns-in_err-inode-clause-unchanged g c = if_err c.from_residual-in_err-inode.result _ (λ e on. same_mount c.args.self.now)
@@ -81,7 +85,7 @@ resize-resized-requires-clause-can g c =
     let inode = c.in_ok-inode.field-0.now.inode in
     let at = at_place rows inode ∙ c.lend-row.ensures.row in
     let file = subst (λ (r : Row). r.kind ≡ File) (same_Some _ _ (sym c.in_ok-inode.ensures.held ∙ c.lend-row.ensures.row)) c.in_ok-inode.ensures.file in
-    can_resize c.self.invariant.0 runs writes (place_in rows inode) c.lend-row.result at c.args.size c.args.time file c.in_ok-inode.ensures.most
+    can_resize c.self.invariant.0 runs writes (place_in rows inode) c.lend-row.result at c.args.size c.time.inside.0 file c.in_ok-inode.ensures.most
 
 pub invariant_of-self : goal.invariant_of-self
 invariant_of-self g c =
@@ -91,7 +95,7 @@ invariant_of-self g c =
     let inode = c.in_ok-inode.field-0.now.inode in
     let at = at_place rows inode ∙ c.lend-row.ensures.row in
     let put = back_one rows c.lend-row.new.self.items c.give_back.new.self.items inode c.resize-resized.new.row c.lend-row.ensures.lent (c.resize-resized.ensures.inode ∙ c.lend-row.ensures.number) c.give_back.ensures.rows in (
-      rw put (kept_after c.self.invariant.0 runs writes (place_in rows inode) c.lend-row.result c.resize-resized.new.row at (resizing c.lend-row.result.numbers.size (sized (node_of (g.P.Pmem.region c.self.inside.memory) c.lend-row.result) c.args.size c.args.time) c.in-Ok.ensures.resized.to)
+      rw put (kept_after c.self.invariant.0 runs writes (place_in rows inode) c.lend-row.result c.resize-resized.new.row at (resizing c.lend-row.result.numbers.size (sized (node_of (g.P.Pmem.region c.self.inside.memory) c.lend-row.result) c.args.size c.time.inside.0) c.in-Ok.ensures.resized.to)
           (λ held h shows. c.in-Ok.ensures.resized.follows held h shows) c.resize-resized.ensures.lists c.self.inside.stopped),
       c.give_back.ensures.sup ∙ c.lend-row.ensures.sup ∙ c.self.invariant.1,
       λ on. c.in-Ok.ensures.settled,
@@ -111,7 +115,8 @@ invariant_of-self-in-Err g c =
     )
 
 pub returns-in-Ok-clause-allowed : goal.returns-in-Ok-clause-allowed
-returns-in-Ok-clause-allowed g c p says =
+returns-in-Ok-clause-allowed g c =
+    rw (← c.cpu.view_is) (λ p says.
     let runs : c.self.inside.stopped ≡ false = ap (λ (m : Mount g.row.P.Denot). m.stopped) c.self.view_is ∙ c.in_ok-writable.ensures.runs in
     let rows = c.self.inside.rows.items in
     let inode = c.in_ok-inode.field-0.now.inode in
@@ -119,13 +124,15 @@ returns-in-Ok-clause-allowed g c p says =
     let leads : (names : List (List ℕ)) → IsPath c.args.path.now names → LeadsTo (tree_of (g.P.Pmem.region c.self.inside.memory) rows) names c.lend-row.result.inode (node_of (g.P.Pmem.region c.self.inside.memory) c.lend-row.result) = λ names path. subst (λ (r : Row). LeadsTo (tree_of (g.P.Pmem.region c.self.inside.memory) rows) names r.inode (node_of (g.P.Pmem.region c.self.inside.memory) r)) (same_Some _ _ (sym c.in_ok-inode.ensures.held ∙ c.lend-row.ensures.row)) (c.in_ok-inode.ensures.row (g.P.Pmem.region c.self.inside.memory) names path) in
     let numbered = own_row rows inode c.lend-row.result c.lend-row.ensures.row in
     let none = c.in_ok-inode.ensures.refused (g.P.Pmem.region c.self.inside.memory) p says in
-    let count = blocks_same c.lend-row.result.tail (sized (node_of (g.P.Pmem.region c.self.inside.memory) c.lend-row.result) c.args.size c.args.time) (record { mode = 0; size = 0; time = 0; owner = 0; group = 0 })
+    let count = blocks_same c.lend-row.result.tail (sized (node_of (g.P.Pmem.region c.self.inside.memory) c.lend-row.result) c.args.size c.time.inside.0) (record { mode = 0; size = 0; time = 0; owner = 0; group = 0 })
     (end_block (block_at c.lend-row.result.index) c.lend-row.result.numbers.size c.args.size) in
-    size_allowed g.P.Pmem.region c.self.view_is c.args.cpu c.args.size c.in_ok-writable.ensures.passed p c.args.path.now c.lend-row.result (node_of (g.P.Pmem.region c.self.inside.memory) c.lend-row.result) numbered leads says none
+    size_allowed g.P.Pmem.region c.self.view_is c.cpu.inside.0 c.args.size c.in_ok-writable.ensures.passed p c.args.path.now c.lend-row.result (node_of (g.P.Pmem.region c.self.inside.memory) c.lend-row.result) numbered leads says none
     (subst (λ (n : ℕ). n ≤ all_blocks c.self.inside.free.pools) count c.in-Ok.ensures.enough)
+    )
 
 pub returns-in-Ok-clause-changed : goal.returns-in-Ok-clause-changed
-returns-in-Ok-clause-changed g c names path =
+returns-in-Ok-clause-changed g c =
+    rw (← c.time.view_is) (λ names path.
     let runs : c.self.inside.stopped ≡ false = ap (λ (m : Mount g.row.P.Denot). m.stopped) c.self.view_is ∙ c.in_ok-writable.ensures.runs in
     let writes : c.self.inside.read_only ≡ false = ap (λ (m : Mount g.row.P.Denot). m.read_only) c.self.view_is ∙ c.in_ok-writable.ensures.writes in
     let rows = c.self.inside.rows.items in
@@ -137,24 +144,28 @@ returns-in-Ok-clause-changed g c names path =
     let has = resized.numbers in
     let led = leads names path in
     let put = back_one rows c.lend-row.new.self.items c.give_back.new.self.items inode c.resize-resized.new.row c.lend-row.ensures.lent (c.resize-resized.ensures.inode ∙ c.lend-row.ensures.number) c.give_back.ensures.rows in
-    rw put (size_changed g.P.Pmem.region c.self.view_is names c.lend-row.result.inode c.args.size c.args.time (tree_of (g.P.Pmem.region c.resize-resized.new.memory) (set c.self.inside.rows.items (place_in rows inode) c.resize-resized.new.row)) led.leads
-    (tree_after c.self.invariant.0 runs writes (place_in rows inode) c.lend-row.result c.resize-resized.new.row at (resizing c.lend-row.result.numbers.size (sized (node_of (g.P.Pmem.region c.self.inside.memory) c.lend-row.result) c.args.size c.args.time) c.in-Ok.ensures.resized.to) follows (with_size c.args.size c.args.time) has.inode
-    (resized_node (g.P.Pmem.region c.self.inside.memory) (g.P.Pmem.region c.resize-resized.new.memory) c.args.size c.args.time has
-    (bytes_after c.self.invariant.0 runs writes (place_in rows inode) c.lend-row.result at c.args.size c.args.time resized))))
+    rw put (size_changed g.P.Pmem.region c.self.view_is names c.lend-row.result.inode c.args.size c.time.inside.0 (tree_of (g.P.Pmem.region c.resize-resized.new.memory) (set c.self.inside.rows.items (place_in rows inode) c.resize-resized.new.row)) led.leads
+    (tree_after c.self.invariant.0 runs writes (place_in rows inode) c.lend-row.result c.resize-resized.new.row at (resizing c.lend-row.result.numbers.size (sized (node_of (g.P.Pmem.region c.self.inside.memory) c.lend-row.result) c.args.size c.time.inside.0) c.in-Ok.ensures.resized.to) follows (with_size c.args.size c.time.inside.0) has.inode
+    (resized_node (g.P.Pmem.region c.self.inside.memory) (g.P.Pmem.region c.resize-resized.new.memory) c.args.size c.time.inside.0 has
+    (bytes_after c.self.invariant.0 runs writes (place_in rows inode) c.lend-row.result at c.args.size c.time.inside.0 resized))))
+    )
 
 pub returns-in-Ok-clause-log : goal.returns-in-Ok-clause-log
-returns-in-Ok-clause-log g c names i node held h path led sound is =
+returns-in-Ok-clause-log g c =
+    rw (← c.cpu.view_is, ← c.time.view_is) (λ names i node held h path led sound is.
     let runs : c.self.inside.stopped ≡ false = ap (λ (m : Mount g.row.P.Denot). m.stopped) c.self.view_is ∙ c.in_ok-writable.ensures.runs in
     let writes : c.self.inside.read_only ≡ false = ap (λ (m : Mount g.row.P.Denot). m.read_only) c.self.view_is ∙ c.in_ok-writable.ensures.writes in
     let rows = c.self.inside.rows.items in
     let inode = c.in_ok-inode.field-0.now.inode in
     let at = at_place rows inode ∙ c.lend-row.ensures.row in
     let leads : (names : List (List ℕ)) → IsPath c.args.path.now names → LeadsTo (tree_of (g.P.Pmem.region c.self.inside.memory) rows) names c.lend-row.result.inode (node_of (g.P.Pmem.region c.self.inside.memory) c.lend-row.result) = λ names path. subst (λ (r : Row). LeadsTo (tree_of (g.P.Pmem.region c.self.inside.memory) rows) names r.inode (node_of (g.P.Pmem.region c.self.inside.memory) r)) (same_Some _ _ (sym c.in_ok-inode.ensures.held ∙ c.lend-row.ensures.row)) (c.in_ok-inode.ensures.row (g.P.Pmem.region c.self.inside.memory) names path) in
-    size_logged g.P.Pmem.region c.self.view_is (g.P.Pmem.region c.resize-resized.new.memory) names c.lend-row.result c.args.size c.args.time i node held h (leads names path)
-    (λ st k shown holds. log_after c.self.invariant.0 runs writes (place_in rows inode) c.lend-row.result at c.args.size c.args.time c.in-Ok.ensures.resized st k shown holds) led sound is
+    size_logged g.P.Pmem.region c.self.view_is (g.P.Pmem.region c.resize-resized.new.memory) names c.lend-row.result c.args.size c.time.inside.0 i node held h (leads names path)
+    (λ st k shown holds. log_after c.self.invariant.0 runs writes (place_in rows inode) c.lend-row.result at c.args.size c.time.inside.0 c.in-Ok.ensures.resized st k shown holds) led sound is
+    )
 
 pub returns-in-Err-clause-refused : goal.returns-in-Err-clause-refused
-returns-in-Err-clause-refused g c still p says =
+returns-in-Err-clause-refused g c =
+    rw (← c.cpu.view_is) (λ still p says.
     let runs : c.self.inside.stopped ≡ false = ap (λ (m : Mount g.row.P.Denot). m.stopped) c.self.view_is ∙ c.in_ok-writable.ensures.runs in
     let rows = c.self.inside.rows.items in
     let inode = c.in_ok-inode.field-0.now.inode in
@@ -162,10 +173,11 @@ returns-in-Err-clause-refused g c still p says =
     let leads : (names : List (List ℕ)) → IsPath c.args.path.now names → LeadsTo (tree_of (g.P.Pmem.region c.self.inside.memory) rows) names c.lend-row.result.inode (node_of (g.P.Pmem.region c.self.inside.memory) c.lend-row.result) = λ names path. subst (λ (r : Row). LeadsTo (tree_of (g.P.Pmem.region c.self.inside.memory) rows) names r.inode (node_of (g.P.Pmem.region c.self.inside.memory) r)) (same_Some _ _ (sym c.in_ok-inode.ensures.held ∙ c.lend-row.ensures.row)) (c.in_ok-inode.ensures.row (g.P.Pmem.region c.self.inside.memory) names path) in
     let numbered = own_row rows inode c.lend-row.result c.lend-row.ensures.row in
     let none = c.in_ok-inode.ensures.refused (g.P.Pmem.region c.self.inside.memory) p says in
-    let count = blocks_same c.lend-row.result.tail (sized (node_of (g.P.Pmem.region c.self.inside.memory) c.lend-row.result) c.args.size c.args.time) (record { mode = 0; size = 0; time = 0; owner = 0; group = 0 })
+    let count = blocks_same c.lend-row.result.tail (sized (node_of (g.P.Pmem.region c.self.inside.memory) c.lend-row.result) c.args.size c.time.inside.0) (record { mode = 0; size = 0; time = 0; owner = 0; group = 0 })
     (end_block (block_at c.lend-row.result.index) c.lend-row.result.numbers.size c.args.size) in
-    size_refused g.P.Pmem.region c.self.view_is c.args.cpu c.args.size c.in_ok-writable.ensures.passed p c.args.path.now c.lend-row.result (node_of (g.P.Pmem.region c.self.inside.memory) c.lend-row.result) numbered leads says none c.in-Err.refusal
+    size_refused g.P.Pmem.region c.self.view_is c.cpu.inside.0 c.args.size c.in_ok-writable.ensures.passed p c.args.path.now c.lend-row.result (node_of (g.P.Pmem.region c.self.inside.memory) c.lend-row.result) numbered leads says none c.in-Err.refusal
     (subst (λ (n : ℕ). RefusesStep c.in-Err.refusal n c.self.inside.free) count c.in-Err.ensures.refused)
+    )
 
 pub returns-in-Err-clause-unchanged : goal.returns-in-Err-clause-unchanged
 returns-in-Err-clause-unchanged g c off =
@@ -198,26 +210,30 @@ pub returns-in_err-inode-clause-any_stop : goal.returns-in_err-inode-clause-any_
 returns-in_err-inode-clause-any_stop g c names path on able = call_stays g.P.Pmem.region c.args.self.now (makes_size c.args.size c.args.time) (logs_size c.args.cpu c.args.size c.args.time) names c.in_ok-writable.ensures.kept on able _ (c.in_ok-writable.ensures.settled on)
 
 pub returns-in-Ok-clause-any_stop : goal.returns-in-Ok-clause-any_stop
-returns-in-Ok-clause-any_stop g c names path on able =
+returns-in-Ok-clause-any_stop g c =
+    rw (← c.cpu.view_is, ← c.time.view_is) (λ names path on able.
     let runs : c.self.inside.stopped ≡ false = ap (λ (m : Mount g.row.P.Denot). m.stopped) c.self.view_is ∙ c.in_ok-writable.ensures.runs in
     let writes : c.self.inside.read_only ≡ false = ap (λ (m : Mount g.row.P.Denot). m.read_only) c.self.view_is ∙ c.in_ok-writable.ensures.writes in
     let rows = c.self.inside.rows.items in
     let inode = c.in_ok-inode.field-0.now.inode in
     let at = at_place rows inode ∙ c.lend-row.ensures.row in
     let leads : LeadsTo (tree_of (g.P.Pmem.region c.self.inside.memory) rows) names c.lend-row.result.inode (node_of (g.P.Pmem.region c.self.inside.memory) c.lend-row.result) = subst (λ (r : Row). LeadsTo (tree_of (g.P.Pmem.region c.self.inside.memory) rows) names r.inode (node_of (g.P.Pmem.region c.self.inside.memory) r)) (same_Some _ _ (sym c.in_ok-inode.ensures.held ∙ c.lend-row.ensures.row)) (c.in_ok-inode.ensures.row (g.P.Pmem.region c.self.inside.memory) names path) in
-    size_left g.P.Pmem.region c.self.view_is c.self.invariant.0 runs writes (place_in rows inode) c.lend-row.result at c.args.cpu c.args.size c.args.time names leads _ _ _
+    size_left g.P.Pmem.region c.self.view_is c.self.invariant.0 runs writes (place_in rows inode) c.lend-row.result at c.cpu.inside.0 c.args.size c.time.inside.0 names leads _ _ _
     (λ held h shows pending. c.resize-resized.ensures.any_stop held h shows pending) (c.self.invariant.2 runs)
+    )
 
 pub returns-in-Err-clause-any_stop : goal.returns-in-Err-clause-any_stop
-returns-in-Err-clause-any_stop g c names path on able =
+returns-in-Err-clause-any_stop g c =
+    rw (← c.cpu.view_is, ← c.time.view_is) (λ names path on able.
     let runs : c.self.inside.stopped ≡ false = ap (λ (m : Mount g.row.P.Denot). m.stopped) c.self.view_is ∙ c.in_ok-writable.ensures.runs in
     let writes : c.self.inside.read_only ≡ false = ap (λ (m : Mount g.row.P.Denot). m.read_only) c.self.view_is ∙ c.in_ok-writable.ensures.writes in
     let rows = c.self.inside.rows.items in
     let inode = c.in_ok-inode.field-0.now.inode in
     let at = at_place rows inode ∙ c.lend-row.ensures.row in
     let leads : LeadsTo (tree_of (g.P.Pmem.region c.self.inside.memory) rows) names c.lend-row.result.inode (node_of (g.P.Pmem.region c.self.inside.memory) c.lend-row.result) = subst (λ (r : Row). LeadsTo (tree_of (g.P.Pmem.region c.self.inside.memory) rows) names r.inode (node_of (g.P.Pmem.region c.self.inside.memory) r)) (same_Some _ _ (sym c.in_ok-inode.ensures.held ∙ c.lend-row.ensures.row)) (c.in_ok-inode.ensures.row (g.P.Pmem.region c.self.inside.memory) names path) in
-    size_left g.P.Pmem.region c.self.view_is c.self.invariant.0 runs writes (place_in rows inode) c.lend-row.result at c.args.cpu c.args.size c.args.time names leads _ _ _
+    size_left g.P.Pmem.region c.self.view_is c.self.invariant.0 runs writes (place_in rows inode) c.lend-row.result at c.cpu.inside.0 c.args.size c.time.inside.0 names leads _ _ _
     (λ held h shows pending. c.resize-resized.ensures.any_stop held h shows pending) (c.self.invariant.2 runs)
+    )
 
 pub returns-in_err-writable-clause-bad_text : goal.returns-in_err-writable-clause-bad_text
 returns-in_err-writable-clause-bad_text g c bad = same_mount c.args.self.now

@@ -47,12 +47,14 @@ use Rattle.nv_calls.proofs.fs.Fs.unlink.Goals as goal
 use Rattle.nv_calls.proofs.FrontsKept.{released_front}
 
 pub returns-in_err-writable-clause-refused : goal.returns-in_err-writable-clause-refused
-returns-in_err-writable-clause-refused g c runs p says =
+returns-in_err-writable-clause-refused g c =
+    rw (← c.cpu.view_is) (λ runs p says.
     let tree = tree_of (g.P.Pmem.region c.args.self.now.memory) c.args.self.now.rows in
     let count = unlink_blocks c.args.self.now.rows tree p in
     let w = err_from_is_err_and c.from_residual.result c.from_residual.ensures.1 in
-    refused_by c.from_residual.result c.in_err-writable.field-0.0 w.0 (IsRefusedBy (first_refusal (unlink_tests (world_of c.args.self.now) tree c.args.cpu p count))) w.1 w.2
+    refused_by c.from_residual.result c.in_err-writable.field-0.0 w.0 (IsRefusedBy (first_refusal (unlink_tests (world_of c.args.self.now) tree c.cpu.inside.0 p count))) w.1 w.2
     (inr (inr (c.in_err-writable.ensures.refused runs (is_bad_name p ∷ walk_tests tree p ++ is_missing tree p ∷ is_dir tree p ∷ has_no_space (world_of c.args.self.now) count ∷ []))))
+    )
 
 pub returns-in_err-writable-clause-unchanged : goal.returns-in_err-writable-clause-unchanged
 returns-in_err-writable-clause-unchanged g c = if_err c.from_residual.result _ (λ e on. same_mount c.args.self.now)
@@ -61,18 +63,20 @@ pub returns-in_err-writable-clause-stopped : goal.returns-in_err-writable-clause
 returns-in_err-writable-clause-stopped g c runs =
     let w = err_from_is_err_and c.from_residual.result c.from_residual.ensures.1 in
     early_reply c.args.self.now.stopped c.from_residual.result c.in_err-writable.field-0.0 w.0 w.1 w.2
-    (λ is. writing_goes_on (world_of c.args.self.now) c.args.cpu (c.in_err-writable.ensures.refused runs [] ∙ ap (λ (e : Refusal). Some e) is)) runs
+    (λ is. writing_goes_on (world_of c.args.self.now) c.cpu.inside.0 (c.in_err-writable.ensures.refused runs [] ∙ ap (λ (e : Refusal). Some e) is)) runs
 
 pub returns-in_err-named-clause-refused : goal.returns-in_err-named-clause-refused
-returns-in_err-named-clause-refused g c still p says =
+returns-in_err-named-clause-refused g c =
+    rw (← c.cpu.view_is) (λ still p says.
     let told : first_refusal (unlink_spot_tests (tree_of (g.P.Pmem.region c.args.self.now.memory) c.args.self.now.rows) p) ≡ Some c.in_err-named.field-0.0 =
     subst (λ (m : Mount g.row.P.Denot). first_refusal (unlink_spot_tests (tree_of (g.P.Pmem.region m.memory) m.rows) p) ≡ Some c.in_err-named.field-0.0) c.self.view_is
     (c.in_err-named.ensures.refused (g.P.Pmem.region c.self.inside.memory) p says) in
     let tree = tree_of (g.P.Pmem.region c.args.self.now.memory) c.args.self.now.rows in
     let count = unlink_blocks c.args.self.now.rows tree p in
     let w = err_from_is_err_and c.from_residual-in_err-named.result c.from_residual-in_err-named.ensures.1 in
-    refused_by c.from_residual-in_err-named.result c.in_err-named.field-0.0 w.0 (IsRefusedBy (first_refusal (unlink_tests (world_of c.args.self.now) tree c.args.cpu p count))) w.1 w.2
-    (inr (inr (unlink_refuses tree p (world_of c.args.self.now) c.args.cpu c.in_ok-writable.ensures.passed count c.in_err-named.field-0.0 told)))
+    refused_by c.from_residual-in_err-named.result c.in_err-named.field-0.0 w.0 (IsRefusedBy (first_refusal (unlink_tests (world_of c.args.self.now) tree c.cpu.inside.0 p count))) w.1 w.2
+    (inr (inr (unlink_refuses tree p (world_of c.args.self.now) c.cpu.inside.0 c.in_ok-writable.ensures.passed count c.in_err-named.field-0.0 told)))
+    )
 
 pub returns-in_err-named-clause-unchanged : goal.returns-in_err-named-clause-unchanged
 returns-in_err-named-clause-unchanged g c =
@@ -90,21 +94,21 @@ pub release_at-requires-clause-stands : goal.release_at-requires-clause-stands
 release_at-requires-clause-stands g c row at =
     let runs : c.self.inside.stopped ≡ false = ap (λ (m : Mount g.row.P.Denot). m.stopped) c.self.view_is ∙ c.in_ok-writable.ensures.runs in
     let writes : c.self.inside.read_only ≡ false = ap (λ (m : Mount g.row.P.Denot). m.read_only) c.self.view_is ∙ c.in_ok-writable.ensures.writes in
-    let low : c.args.cpu < c.self.inside.sup.cpus = subst (λ (m : Mount g.row.P.Denot). c.args.cpu < m.sup.cpus) (sym c.self.view_is) c.in_ok-writable.ensures.cpu in
-    row_commits c.self.invariant.0 runs writes row (stands c.self.inside.rows.items (place_in c.self.inside.rows.items c.in_ok-named.named.directory) row (at_place c.self.inside.rows.items c.in_ok-named.named.directory ∙ at)) c.args.cpu low
+    let low : c.cpu.inside.0 < c.self.inside.sup.cpus = subst (λ (m : Mount g.row.P.Denot). c.cpu.inside.0 < m.sup.cpus) (sym c.self.view_is) c.in_ok-writable.ensures.cpu in
+    row_commits c.self.invariant.0 runs writes row (stands c.self.inside.rows.items (place_in c.self.inside.rows.items c.in_ok-named.named.directory) row (at_place c.self.inside.rows.items c.in_ok-named.named.directory ∙ at)) c.cpu.inside.0 low
 
 pub release_at-requires-clause-can : goal.release_at-requires-clause-can
 release_at-requires-clause-can g c row file at there =
     let runs : c.self.inside.stopped ≡ false = ap (λ (m : Mount g.row.P.Denot). m.stopped) c.self.view_is ∙ c.in_ok-writable.ensures.runs in
     let writes : c.self.inside.read_only ≡ false = ap (λ (m : Mount g.row.P.Denot). m.read_only) c.self.view_is ∙ c.in_ok-writable.ensures.writes in
-    let low : c.args.cpu < c.self.inside.sup.cpus = subst (λ (m : Mount g.row.P.Denot). c.args.cpu < m.sup.cpus) (sym c.self.view_is) c.in_ok-writable.ensures.cpu in
+    let low : c.cpu.inside.0 < c.self.inside.sup.cpus = subst (λ (m : Mount g.row.P.Denot). c.cpu.inside.0 < m.sup.cpus) (sym c.self.view_is) c.in_ok-writable.ensures.cpu in
     let spot : (names : List (List ℕ)) → IsPath c.args.path.now names → IsNamedAt (tree_of (g.P.Pmem.region c.self.inside.memory) c.self.inside.rows.items) c.self.inside.rows.items names (place_in c.self.inside.rows.items c.in_ok-named.named.directory) c.in_ok-named.named.name.now (place_in c.self.inside.rows.items c.in_ok-named.named.target) =
     λ names path. c.in_ok-named.ensures.spot (g.P.Pmem.region c.self.inside.memory) names path in
     let path = c.in_ok-named.ensures.path in
     let files : (row : Row) → slice_get c.self.inside.rows.items (place_in c.self.inside.rows.items c.in_ok-named.named.target) ≡ Some row → row.kind ≡ File = λ row at. c.in_ok-named.ensures.file row (sym (at_place c.self.inside.rows.items c.in_ok-named.named.target) ∙ at) in
     let rises = rows_rise (g.P.Pmem.region c.self.inside.memory) c.self.inside.sup c.self.inside.rows.items c.self.inside.free c.self.inside.faults.items c.self.inside.read_only c.self.inside.stopped c.self.invariant.0 runs in
     let here = spot path.0 path.1 in (
-      can_name c.self.invariant.0 runs writes c.args.cpu file.inode low (row_number c.self.invariant.0 runs writes file (stands c.self.inside.rows.items (place_in c.self.inside.rows.items c.in_ok-named.named.target) file (at_place c.self.inside.rows.items c.in_ok-named.named.target ∙ there))) row (stands c.self.inside.rows.items (place_in c.self.inside.rows.items c.in_ok-named.named.directory) row (at_place c.self.inside.rows.items c.in_ok-named.named.directory ∙ at)),
+      can_name c.self.invariant.0 runs writes c.cpu.inside.0 file.inode low (row_number c.self.invariant.0 runs writes file (stands c.self.inside.rows.items (place_in c.self.inside.rows.items c.in_ok-named.named.target) file (at_place c.self.inside.rows.items c.in_ok-named.named.target ∙ there))) row (stands c.self.inside.rows.items (place_in c.self.inside.rows.items c.in_ok-named.named.directory) row (at_place c.self.inside.rows.items c.in_ok-named.named.directory ∙ at)),
       (λ same. kinds_differ c.self.inside.rows.items (place_in c.self.inside.rows.items c.in_ok-named.named.target) (place_in c.self.inside.rows.items c.in_ok-named.named.directory) file row rises (at_place c.self.inside.rows.items c.in_ok-named.named.target ∙ there) (at_place c.self.inside.rows.items c.in_ok-named.named.directory ∙ at) (c.in_ok-named.ensures.file file there) (here.directory row (at_place c.self.inside.rows.items c.in_ok-named.named.directory ∙ at)).1 (sym same)),
     )
 
@@ -134,7 +138,8 @@ invariant_of-self-in-Err g c =
     )
 
 pub returns-in-Ok-clause-allowed : goal.returns-in-Ok-clause-allowed
-returns-in-Ok-clause-allowed g c p says =
+returns-in-Ok-clause-allowed g c =
+    rw (← c.cpu.view_is) (λ p says.
     let runs : c.self.inside.stopped ≡ false = ap (λ (m : Mount g.row.P.Denot). m.stopped) c.self.view_is ∙ c.in_ok-writable.ensures.runs in
     let spot : (names : List (List ℕ)) → IsPath c.args.path.now names → IsNamedAt (tree_of (g.P.Pmem.region c.self.inside.memory) c.self.inside.rows.items) c.self.inside.rows.items names (place_in c.self.inside.rows.items c.in_ok-named.named.directory) c.in_ok-named.named.name.now (place_in c.self.inside.rows.items c.in_ok-named.named.target) =
     λ names path. c.in_ok-named.ensures.spot (g.P.Pmem.region c.self.inside.memory) names path in
@@ -143,40 +148,48 @@ returns-in-Ok-clause-allowed g c p says =
     let i = row_in_use c.self.inside.rows.items c.in_ok-named.named.target c.in_ok-named.ensures.target in
     let none : first_refusal (unlink_spot_tests (tree_of (g.P.Pmem.region c.self.inside.memory) c.self.inside.rows.items) p) ≡ None =
     c.in_ok-named.ensures.allowed (g.P.Pmem.region c.self.inside.memory) p says in
-    let last = unlink_last_test g.P.Pmem.region c.self.view_is c.args.cpu c.in_ok-writable.ensures.passed (place_in c.self.inside.rows.items c.in_ok-named.named.directory) (place_in c.self.inside.rows.items c.in_ok-named.named.target) r.0 i.0 (at_place c.self.inside.rows.items c.in_ok-named.named.directory ∙ r.1) (at_place c.self.inside.rows.items c.in_ok-named.named.target ∙ i.1) rises c.in_ok-named.named.name.now c.args.time c.args.path.now spot p says none in
-    let tests = unlink_refusal g.P.Pmem.region c.self.view_is c.args.cpu c.in_ok-writable.ensures.passed (place_in c.self.inside.rows.items c.in_ok-named.named.directory) (place_in c.self.inside.rows.items c.in_ok-named.named.target) r.0 i.0 (at_place c.self.inside.rows.items c.in_ok-named.named.directory ∙ r.1) (at_place c.self.inside.rows.items c.in_ok-named.named.target ∙ i.1) rises c.in_ok-named.named.name.now c.args.time c.args.path.now spot p says none in
-    space_allows c.self.view_is tests (release_blocks r.0 i.0 c.in_ok-named.named.name.now c.args.time) last (c.in-Ok.ensures.enough r.0 i.0 r.1 i.1)
+    let last = unlink_last_test g.P.Pmem.region c.self.view_is c.cpu.inside.0 c.in_ok-writable.ensures.passed (place_in c.self.inside.rows.items c.in_ok-named.named.directory) (place_in c.self.inside.rows.items c.in_ok-named.named.target) r.0 i.0 (at_place c.self.inside.rows.items c.in_ok-named.named.directory ∙ r.1) (at_place c.self.inside.rows.items c.in_ok-named.named.target ∙ i.1) rises c.in_ok-named.named.name.now c.time.inside.0 c.args.path.now spot p says none in
+    let tests = unlink_refusal g.P.Pmem.region c.self.view_is c.cpu.inside.0 c.in_ok-writable.ensures.passed (place_in c.self.inside.rows.items c.in_ok-named.named.directory) (place_in c.self.inside.rows.items c.in_ok-named.named.target) r.0 i.0 (at_place c.self.inside.rows.items c.in_ok-named.named.directory ∙ r.1) (at_place c.self.inside.rows.items c.in_ok-named.named.target ∙ i.1) rises c.in_ok-named.named.name.now c.time.inside.0 c.args.path.now spot p says none in
+    space_allows c.self.view_is tests (release_blocks r.0 i.0 c.in_ok-named.named.name.now c.time.inside.0) last (c.in-Ok.ensures.enough r.0 i.0 r.1 i.1)
+    )
 
 pub returns-in-Ok-clause-changed : goal.returns-in-Ok-clause-changed
-returns-in-Ok-clause-changed g c names path =
+returns-in-Ok-clause-changed g c =
+    rw (← c.time.view_is) (λ names path.
     let runs : c.self.inside.stopped ≡ false = ap (λ (m : Mount g.row.P.Denot). m.stopped) c.self.view_is ∙ c.in_ok-writable.ensures.runs in
     let writes : c.self.inside.read_only ≡ false = ap (λ (m : Mount g.row.P.Denot). m.read_only) c.self.view_is ∙ c.in_ok-writable.ensures.writes in
     let spot : (names : List (List ℕ)) → IsPath c.args.path.now names → IsNamedAt (tree_of (g.P.Pmem.region c.self.inside.memory) c.self.inside.rows.items) c.self.inside.rows.items names (place_in c.self.inside.rows.items c.in_ok-named.named.directory) c.in_ok-named.named.name.now (place_in c.self.inside.rows.items c.in_ok-named.named.target) =
     λ names path. c.in_ok-named.ensures.spot (g.P.Pmem.region c.self.inside.memory) names path in
     let files : (row : Row) → slice_get c.self.inside.rows.items (place_in c.self.inside.rows.items c.in_ok-named.named.target) ≡ Some row → row.kind ≡ File = λ row at. c.in_ok-named.ensures.file row (sym (at_place c.self.inside.rows.items c.in_ok-named.named.target) ∙ at) in
-    subst (λ (m : Mount g.row.P.Denot). SameTree (tree_of (g.P.Pmem.region c.release_at.new.memory) c.release_at.new.rows.items) (unlinked names c.args.time (tree_of (g.P.Pmem.region m.memory) m.rows))) c.self.view_is
+    subst (λ (m : Mount g.row.P.Denot). SameTree (tree_of (g.P.Pmem.region c.release_at.new.memory) c.release_at.new.rows.items) (unlinked names c.time.inside.0 (tree_of (g.P.Pmem.region m.memory) m.rows))) c.self.view_is
     (unlink_tree c.self.invariant.0 runs writes c.in-Ok.ensures.released c.in_ok-named.ensures.name files names (spot names path))
+    )
 
 pub returns-in-Ok-clause-log : goal.returns-in-Ok-clause-log
-returns-in-Ok-clause-log g c names i d node held h f path led ended sound is other_is some =
+returns-in-Ok-clause-log g c =
+    rw (← c.cpu.view_is, ← c.time.view_is) (λ names i d node held h f path led ended sound is other_is some.
     let runs : c.self.inside.stopped ≡ false = ap (λ (m : Mount g.row.P.Denot). m.stopped) c.self.view_is ∙ c.in_ok-writable.ensures.runs in
     let writes : c.self.inside.read_only ≡ false = ap (λ (m : Mount g.row.P.Denot). m.read_only) c.self.view_is ∙ c.in_ok-writable.ensures.writes in
     let spot : (names : List (List ℕ)) → IsPath c.args.path.now names → IsNamedAt (tree_of (g.P.Pmem.region c.self.inside.memory) c.self.inside.rows.items) c.self.inside.rows.items names (place_in c.self.inside.rows.items c.in_ok-named.named.directory) c.in_ok-named.named.name.now (place_in c.self.inside.rows.items c.in_ok-named.named.target) =
     λ names path. c.in_ok-named.ensures.spot (g.P.Pmem.region c.self.inside.memory) names path in
     let files : (row : Row) → slice_get c.self.inside.rows.items (place_in c.self.inside.rows.items c.in_ok-named.named.target) ≡ Some row → row.kind ≡ File = λ row at. c.in_ok-named.ensures.file row (sym (at_place c.self.inside.rows.items c.in_ok-named.named.target) ∙ at) in
     subst (λ (m : Mount g.row.P.Denot). LeadsTo (tree_of (g.P.Pmem.region m.memory) m.rows) names i node → walk (tree_of (g.P.Pmem.region m.memory) m.rows) 1 names ≡ Ok d → ShowsSound (g.P.Pmem.region m.memory) m.sup held
-    → ShowsBothGrew (g.P.Pmem.region c.release_at.new.memory) m.sup m.free.pools c.args.cpu held d h (name_entries Remove i (last_name names) c.args.time) i f (links_entries (node.links - 1) c.args.time)) c.self.view_is
+    → ShowsBothGrew (g.P.Pmem.region c.release_at.new.memory) m.sup m.free.pools c.cpu.inside.0 held d h (name_entries Remove i (last_name names) c.time.inside.0) i f (links_entries (node.links - 1) c.time.inside.0)) c.self.view_is
     (λ leads walked shown. unlink_logs c.self.invariant.0 runs writes (released_at c.in-Ok.ensures.released) c.in_ok-named.ensures.name files names (spot names path) i d node held h f leads walked shown is other_is some) led ended sound
+    )
 
 pub returns-in-Ok-clause-journals : goal.returns-in-Ok-clause-journals
 returns-in-Ok-clause-journals g c =
+    rw (← c.cpu.view_is) (
     let runs : c.self.inside.stopped ≡ false = ap (λ (m : Mount g.row.P.Denot). m.stopped) c.self.view_is ∙ c.in_ok-writable.ensures.runs in
     let writes : c.self.inside.read_only ≡ false = ap (λ (m : Mount g.row.P.Denot). m.read_only) c.self.view_is ∙ c.in_ok-writable.ensures.writes in
-    subst (λ (m : Mount g.row.P.Denot). SameFrontBut m.sup.cpus c.args.cpu (g.P.Pmem.region m.memory) (g.P.Pmem.region c.release_at.new.memory)) c.self.view_is
+    subst (λ (m : Mount g.row.P.Denot). SameFrontBut m.sup.cpus c.cpu.inside.0 (g.P.Pmem.region m.memory) (g.P.Pmem.region c.release_at.new.memory)) c.self.view_is
     (released_front c.self.invariant.0 runs writes c.in-Ok.ensures.released)
+    )
 
 pub returns-in-Err-clause-refused : goal.returns-in-Err-clause-refused
-returns-in-Err-clause-refused g c still p says =
+returns-in-Err-clause-refused g c =
+    rw (← c.cpu.view_is) (λ still p says.
     let runs : c.self.inside.stopped ≡ false = ap (λ (m : Mount g.row.P.Denot). m.stopped) c.self.view_is ∙ c.in_ok-writable.ensures.runs in
     let spot : (names : List (List ℕ)) → IsPath c.args.path.now names → IsNamedAt (tree_of (g.P.Pmem.region c.self.inside.memory) c.self.inside.rows.items) c.self.inside.rows.items names (place_in c.self.inside.rows.items c.in_ok-named.named.directory) c.in_ok-named.named.name.now (place_in c.self.inside.rows.items c.in_ok-named.named.target) =
     λ names path. c.in_ok-named.ensures.spot (g.P.Pmem.region c.self.inside.memory) names path in
@@ -185,9 +198,10 @@ returns-in-Err-clause-refused g c still p says =
     let i = row_in_use c.self.inside.rows.items c.in_ok-named.named.target c.in_ok-named.ensures.target in
     let none : first_refusal (unlink_spot_tests (tree_of (g.P.Pmem.region c.self.inside.memory) c.self.inside.rows.items) p) ≡ None =
     c.in_ok-named.ensures.allowed (g.P.Pmem.region c.self.inside.memory) p says in
-    let last = unlink_last_test g.P.Pmem.region c.self.view_is c.args.cpu c.in_ok-writable.ensures.passed (place_in c.self.inside.rows.items c.in_ok-named.named.directory) (place_in c.self.inside.rows.items c.in_ok-named.named.target) r.0 i.0 (at_place c.self.inside.rows.items c.in_ok-named.named.directory ∙ r.1) (at_place c.self.inside.rows.items c.in_ok-named.named.target ∙ i.1) rises c.in_ok-named.named.name.now c.args.time c.args.path.now spot p says none in
-    let tests = unlink_refusal g.P.Pmem.region c.self.view_is c.args.cpu c.in_ok-writable.ensures.passed (place_in c.self.inside.rows.items c.in_ok-named.named.directory) (place_in c.self.inside.rows.items c.in_ok-named.named.target) r.0 i.0 (at_place c.self.inside.rows.items c.in_ok-named.named.directory ∙ r.1) (at_place c.self.inside.rows.items c.in_ok-named.named.target ∙ i.1) rises c.in_ok-named.named.name.now c.args.time c.args.path.now spot p says none in
-    space_refuses c.self.view_is tests (release_blocks r.0 i.0 c.in_ok-named.named.name.now c.args.time) last c.in-Err.refusal (c.in-Err.ensures.refused r.0 i.0 r.1 i.1)
+    let last = unlink_last_test g.P.Pmem.region c.self.view_is c.cpu.inside.0 c.in_ok-writable.ensures.passed (place_in c.self.inside.rows.items c.in_ok-named.named.directory) (place_in c.self.inside.rows.items c.in_ok-named.named.target) r.0 i.0 (at_place c.self.inside.rows.items c.in_ok-named.named.directory ∙ r.1) (at_place c.self.inside.rows.items c.in_ok-named.named.target ∙ i.1) rises c.in_ok-named.named.name.now c.time.inside.0 c.args.path.now spot p says none in
+    let tests = unlink_refusal g.P.Pmem.region c.self.view_is c.cpu.inside.0 c.in_ok-writable.ensures.passed (place_in c.self.inside.rows.items c.in_ok-named.named.directory) (place_in c.self.inside.rows.items c.in_ok-named.named.target) r.0 i.0 (at_place c.self.inside.rows.items c.in_ok-named.named.directory ∙ r.1) (at_place c.self.inside.rows.items c.in_ok-named.named.target ∙ i.1) rises c.in_ok-named.named.name.now c.time.inside.0 c.args.path.now spot p says none in
+    space_refuses c.self.view_is tests (release_blocks r.0 i.0 c.in_ok-named.named.name.now c.time.inside.0) last c.in-Err.refusal (c.in-Err.ensures.refused r.0 i.0 r.1 i.1)
+    )
 
 pub returns-in-Err-clause-unchanged : goal.returns-in-Err-clause-unchanged
 returns-in-Err-clause-unchanged g c off =
@@ -214,18 +228,20 @@ pub release_at-requires-clause-file_stands : goal.release_at-requires-clause-fil
 release_at-requires-clause-file_stands g c file at =
     let runs : c.self.inside.stopped ≡ false = ap (λ (m : Mount g.row.P.Denot). m.stopped) c.self.view_is ∙ c.in_ok-writable.ensures.runs in
     let writes : c.self.inside.read_only ≡ false = ap (λ (m : Mount g.row.P.Denot). m.read_only) c.self.view_is ∙ c.in_ok-writable.ensures.writes in
-    let low : c.args.cpu < c.self.inside.sup.cpus = subst (λ (m : Mount g.row.P.Denot). c.args.cpu < m.sup.cpus) (sym c.self.view_is) c.in_ok-writable.ensures.cpu in
-    row_commits c.self.invariant.0 runs writes file (stands c.self.inside.rows.items (place_in c.self.inside.rows.items c.in_ok-named.named.target) file (at_place c.self.inside.rows.items c.in_ok-named.named.target ∙ at)) c.args.cpu low
+    let low : c.cpu.inside.0 < c.self.inside.sup.cpus = subst (λ (m : Mount g.row.P.Denot). c.cpu.inside.0 < m.sup.cpus) (sym c.self.view_is) c.in_ok-writable.ensures.cpu in
+    row_commits c.self.invariant.0 runs writes file (stands c.self.inside.rows.items (place_in c.self.inside.rows.items c.in_ok-named.named.target) file (at_place c.self.inside.rows.items c.in_ok-named.named.target ∙ at)) c.cpu.inside.0 low
 
 pub returns-in-Ok-clause-last : goal.returns-in-Ok-clause-last
-returns-in-Ok-clause-last g c names i d node held h path led ended sound is few =
+returns-in-Ok-clause-last g c =
+    rw (← c.cpu.view_is, ← c.time.view_is) (λ names i d node held h path led ended sound is few.
     let runs : c.self.inside.stopped ≡ false = ap (λ (m : Mount g.row.P.Denot). m.stopped) c.self.view_is ∙ c.in_ok-writable.ensures.runs in
     let writes : c.self.inside.read_only ≡ false = ap (λ (m : Mount g.row.P.Denot). m.read_only) c.self.view_is ∙ c.in_ok-writable.ensures.writes in
     let spot : (names : List (List ℕ)) → IsPath c.args.path.now names → IsNamedAt (tree_of (g.P.Pmem.region c.self.inside.memory) c.self.inside.rows.items) c.self.inside.rows.items names (place_in c.self.inside.rows.items c.in_ok-named.named.directory) c.in_ok-named.named.name.now (place_in c.self.inside.rows.items c.in_ok-named.named.target) =
     λ names path. c.in_ok-named.ensures.spot (g.P.Pmem.region c.self.inside.memory) names path in
     let files : (row : Row) → slice_get c.self.inside.rows.items (place_in c.self.inside.rows.items c.in_ok-named.named.target) ≡ Some row → row.kind ≡ File = λ row at. c.in_ok-named.ensures.file row (sym (at_place c.self.inside.rows.items c.in_ok-named.named.target) ∙ at) in
-    subst (λ (m : Mount g.row.P.Denot). LeadsTo (tree_of (g.P.Pmem.region m.memory) m.rows) names i node → walk (tree_of (g.P.Pmem.region m.memory) m.rows) 1 names ≡ Ok d → ShowsSound (g.P.Pmem.region m.memory) m.sup held → ShowsRemoved (g.P.Pmem.region c.release_at.new.memory) m.sup m.free.pools c.args.cpu held d h (name_entries Remove i (last_name names) c.args.time) i) c.self.view_is
+    subst (λ (m : Mount g.row.P.Denot). LeadsTo (tree_of (g.P.Pmem.region m.memory) m.rows) names i node → walk (tree_of (g.P.Pmem.region m.memory) m.rows) 1 names ≡ Ok d → ShowsSound (g.P.Pmem.region m.memory) m.sup held → ShowsRemoved (g.P.Pmem.region c.release_at.new.memory) m.sup m.free.pools c.cpu.inside.0 held d h (name_entries Remove i (last_name names) c.time.inside.0) i) c.self.view_is
     (λ leads walked shown. unlink_last c.self.invariant.0 runs writes (released_at c.in-Ok.ensures.released) c.in_ok-named.ensures.name files names (spot names path) i d node held h leads walked shown is few) led ended sound
+    )
 
 pub returns-in_err-writable-clause-read_only : goal.returns-in_err-writable-clause-read_only
 returns-in_err-writable-clause-read_only g c only = same_mount c.args.self.now
@@ -246,24 +262,28 @@ pub returns-in_err-named-clause-any_stop : goal.returns-in_err-named-clause-any_
 returns-in_err-named-clause-any_stop g c names path on able = call_stays g.P.Pmem.region c.args.self.now (makes_unlink c.args.time) (LogsUnlink c.args.cpu c.args.time) names c.in_ok-writable.ensures.kept on able _ (c.in_ok-writable.ensures.settled on)
 
 pub returns-in-Ok-clause-any_stop : goal.returns-in-Ok-clause-any_stop
-returns-in-Ok-clause-any_stop g c names path on able =
+returns-in-Ok-clause-any_stop g c =
+    rw (← c.cpu.view_is, ← c.time.view_is) (λ names path on able.
     let runs : c.self.inside.stopped ≡ false = ap (λ (m : Mount g.row.P.Denot). m.stopped) c.self.view_is ∙ c.in_ok-writable.ensures.runs in
     let writes : c.self.inside.read_only ≡ false = ap (λ (m : Mount g.row.P.Denot). m.read_only) c.self.view_is ∙ c.in_ok-writable.ensures.writes in
     let r = row_in_use c.self.inside.rows.items c.in_ok-named.named.directory c.in_ok-named.ensures.directory in
     let i = row_in_use c.self.inside.rows.items c.in_ok-named.named.target c.in_ok-named.ensures.target in
-    unlink_left g.P.Pmem.region c.self.view_is c.self.invariant.0 runs writes c.in_ok-named.named.directory c.in_ok-named.named.target r.0 i.0 r.1 i.1 c.in_ok-named.named.name.now c.args.cpu c.args.time c.in_ok-named.ensures.name names
+    unlink_left g.P.Pmem.region c.self.view_is c.self.invariant.0 runs writes c.in_ok-named.named.directory c.in_ok-named.named.target r.0 i.0 r.1 i.1 c.in_ok-named.named.name.now c.cpu.inside.0 c.time.inside.0 c.in_ok-named.ensures.name names
     (c.in_ok-named.ensures.spot (g.P.Pmem.region c.self.inside.memory) names path) (c.in_ok-named.ensures.file i.0 i.1) _ _ _
     (λ held h f here other pending. c.release_at.ensures.any_stop r.0 i.0 held h f r.1 i.1 here other pending) (c.self.invariant.2 runs)
+    )
 
 pub returns-in-Err-clause-any_stop : goal.returns-in-Err-clause-any_stop
-returns-in-Err-clause-any_stop g c names path on able =
+returns-in-Err-clause-any_stop g c =
+    rw (← c.cpu.view_is, ← c.time.view_is) (λ names path on able.
     let runs : c.self.inside.stopped ≡ false = ap (λ (m : Mount g.row.P.Denot). m.stopped) c.self.view_is ∙ c.in_ok-writable.ensures.runs in
     let writes : c.self.inside.read_only ≡ false = ap (λ (m : Mount g.row.P.Denot). m.read_only) c.self.view_is ∙ c.in_ok-writable.ensures.writes in
     let r = row_in_use c.self.inside.rows.items c.in_ok-named.named.directory c.in_ok-named.ensures.directory in
     let i = row_in_use c.self.inside.rows.items c.in_ok-named.named.target c.in_ok-named.ensures.target in
-    unlink_left g.P.Pmem.region c.self.view_is c.self.invariant.0 runs writes c.in_ok-named.named.directory c.in_ok-named.named.target r.0 i.0 r.1 i.1 c.in_ok-named.named.name.now c.args.cpu c.args.time c.in_ok-named.ensures.name names
+    unlink_left g.P.Pmem.region c.self.view_is c.self.invariant.0 runs writes c.in_ok-named.named.directory c.in_ok-named.named.target r.0 i.0 r.1 i.1 c.in_ok-named.named.name.now c.cpu.inside.0 c.time.inside.0 c.in_ok-named.ensures.name names
     (c.in_ok-named.ensures.spot (g.P.Pmem.region c.self.inside.memory) names path) (c.in_ok-named.ensures.file i.0 i.1) _ _ _
     (λ held h f here other pending. c.release_at.ensures.any_stop r.0 i.0 held h f r.1 i.1 here other pending) (c.self.invariant.2 runs)
+    )
 
 pub returns-in_err-writable-clause-bad_text : goal.returns-in_err-writable-clause-bad_text
 returns-in_err-writable-clause-bad_text g c bad = same_mount c.args.self.now
@@ -284,14 +304,18 @@ pub returns-in_err-named-clause-in_order : goal.returns-in_err-named-clause-in_o
 returns-in_err-named-clause-in_order g c names k d node held h path led ended sound is some = ∣ inl refl ∣₁
 
 pub returns-in-Ok-clause-in_order : goal.returns-in-Ok-clause-in_order
-returns-in-Ok-clause-in_order g c names k d node held h path led ended sound is some =
-    gone_ordered g.P.Pmem.region c.self.view_is c.self.invariant.0 c.in_ok-writable.ensures.runs (g.P.Pmem.region c.release_at.new.memory) c.args.cpu c.in_ok-named.named.directory c.in_ok-named.named.target c.in_ok-named.ensures.directory c.in_ok-named.ensures.target
-    c.args.time c.in_ok-named.named.name.now names (c.in_ok-named.ensures.spot (g.P.Pmem.region c.self.inside.memory) names path) (λ count. 1 < count) tail_address c.release_at.ensures.in_order k d node held h led ended sound is some
+returns-in-Ok-clause-in_order g c =
+    rw (← c.cpu.view_is, ← c.time.view_is) (λ names k d node held h path led ended sound is some.
+    gone_ordered g.P.Pmem.region c.self.view_is c.self.invariant.0 c.in_ok-writable.ensures.runs (g.P.Pmem.region c.release_at.new.memory) c.cpu.inside.0 c.in_ok-named.named.directory c.in_ok-named.named.target c.in_ok-named.ensures.directory c.in_ok-named.ensures.target
+    c.time.inside.0 c.in_ok-named.named.name.now names (c.in_ok-named.ensures.spot (g.P.Pmem.region c.self.inside.memory) names path) (λ count. 1 < count) tail_address c.release_at.ensures.in_order k d node held h led ended sound is some
+    )
 
 pub returns-in-Err-clause-in_order : goal.returns-in-Err-clause-in_order
-returns-in-Err-clause-in_order g c names k d node held h path led ended sound is some =
-    gone_ordered g.P.Pmem.region c.self.view_is c.self.invariant.0 c.in_ok-writable.ensures.runs (g.P.Pmem.region c.release_at.new.memory) c.args.cpu c.in_ok-named.named.directory c.in_ok-named.named.target c.in_ok-named.ensures.directory c.in_ok-named.ensures.target
-    c.args.time c.in_ok-named.named.name.now names (c.in_ok-named.ensures.spot (g.P.Pmem.region c.self.inside.memory) names path) (λ count. 1 < count) tail_address c.release_at.ensures.in_order k d node held h led ended sound is some
+returns-in-Err-clause-in_order g c =
+    rw (← c.cpu.view_is, ← c.time.view_is) (λ names k d node held h path led ended sound is some.
+    gone_ordered g.P.Pmem.region c.self.view_is c.self.invariant.0 c.in_ok-writable.ensures.runs (g.P.Pmem.region c.release_at.new.memory) c.cpu.inside.0 c.in_ok-named.named.directory c.in_ok-named.named.target c.in_ok-named.ensures.directory c.in_ok-named.ensures.target
+    c.time.inside.0 c.in_ok-named.named.name.now names (c.in_ok-named.ensures.spot (g.P.Pmem.region c.self.inside.memory) names path) (λ count. 1 < count) tail_address c.release_at.ensures.in_order k d node held h led ended sound is some
+    )
 
 pub returns-in_err-writable-clause-last_in_order : goal.returns-in_err-writable-clause-last_in_order
 returns-in_err-writable-clause-last_in_order g c names k d node held h path led ended sound is few = ∣ inl refl ∣₁
@@ -300,14 +324,18 @@ pub returns-in_err-named-clause-last_in_order : goal.returns-in_err-named-clause
 returns-in_err-named-clause-last_in_order g c names k d node held h path led ended sound is few = ∣ inl refl ∣₁
 
 pub returns-in-Ok-clause-last_in_order : goal.returns-in-Ok-clause-last_in_order
-returns-in-Ok-clause-last_in_order g c names k d node held h path led ended sound is few =
-    gone_ordered g.P.Pmem.region c.self.view_is c.self.invariant.0 c.in_ok-writable.ensures.runs (g.P.Pmem.region c.release_at.new.memory) c.args.cpu c.in_ok-named.named.directory c.in_ok-named.named.target c.in_ok-named.ensures.directory c.in_ok-named.ensures.target
-    c.args.time c.in_ok-named.named.name.now names (c.in_ok-named.ensures.spot (g.P.Pmem.region c.self.inside.memory) names path) (λ count. count ≤ 1) slot_address c.release_at.ensures.last_in_order k d node held h led ended sound is few
+returns-in-Ok-clause-last_in_order g c =
+    rw (← c.cpu.view_is, ← c.time.view_is) (λ names k d node held h path led ended sound is few.
+    gone_ordered g.P.Pmem.region c.self.view_is c.self.invariant.0 c.in_ok-writable.ensures.runs (g.P.Pmem.region c.release_at.new.memory) c.cpu.inside.0 c.in_ok-named.named.directory c.in_ok-named.named.target c.in_ok-named.ensures.directory c.in_ok-named.ensures.target
+    c.time.inside.0 c.in_ok-named.named.name.now names (c.in_ok-named.ensures.spot (g.P.Pmem.region c.self.inside.memory) names path) (λ count. count ≤ 1) slot_address c.release_at.ensures.last_in_order k d node held h led ended sound is few
+    )
 
 pub returns-in-Err-clause-last_in_order : goal.returns-in-Err-clause-last_in_order
-returns-in-Err-clause-last_in_order g c names k d node held h path led ended sound is few =
-    gone_ordered g.P.Pmem.region c.self.view_is c.self.invariant.0 c.in_ok-writable.ensures.runs (g.P.Pmem.region c.release_at.new.memory) c.args.cpu c.in_ok-named.named.directory c.in_ok-named.named.target c.in_ok-named.ensures.directory c.in_ok-named.ensures.target
-    c.args.time c.in_ok-named.named.name.now names (c.in_ok-named.ensures.spot (g.P.Pmem.region c.self.inside.memory) names path) (λ count. count ≤ 1) slot_address c.release_at.ensures.last_in_order k d node held h led ended sound is few
+returns-in-Err-clause-last_in_order g c =
+    rw (← c.cpu.view_is, ← c.time.view_is) (λ names k d node held h path led ended sound is few.
+    gone_ordered g.P.Pmem.region c.self.view_is c.self.invariant.0 c.in_ok-writable.ensures.runs (g.P.Pmem.region c.release_at.new.memory) c.cpu.inside.0 c.in_ok-named.named.directory c.in_ok-named.named.target c.in_ok-named.ensures.directory c.in_ok-named.ensures.target
+    c.time.inside.0 c.in_ok-named.named.name.now names (c.in_ok-named.ensures.spot (g.P.Pmem.region c.self.inside.memory) names path) (λ count. count ≤ 1) slot_address c.release_at.ensures.last_in_order k d node held h led ended sound is few
+    )
 
 pub returns-in_err-writable-clause-wrote : goal.returns-in_err-writable-clause-wrote
 returns-in_err-writable-clause-wrote g c names k d node held path led ended sound some = λ at whole away. refl
@@ -316,14 +344,18 @@ pub returns-in_err-named-clause-wrote : goal.returns-in_err-named-clause-wrote
 returns-in_err-named-clause-wrote g c names k d node held path led ended sound some = λ at whole away. refl
 
 pub returns-in-Ok-clause-wrote : goal.returns-in-Ok-clause-wrote
-returns-in-Ok-clause-wrote g c names k d node held path led ended sound some =
-    gone_stored g.P.Pmem.region c.self.view_is c.self.invariant.0 c.in_ok-writable.ensures.runs (g.P.Pmem.region c.release_at.new.memory) c.args.cpu c.in_ok-named.named.directory c.in_ok-named.named.target c.in_ok-named.ensures.directory c.in_ok-named.ensures.target
-    c.args.time c.in_ok-named.named.name.now names (c.in_ok-named.ensures.spot (g.P.Pmem.region c.self.inside.memory) names path) (λ count. 1 < count) (λ t. two_logs t c.args.cpu) c.release_at.ensures.wrote k d node held led ended sound some
+returns-in-Ok-clause-wrote g c =
+    rw (← c.cpu.view_is) (λ names k d node held path led ended sound some.
+    gone_stored g.P.Pmem.region c.self.view_is c.self.invariant.0 c.in_ok-writable.ensures.runs (g.P.Pmem.region c.release_at.new.memory) c.cpu.inside.0 c.in_ok-named.named.directory c.in_ok-named.named.target c.in_ok-named.ensures.directory c.in_ok-named.ensures.target
+    c.time.inside.0 c.in_ok-named.named.name.now names (c.in_ok-named.ensures.spot (g.P.Pmem.region c.self.inside.memory) names path) (λ count. 1 < count) (λ t. two_logs t c.cpu.inside.0) c.release_at.ensures.wrote k d node held led ended sound some
+    )
 
 pub returns-in-Err-clause-wrote : goal.returns-in-Err-clause-wrote
-returns-in-Err-clause-wrote g c names k d node held path led ended sound some =
-    gone_stored g.P.Pmem.region c.self.view_is c.self.invariant.0 c.in_ok-writable.ensures.runs (g.P.Pmem.region c.release_at.new.memory) c.args.cpu c.in_ok-named.named.directory c.in_ok-named.named.target c.in_ok-named.ensures.directory c.in_ok-named.ensures.target
-    c.args.time c.in_ok-named.named.name.now names (c.in_ok-named.ensures.spot (g.P.Pmem.region c.self.inside.memory) names path) (λ count. 1 < count) (λ t. two_logs t c.args.cpu) c.release_at.ensures.wrote k d node held led ended sound some
+returns-in-Err-clause-wrote g c =
+    rw (← c.cpu.view_is) (λ names k d node held path led ended sound some.
+    gone_stored g.P.Pmem.region c.self.view_is c.self.invariant.0 c.in_ok-writable.ensures.runs (g.P.Pmem.region c.release_at.new.memory) c.cpu.inside.0 c.in_ok-named.named.directory c.in_ok-named.named.target c.in_ok-named.ensures.directory c.in_ok-named.ensures.target
+    c.time.inside.0 c.in_ok-named.named.name.now names (c.in_ok-named.ensures.spot (g.P.Pmem.region c.self.inside.memory) names path) (λ count. 1 < count) (λ t. two_logs t c.cpu.inside.0) c.release_at.ensures.wrote k d node held led ended sound some
+    )
 
 pub returns-in_err-writable-clause-last_wrote : goal.returns-in_err-writable-clause-last_wrote
 returns-in_err-writable-clause-last_wrote g c names k d node held path led ended sound few = λ at whole away. refl
@@ -332,11 +364,15 @@ pub returns-in_err-named-clause-last_wrote : goal.returns-in_err-named-clause-la
 returns-in_err-named-clause-last_wrote g c names k d node held path led ended sound few = λ at whole away. refl
 
 pub returns-in-Ok-clause-last_wrote : goal.returns-in-Ok-clause-last_wrote
-returns-in-Ok-clause-last_wrote g c names k d node held path led ended sound few =
-    gone_stored g.P.Pmem.region c.self.view_is c.self.invariant.0 c.in_ok-writable.ensures.runs (g.P.Pmem.region c.release_at.new.memory) c.args.cpu c.in_ok-named.named.directory c.in_ok-named.named.target c.in_ok-named.ensures.directory c.in_ok-named.ensures.target
-    c.args.time c.in_ok-named.named.name.now names (c.in_ok-named.ensures.spot (g.P.Pmem.region c.self.inside.memory) names path) (λ count. count ≤ 1) (λ t. one_less t c.args.cpu) c.release_at.ensures.last_wrote k d node held led ended sound few
+returns-in-Ok-clause-last_wrote g c =
+    rw (← c.cpu.view_is) (λ names k d node held path led ended sound few.
+    gone_stored g.P.Pmem.region c.self.view_is c.self.invariant.0 c.in_ok-writable.ensures.runs (g.P.Pmem.region c.release_at.new.memory) c.cpu.inside.0 c.in_ok-named.named.directory c.in_ok-named.named.target c.in_ok-named.ensures.directory c.in_ok-named.ensures.target
+    c.time.inside.0 c.in_ok-named.named.name.now names (c.in_ok-named.ensures.spot (g.P.Pmem.region c.self.inside.memory) names path) (λ count. count ≤ 1) (λ t. one_less t c.cpu.inside.0) c.release_at.ensures.last_wrote k d node held led ended sound few
+    )
 
 pub returns-in-Err-clause-last_wrote : goal.returns-in-Err-clause-last_wrote
-returns-in-Err-clause-last_wrote g c names k d node held path led ended sound few =
-    gone_stored g.P.Pmem.region c.self.view_is c.self.invariant.0 c.in_ok-writable.ensures.runs (g.P.Pmem.region c.release_at.new.memory) c.args.cpu c.in_ok-named.named.directory c.in_ok-named.named.target c.in_ok-named.ensures.directory c.in_ok-named.ensures.target
-    c.args.time c.in_ok-named.named.name.now names (c.in_ok-named.ensures.spot (g.P.Pmem.region c.self.inside.memory) names path) (λ count. count ≤ 1) (λ t. one_less t c.args.cpu) c.release_at.ensures.last_wrote k d node held led ended sound few
+returns-in-Err-clause-last_wrote g c =
+    rw (← c.cpu.view_is) (λ names k d node held path led ended sound few.
+    gone_stored g.P.Pmem.region c.self.view_is c.self.invariant.0 c.in_ok-writable.ensures.runs (g.P.Pmem.region c.release_at.new.memory) c.cpu.inside.0 c.in_ok-named.named.directory c.in_ok-named.named.target c.in_ok-named.ensures.directory c.in_ok-named.ensures.target
+    c.time.inside.0 c.in_ok-named.named.name.now names (c.in_ok-named.ensures.spot (g.P.Pmem.region c.self.inside.memory) names path) (λ count. count ≤ 1) (λ t. one_less t c.cpu.inside.0) c.release_at.ensures.last_wrote k d node held led ended sound few
+    )

@@ -47,11 +47,13 @@ give_back-requires g c =
     last_used c.self.inside.rows.items c.lend-row.new.self.items c.in_ok-inode.field-0.now.inode c.change_bytes-changed.new.row (in_use c.self.inside.rows.items c.in_ok-inode.field-0.now.inode c.lend-row.result c.lend-row.ensures.row) c.lend-row.ensures.lent (c.change_bytes-changed.ensures.inode ∙ c.lend-row.ensures.number)
 
 pub returns-in_err-writable-clause-refused : goal.returns-in_err-writable-clause-refused
-returns-in_err-writable-clause-refused g c runs p count says needs =
+returns-in_err-writable-clause-refused g c =
+    rw (← c.cpu.view_is) (λ runs p count says needs.
     let tree = tree_of (g.P.Pmem.region c.args.self.now.memory) c.args.self.now.rows in
     let w = err_from_is_err_and c.from_residual.result c.from_residual.ensures.1 in
-    refused_by c.from_residual.result c.in_err-writable.field-0.0 w.0 (IsRefusedBy (first_refusal (write_tests (world_of c.args.self.now) tree c.args.cpu p (c.args.offset + length (data_bytes c.args.content)) count))) w.1 w.2
+    refused_by c.from_residual.result c.in_err-writable.field-0.0 w.0 (IsRefusedBy (first_refusal (write_tests (world_of c.args.self.now) tree c.cpu.inside.0 p (c.args.offset + length (data_bytes c.args.content)) count))) w.1 w.2
     (inr (inr (c.in_err-writable.ensures.refused runs (is_bad p ∷ walk_tests tree p ++ is_missing tree p ∷ is_dir tree p ∷ is_too_large (c.args.offset + length (data_bytes c.args.content)) ∷ has_no_space (world_of c.args.self.now) count ∷ []))))
+    )
 
 pub returns-in_err-writable-clause-unchanged : goal.returns-in_err-writable-clause-unchanged
 returns-in_err-writable-clause-unchanged g c =
@@ -61,15 +63,17 @@ pub returns-in_err-writable-clause-stopped : goal.returns-in_err-writable-clause
 returns-in_err-writable-clause-stopped g c runs =
     let w = err_from_is_err_and c.from_residual.result c.from_residual.ensures.1 in
     early_reply c.args.self.now.stopped c.from_residual.result c.in_err-writable.field-0.0 w.0 w.1 w.2
-    (λ is. writing_goes_on (world_of c.args.self.now) c.args.cpu (c.in_err-writable.ensures.refused runs [] ∙ ap (λ (e : Refusal). Some e) is)) runs
+    (λ is. writing_goes_on (world_of c.args.self.now) c.cpu.inside.0 (c.in_err-writable.ensures.refused runs [] ∙ ap (λ (e : Refusal). Some e) is)) runs
 
 pub returns-in_err-inode-clause-refused : goal.returns-in_err-inode-clause-refused
-returns-in_err-inode-clause-refused g c runs p count says needs =
+returns-in_err-inode-clause-refused g c =
+    rw (← c.cpu.view_is) (λ runs p count says needs.
     let tree = tree_of (g.P.Pmem.region c.args.self.now.memory) c.args.self.now.rows in
     let w = err_from_is_err_and c.from_residual-in_err-inode.result c.from_residual-in_err-inode.ensures.1 in
     let told = c.in_err-inode.ensures.refused (g.P.Pmem.region c.self.inside.memory) p says in
-    refused_by c.from_residual-in_err-inode.result c.in_err-inode.field-0.0 w.0 (IsRefusedBy (first_refusal (write_tests (world_of c.args.self.now) tree c.args.cpu p (c.args.offset + length (data_bytes c.args.content)) count))) w.1 w.2
-    (inr (inr (write_front g.P.Pmem.region c.self.view_is c.args.cpu (c.args.offset + length (data_bytes c.args.content)) count c.in_ok-writable.ensures.passed p c.in_err-inode.field-0.0 (large_same c.args.offset (length (data_bytes c.args.content)) c.saturating_add.result (rw c.len-count.ensures at c.saturating_add.ensures) (tree_of (g.P.Pmem.region c.self.inside.memory) c.self.inside.rows.items) p ∙ told))))
+    refused_by c.from_residual-in_err-inode.result c.in_err-inode.field-0.0 w.0 (IsRefusedBy (first_refusal (write_tests (world_of c.args.self.now) tree c.cpu.inside.0 p (c.args.offset + length (data_bytes c.args.content)) count))) w.1 w.2
+    (inr (inr (write_front g.P.Pmem.region c.self.view_is c.cpu.inside.0 (c.args.offset + length (data_bytes c.args.content)) count c.in_ok-writable.ensures.passed p c.in_err-inode.field-0.0 (large_same c.args.offset (length (data_bytes c.args.content)) c.saturating_add.result (rw c.len-count.ensures at c.saturating_add.ensures) (tree_of (g.P.Pmem.region c.self.inside.memory) c.self.inside.rows.items) p ∙ told))))
+    )
 
 pub returns-in_err-inode-clause-unchanged : goal.returns-in_err-inode-clause-unchanged
 returns-in_err-inode-clause-unchanged g c =
@@ -84,10 +88,12 @@ returns-in_err-inode-clause-stopped g c runs =
     (λ is. front_goes_on (tree_of (g.P.Pmem.region c.self.inside.memory) c.self.inside.rows.items) said.0 c.saturating_add.result (told ∙ ap (λ (e : Refusal). Some e) is)) runs
 
 pub returns-then-count-eq0-clause-allowed : goal.returns-then-count-eq0-clause-allowed
-returns-then-count-eq0-clause-allowed g c p count says needs =
+returns-then-count-eq0-clause-allowed g c =
+    rw (← c.cpu.view_is) (λ p count says needs.
     let none : first_refusal (front_tests (tree_of (g.P.Pmem.region c.self.inside.memory) c.self.inside.rows.items) p (c.args.offset + length (data_bytes c.args.content))) ≡ None =
     large_same c.args.offset (length (data_bytes c.args.content)) c.saturating_add.result (rw c.len-count.ensures at c.saturating_add.ensures) (tree_of (g.P.Pmem.region c.self.inside.memory) c.self.inside.rows.items) p ∙ c.in_ok-inode.ensures.refused (g.P.Pmem.region c.self.inside.memory) p says in
-    write_none g.P.Pmem.region c.self.view_is c.args.cpu (c.args.offset + length (data_bytes c.args.content)) count c.in_ok-writable.ensures.passed p none (needs.none (rw c.len-count.ensures at c.if-count-eq0.true))
+    write_none g.P.Pmem.region c.self.view_is c.cpu.inside.0 (c.args.offset + length (data_bytes c.args.content)) count c.in_ok-writable.ensures.passed p none (needs.none (rw c.len-count.ensures at c.if-count-eq0.true))
+    )
 
 pub change_bytes-changed-requires-clause-stands : goal.change_bytes-changed-requires-clause-stands
 change_bytes-changed-requires-clause-stands g c =
@@ -139,7 +145,8 @@ invariant_of-self-in-Err g c =
     )
 
 pub returns-in-Ok-clause-allowed : goal.returns-in-Ok-clause-allowed
-returns-in-Ok-clause-allowed g c p count says needs =
+returns-in-Ok-clause-allowed g c =
+    rw (← c.cpu.view_is, ← c.time.view_is) (λ p count says needs.
     let runs : c.self.inside.stopped ≡ false = ap (λ (m : Mount g.row.P.Denot). m.stopped) c.self.view_is ∙ c.in_ok-writable.ensures.runs in
     let rows = c.self.inside.rows.items in
     let inode = c.in_ok-inode.field-0.now.inode in
@@ -148,11 +155,13 @@ returns-in-Ok-clause-allowed g c p count says needs =
     let numbered = own_row rows inode c.lend-row.result c.lend-row.ensures.row in
     let none : first_refusal (front_tests (tree_of (g.P.Pmem.region c.self.inside.memory) c.self.inside.rows.items) p (c.args.offset + length (data_bytes c.args.content))) ≡ None =
     large_same c.args.offset (length (data_bytes c.args.content)) c.saturating_add.result (rw c.len-count.ensures at c.saturating_add.ensures) (tree_of (g.P.Pmem.region c.self.inside.memory) c.self.inside.rows.items) p ∙ c.in_ok-inode.ensures.refused (g.P.Pmem.region c.self.inside.memory) p says in
-    write_allowed g.P.Pmem.region c.self.view_is c.args.cpu (c.args.offset + length (data_bytes c.args.content)) count c.in_ok-writable.ensures.passed p none c.args.path.now c.lend-row.result (node_of (g.P.Pmem.region c.self.inside.memory) c.lend-row.result) numbered leads says c.args.offset (length (data_bytes c.args.content)) c.args.time (omega (arith, c.if-count-eq0.false, c.len-count.ensures)) needs
-    (subst (λ (q : Plan). (k : ℕ) → NeedsBlocks c.self.inside.free.pools c.args.cpu c.lend-row.result.tail q k → k ≤ all_blocks c.self.inside.free.pools) (rw c.len-count.ensures at c.new-plan.ensures) c.in-Ok.ensures.enough)
+    write_allowed g.P.Pmem.region c.self.view_is c.cpu.inside.0 (c.args.offset + length (data_bytes c.args.content)) count c.in_ok-writable.ensures.passed p none c.args.path.now c.lend-row.result (node_of (g.P.Pmem.region c.self.inside.memory) c.lend-row.result) numbered leads says c.args.offset (length (data_bytes c.args.content)) c.time.inside.0 (omega (arith, c.if-count-eq0.false, c.len-count.ensures)) needs
+    (subst (λ (q : Plan). (k : ℕ) → NeedsBlocks c.self.inside.free.pools c.cpu.inside.0 c.lend-row.result.tail q k → k ≤ all_blocks c.self.inside.free.pools) (rw c.len-count.ensures at c.new-plan.ensures) c.in-Ok.ensures.enough)
+    )
 
 pub returns-in-Err-clause-refused : goal.returns-in-Err-clause-refused
-returns-in-Err-clause-refused g c still p count says needs =
+returns-in-Err-clause-refused g c =
+    rw (← c.cpu.view_is, ← c.time.view_is) (λ still p count says needs.
     let runs : c.self.inside.stopped ≡ false = ap (λ (m : Mount g.row.P.Denot). m.stopped) c.self.view_is ∙ c.in_ok-writable.ensures.runs in
     let rows = c.self.inside.rows.items in
     let inode = c.in_ok-inode.field-0.now.inode in
@@ -161,11 +170,13 @@ returns-in-Err-clause-refused g c still p count says needs =
     let numbered = own_row rows inode c.lend-row.result c.lend-row.ensures.row in
     let none : first_refusal (front_tests (tree_of (g.P.Pmem.region c.self.inside.memory) c.self.inside.rows.items) p (c.args.offset + length (data_bytes c.args.content))) ≡ None =
     large_same c.args.offset (length (data_bytes c.args.content)) c.saturating_add.result (rw c.len-count.ensures at c.saturating_add.ensures) (tree_of (g.P.Pmem.region c.self.inside.memory) c.self.inside.rows.items) p ∙ c.in_ok-inode.ensures.refused (g.P.Pmem.region c.self.inside.memory) p says in
-    write_refused g.P.Pmem.region c.self.view_is c.args.cpu (c.args.offset + length (data_bytes c.args.content)) count c.in_ok-writable.ensures.passed p none c.args.path.now c.lend-row.result (node_of (g.P.Pmem.region c.self.inside.memory) c.lend-row.result) numbered leads says c.args.offset (length (data_bytes c.args.content)) c.args.time (omega (arith, c.if-count-eq0.false, c.len-count.ensures)) needs c.in-Err.refusal
-    (subst (λ (q : Plan). RefusesWrite c.in-Err.refusal c.self.inside.free c.args.cpu c.lend-row.result.tail q) (rw c.len-count.ensures at c.new-plan.ensures) c.in-Err.ensures.refused)
+    write_refused g.P.Pmem.region c.self.view_is c.cpu.inside.0 (c.args.offset + length (data_bytes c.args.content)) count c.in_ok-writable.ensures.passed p none c.args.path.now c.lend-row.result (node_of (g.P.Pmem.region c.self.inside.memory) c.lend-row.result) numbered leads says c.args.offset (length (data_bytes c.args.content)) c.time.inside.0 (omega (arith, c.if-count-eq0.false, c.len-count.ensures)) needs c.in-Err.refusal
+    (subst (λ (q : Plan). RefusesWrite c.in-Err.refusal c.self.inside.free c.cpu.inside.0 c.lend-row.result.tail q) (rw c.len-count.ensures at c.new-plan.ensures) c.in-Err.ensures.refused)
+    )
 
 pub returns-in-Ok-clause-changed : goal.returns-in-Ok-clause-changed
-returns-in-Ok-clause-changed g c names path =
+returns-in-Ok-clause-changed g c =
+    rw (← c.time.view_is) (λ names path.
     let runs : c.self.inside.stopped ≡ false = ap (λ (m : Mount g.row.P.Denot). m.stopped) c.self.view_is ∙ c.in_ok-writable.ensures.runs in
     let writes : c.self.inside.read_only ≡ false = ap (λ (m : Mount g.row.P.Denot). m.read_only) c.self.view_is ∙ c.in_ok-writable.ensures.writes in
     let rows = c.self.inside.rows.items in
@@ -176,21 +187,24 @@ returns-in-Ok-clause-changed g c names path =
     let follows = λ (held : Store) (h : Held) (shows : ShowsRow (g.P.Pmem.region c.self.inside.memory) c.self.inside.sup held h c.lend-row.result c.self.inside.free). c.in-Ok.ensures.writes.follows held h shows in
     let led = leads names path in
     let put = back_one rows c.lend-row.new.self.items c.give_back.new.self.items inode c.change_bytes-changed.new.row c.lend-row.ensures.lent (c.change_bytes-changed.ensures.inode ∙ c.lend-row.ensures.number) c.give_back.ensures.rows in
-    rw put (write_changed g.P.Pmem.region c.self.view_is names c.lend-row.result.inode c.args.offset (data_bytes c.args.content) c.args.time (omega (arith, c.if-count-eq0.false, c.len-count.ensures)) (tree_of (g.P.Pmem.region c.change_bytes-changed.new.memory) (set c.self.inside.rows.items (place_in rows inode) c.change_bytes-changed.new.row)) led.leads
-    (tree_after c.self.invariant.0 runs writes (place_in rows inode) c.lend-row.result c.change_bytes-changed.new.row at (data_entries plan c.in-Ok.ensures.writes.runs) follows (with_bytes c.args.offset (data_bytes c.args.content) c.args.time) c.in-Ok.ensures.writes.inode
-    (written_node (g.P.Pmem.region c.self.inside.memory) (g.P.Pmem.region c.change_bytes-changed.new.memory) c.args.time c.in-Ok.ensures.writes (rw c.len-count.ensures at c.new-plan.ensures)
+    rw put (write_changed g.P.Pmem.region c.self.view_is names c.lend-row.result.inode c.args.offset (data_bytes c.args.content) c.time.inside.0 (omega (arith, c.if-count-eq0.false, c.len-count.ensures)) (tree_of (g.P.Pmem.region c.change_bytes-changed.new.memory) (set c.self.inside.rows.items (place_in rows inode) c.change_bytes-changed.new.row)) led.leads
+    (tree_after c.self.invariant.0 runs writes (place_in rows inode) c.lend-row.result c.change_bytes-changed.new.row at (data_entries plan c.in-Ok.ensures.writes.runs) follows (with_bytes c.args.offset (data_bytes c.args.content) c.time.inside.0) c.in-Ok.ensures.writes.inode
+    (written_node (g.P.Pmem.region c.self.inside.memory) (g.P.Pmem.region c.change_bytes-changed.new.memory) c.time.inside.0 c.in-Ok.ensures.writes (rw c.len-count.ensures at c.new-plan.ensures)
     (write_bytes c.self.invariant.0 runs writes (place_in rows inode) c.lend-row.result at c.in-Ok.ensures.writes))))
+    )
 
 pub returns-in-Ok-clause-log : goal.returns-in-Ok-clause-log
-returns-in-Ok-clause-log g c names i node held h path led sound is some =
+returns-in-Ok-clause-log g c =
+    rw (← c.cpu.view_is, ← c.time.view_is) (λ names i node held h path led sound is some.
     let runs : c.self.inside.stopped ≡ false = ap (λ (m : Mount g.row.P.Denot). m.stopped) c.self.view_is ∙ c.in_ok-writable.ensures.runs in
     let writes : c.self.inside.read_only ≡ false = ap (λ (m : Mount g.row.P.Denot). m.read_only) c.self.view_is ∙ c.in_ok-writable.ensures.writes in
     let rows = c.self.inside.rows.items in
     let inode = c.in_ok-inode.field-0.now.inode in
     let at = at_place rows inode ∙ c.lend-row.ensures.row in
     let leads : (names : List (List ℕ)) → IsPath c.args.path.now names → LeadsTo (tree_of (g.P.Pmem.region c.self.inside.memory) rows) names c.lend-row.result.inode (node_of (g.P.Pmem.region c.self.inside.memory) c.lend-row.result) = λ names path. subst (λ (r : Row). LeadsTo (tree_of (g.P.Pmem.region c.self.inside.memory) rows) names r.inode (node_of (g.P.Pmem.region c.self.inside.memory) r)) (same_Some _ _ (sym c.in_ok-inode.ensures.held ∙ c.lend-row.ensures.row)) (c.in_ok-inode.ensures.row (g.P.Pmem.region c.self.inside.memory) names path) in
-    write_logged g.P.Pmem.region c.self.view_is names c.args.time i node held h c.self.invariant.0 runs (stands c.self.inside.rows.items (place_in rows inode) c.lend-row.result at) (leads names path) c.in-Ok.ensures.writes (rw c.len-count.ensures at c.new-plan.ensures)
+    write_logged g.P.Pmem.region c.self.view_is names c.time.inside.0 i node held h c.self.invariant.0 runs (stands c.self.inside.rows.items (place_in rows inode) c.lend-row.result at) (leads names path) c.in-Ok.ensures.writes (rw c.len-count.ensures at c.new-plan.ensures)
     (λ st k shown holds. write_log c.self.invariant.0 runs writes (place_in rows inode) c.lend-row.result at c.in-Ok.ensures.writes st k shown holds) led sound is
+    )
 
 pub returns-in-Err-clause-unchanged : goal.returns-in-Err-clause-unchanged
 returns-in-Err-clause-unchanged g c off =
@@ -345,8 +359,8 @@ new-plan-requires-clause-small g c =
 
 pub change_bytes-changed-requires-clause-cpu : goal.change_bytes-changed-requires-clause-cpu
 change_bytes-changed-requires-clause-cpu g c =
-    let low : c.args.cpu < c.self.inside.sup.cpus = subst (λ (m : Mount g.row.P.Denot). c.args.cpu < m.sup.cpus) (sym c.self.view_is) c.in_ok-writable.ensures.cpu in
-    low_pools c.self.invariant.0 c.args.cpu low
+    let low : c.cpu.inside.0 < c.self.inside.sup.cpus = subst (λ (m : Mount g.row.P.Denot). c.cpu.inside.0 < m.sup.cpus) (sym c.self.view_is) c.in_ok-writable.ensures.cpu in
+    low_pools c.self.invariant.0 c.cpu.inside.0 low
 
 pub change_bytes-changed-requires-clause-some : goal.change_bytes-changed-requires-clause-some
 change_bytes-changed-requires-clause-some g c = omega (arith, c.if-count-eq0.false, c.len-count.ensures)
@@ -358,7 +372,7 @@ pub change_bytes-changed-requires-clause-size : goal.change_bytes-changed-requir
 change_bytes-changed-requires-clause-size g c = refl
 
 pub change_bytes-changed-requires-clause-plan : goal.change_bytes-changed-requires-clause-plan
-change_bytes-changed-requires-clause-plan g c = planned (block_at c.lend-row.result.index) c.lend-row.result.numbers.size c.args.offset (length (data_bytes c.args.content)) c.args.time c.new-plan.result (rw c.len-count.ensures at c.new-plan.ensures)
+change_bytes-changed-requires-clause-plan g c = planned (block_at c.lend-row.result.index) c.lend-row.result.numbers.size c.args.offset (length (data_bytes c.args.content)) c.time.inside.0 c.new-plan.result (rw c.len-count.ensures at c.new-plan.ensures)
 
 pub returns-in-Ok-clause-stopped : goal.returns-in-Ok-clause-stopped
 returns-in-Ok-clause-stopped g c still =
@@ -384,26 +398,30 @@ pub returns-then-count-eq0-clause-any_stop : goal.returns-then-count-eq0-clause-
 returns-then-count-eq0-clause-any_stop g c names path on able = call_stays g.P.Pmem.region c.args.self.now (makes_bytes c.args.offset (data_bytes c.args.content) c.args.time) (LogsBytes c.args.cpu c.args.offset (length (data_bytes c.args.content)) c.args.time) names c.in_ok-writable.ensures.kept on able _ (c.in_ok-writable.ensures.settled on)
 
 pub returns-in-Ok-clause-any_stop : goal.returns-in-Ok-clause-any_stop
-returns-in-Ok-clause-any_stop g c names path on able =
+returns-in-Ok-clause-any_stop g c =
+    rw (← c.cpu.view_is, ← c.time.view_is) (λ names path on able.
     let runs : c.self.inside.stopped ≡ false = ap (λ (m : Mount g.row.P.Denot). m.stopped) c.self.view_is ∙ c.in_ok-writable.ensures.runs in
     let writes : c.self.inside.read_only ≡ false = ap (λ (m : Mount g.row.P.Denot). m.read_only) c.self.view_is ∙ c.in_ok-writable.ensures.writes in
     let rows = c.self.inside.rows.items in
     let inode = c.in_ok-inode.field-0.now.inode in
     let at = at_place rows inode ∙ c.lend-row.ensures.row in
     let leads : LeadsTo (tree_of (g.P.Pmem.region c.self.inside.memory) rows) names c.lend-row.result.inode (node_of (g.P.Pmem.region c.self.inside.memory) c.lend-row.result) = subst (λ (r : Row). LeadsTo (tree_of (g.P.Pmem.region c.self.inside.memory) rows) names r.inode (node_of (g.P.Pmem.region c.self.inside.memory) r)) (same_Some _ _ (sym c.in_ok-inode.ensures.held ∙ c.lend-row.ensures.row)) (c.in_ok-inode.ensures.row (g.P.Pmem.region c.self.inside.memory) names path) in
-    write_left g.P.Pmem.region c.self.view_is c.self.invariant.0 runs writes (place_in rows inode) c.lend-row.result at c.args.cpu c.new-plan.result c.args.offset (data_bytes c.args.content) c.args.time (rw c.len-count.ensures at c.new-plan.ensures) (omega (arith, c.if-count-eq0.false, c.len-count.ensures)) names leads _ _ _
+    write_left g.P.Pmem.region c.self.view_is c.self.invariant.0 runs writes (place_in rows inode) c.lend-row.result at c.cpu.inside.0 c.new-plan.result c.args.offset (data_bytes c.args.content) c.time.inside.0 (rw c.len-count.ensures at c.new-plan.ensures) (omega (arith, c.if-count-eq0.false, c.len-count.ensures)) names leads _ _ _
     (λ held h shows pending. c.change_bytes-changed.ensures.any_stop held h shows pending) (c.self.invariant.2 runs)
+    )
 
 pub returns-in-Err-clause-any_stop : goal.returns-in-Err-clause-any_stop
-returns-in-Err-clause-any_stop g c names path on able =
+returns-in-Err-clause-any_stop g c =
+    rw (← c.cpu.view_is, ← c.time.view_is) (λ names path on able.
     let runs : c.self.inside.stopped ≡ false = ap (λ (m : Mount g.row.P.Denot). m.stopped) c.self.view_is ∙ c.in_ok-writable.ensures.runs in
     let writes : c.self.inside.read_only ≡ false = ap (λ (m : Mount g.row.P.Denot). m.read_only) c.self.view_is ∙ c.in_ok-writable.ensures.writes in
     let rows = c.self.inside.rows.items in
     let inode = c.in_ok-inode.field-0.now.inode in
     let at = at_place rows inode ∙ c.lend-row.ensures.row in
     let leads : LeadsTo (tree_of (g.P.Pmem.region c.self.inside.memory) rows) names c.lend-row.result.inode (node_of (g.P.Pmem.region c.self.inside.memory) c.lend-row.result) = subst (λ (r : Row). LeadsTo (tree_of (g.P.Pmem.region c.self.inside.memory) rows) names r.inode (node_of (g.P.Pmem.region c.self.inside.memory) r)) (same_Some _ _ (sym c.in_ok-inode.ensures.held ∙ c.lend-row.ensures.row)) (c.in_ok-inode.ensures.row (g.P.Pmem.region c.self.inside.memory) names path) in
-    write_left g.P.Pmem.region c.self.view_is c.self.invariant.0 runs writes (place_in rows inode) c.lend-row.result at c.args.cpu c.new-plan.result c.args.offset (data_bytes c.args.content) c.args.time (rw c.len-count.ensures at c.new-plan.ensures) (omega (arith, c.if-count-eq0.false, c.len-count.ensures)) names leads _ _ _
+    write_left g.P.Pmem.region c.self.view_is c.self.invariant.0 runs writes (place_in rows inode) c.lend-row.result at c.cpu.inside.0 c.new-plan.result c.args.offset (data_bytes c.args.content) c.time.inside.0 (rw c.len-count.ensures at c.new-plan.ensures) (omega (arith, c.if-count-eq0.false, c.len-count.ensures)) names leads _ _ _
     (λ held h shows pending. c.change_bytes-changed.ensures.any_stop held h shows pending) (c.self.invariant.2 runs)
+    )
 
 pub returns-in_err-writable-clause-read_only : goal.returns-in_err-writable-clause-read_only
 returns-in_err-writable-clause-read_only g c only = same_mount c.args.self.now

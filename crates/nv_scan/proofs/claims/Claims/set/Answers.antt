@@ -1,4 +1,4 @@
-use Rattle.std.proofs.Common.{◌++◌, ◌∙◌, List, ℕ, ap, sym, subst}
+use Rattle.std.proofs.Common.{◌++◌, ◌∙◌, List, ℕ, ap, refl, sym, subst}
 use Rattle.nv_super.specs.declared.owners.Owner.{Owner}
 use Rattle.nv_super.specs.Order.{Lists, owner_key}
 use Rattle.nv_scan.specs.Claims.{IsClaim, log_claims, data_claims}
@@ -10,9 +10,12 @@ returns-in-Ok-clause-claims c =
     let i = c.args.inode in
     let given = c.args.pages.now in
     let index = c.fill_index.new.index in
-    let runs = c.fill_index.new.extents.items in
-    subst (λ (pages : List ℕ). Lists (λ (x : ℕ × Owner). owner_key x.1) (IsClaim i given index) (log_claims i 0 pages ++ data_claims i runs)) (sym (c.in_ok-extend_pages.ensures ∙ ap (λ (pages : List ℕ). pages ++ given) c.clear.ensures.items))
-    (are_claims i given index runs c.in-Ok.ensures.extents)
+    let runs = c.fill_index.new.extents.items in (
+      _,
+      refl,
+      subst (λ (pages : List ℕ). Lists (λ (x : ℕ × Owner). owner_key x.1) (IsClaim i given index) (log_claims i 0 pages ++ data_claims i runs)) (sym (c.in_ok-extend_pages.ensures ∙ ap (λ (pages : List ℕ). pages ++ given) c.clear.ensures.items))
+          (are_claims i given index runs c.in-Ok.ensures.extents),
+    )
 
 pub invariant_of-self-in-Ok : goal.invariant_of-self-in-Ok
 invariant_of-self-in-Ok c = small_runs _ _ (λ p b e. c.requires.small p b (sym (c.in-Ok.ensures.index p) ∙ e)) c.in-Ok.ensures.extents

@@ -1,0 +1,60 @@
+//! Each call of a mounted file system. In mount_and_list the power also fails.
+#![tactic(auto)]
+
+use anyhow::Result;
+use indiumlark::{Cpu, Data, Fs, MemRegion, Pmem, Time, format};
+
+fn write(fs: &mut Fs<MemRegion>, cpu: Cpu) -> Result<()> {
+    fs.mkdir(cpu, b"/notes", 493, Time(1))?;
+    fs.create(cpu, b"/notes/first", 420, Time(2))?;
+    fs.write(cpu, b"/notes/first", 0, b"hi there", Time(3))?;
+    fs.write_data(cpu, b"/notes/first", 8, Data::Given(b"!!!"), Time(4))?;
+    fs.set_size(cpu, b"/notes/first", 9, Time(5))?;
+    fs.set_attr(cpu, b"/notes/first", 384, 7, 8, Time(6))?;
+    fs.link(cpu, b"/notes/first", b"/second", Time(7))?;
+    fs.rename(cpu, b"/second", b"/third", Time(8))?;
+    fs.unlink(cpu, b"/notes/first", Time(9))?;
+    Ok(fs.rmdir(cpu, b"/notes", Time(10))?)
+}
+
+fn read<R: Print>(rt: &R, fs: &Fs<MemRegion>) -> Result<()> {
+    let stat = fs.stat(b"/third")?;
+    println!(rt; "{} bytes, time {}", stat.size, stat.time)?;
+    println!(rt; "{}", fs.read(b"/third", 0, 100)?.escape_ascii())?;
+    let mut buffer = [0; 5];
+    let count = fs.read_into(b"/third", 3, &mut buffer)?;
+    println!(rt; "{} bytes {}", count, buffer.escape_ascii())?;
+    for named in &fs.list(b"/")? {
+        println!(rt; "{} is inode {}", named.name.escape_ascii(), named.inode)?;
+    }
+    println!(rt; "{}", fs.read_inode(stat.inode, 8, 1)?.escape_ascii())?;
+    let (links, names) = (fs.stat_inode(stat.inode)?.links, fs.list_inode(1)?.len());
+    Ok(println!(rt; "{} link, {} name", links, names)?)
+}
+
+fn look<R: Print>(rt: &R, fs: &Fs<MemRegion>) -> Result<()> {
+    for (inode, row) in fs.rows().iter() {
+        println!(rt; "inode {} is a {}", inode, row.kind)?;
+    }
+    for cpu in 0..fs.superblock().cpus {
+        for run in fs.free_runs(Cpu(cpu)) {
+            println!(rt; "cpu {} has {} free from {} on", cpu, run.count, run.start)?;
+        }
+    }
+    let bytes = fs.memory().len();
+    println!(rt; "{} blocks free, {} bytes", fs.free().free_blocks(), bytes)?;
+    Ok(println!(rt; "{} faults", fs.faults().len())?)
+}
+
+fn main(rt: HostRuntime) -> Result<()> {
+    let mut memory = MemRegion::new(rt.alloc(), 64)?;
+    format(&mut memory, 2, 1, 0)?;
+    let mut fs = Fs::mount_with(&rt, rt.alloc(), memory, 2).map_err(|(_memory, error)| error)?;
+    write(&mut fs, Cpu(1))?;
+    read(&rt, &fs)?;
+    if fs.dead_pages(1)?.is_none() {
+        println!(rt; "the log of / needs its pages")?;
+    }
+    let _freed = (fs.clean(b"/")?, fs.clean_inode(1)?, fs.clean_page(1, None)?);
+    look(&rt, &fs)
+}

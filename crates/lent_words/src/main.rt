@@ -1,0 +1,32 @@
+//! A file system in words that the caller lends: when the mount is gone, what was written is in them.
+#![tactic(auto)]
+
+use anyhow::Result;
+use indiumlark::{Cpu, Fs, Time, WordRegion, format};
+use std::alloc::Global;
+
+fn mounted(alloc: Global, words: &mut [u64]) -> Result<Fs<WordRegion<'_>>> {
+    let memory = WordRegion::from_words(alloc, words)?;
+    match Fs::mount(alloc, memory) {
+        Ok(fs) => Ok(fs),
+        Err((_memory, error)) => Err(error.into()),
+    }
+}
+
+fn main(rt: HostRuntime) -> Result<()> {
+    let mut words = vec![in rt.alloc(); 0; 16 * 512]?;
+    format(
+        &mut WordRegion::from_words(rt.alloc(), &mut words)?,
+        1,
+        1,
+        0,
+    )?;
+    let mut fs = mounted(rt.alloc(), &mut words)?;
+    fs.create(Cpu(0), b"/hello", 420, Time(1))?;
+    fs.write(Cpu(0), b"/hello", 0, b"hi there", Time(2))?;
+    drop(fs);
+    let fs = mounted(rt.alloc(), &mut words)?;
+    let bytes = fs.read(b"/hello", 0, 100)?;
+    println!(rt; "{}", bytes.escape_ascii())?;
+    Ok(())
+}

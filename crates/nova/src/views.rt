@@ -1,0 +1,27 @@
+//! Showing what of an image isn't what one inode holds: `log --all`, `block` and `du`.
+
+use crate::blocks::show_block;
+use crate::listing::{Told, tell};
+use crate::logs::show_log;
+use nv_args::View;
+use nv_checking::Blocks;
+use nv_images::Failure;
+use std::io::Write;
+use std::rt::Files;
+use std::thread::Threads;
+
+/// Shows what is asked for, and answers the exit status.
+pub(crate) fn show_view<'a, H: Files + AllocGlobal + Print + Eprint + Threads + Sync, E: Write>(
+    rt: &H,
+    errors: &mut E,
+    view: View<'a>,
+) -> Result<u8, Failure<'a>>
+where
+    H::File: Blocks + Sync,
+{
+    match view {
+        View::Logs { image } => show_log(rt, errors, image, None),
+        View::Block { image, block, hex } => show_block(rt, errors, image, block, hex),
+        View::Usage { image, which } => tell(rt, errors, image, which, Told::Blocks),
+    }
+}

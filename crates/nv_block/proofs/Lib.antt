@@ -1,0 +1,4 @@
+pub mod OwnersAt
+pub mod AllOwners
+pub mod HexRows
+pub mod Told

@@ -1,0 +1,8 @@
+pub mod Dead
+pub mod Needed
+pub mod Standing
+pub mod Pairs
+pub mod Stamps
+pub mod Changes
+pub mod ReadingWithout
+pub mod InTurn

@@ -1,0 +1,2 @@
+pub mod Long
+pub use Rattle.nv_rows.specs as nv_rows

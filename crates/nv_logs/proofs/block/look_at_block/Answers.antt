@@ -1,0 +1,27 @@
+use Rattle.std.proofs.Common.{string_bytes}
+use Rattle.std.proofs.lemmas.Result.{IfOk-weaker}
+use Rattle.nv_region.specs.Region.{region_of}
+use Rattle.nv_outcome.specs.nv_journal.Undo.{undone}
+use Rattle.nv_outcome.proofs.SuperOf.{layout_of_super}
+use Rattle.nv_checking.proofs.Found.{as_found}
+use Rattle.nv_logs.proofs.BlockLooks.{found_block, refused_block}
+use Rattle.nv_logs.proofs.block.look_at_block.Goals as goal
+
+pub look_in-requires : goal.look_in-requires
+look_in-requires c =
+    let R = region_of c.args.bytes.now in
+    let found = c.in-Recovered.found in
+    let is = as_found R c.in_ok-image.image c.in-Recovered._memory found c.in-Recovered.is c.in_ok-image.ensures in
+    record { layout = layout_of_super R found.sup is.0.sup; rows = (undone found.sup R, is.0.rows) }
+
+pub returns-in-Recovered : goal.returns-in-Recovered
+returns-in-Recovered c =
+    let bytes = c.args.bytes.now in
+    let found = c.in-Recovered.found in
+    let is = as_found (region_of bytes) c.in_ok-image.image c.in-Recovered._memory found c.in-Recovered.is c.in_ok-image.ensures in
+    found_block bytes c.in-Recovered._memory found is c.args.block c.args.hex c.look_in.result c.look_in.ensures.told c.look_in.ensures.faults
+
+pub returns-in-Refused : goal.returns-in-Refused
+returns-in-Refused c = IfOk-weaker c.unaccepted_look.result _ _
+    (λ look said. refused_block c.args.bytes.now c.args.block c.args.hex c.in-Refused.refusal (string_bytes look.text) look.answered (rw c.in-Refused.is at c.in_ok-image.ensures) said)
+    c.unaccepted_look.ensures

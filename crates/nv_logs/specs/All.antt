@@ -1,0 +1,21 @@
+-- What looking at the logs of all inodes in use tells.
+use Rattle.std.specs.Prelude.{◌≡◌, ◌⊎◌, ℕ, List, [], ◌∷◌, ◌++◌, length}
+use Rattle.nv_region.specs.Region.{Region}
+use Rattle.nv_super.specs.declared.superblock.Super.{Super}
+use Rattle.nv_scan.specs.declared.piece.Row.{Row}
+use Rattle.nv_report.specs.nv_outcome.nv_journal.Undo.{undone}
+use Rattle.nv_report.specs.nv_outcome.Outcome.{Outcome, IsOutcome}
+use Rattle.nv_inspect.specs.Log.{IsLogText}
+use Rattle.nv_checking.specs.Checking.{IsSuperRefusal}
+use Rattle.nv_checking.specs.declared.answered.Answered.{Answered}
+
+-- the logs of the inodes of these rows, one after another
+abbrev pub AreLogTexts : Region → Super → List Row → List ℕ → Type 0
+AreLogTexts R s [] text = text ≡ []
+AreLogTexts R s (row ∷ rows) text = (first : List ℕ) × (rest : List ℕ) × IsLogText R s row first × AreLogTexts R s rows rest × (text ≡ first ++ rest)
+
+-- The superblock's first fault is named; or the log of each inode in use is told, rising by number, as the region has it once its
+-- journals are rolled back.
+abbrev pub IsLogsLook : Region → List ℕ → Answered → Type 0
+IsLogsLook R text answered = (IsSuperRefusal R text answered.status × (answered.faults ≡ 0))
+    ⊎ ((o : Outcome) × IsOutcome R o × AreLogTexts (undone o.sup R) o.sup o.rows text × (answered.status ≡ 0) × (answered.faults ≡ length o.faults))

@@ -1,9 +1,0 @@
-use Rattle.std.proofs.Common.{◌≡◌, ◌⊎◌, ℕ}
-use Rattle.std.specs.List.{Contains}
-use Rattle.nv_scan.proofs.marks.add_blocks.Given as goal
-
-abbrev pub invariant-loop-k : goal.invariant-loop-k
-invariant-loop-k l = record {
-  bound : l.blocks.bound ≡ l.sup.blocks;
-  only : (b : ℕ) → Contains l.blocks.blocks b → Contains l.more b ⊎ Contains l.fn.blocks.blocks b;
-}

@@ -1,0 +1,99 @@
+//! A log that grows while another inode goes, and the row that stands for it: all growths first, then the commit, then the row.
+
+ghost use Rattle.std.specs.Prelude.{◌≡◌, ◌≢◌, ◌%◌, ◌<◌, ◌≤◌, length, IsTrue, IfErr, OnOk};
+ghost use Rattle.nv_super.specs.Layout.{fixed_layout, slot_address};
+ghost use Rattle.smallvec.specs.SmallVec.{HasRoomFor};
+ghost use Rattle.nv_region.specs.Region.{size};
+ghost use Rattle.nv_region.specs.Stops.{LeavesOnly, NothingPending};
+ghost use Rattle.nv_region.specs.Fuses.{KeepsFuse};
+ghost use Rattle.nv_alloc.specs.Taking.{all_blocks};
+ghost use Rattle.nv_logpage.specs.Append.{AreGiven, needed};
+ghost use Rattle.nv_names.specs.Names.{EachOnce};
+ghost use Rattle.nv_held.specs.Held.{Held, Store};
+ghost use Rattle.nv_commit.specs.Stopped.{LeavesEither};
+ghost use Rattle.nv_tree.specs.declared.refusal.Refusal.{Refusal as RefusalValue};
+ghost use Rattle.nv_steps.specs.Grown.{HasGrown, StandsRight};
+ghost use Rattle.nv_steps.specs.NewNames.{CanName};
+ghost use Rattle.nv_steps.specs.Steps.{LeavesStep, RefusesStep, ShowsRow};
+ghost use Rattle.nv_steps.specs.InOrder.{TailIsFirst};
+ghost use Rattle.nv_steps.specs.Stores.{StoresIn, one_less};
+ghost use Rattle.nv_steps.specs.Takes.{AppendedLess, AppendsLess};
+
+use crate::removing::prepare_cut;
+use crate::settling::settle_log;
+use nv_alloc::Allocators;
+use nv_commit::{Extension, remove_inode};
+use nv_entry::Entry;
+use nv_region::Pmem;
+use nv_scan::Row;
+use nv_super::Super;
+use nv_tree::Refusal;
+use std::alloc::Global;
+
+/// Puts entries behind the log of a row, over blocks that it takes, and with them another inode goes. The row gets the new tail and
+/// the new pages. There is room in the free lists for so many blocks that come.
+///
+/// `NoSpace` where all pools together have too few blocks, `Memory` where a growth was refused; both change nothing.
+/// `Stopped` where the fuse has burnt.
+pub fn append_less<P: Pmem>(
+    alloc: Global,
+    memory: &mut P,
+    sup: &Super,
+    free: &mut Allocators,
+    cpu: u64,
+    row: &mut Row,
+    entries: &[Entry],
+    gone: u64,
+    coming: usize,
+) -> Result<(), Refusal>
+    requires stands { StandsRight (P.region memory.old) sup.now free.old row.old }
+    requires can { CanName (P.region memory.old) sup.now cpu gone row.old }
+    requires differ { row.old.inode ≢ gone }
+    requires given { AreGiven entries.now }
+    requires some { 0 < length entries.now }
+    ensures appended { OnOk result (AppendsLess (P.region memory.old) (P.region memory.new) sup.now free.old free.new cpu row.old row.new gone entries.now) }
+    ensures room { OnOk result (coming ≤ free.new.room) }
+    ensures enough { OnOk result (needed (row.old.tail % 4096) entries.now ≤ all_blocks free.old.pools) }
+    ensures settled { OnOk result (NothingPending (P.region memory.new) (P.may_hold memory.new)) }
+    ensures refused { IfErr result (λ e. RefusesStep e (needed (row.old.tail % 4096) entries.now) free.old) }
+    ensures unchanged { IfErr result (λ e. (e ≡ RefusalValue.Stopped → ⊥) → LeavesStep memory.old memory.new free.old free.new row.old row.new) }
+    ensures stopped { IfErr result (λ e. e ≡ RefusalValue.Stopped → IsTrue (P.fuse memory.new).has_burnt) }
+    ensures inode { row.new.inode ≡ row.old.inode }
+    ensures names_room { row.new.names.room ≡ row.old.names.room }
+    ensures lists { free.new.sup ≡ free.old.sup }
+    ensures length { size (P.region memory.new) ≡ size (P.region memory.old) }
+    ensures keeps_fuse { KeepsFuse (λ limit. size (P.region memory.old) ≤ limit) (P.fuse memory.old) (P.fuse memory.new) }
+    // Every word outside these places is as it was.
+    ensures wrote { (held : Store) (h : Held) → ShowsRow (P.region memory.old) sup.now held h row.old free.old
+        → StoresIn sup.now held (one_less sup.now cpu row.old.inode gone) (P.region memory.old) (P.region memory.new) }
+    // The log's tail is stored first.
+    ensures in_order { (held : Store) (h : Held) → ShowsRow (P.region memory.old) sup.now held h row.old free.old
+        → TailIsFirst (P.region memory.old) (P.region memory.new) sup.now free.old.pools cpu row.old.inode row.old.tail entries.now (slot_address sup.now gone) }
+    // Whatever a stop leaves: recovery finds what is held, or it with the entries and without the inode, without faults.
+    ensures any_stop { (held : Store) (h : Held) → ShowsRow (P.region memory.old) sup.now held h row.old free.old → NothingPending (P.region memory.old) (P.may_hold memory.old)
+        → LeavesOnly (P.region memory.new) (P.may_hold memory.new) (LeavesEither (P.region memory.old) (fixed_layout sup.now) held (AppendedLess (P.region memory.old) sup.now free.old cpu row.old gone entries.now)) }
+{
+    let fresh = prepare_cut(alloc, free, cpu, row, entries, coming)?;
+    let parent = Extension {
+        slot: sup.slot_address(row.inode),
+        tail: row.tail,
+        entries,
+        fresh: &fresh,
+    };
+    let Ok(end) = remove_inode(memory, cpu, &parent, sup.slot_address(gone)) else {
+        return Err(Refusal::Stopped);
+    };
+    settle_less(row, &fresh, end);
+    Ok(())
+}
+
+/// Puts the new pages and the new tail of its log into a row, which has room for them, and whose names stay.
+fn settle_less(row: &mut Row, fresh: &[u64], end: u64)
+    requires { HasRoomFor row.old.pages (length fresh.now) }
+    ensures row { HasGrown row.old fresh.now end row.new }
+    ensures once { EachOnce row.new.names }
+{
+    settle_log(row, fresh, end);
+    // A name index says of itself that it has no name twice.
+    let _names = row.names.len();
+}

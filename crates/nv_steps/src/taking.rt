@@ -1,0 +1,107 @@
+//! A name of one inode that is given to another in its directory, by the directory's row: the first inode goes.
+
+ghost use Rattle.std.specs.Prelude.{◌≡◌, ◌≢◌, ◌%◌, ◌≤◌, IsTrue, IfErr, OnOk};
+ghost use Rattle.nv_super.specs.Layout.{fixed_layout, slot_address};
+ghost use Rattle.nv_region.specs.Region.{size};
+ghost use Rattle.nv_region.specs.Stops.{LeavesOnly, NothingPending};
+ghost use Rattle.nv_region.specs.Fuses.{KeepsFuse};
+ghost use Rattle.nv_alloc.specs.Taking.{all_blocks};
+ghost use Rattle.nv_logpage.specs.Append.{needed};
+ghost use Rattle.nv_names.specs.Names.{IsName};
+ghost use Rattle.nv_held.specs.Held.{Held, Store};
+ghost use Rattle.nv_commit.specs.Stopped.{LeavesEither};
+ghost use Rattle.nv_tree.specs.declared.refusal.Refusal.{Refusal as RefusalValue};
+ghost use Rattle.nv_steps.specs.Grown.{StandsRight};
+ghost use Rattle.nv_steps.specs.NewNames.{CanName};
+ghost use Rattle.nv_steps.specs.Steps.{LeavesStep, RefusesStep, ShowsRow};
+ghost use Rattle.nv_steps.specs.InOrder.{TailIsFirst};
+ghost use Rattle.nv_steps.specs.Stores.{StoresIn, one_less};
+ghost use Rattle.nv_steps.specs.Takes.{TakesWithin, TookWithin, take_entries};
+
+use crate::lessening::append_less;
+use crate::renaming::OtherName;
+use crate::settling_names::{add_name, remove_name};
+use nv_alloc::Allocators;
+use nv_entry::{Operation, length, name_entry};
+use nv_region::Pmem;
+use nv_scan::Row;
+use nv_super::Super;
+use nv_tree::Refusal;
+use std::alloc::Global;
+
+/// An inode whose name is given to another.
+#[derive(Clone, Copy)]
+pub struct Displaced {
+    pub inode: u64,
+    /// At most so many blocks are its own.
+    pub blocks: usize,
+}
+
+/// Takes a name out of a directory, and gives its inode the name of another, which goes. There is room for the blocks of that one
+/// then.
+///
+/// `NoSpace` where all pools together have too few blocks, `Memory` where a growth was refused; both change nothing.
+/// `Stopped` where the fuse has burnt.
+pub fn take_within<P: Pmem>(
+    alloc: Global,
+    memory: &mut P,
+    sup: &Super,
+    free: &mut Allocators,
+    cpu: u64,
+    directory: &mut Row,
+    moved: &OtherName<'_>,
+    gone: Displaced,
+) -> Result<(), Refusal>
+    requires stands { StandsRight (P.region memory.old) sup.now free.old directory.old }
+    requires can { CanName (P.region memory.old) sup.now cpu gone.inode directory.old }
+    requires differ { directory.old.inode ≢ gone.inode }
+    requires name { IsName moved.now.name.now }
+    requires other { IsName moved.now.other.now }
+    ensures taken { OnOk result (TakesWithin (P.region memory.old) (P.region memory.new) sup.now free.old free.new cpu directory.old directory.new moved.now.inode gone.inode moved.now.name.now moved.now.other.now moved.now.time) }
+    ensures room { OnOk result (gone.blocks ≤ free.new.room) }
+    ensures enough { OnOk result (needed (directory.old.tail % 4096) (take_entries moved.now.inode gone.inode moved.now.name.now moved.now.other.now moved.now.time) ≤ all_blocks free.old.pools) }
+    ensures settled { OnOk result (NothingPending (P.region memory.new) (P.may_hold memory.new)) }
+    ensures refused { IfErr result (λ e. RefusesStep e (needed (directory.old.tail % 4096) (take_entries moved.now.inode gone.inode moved.now.name.now moved.now.other.now moved.now.time)) free.old) }
+    ensures unchanged { IfErr result (λ e. (e ≡ RefusalValue.Stopped → ⊥) → LeavesStep memory.old memory.new free.old free.new directory.old directory.new) }
+    ensures stopped { IfErr result (λ e. e ≡ RefusalValue.Stopped → IsTrue (P.fuse memory.new).has_burnt) }
+    ensures inode { directory.new.inode ≡ directory.old.inode }
+    ensures lists { free.new.sup ≡ free.old.sup }
+    ensures length { size (P.region memory.new) ≡ size (P.region memory.old) }
+    ensures keeps_fuse { KeepsFuse (λ limit. size (P.region memory.old) ≤ limit) (P.fuse memory.old) (P.fuse memory.new) }
+    // Every word outside these places is as it was.
+    ensures wrote { (held : Store) (h : Held) → ShowsRow (P.region memory.old) sup.now held h directory.old free.old
+        → StoresIn sup.now held (one_less sup.now cpu directory.old.inode gone.inode) (P.region memory.old) (P.region memory.new) }
+    // The directory's tail is stored first.
+    ensures in_order { (held : Store) (h : Held) → ShowsRow (P.region memory.old) sup.now held h directory.old free.old
+        → TailIsFirst (P.region memory.old) (P.region memory.new) sup.now free.old.pools cpu directory.old.inode directory.old.tail (take_entries moved.now.inode gone.inode moved.now.name.now moved.now.other.now moved.now.time) (slot_address sup.now gone.inode) }
+    // Whatever a stop leaves: recovery finds what is held, or it with the name given and without the inode, without faults.
+    ensures any_stop { (held : Store) (h : Held) → ShowsRow (P.region memory.old) sup.now held h directory.old free.old → NothingPending (P.region memory.old) (P.may_hold memory.old)
+        → LeavesOnly (P.region memory.new) (P.may_hold memory.new) (LeavesEither (P.region memory.old) (fixed_layout sup.now) held (TookWithin (P.region memory.old) sup.now free.old cpu directory.old moved.now.inode gone.inode moved.now.name.now moved.now.other.now moved.now.time)) }
+{
+    let entries = [
+        name_entry(Operation::Remove, moved.inode, moved.name, moved.time),
+        name_entry(Operation::Remove, gone.inode, moved.other, moved.time),
+        name_entry(Operation::Add, moved.inode, moved.other, moved.time),
+    ];
+    // A name index says of itself that it has no name twice.
+    let _names = directory.names.len();
+    if directory.names.reserve(1).is_err() {
+        return Err(Refusal::Memory);
+    }
+    append_less(
+        alloc,
+        memory,
+        sup,
+        free,
+        cpu,
+        directory,
+        &entries,
+        gone.inode,
+        gone.blocks,
+    )?;
+    let place = directory.tail - length(&entries[2]);
+    remove_name(directory, moved.name, moved.time);
+    remove_name(directory, moved.other, moved.time);
+    add_name(directory, moved.other, moved.inode, place, moved.time);
+    Ok(())
+}

@@ -1,0 +1,48 @@
+//! Rows as inodes with names.
+
+ghost use Rattle.nv_usage.specs.Named.{AreLowRows, IsAbove, names_tree};
+
+use nv_members::Inodes;
+use nv_names::Named;
+use nv_rows::Rows;
+use nv_super::Kind;
+use std::alloc::AllocError;
+
+/// Rows, with a number above those of all.
+#[derive(Drop)]
+pub(crate) struct NamedRows<'a> {
+    pub(crate) rows: &'a Rows,
+    pub(crate) limit: usize,
+    ghost above: { IsAbove rows.now.items limit },
+}
+
+/// A number above those of all rows.
+pub(crate) fn limit_of(rows: &Rows) -> usize
+    requires { AreLowRows rows.now.items }
+    ensures { IsAbove rows.now.items result }
+{
+    let mut limit: usize = 0;
+    for (_, row) in rows.iter() {
+        limit = limit.max(row.inode as usize + 1);
+    }
+    limit
+}
+
+impl Inodes for NamedRows<'_> {
+    ghost tree = { λ s. names_tree s.rows.now.items };
+
+    fn limit(&self) -> usize {
+        self.limit
+    }
+
+    fn kind_of(&self, inode: u64) -> Option<Kind> {
+        match self.rows.get(inode) {
+            Some(row) => Some(row.kind),
+            None => None,
+        }
+    }
+
+    fn names_of(&self, inode: u64) -> Result<Vec<Named<'_>>, AllocError> {
+        self.rows.row(inode).names.list()
+    }
+}
