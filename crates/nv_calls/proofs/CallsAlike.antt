@@ -17,7 +17,7 @@ use Rattle.nv_rows.specs.Unused.{unused_number}
 use Rattle.nv_rows.proofs.Places.{numbered}
 use Rattle.nv_held.specs.nv_outcome.Outcome.{IsOutcome}
 use Rattle.nv_held.specs.nv_outcome.Same.{SameOutcome}
-use Rattle.nv_held.specs.nv_named.Read.{row_of}
+use Rattle.nv_held.specs.nv_graph.Read.{row_of}
 use Rattle.nv_held.specs.Held.{Held, Store, good_in}
 use Rattle.nv_held.specs.Bytes.{byte_in, byte_of}
 use Rattle.nv_held.specs.Mounted.{IsMounted, KeepsRow, ShowsSound, faultless_outcome}

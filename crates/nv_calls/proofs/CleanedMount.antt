@@ -19,7 +19,7 @@ use Rattle.nv_names.specs.Names.{Names, name_at}
 use Rattle.nv_scan.specs.declared.piece.Row.{Row}
 use Rattle.nv_deadpages.specs.Dead.{IsFirstDead}
 use Rattle.nv_held.specs.nv_check.Cross.{row_key}
-use Rattle.nv_held.specs.nv_named.Read.{row_of}
+use Rattle.nv_held.specs.nv_graph.Read.{row_of}
 use Rattle.nv_held.specs.Held.{Held, Store, with_inode}
 use Rattle.nv_held.specs.Bytes.{byte_in, byte_of}
 use Rattle.nv_held.specs.Cleaned.{cleaned}

@@ -17,8 +17,8 @@ use Rattle.nv_scan.specs.declared.piece.Row.{Row}
 use Rattle.nv_held.specs.nv_check.Cross.{row_key}
 use Rattle.nv_held.specs.nv_outcome.Same.{SameRows}
 use Rattle.nv_held.proofs.nv_outcome.SameRows.{from_first, from_second, rises_too}
-use Rattle.nv_held.specs.nv_named.Read.{row_of}
-use Rattle.nv_held.specs.nv_named.Step.{IsGoodName}
+use Rattle.nv_held.specs.nv_graph.Read.{row_of}
+use Rattle.nv_held.specs.nv_graph.Step.{IsGoodName}
 use Rattle.nv_held.specs.Held.{Held, Store}
 use Rattle.nv_held.specs.Blocks.{KeepsFree}
 use Rattle.nv_held.specs.Mounted.{IsMounted, ShowsSound}

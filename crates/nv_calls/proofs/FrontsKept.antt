@@ -11,7 +11,7 @@ use Rattle.nv_super.proofs.Members.{stands}
 use Rattle.nv_alloc.specs.FreeValue.{FreeLists}
 use Rattle.nv_entry.specs.declared.entry.Entry.{Entry}
 use Rattle.nv_scan.specs.declared.piece.Row.{Row}
-use Rattle.nv_held.specs.nv_named.Read.{row_of}
+use Rattle.nv_held.specs.nv_graph.Read.{row_of}
 use Rattle.nv_held.specs.Held.{Store}
 use Rattle.nv_held.specs.Mounted.{IsMounted}
 use Rattle.nv_steps.specs.Fronts.{SameFrontBut}

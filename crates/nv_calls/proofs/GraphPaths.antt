@@ -11,7 +11,7 @@ use Rattle.nv_held.specs.nv_graph.Graph as graph
 use Rattle.nv_held.specs.Held.{Held, Store}
 use Rattle.nv_held.specs.Graph.{graph_in, target_in}
 use Rattle.nv_held.specs.Mounted.{IsMounted}
-use Rattle.nv_held.specs.nv_named.Read.{row_of}
+use Rattle.nv_held.specs.nv_graph.Read.{row_of}
 use Rattle.nv_tree.specs.declared.refusal.Refusal.{Refusal}
 use Rattle.nv_tree.specs.Tree.{Node, Tree, and_then, as_directory, name_in, or_not_found, passed, walk}
 use Rattle.nv_paths.specs.Seen.{node_of, tree_of}

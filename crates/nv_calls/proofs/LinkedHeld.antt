@@ -19,8 +19,8 @@ use Rattle.nv_held.specs.Blocks.{OwnsNew}
 use Rattle.nv_held.specs.Graph.{graph_in, node_in, target_in}
 use Rattle.nv_held.specs.Grows.{SameFile}
 use Rattle.nv_held.specs.Mounted.{IsFaultless, IsMounted, KeepsRow}
-use Rattle.nv_held.specs.nv_named.Read.{row_of}
-use Rattle.nv_held.specs.nv_named.Step.{IsGoodName}
+use Rattle.nv_held.specs.nv_graph.Read.{row_of}
+use Rattle.nv_held.specs.nv_graph.Step.{IsGoodName}
 use Rattle.nv_commit.specs.Extends.{extended, with_log}
 use Rattle.nv_commit.proofs.Called.{linked_faultless}
 use Rattle.nv_steps.specs.NameEntries.{links_entries, name_entries}

@@ -23,7 +23,7 @@ use Rattle.nv_held.specs.Blocks.{OwnsNew}
 use Rattle.nv_held.specs.Bytes.{byte_in}
 use Rattle.nv_held.specs.Graph.{graph_in, node_in, target_in}
 use Rattle.nv_held.specs.Mounted.{IsFaultless, IsMounted, ShowsSound}
-use Rattle.nv_held.specs.nv_named.Step.{IsGoodName}
+use Rattle.nv_held.specs.nv_graph.Step.{IsGoodName}
 use Rattle.nv_commit.specs.Extends.{extended, with_log}
 use Rattle.nv_commit.proofs.Called.{moved_faultless}
 use Rattle.nv_tree.specs.declared.refusal.Refusal.{Refusal}

@@ -12,7 +12,7 @@ use Rattle.nv_scan.specs.declared.numbers.Numbers.{Numbers}
 use Rattle.nv_scan.specs.Rows.{AreNumbers}
 use Rattle.nv_held.specs.Held.{Held, good_in}
 use Rattle.nv_held.specs.Grows.{SameFile, grown}
-use Rattle.nv_held.specs.nv_named.Step.{IsGoodName, name_entry}
+use Rattle.nv_held.specs.nv_graph.Step.{IsGoodName, name_entry}
 use Rattle.nv_commit.specs.Pages.{SaysNoPage}
 use Rattle.nv_commit.proofs.BlocksOf.{same_file}
 use Rattle.nv_steps.proofs.NameEntries.{name_added, name_lost, name_numbers}

@@ -31,7 +31,7 @@ use Rattle.nv_held.specs.Graph.{graph_in, node_in, target_in}
 use Rattle.nv_held.specs.Mounted.{IsFaultless, IsMounted, KeepsRow, ShowsSound}
 use Rattle.nv_held.proofs.Fronts.{sound_moves}
 use Rattle.nv_held.proofs.Growing.{free_but, grown_owns}
-use Rattle.nv_held.specs.nv_named.Step.{IsGoodName}
+use Rattle.nv_held.specs.nv_graph.Step.{IsGoodName}
 use Rattle.nv_commit.specs.Extends.{CanExtend, extended, with_log}
 use Rattle.nv_commit.proofs.Called.{either_none, moved_here_faultless}
 use Rattle.nv_tree.specs.Tree.{SameNode, SameTree, Tree, walk}

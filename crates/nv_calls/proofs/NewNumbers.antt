@@ -13,7 +13,7 @@ use Rattle.nv_journal.specs.Undo.{enqueue, is_sound}
 use Rattle.nv_journal.specs.Pending.{IsEmpty}
 use Rattle.nv_alloc.specs.FreeValue.{FreeLists}
 use Rattle.nv_scan.specs.declared.piece.Row.{Row}
-use Rattle.nv_held.specs.nv_named.Read.{row_of}
+use Rattle.nv_held.specs.nv_graph.Read.{row_of}
 use Rattle.nv_held.specs.Held.{Store}
 use Rattle.nv_held.specs.Mounted.{IsMounted}
 use Rattle.nv_held.proofs.Kept.{pages_data, tail_there}

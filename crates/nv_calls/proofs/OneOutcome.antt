@@ -17,7 +17,7 @@ use Rattle.nv_radix.specs.Pages.{block_at}
 use Rattle.nv_scan.specs.declared.piece.Row.{Row}
 use Rattle.nv_held.specs.nv_outcome.Outcome.{Outcome, IsOutcome}
 use Rattle.nv_held.specs.nv_outcome.Same.{SameOutcome, SameRow, SameRows}
-use Rattle.nv_held.specs.nv_named.Read.{row_of}
+use Rattle.nv_held.specs.nv_graph.Read.{row_of}
 use Rattle.nv_held.proofs.nv_outcome.OnlyOne.{same_outcome}
 use Rattle.nv_held.proofs.nv_outcome.SuperOf.{blocks_of_super, is_equal}
 use Rattle.nv_held.specs.Held.{Store}

@@ -28,7 +28,7 @@ use Rattle.nv_held.proofs.Growing.{free_but, grown_owns}
 use Rattle.nv_held.proofs.ListsKept.{lists_change}
 use Rattle.nv_held.proofs.Owning.{other_held, same_held, still_undoubled}
 use Rattle.nv_held.proofs.Shown.{stands_at}
-use Rattle.nv_held.specs.nv_named.Step.{IsGoodName}
+use Rattle.nv_held.specs.nv_graph.Step.{IsGoodName}
 use Rattle.nv_commit.specs.Extends.{extended, with_log}
 use Rattle.nv_commit.specs.Together.{ShowsIdle}
 use Rattle.nv_commit.proofs.BlocksOf.{gone_free}

@@ -17,7 +17,7 @@ use Rattle.nv_logpage.specs.Append.{needed}
 use Rattle.nv_names.specs.Names.{name_at}
 use Rattle.nv_radix.specs.Pages.{block_at}
 use Rattle.nv_scan.specs.declared.piece.Row.{Row}
-use Rattle.nv_held.specs.nv_named.Step.{IsGoodName}
+use Rattle.nv_held.specs.nv_graph.Step.{IsGoodName}
 use Rattle.nv_held.specs.Held.{Held, Store}
 use Rattle.nv_held.specs.Bytes.{byte_in, byte_of}
 use Rattle.nv_held.specs.Graph.{graph_in, target_in}

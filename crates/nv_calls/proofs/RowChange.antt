@@ -18,7 +18,7 @@ use Rattle.nv_radix.specs.Pages.{block_at}
 use Rattle.nv_held.specs.nv_outcome.Same.{SameRow}
 use Rattle.nv_scan.specs.declared.piece.Row.{Row}
 use Rattle.nv_held.specs.nv_check.Cross.{row_key}
-use Rattle.nv_held.specs.nv_named.Read.{row_of}
+use Rattle.nv_held.specs.nv_graph.Read.{row_of}
 use Rattle.nv_rows.proofs.Places.{number_at, row_of_other, set_rising}
 use Rattle.nv_tree.specs.declared.refusal.Refusal.{Refusal}
 use Rattle.nv_held.specs.Held.{Held, Store, with_inode}

@@ -13,7 +13,7 @@ use Rattle.nv_radix.specs.Pages.{block_at}
 use Rattle.nv_scan.specs.declared.piece.Row.{Row}
 use Rattle.nv_rows.specs.Unused.{numbers_in_table, unused_number}
 use Rattle.nv_held.specs.nv_outcome.Same.{SameRow, SameRows}
-use Rattle.nv_held.specs.nv_named.Read.{row_of}
+use Rattle.nv_held.specs.nv_graph.Read.{row_of}
 use Rattle.nv_held.specs.Bytes.{byte_in}
 use Rattle.nv_tree.specs.Path.{last_name}
 use Rattle.nv_tree.specs.Tree.{Node, SameNode, Tree, walk, found, passed, as_directory, and_then, or_not_found, name_in, in_use, last_in, is_directory}

@@ -18,7 +18,7 @@ use Rattle.nv_scan.specs.declared.piece.Row.{Row}
 use Rattle.nv_held.specs.Held.{Held, Store}
 use Rattle.nv_held.specs.Bytes.{byte_in, byte_of}
 use Rattle.nv_held.specs.Mounted.{IsMounted}
-use Rattle.nv_held.specs.nv_named.Read.{row_of}
+use Rattle.nv_held.specs.nv_graph.Read.{row_of}
 use Rattle.nv_commit.specs.Stopped.{CanRecover, LeavesEither, RollsBackTo}
 use Rattle.nv_commit.proofs.Left.{itself_recovers, left_same}
 use Rattle.nv_tree.specs.declared.refusal.Refusal.{Refusal}

@@ -15,8 +15,8 @@ use Rattle.nv_held.specs.Held.{Held, Store}
 use Rattle.nv_held.specs.Blocks.{OwnsNew}
 use Rattle.nv_held.specs.Graph.{graph_in, node_in, target_in}
 use Rattle.nv_held.specs.Mounted.{IsFaultless}
-use Rattle.nv_held.specs.nv_named.Step.{IsGoodName}
-use Rattle.nv_held.proofs.nv_named.GoodEntries.{links_small}
+use Rattle.nv_held.specs.nv_graph.Step.{IsGoodName}
+use Rattle.nv_held.proofs.nv_graph.GoodEntries.{links_small}
 use Rattle.nv_commit.specs.Extends.{extended, with_log}
 use Rattle.nv_commit.proofs.Called.{unlinked_faultless}
 use Rattle.nv_steps.specs.NameEntries.{links_entries, name_entries}

@@ -9,7 +9,7 @@ pub mod WriteCall
 pub mod UnlinkCalls
 pub use Rattle.nv_held.specs as nv_held
 pub use Rattle.nv_rows.specs as nv_rows
-pub use Rattle.nv_held.specs.nv_named
+pub use Rattle.nv_held.specs.nv_graph
 pub mod MoveCalls
 pub mod LinkCalls
 pub mod NameCalls

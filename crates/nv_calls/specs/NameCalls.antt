@@ -15,7 +15,7 @@ use Rattle.nv_scan.specs.declared.piece.Row.{Row}
 use Rattle.nv_held.specs.Held.{Held, Store}
 use Rattle.nv_held.specs.Grows.{AreFree}
 use Rattle.nv_held.specs.Mounted.{ShowsSound}
-use Rattle.nv_held.specs.nv_named.Read.{row_of}
+use Rattle.nv_held.specs.nv_graph.Read.{row_of}
 use Rattle.nv_tree.specs.declared.refusal.Refusal.{Refusal}
 use Rattle.nv_tree.specs.Path.{last_name}
 use Rattle.nv_tree.specs.Tree.{Tree, walk}

@@ -6,7 +6,7 @@ use Rattle.nv_super.specs.declared.owners.Run.{Run}
 use Rattle.nv_alloc.specs.Taking.{Takes}
 use Rattle.nv_radix.specs.Pages.{block_at}
 use Rattle.nv_scan.specs.declared.piece.Row.{Row}
-use Rattle.nv_held.specs.nv_named.Read.{row_of}
+use Rattle.nv_held.specs.nv_graph.Read.{row_of}
 use Rattle.nv_held.specs.Held.{Held, Store}
 use Rattle.nv_tree.specs.Refusals.{Path, target}
 use Rattle.nv_calls.specs.GrownLogs.{ShowsGrownLog}

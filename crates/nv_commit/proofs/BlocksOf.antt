@@ -21,7 +21,7 @@ use Rattle.nv_held.specs.nv_scan.Owners.{inode_of}
 use Rattle.nv_held.proofs.nv_scan.Blocks.{data_pages}
 use Rattle.nv_held.proofs.nv_scan.Words.{word-more}
 use Rattle.nv_held.proofs.nv_outcome.Finite.{Decided, number_is}
-use Rattle.nv_held.proofs.nv_named.MoreEntries.{quiet_entries}
+use Rattle.nv_held.proofs.nv_graph.MoreEntries.{quiet_entries}
 use Rattle.nv_held.specs.Held.{Held, Store, good_in, with_inode}
 use Rattle.nv_held.specs.Blocks.{IsUnowned, NoneDoubled, OwnsIn, OwnsNew, by_log, by_page}
 use Rattle.nv_held.specs.Grows.{Maps, SameFile, grown}

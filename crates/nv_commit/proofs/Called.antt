@@ -28,8 +28,8 @@ use Rattle.nv_held.proofs.nv_graph.Changes.{directory_removed_sound, last_remove
 use Rattle.nv_held.proofs.nv_graph.Renamed.{renamed_by_path}
 use Rattle.nv_held.proofs.nv_graph.Sound.{faultless, sound}
 use Rattle.nv_held.proofs.nv_graph.Root.{name_follows, node_follows, same_faultless}
-use Rattle.nv_held.specs.nv_named.Step.{IsGoodName, links_entry, name_entry}
-use Rattle.nv_held.proofs.nv_named.GoodEntries.{good_links}
+use Rattle.nv_held.specs.nv_graph.Step.{IsGoodName, links_entry, name_entry}
+use Rattle.nv_held.proofs.nv_graph.GoodEntries.{good_links}
 use Rattle.nv_held.specs.Held.{Held, Store, good_in, with_inode}
 use Rattle.nv_held.specs.Blocks.{OwnsIn, OwnsNew, by_log, by_page}
 use Rattle.nv_held.specs.Graph.{graph_in, node_in}

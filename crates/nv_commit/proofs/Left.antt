@@ -18,7 +18,7 @@ use Rattle.nv_held.proofs.nv_scan.ChainBlocks.{fixed_chainless}
 use Rattle.nv_held.proofs.nv_outcome.Again.{rolled_back}
 use Rattle.nv_held.proofs.nv_outcome.OnlyOne.{same_outcome}
 use Rattle.nv_held.proofs.nv_outcome.SuperOf.{layout_of_super, one_super}
-use Rattle.nv_held.proofs.nv_named.Bridge.{no_faults}
+use Rattle.nv_held.proofs.nv_graph.Bridge.{no_faults}
 use Rattle.nv_held.specs.Held.{Held, Store, Shows, log_of}
 use Rattle.nv_held.specs.Bytes.{byte_of}
 use Rattle.nv_held.specs.Loose.{Loose}

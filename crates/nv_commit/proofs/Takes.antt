@@ -14,7 +14,7 @@ use Rattle.nv_held.proofs.nv_graph.Replaced.{replaced_faultless}
 use Rattle.nv_held.proofs.nv_graph.Root.{name_follows, node_follows, same_faultless}
 use Rattle.nv_held.proofs.nv_graph.Sound.{Sound, sound}
 use Rattle.std.proofs.lemmas.Option.{none-some}
-use Rattle.nv_held.specs.nv_named.Step.{IsGoodName, links_entry, name_entry}
+use Rattle.nv_held.specs.nv_graph.Step.{IsGoodName, links_entry, name_entry}
 use Rattle.nv_held.specs.Held.{Held, Store, with_inode}
 use Rattle.nv_held.specs.Blocks.{NoneDoubled, OwnsNew}
 use Rattle.nv_held.specs.Graph.{graph_in, node_in}

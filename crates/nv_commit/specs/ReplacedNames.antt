@@ -6,7 +6,7 @@ use Rattle.nv_super.specs.Layout.{Layout}
 use Rattle.nv_entry.specs.declared.entry.Operation.TheVariants.{Add, Remove}
 use Rattle.nv_logpage.specs.declared.found.Placed.{Placed}
 use Rattle.nv_held.specs.nv_graph.Graph.{IsOfKind, passed, walked}
-use Rattle.nv_held.specs.nv_named.Step.{IsGoodName, name_entry}
+use Rattle.nv_held.specs.nv_graph.Step.{IsGoodName, name_entry}
 use Rattle.nv_held.specs.Held.{Held, Store}
 use Rattle.nv_held.specs.Graph.{graph_in, node_in}
 use Rattle.nv_held.specs.Mounted.{IsFaultless}

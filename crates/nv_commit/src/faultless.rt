@@ -10,7 +10,7 @@ ghost use Rattle.nv_entry.specs.declared.entry.Operation.TheVariants.{Add, Remov
 ghost use Rattle.nv_entry.specs.declared.entry.Entry.TheVariants.{Attr};
 ghost use Rattle.nv_logpage.specs.Reads.{placed};
 ghost use Rattle.nv_held.specs.nv_graph.Graph.{IsOfKind, passed, walked};
-ghost use Rattle.nv_held.specs.nv_named.Step.{IsGoodName, links_entry, name_entry};
+ghost use Rattle.nv_held.specs.nv_graph.Step.{IsGoodName, links_entry, name_entry};
 ghost use Rattle.nv_held.specs.Held.{Held, Store, with_inode};
 ghost use Rattle.nv_held.specs.Blocks.{OwnsNew};
 ghost use Rattle.nv_held.specs.Graph.{graph_in, node_in};

@@ -4,7 +4,7 @@ ghost use Rattle.std.specs.Prelude.{◌≡◌, ◌≢◌, ◌<◌, ◌≤◌, �
 ghost use Rattle.nv_super.specs.declared.kind.Kind.TheVariants.{File};
 ghost use Rattle.nv_super.specs.Layout.{Layout};
 ghost use Rattle.nv_entry.specs.declared.entry.Operation.TheVariants.{Remove};
-ghost use Rattle.nv_held.specs.nv_named.Step.{links_entry, name_entry};
+ghost use Rattle.nv_held.specs.nv_graph.Step.{links_entry, name_entry};
 ghost use Rattle.nv_held.specs.Held.{Held, Store, with_inode};
 ghost use Rattle.nv_held.specs.Blocks.{OwnsNew};
 ghost use Rattle.nv_held.specs.Graph.{node_in};

@@ -16,7 +16,7 @@ use Rattle.nv_entry.specs.declared.entry.Entry.{Entry}
 use Rattle.nv_logpage.specs.declared.found.Placed.{Placed}
 use Rattle.nv_logpage.specs.Append.{AllDiffer, AppendWords, AreGiven, CanAppend, CanBePages, EndBy, FreshFor, appended, needed}
 use Rattle.nv_logpage.proofs.RightLogs.{head_starts, tail_whole, tail_low}
-use Rattle.nv_named.proofs.nv_outcome.SuperOf.{blocks_of_super, layout_of_super}
+use Rattle.nv_graph.proofs.nv_outcome.SuperOf.{blocks_of_super, layout_of_super}
 use Rattle.nv_held.specs.Held.{Held, Store, Shows, with_inode}
 use Rattle.nv_held.specs.Blocks.{IsUnowned, NoneDoubled}
 use Rattle.nv_held.specs.Slots.{SlotsClear}

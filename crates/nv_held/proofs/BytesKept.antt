@@ -7,8 +7,8 @@ use Rattle.nv_region.specs.Stored.{SameOutside}
 use Rattle.nv_region.proofs.Wordwise.{mixed_word}
 use Rattle.nv_super.specs.declared.owners.Owner.TheVariants as owners
 use Rattle.nv_super.specs.Layout.{Layout, slot_of}
-use Rattle.nv_named.specs.nv_scan.State.{block_of}
-use Rattle.nv_named.proofs.nv_scan.Blocks.{data_pages}
+use Rattle.nv_graph.specs.nv_scan.State.{block_of}
+use Rattle.nv_graph.proofs.nv_scan.Blocks.{data_pages}
 use Rattle.nv_held.specs.Held.{Held, Store, Shows, good_in}
 use Rattle.nv_held.specs.Blocks.{by_page, NoneDoubled}
 use Rattle.nv_held.specs.Slots.{SlotsClear}

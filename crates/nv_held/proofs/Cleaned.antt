@@ -14,10 +14,10 @@ use Rattle.nv_alloc.specs.FreeLists.{Joins}
 use Rattle.nv_logpage.specs.Unlinked.{page_behind, word_to}
 use Rattle.nv_logpage.proofs.DataBlocks.{one_page, pages_are}
 use Rattle.nv_logpage.proofs.RightLogs.{head_starts}
-use Rattle.nv_named.specs.nv_scan.declared.piece.Row.{Row}
-use Rattle.nv_named.proofs.nv_outcome.SuperOf.{layout_of_super}
+use Rattle.nv_graph.specs.nv_scan.declared.piece.Row.{Row}
+use Rattle.nv_graph.proofs.nv_outcome.SuperOf.{layout_of_super}
 use Rattle.nv_super.specs.declared.owners.Owner.TheVariants as owners
-use Rattle.nv_named.specs.nv_scan.State.{block_of}
+use Rattle.nv_graph.specs.nv_scan.State.{block_of}
 use Rattle.nv_held.specs.Bytes.{byte_of}
 use Rattle.nv_held.specs.Held.{Held, Store, HoldsInode, Shows, good_in, with_inode}
 use Rattle.nv_held.specs.Blocks.{IsUnowned, KeepsFree, NoneDoubled, by_page}

@@ -7,8 +7,8 @@ use Rattle.nv_super.specs.declared.owners.Owner.TheVariants as owners
 use Rattle.nv_super.specs.Layout.{Layout, system_blocks}
 use Rattle.nv_super.proofs.Members.{stands}
 use Rattle.nv_super.proofs.Options.{some_is}
-use Rattle.nv_named.specs.nv_scan.State.{block_of}
-use Rattle.nv_named.specs.nv_scan.Owners.{inode_of}
+use Rattle.nv_graph.specs.nv_scan.State.{block_of}
+use Rattle.nv_graph.specs.nv_scan.Owners.{inode_of}
 use Rattle.nv_held.specs.Held.{Held, Store, with_inode, good_in}
 use Rattle.nv_held.specs.Blocks.{OwnsIn, by_page, IsUnowned, NoneDoubled, OwnsNew}
 use Rattle.nv_held.specs.Grows.{SameFile}

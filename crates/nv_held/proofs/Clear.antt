@@ -7,7 +7,7 @@ use Rattle.nv_super.proofs.Slots.{slots_apart}
 use Rattle.nv_inode.specs.Slot.{is_right_log}
 use Rattle.nv_logpage.specs.declared.found.Placed.{Placed}
 use Rattle.nv_logpage.specs.Reads.{Reads}
-use Rattle.nv_named.proofs.nv_scan.Blocks.{data_pages}
+use Rattle.nv_graph.proofs.nv_scan.Blocks.{data_pages}
 use Rattle.nv_held.specs.Held.{Store, Shows}
 use Rattle.nv_held.specs.Slots.{HasNoSlot, HaveNoSlots, SlotsClear}
 use Rattle.nv_held.proofs.Shown.{stands_at}

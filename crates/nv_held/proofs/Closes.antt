@@ -12,24 +12,24 @@ use Rattle.nv_super.specs.Layout.{Layout, fixed_layout}
 use Rattle.nv_super.specs.Order.{Lists, fault_key, claim_key}
 use Rattle.nv_super.proofs.Members.{none_in}
 use Rattle.nv_super.proofs.Rising.{Contains-head}
-use Rattle.nv_named.specs.nv_journal.Undo.{undone}
+use Rattle.nv_graph.specs.nv_journal.Undo.{undone}
 use Rattle.nv_inode.specs.Slot.{slot_at, kind_at, is_right_log}
 use Rattle.nv_alloc.proofs.Changed.{AreRuns-same}
 use Rattle.nv_logpage.specs.declared.found.LogEnd.{LogEnd}
-use Rattle.nv_named.specs.nv_scan.State.{block_of, named}
-use Rattle.nv_named.specs.nv_scan.Inode.{Log, IsInode, good_of}
-use Rattle.nv_named.specs.nv_scan.Faults.{IsFaultOf, IsEntryFault, i1, i2, i3, l1, l2, l3, l4, entry}
-use Rattle.nv_named.specs.nv_scan.Rows.{IsRow, AreNumbers}
-use Rattle.nv_named.specs.nv_scan.declared.piece.Row.{Row}
-use Rattle.nv_named.proofs.nv_scan.Pieces.{valid_one}
-use Rattle.nv_named.specs.nv_outcome.Outcome.{AreRows, AreFreeLists, IsDoubled, IsCrossFault, IsFaulty, journal, inode, cross, double, Outcome, IsOutcome}
-use Rattle.nv_named.proofs.nv_outcome.SuperOf.{layout_of_super, one_super}
-use Rattle.nv_named.proofs.Bridge.{no_faults}
+use Rattle.nv_graph.specs.nv_scan.State.{block_of, named}
+use Rattle.nv_graph.specs.nv_scan.Inode.{Log, IsInode, good_of}
+use Rattle.nv_graph.specs.nv_scan.Faults.{IsFaultOf, IsEntryFault, i1, i2, i3, l1, l2, l3, l4, entry}
+use Rattle.nv_graph.specs.nv_scan.Rows.{IsRow, AreNumbers}
+use Rattle.nv_graph.specs.nv_scan.declared.piece.Row.{Row}
+use Rattle.nv_graph.proofs.nv_scan.Pieces.{valid_one}
+use Rattle.nv_graph.specs.nv_outcome.Outcome.{AreRows, AreFreeLists, IsDoubled, IsCrossFault, IsFaulty, journal, inode, cross, double, Outcome, IsOutcome}
+use Rattle.nv_graph.proofs.nv_outcome.SuperOf.{layout_of_super, one_super}
+use Rattle.nv_graph.proofs.Bridge.{no_faults}
 use Rattle.nv_held.specs.Held.{Held, Store, Shows, ShowsSlot, log_of, good_in}
 use Rattle.nv_held.specs.Blocks.{NoneDoubled, KeepsFree}
 use Rattle.nv_held.specs.Mounted.{KeepsRow, KeepsRows, Keeps, AreClean, ShowsSound, faultless_outcome}
-use Rattle.nv_named.specs.nv_scan.ChainBlocks.{IsChainless}
-use Rattle.nv_named.proofs.nv_scan.ChainBlocks.{fixed_chainless}
+use Rattle.nv_graph.specs.nv_scan.ChainBlocks.{IsChainless}
+use Rattle.nv_graph.proofs.nv_scan.ChainBlocks.{fixed_chainless}
 use Rattle.nv_held.proofs.Shown.{IsHeld, held_inode, HoldsAt, stands_at, in_use, is_held, owns_back, free_there, free_back}
 use Rattle.nv_held.proofs.ShownGraph.{graph_shown}
 use Rattle.nv_held.proofs.Idle.{idle_undone, idle_faultless}

@@ -17,9 +17,9 @@ use Rattle.nv_entry.specs.Content.{is_good}
 use Rattle.nv_logpage.specs.declared.found.Placed.{Placed}
 use Rattle.nv_logpage.specs.Good.{good_entries}
 use Rattle.nv_radix.specs.Pages.{in_run}
-use Rattle.nv_named.specs.nv_scan.LastWord.{last_word}
-use Rattle.nv_named.specs.nv_scan.State.{block_of, says_block}
-use Rattle.nv_named.proofs.nv_scan.Words.{words-more}
+use Rattle.nv_graph.specs.nv_scan.LastWord.{last_word}
+use Rattle.nv_graph.specs.nv_scan.State.{block_of, says_block}
+use Rattle.nv_graph.proofs.nv_scan.Words.{words-more}
 use Rattle.nv_held.specs.Held.{Held, Store, with_inode, good_in}
 use Rattle.nv_held.specs.Blocks.{by_page, IsUnowned, NoneDoubled}
 use Rattle.nv_held.specs.Grows.{grown, AreFree, Maps, LetsGo, GrowsByData}

@@ -6,9 +6,9 @@ use Rattle.nv_super.specs.declared.kind.Kind.{Kind}
 use Rattle.nv_super.specs.Layout.{Layout}
 use Rattle.nv_super.proofs.Options.{some_is}
 use Rattle.nv_logpage.specs.declared.found.Placed.{Placed}
-use Rattle.nv_named.specs.nv_scan.Faults.{IsEntryFault}
-use Rattle.nv_named.proofs.nv_scan.EntryFaults.{fault_more}
-use Rattle.nv_named.proofs.nv_graph.Root.{same_faultless}
+use Rattle.nv_graph.specs.nv_scan.Faults.{IsEntryFault}
+use Rattle.nv_graph.proofs.nv_scan.EntryFaults.{fault_more}
+use Rattle.nv_graph.proofs.Root.{same_faultless}
 use Rattle.nv_held.specs.Held.{Held, Store, with_inode}
 use Rattle.nv_held.specs.Graph.{graph_in}
 use Rattle.nv_held.specs.Mounted.{AreClean, IsFaultless}

@@ -8,9 +8,9 @@ use Rattle.nv_super.specs.declared.superblock.Super.{Super}
 use Rattle.nv_super.specs.Layout.{Layout, slot_of, fixed_layout, system_blocks}
 use Rattle.nv_super.specs.Super.{IsSuper}
 use Rattle.nv_super.proofs.Accepted.{super_stays}
-use Rattle.nv_named.specs.nv_journal.Undo.{dequeue, enqueue, is_sound, journal}
+use Rattle.nv_graph.specs.nv_journal.Undo.{dequeue, enqueue, is_sound, journal}
 use Rattle.nv_logpage.proofs.Local.{ReadsOn-same}
-use Rattle.nv_named.proofs.nv_outcome.SuperOf.{layout_of_super}
+use Rattle.nv_graph.proofs.nv_outcome.SuperOf.{layout_of_super}
 use Rattle.nv_held.specs.Held.{Held, Store, Shows, ShowsSlot}
 use Rattle.nv_held.specs.Slots.{SlotsStand, SlotsClear}
 use Rattle.nv_held.specs.Loose.{Loose}

@@ -15,15 +15,15 @@ use Rattle.nv_entry.specs.declared.entry.Entry.TheVariants as entries
 use Rattle.nv_logpage.specs.declared.found.Placed.{Placed}
 use Rattle.nv_logpage.specs.Reads.{placed}
 use Rattle.nv_logpage.specs.Good.{good_entries}
-use Rattle.nv_named.specs.nv_scan.State.{named, links_of, says_name, says_links}
-use Rattle.nv_named.proofs.nv_scan.Words.{word-more}
-use Rattle.nv_named.proofs.nv_scan.KindsApart.{file_names}
-use Rattle.nv_named.specs.nv_graph.Graph.{Node}
-use Rattle.nv_named.specs.nv_graph.Calls.{with_node, with_name, is_name, SameGraph}
-use Rattle.nv_named.specs.Step.{name_entry, links_entry, IsGoodName, IsQuiet}
-use Rattle.nv_named.proofs.Shown.{inode_of, names_by}
-use Rattle.nv_named.proofs.GoodEntries.{good_links}
-use Rattle.nv_named.proofs.MoreEntries.{target, name_more, links_kept, quiet_entry, quiet_entries}
+use Rattle.nv_graph.specs.nv_scan.State.{named, links_of, says_name, says_links}
+use Rattle.nv_graph.proofs.nv_scan.Words.{word-more}
+use Rattle.nv_graph.proofs.nv_scan.KindsApart.{file_names}
+use Rattle.nv_graph.specs.Graph.{Node}
+use Rattle.nv_graph.specs.Calls.{with_node, with_name, is_name, SameGraph}
+use Rattle.nv_graph.specs.Step.{name_entry, links_entry, IsGoodName, IsQuiet}
+use Rattle.nv_graph.proofs.Shown.{inode_of, names_by}
+use Rattle.nv_graph.proofs.GoodEntries.{good_links}
+use Rattle.nv_graph.proofs.MoreEntries.{target, name_more, links_kept, quiet_entry, quiet_entries}
 use Rattle.nv_held.specs.Held.{Held, Store, with_inode, good_in}
 use Rattle.nv_held.specs.Graph.{node_in, target_in, graph_in}
 use Rattle.nv_held.specs.Grows.{grown, SameNames}

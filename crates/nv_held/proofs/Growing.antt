@@ -11,10 +11,10 @@ use Rattle.nv_super.specs.declared.owners.Owner.TheVariants as owners
 use Rattle.nv_super.specs.Layout.{Layout}
 use Rattle.nv_super.proofs.Members.{stands}
 use Rattle.nv_super.proofs.Options.{some_is}
-use Rattle.nv_named.specs.nv_scan.State.{block_of}
-use Rattle.nv_named.specs.nv_scan.Owners.{inode_of}
-use Rattle.nv_named.proofs.nv_scan.Blocks.{data_pages}
-use Rattle.nv_named.proofs.nv_outcome.Finite.{Decided, number_is, numbers, those, some, told_as}
+use Rattle.nv_graph.specs.nv_scan.State.{block_of}
+use Rattle.nv_graph.specs.nv_scan.Owners.{inode_of}
+use Rattle.nv_graph.proofs.nv_scan.Blocks.{data_pages}
+use Rattle.nv_graph.proofs.nv_outcome.Finite.{Decided, number_is, numbers, those, some, told_as}
 use Rattle.nv_held.specs.Held.{Held, Store, with_inode, good_in}
 use Rattle.nv_held.specs.Blocks.{OwnsIn, by_log, by_page, IsUnowned, NoneDoubled, OwnsNew}
 use Rattle.nv_held.specs.Grows.{AreFree, SameFile, Maps, LetsGo, GrowsByData}

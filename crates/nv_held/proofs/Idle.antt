@@ -7,11 +7,11 @@ use Rattle.nv_super.specs.declared.faults.Fault.TheVariants as faults
 use Rattle.nv_super.specs.Layout.{IsLayout}
 use Rattle.nv_inode.specs.Chains.{layout_of}
 use Rattle.nv_inode.specs.Permitted.{is_permitted_by}
-use Rattle.nv_named.specs.nv_journal.Undo.{dequeue, enqueue, is_sound, pending_count, undone}
-use Rattle.nv_named.specs.nv_journal.Faults.{HasFault}
-use Rattle.nv_named.proofs.nv_journal.AnyLength.{dequeue_settled, quiet_same}
-use Rattle.nv_named.proofs.nv_journal.KeptLinks.{own_rule}
-use Rattle.nv_named.proofs.nv_journal.Pointers.{right_pointers, wrong_pointers}
+use Rattle.nv_graph.specs.nv_journal.Undo.{dequeue, enqueue, is_sound, pending_count, undone}
+use Rattle.nv_graph.specs.nv_journal.Faults.{HasFault}
+use Rattle.nv_graph.proofs.nv_journal.AnyLength.{dequeue_settled, quiet_same}
+use Rattle.nv_graph.proofs.nv_journal.KeptLinks.{own_rule}
+use Rattle.nv_graph.proofs.nv_journal.Pointers.{right_pointers, wrong_pointers}
 use Rattle.nv_held.specs.Mounted.{AreIdle}
 
 -- an idle region is its own undo

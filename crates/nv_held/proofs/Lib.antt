@@ -20,9 +20,8 @@ pub mod Unlinking
 pub mod Cleaned
 pub mod Opens
 pub mod Closes
-pub use Rattle.nv_named.proofs as nv_named
-pub use Rattle.nv_named.proofs.nv_outcome
-pub use Rattle.nv_named.proofs.nv_check
-pub use Rattle.nv_named.proofs.nv_scan
-pub use Rattle.nv_named.proofs.nv_graph
-pub use Rattle.nv_named.proofs.nv_rows
+pub use Rattle.nv_graph.proofs as nv_graph
+pub use Rattle.nv_graph.proofs.nv_outcome
+pub use Rattle.nv_graph.proofs.nv_check
+pub use Rattle.nv_graph.proofs.nv_scan
+pub use Rattle.nv_graph.proofs.nv_rows

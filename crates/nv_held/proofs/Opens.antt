@@ -14,28 +14,28 @@ use Rattle.nv_super.proofs.Members.{none_in}
 use Rattle.nv_super.proofs.Options.{some_is}
 use Rattle.nv_super.proofs.Rising.{Contains-cons, Contains-head, Contains-tail}
 use Rattle.nv_super.proofs.Sorted.{one_owner}
-use Rattle.nv_named.specs.nv_journal.Undo.{undone}
+use Rattle.nv_graph.specs.nv_journal.Undo.{undone}
 use Rattle.nv_inode.specs.Slot.{kind_at, is_right_log}
 use Rattle.nv_alloc.proofs.Changed.{AreRuns-same}
 use Rattle.nv_logpage.specs.declared.found.LogFault.{LogFault}
 use Rattle.nv_logpage.specs.declared.found.LogFault.TheVariants as logs
 use Rattle.nv_logpage.specs.declared.found.LogEnd.{LogEnd}
 use Rattle.nv_logpage.specs.Reads.{Reads}
-use Rattle.nv_named.specs.nv_scan.Inode.{Log, IsInode, IsInUse, right, wrong}
-use Rattle.nv_named.specs.nv_scan.Faults.{IsFaultOf, i1, i2, i3, l1, l2, l3, l4, entry}
-use Rattle.nv_named.specs.nv_scan.Rows.{IsRow}
-use Rattle.nv_named.specs.nv_scan.declared.piece.Row.{Row}
-use Rattle.nv_named.proofs.nv_scan.InUse.{by_slot}
-use Rattle.nv_named.proofs.nv_scan.Only.{IsInode-only, slot_in_use, kind_in_use}
-use Rattle.nv_named.specs.nv_outcome.Outcome.{AreRows, AreFreeLists, IsDoubled, IsCrossFault, IsFaulty, journal, inode, cross, double, Outcome, IsOutcome}
-use Rattle.nv_named.proofs.nv_outcome.SuperOf.{layout_of_super}
-use Rattle.nv_named.proofs.Bridge.{is_faultless}
-use Rattle.nv_named.proofs.OfRows.{all_names}
+use Rattle.nv_graph.specs.nv_scan.Inode.{Log, IsInode, IsInUse, right, wrong}
+use Rattle.nv_graph.specs.nv_scan.Faults.{IsFaultOf, i1, i2, i3, l1, l2, l3, l4, entry}
+use Rattle.nv_graph.specs.nv_scan.Rows.{IsRow}
+use Rattle.nv_graph.specs.nv_scan.declared.piece.Row.{Row}
+use Rattle.nv_graph.proofs.nv_scan.InUse.{by_slot}
+use Rattle.nv_graph.proofs.nv_scan.Only.{IsInode-only, slot_in_use, kind_in_use}
+use Rattle.nv_graph.specs.nv_outcome.Outcome.{AreRows, AreFreeLists, IsDoubled, IsCrossFault, IsFaulty, journal, inode, cross, double, Outcome, IsOutcome}
+use Rattle.nv_graph.proofs.nv_outcome.SuperOf.{layout_of_super}
+use Rattle.nv_graph.proofs.Bridge.{is_faultless}
+use Rattle.nv_graph.proofs.OfRows.{all_names}
 use Rattle.nv_held.specs.Held.{Held, Store, HoldsInode, Shows, ShowsSlot}
 use Rattle.nv_held.specs.Blocks.{NoneDoubled, KeepsFree}
 use Rattle.nv_held.specs.Mounted.{KeepsRow, KeepsRows, AreClean, IsMounted}
-use Rattle.nv_named.specs.nv_scan.ChainBlocks.{IsChainless}
-use Rattle.nv_named.proofs.nv_scan.ChainBlocks.{fixed_chainless}
+use Rattle.nv_graph.specs.nv_scan.ChainBlocks.{IsChainless}
+use Rattle.nv_graph.proofs.nv_scan.ChainBlocks.{fixed_chainless}
 use Rattle.nv_held.proofs.Shown.{held_inode, stands_at, in_use, owns_there, free_there, free_back}
 use Rattle.nv_held.proofs.ShownGraph.{graph_shown}
 use Rattle.nv_held.proofs.Idle.{idle_of}

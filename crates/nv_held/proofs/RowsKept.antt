@@ -7,8 +7,8 @@ use Rattle.std.proofs.lemmas.List.{get_or-set_same, get_or-set_other, get_or_def
 use Rattle.nv_super.specs.Layout.{Layout}
 use Rattle.nv_super.specs.Order.{Rises}
 use Rattle.nv_super.proofs.RisingPlaces.{rises_keys, one_place}
-use Rattle.nv_named.specs.nv_scan.declared.piece.Row.{Row}
-use Rattle.nv_named.specs.nv_check.Cross.{row_key}
+use Rattle.nv_graph.specs.nv_scan.declared.piece.Row.{Row}
+use Rattle.nv_graph.specs.nv_check.Cross.{row_key}
 use Rattle.nv_held.specs.Held.{Held, Store, with_inode}
 use Rattle.nv_held.specs.Mounted.{KeepsRow, KeepsRows}
 use Rattle.nv_held.proofs.Owning.{other_held, same_held}

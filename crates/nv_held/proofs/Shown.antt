@@ -6,14 +6,14 @@ use Rattle.nv_super.specs.declared.owners.Owner.TheVariants as owners
 use Rattle.nv_super.specs.Layout.{Layout, slot_of}
 use Rattle.nv_inode.specs.Slot.{slot_at, is_right_log}
 use Rattle.nv_logpage.specs.Reads.{Reads}
-use Rattle.nv_named.specs.nv_scan.State.{block_of}
-use Rattle.nv_named.specs.nv_scan.Inode.{Log, IsInode, IsInUse, right, good_of}
-use Rattle.nv_named.specs.nv_scan.Owners as scan
-use Rattle.nv_named.specs.nv_scan.Owners.{Owns}
-use Rattle.nv_named.specs.nv_scan.ChainBlocks.{IsChainless}
-use Rattle.nv_named.proofs.nv_scan.Only.{IsInode-only, slot_in_use, kind_in_use, owned_log, owned_page, no_table}
-use Rattle.nv_named.proofs.nv_scan.Pieces.{valid_one}
-use Rattle.nv_named.specs.nv_outcome.Outcome.{IsFree}
+use Rattle.nv_graph.specs.nv_scan.State.{block_of}
+use Rattle.nv_graph.specs.nv_scan.Inode.{Log, IsInode, IsInUse, right, good_of}
+use Rattle.nv_graph.specs.nv_scan.Owners as scan
+use Rattle.nv_graph.specs.nv_scan.Owners.{Owns}
+use Rattle.nv_graph.specs.nv_scan.ChainBlocks.{IsChainless}
+use Rattle.nv_graph.proofs.nv_scan.Only.{IsInode-only, slot_in_use, kind_in_use, owned_log, owned_page, no_table}
+use Rattle.nv_graph.proofs.nv_scan.Pieces.{valid_one}
+use Rattle.nv_graph.specs.nv_outcome.Outcome.{IsFree}
 use Rattle.nv_held.specs.Held.{Held, Store, HoldsInode, ShowsSlot, Shows, log_of}
 use Rattle.nv_held.specs.Blocks.{OwnsIn, by_log, by_page, IsUnowned}
 

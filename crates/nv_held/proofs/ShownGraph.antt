@@ -7,12 +7,12 @@ use Rattle.nv_super.specs.declared.kind.Kind.{Kind}
 use Rattle.nv_super.specs.declared.kind.Kind.TheVariants.{File, Directory}
 use Rattle.nv_super.specs.Layout.{Layout}
 use Rattle.nv_logpage.specs.Good.{good_entries}
-use Rattle.nv_named.specs.nv_scan.State.{named, links_of}
-use Rattle.nv_named.specs.nv_scan.Inode.{Log, good_of}
-use Rattle.nv_named.proofs.nv_scan.KindsApart.{file_names}
-use Rattle.nv_named.specs.nv_outcome.Outcome.{HasName}
-use Rattle.nv_named.specs.Read.{IsGraphOf}
-use Rattle.nv_named.proofs.OfRows.{mapped}
+use Rattle.nv_graph.specs.nv_scan.State.{named, links_of}
+use Rattle.nv_graph.specs.nv_scan.Inode.{Log, good_of}
+use Rattle.nv_graph.proofs.nv_scan.KindsApart.{file_names}
+use Rattle.nv_graph.specs.nv_outcome.Outcome.{HasName}
+use Rattle.nv_graph.specs.Read.{IsGraphOf}
+use Rattle.nv_graph.proofs.OfRows.{mapped}
 use Rattle.nv_held.specs.Held.{Held, Store, Shows, log_of, good_in}
 use Rattle.nv_held.specs.Graph.{node_in, target_in, graph_in}
 use Rattle.nv_held.proofs.Shown.{held_inode, stands_at, in_use, is_held}

@@ -18,12 +18,12 @@ use Rattle.nv_entry.specs.declared.entry.Entry.TheVariants.{NextPage, Write, Att
 use Rattle.nv_entry.specs.Content.{is_good}
 use Rattle.nv_logpage.specs.declared.found.Placed.{Placed}
 use Rattle.nv_radix.specs.Pages.{in_run}
-use Rattle.nv_named.specs.nv_scan.LastWord.{last_word}
-use Rattle.nv_named.specs.nv_scan.State.{cuts, block_in, size_in, says_block, says_size}
-use Rattle.nv_named.proofs.nv_scan.Blocks.{in_range}
-use Rattle.nv_named.proofs.nv_scan.Sizes.{write_below}
-use Rattle.nv_named.proofs.nv_scan.Words.{last_word-cons}
-use Rattle.nv_named.proofs.nv_outcome.Finite.{Decided}
+use Rattle.nv_graph.specs.nv_scan.LastWord.{last_word}
+use Rattle.nv_graph.specs.nv_scan.State.{cuts, block_in, size_in, says_block, says_size}
+use Rattle.nv_graph.proofs.nv_scan.Blocks.{in_range}
+use Rattle.nv_graph.proofs.nv_scan.Sizes.{write_below}
+use Rattle.nv_graph.proofs.nv_scan.Words.{last_word-cons}
+use Rattle.nv_graph.proofs.nv_outcome.Finite.{Decided}
 use Rattle.nv_held.specs.Writes.{blocks_in_entry, pages_in_entry, written_blocks, written_pages}
 
 -- ---- runs with one more in front

@@ -6,8 +6,8 @@ use Rattle.nv_super.specs.declared.owners.Run.{Run}
 use Rattle.nv_super.specs.Layout.{Layout, system_blocks, InPool}
 use Rattle.nv_super.specs.Runs.{AreRuns}
 use Rattle.nv_alloc.specs.Taking.{pool_at}
-use Rattle.nv_named.specs.nv_scan.State.{block_of}
-use Rattle.nv_named.specs.nv_scan.Owners.{inode_of}
+use Rattle.nv_graph.specs.nv_scan.State.{block_of}
+use Rattle.nv_graph.specs.nv_scan.Owners.{inode_of}
 use Rattle.nv_held.specs.Held.{Held, Store, good_in, with_inode}
 
 -- the owner has this block

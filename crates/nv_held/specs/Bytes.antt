@@ -2,7 +2,7 @@
 use Rattle.std.specs.Prelude.{ℕ, ◌+◌, ◌*◌, ◌/◌, ◌%◌, ◌^◌, Option, Some, None}
 use Rattle.nv_region.specs.Region.{Region, word}
 use Rattle.nv_super.specs.Layout.{Layout}
-use Rattle.nv_named.specs.nv_scan.State.{block_of}
+use Rattle.nv_graph.specs.nv_scan.State.{block_of}
 use Rattle.nv_held.specs.Held.{Held, good_in}
 
 -- byte x of a file whose page there has this block; 0 where it has none

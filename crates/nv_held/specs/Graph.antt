@@ -2,8 +2,8 @@
 use Rattle.std.specs.Prelude.{ℕ, List, Option}
 use Rattle.std.specs.Option.{option_map, option_and_then}
 use Rattle.nv_super.specs.Layout.{Layout}
-use Rattle.nv_named.specs.nv_scan.State.{named, links_of}
-use Rattle.nv_named.specs.nv_graph.Graph.{Node, Graph}
+use Rattle.nv_graph.specs.nv_scan.State.{named, links_of}
+use Rattle.nv_graph.specs.Graph.{Node, Graph}
 use Rattle.nv_held.specs.Held.{Held, Store, good_in}
 
 -- the kind and the link count of what is held

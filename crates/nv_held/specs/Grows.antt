@@ -7,9 +7,9 @@ use Rattle.nv_super.specs.declared.faults.Fault.{Fault}
 use Rattle.nv_super.specs.Layout.{Layout}
 use Rattle.nv_logpage.specs.declared.found.Placed.{Placed}
 use Rattle.nv_logpage.specs.Good.{good_entries}
-use Rattle.nv_named.specs.nv_scan.State.{block_of, named, links_of}
-use Rattle.nv_named.specs.nv_scan.Faults.{IsEntryFault}
-use Rattle.nv_named.specs.nv_scan.Fold.{entry_fault}
+use Rattle.nv_graph.specs.nv_scan.State.{block_of, named, links_of}
+use Rattle.nv_graph.specs.nv_scan.Faults.{IsEntryFault}
+use Rattle.nv_graph.specs.nv_scan.Fold.{entry_fault}
 use Rattle.nv_held.specs.Held.{Held, Store, good_in}
 use Rattle.nv_held.specs.Blocks.{IsUnowned}
 

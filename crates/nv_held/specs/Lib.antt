@@ -11,9 +11,8 @@ pub mod Writes
 pub mod Bytes
 pub mod Appended
 pub mod Cleaned
-pub use Rattle.nv_named.specs as nv_named
-pub use Rattle.nv_named.specs.nv_outcome
-pub use Rattle.nv_named.specs.nv_check
-pub use Rattle.nv_named.specs.nv_scan
-pub use Rattle.nv_named.specs.nv_graph
-pub use Rattle.nv_named.specs.nv_rows
+pub use Rattle.nv_graph.specs as nv_graph
+pub use Rattle.nv_graph.specs.nv_outcome
+pub use Rattle.nv_graph.specs.nv_check
+pub use Rattle.nv_graph.specs.nv_scan
+pub use Rattle.nv_graph.specs.nv_rows

@@ -8,16 +8,16 @@ use Rattle.nv_super.specs.declared.faults.Fault.{Fault}
 use Rattle.nv_super.specs.Layout.{Layout, fixed_layout}
 use Rattle.nv_super.specs.Order.{Rises}
 use Rattle.nv_super.specs.Super.{IsSuper}
-use Rattle.nv_named.specs.nv_journal.Undo.{dequeue, enqueue, is_sound}
+use Rattle.nv_graph.specs.nv_journal.Undo.{dequeue, enqueue, is_sound}
 use Rattle.nv_radix.specs.Pages.{block_at}
 use Rattle.nv_names.specs.Names.{name_at}
-use Rattle.nv_named.specs.nv_scan.State.{block_of, named}
-use Rattle.nv_named.specs.nv_scan.Faults.{IsEntryFault}
-use Rattle.nv_named.specs.nv_scan.Rows.{AreNumbers}
-use Rattle.nv_named.specs.nv_scan.declared.piece.Row.{Row}
-use Rattle.nv_named.specs.nv_check.Cross.{row_key}
-use Rattle.nv_named.specs.nv_graph.Graph.{NoCrossFaults}
-use Rattle.nv_named.specs.nv_outcome.Outcome.{Outcome}
+use Rattle.nv_graph.specs.nv_scan.State.{block_of, named}
+use Rattle.nv_graph.specs.nv_scan.Faults.{IsEntryFault}
+use Rattle.nv_graph.specs.nv_scan.Rows.{AreNumbers}
+use Rattle.nv_graph.specs.nv_scan.declared.piece.Row.{Row}
+use Rattle.nv_graph.specs.nv_check.Cross.{row_key}
+use Rattle.nv_graph.specs.Graph.{NoCrossFaults}
+use Rattle.nv_graph.specs.nv_outcome.Outcome.{Outcome}
 use Rattle.nv_held.specs.Held.{Held, Store, Shows, good_in}
 use Rattle.nv_held.specs.Blocks.{KeepsFree, NoneDoubled}
 use Rattle.nv_held.specs.Graph.{graph_in}

@@ -2,7 +2,7 @@
 use Rattle.std.specs.Prelude.{◌≡◌, ◌≢◌, ◌⊎◌, ℕ, ◌+◌, ◌*◌, ◌/◌, ◌%◌, ◌≤◌, List, Some}
 use Rattle.std.specs.List.{Contains}
 use Rattle.nv_super.specs.Layout.{Layout, slot_of}
-use Rattle.nv_named.specs.nv_scan.State.{block_of}
+use Rattle.nv_graph.specs.nv_scan.State.{block_of}
 use Rattle.nv_held.specs.Held.{Held, Store, good_in}
 use Rattle.nv_held.specs.Blocks.{IsUnowned}
 

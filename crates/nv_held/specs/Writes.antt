@@ -8,7 +8,7 @@ use Rattle.nv_entry.specs.declared.entry.Entry.{Entry}
 use Rattle.nv_entry.specs.declared.entry.Entry.TheVariants.{NextPage, Write, Attr, Name, Links}
 use Rattle.nv_entry.specs.Content.{is_good}
 use Rattle.nv_logpage.specs.declared.found.Placed.{Placed}
-use Rattle.nv_named.specs.nv_scan.State.{block_of, says_size}
+use Rattle.nv_graph.specs.nv_scan.State.{block_of, says_size}
 use Rattle.nv_held.specs.Held.{Held, Store, good_in}
 use Rattle.nv_held.specs.Blocks.{IsUnowned}
 

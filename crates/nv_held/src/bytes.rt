@@ -11,7 +11,7 @@ ghost use Rattle.nv_entry.specs.declared.entry.WriteEntry.{WriteEntry};
 ghost use Rattle.nv_entry.specs.declared.entry.Entry.TheVariants.{Write};
 ghost use Rattle.nv_logpage.specs.declared.found.Placed.{Placed};
 ghost use Rattle.nv_radix.specs.Pages.{in_run};
-ghost use Rattle.nv_named.specs.nv_scan.State.{block_of};
+ghost use Rattle.nv_graph.specs.nv_scan.State.{block_of};
 ghost use Rattle.nv_held.specs.Held.{Held, Store, Shows, good_in, with_inode};
 ghost use Rattle.nv_held.specs.Blocks.{IsUnowned, NoneDoubled};
 ghost use Rattle.nv_held.specs.Slots.{SlotsClear};

@@ -21,7 +21,7 @@ pub use entries::{clean_more, still_clean, still_faultless};
 pub use names::{
     graph_came, graph_less, graph_linked, graph_more, graph_moved, graph_touched, graph_went,
 };
-pub use nv_named::{Recovered, Rows};
+pub use nv_graph::{Recovered, Rows};
 pub use outcomes::{closing, opening, outcome_is_held};
 pub use owners::{
     free_blocks_but_these, grown_by_data, grown_log_owns, lists_change, lists_follow, lists_grow,

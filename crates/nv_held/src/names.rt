@@ -9,9 +9,9 @@ ghost use Rattle.nv_entry.specs.declared.entry.Operation.TheVariants.{Add, Remov
 ghost use Rattle.nv_entry.specs.declared.entry.Entry.TheVariants.{Attr};
 ghost use Rattle.nv_logpage.specs.declared.found.Placed.{Placed};
 ghost use Rattle.nv_logpage.specs.Reads.{placed};
-ghost use Rattle.nv_named.specs.nv_scan.State.{named};
-ghost use Rattle.nv_named.specs.nv_graph.Calls.{with_node, with_name, SameGraph};
-ghost use Rattle.nv_named.specs.Step.{IsGoodName, IsQuiet, links_entry, name_entry};
+ghost use Rattle.nv_graph.specs.nv_scan.State.{named};
+ghost use Rattle.nv_graph.specs.Calls.{with_node, with_name, SameGraph};
+ghost use Rattle.nv_graph.specs.Step.{IsGoodName, IsQuiet, links_entry, name_entry};
 ghost use Rattle.nv_held.specs.Held.{Held, Store, good_in, with_inode};
 ghost use Rattle.nv_held.specs.Graph.{graph_in, node_in};
 ghost use Rattle.nv_held.specs.Grows.{SameNames, grown};

@@ -5,9 +5,9 @@ ghost use Rattle.nv_region.specs.Region.{Region};
 ghost use Rattle.nv_super.specs.declared.superblock.Super.{Super};
 ghost use Rattle.nv_super.specs.declared.owners.Run.{Run};
 ghost use Rattle.nv_super.specs.Layout.{fixed_layout};
-ghost use Rattle.nv_named.specs.nv_journal.Undo.{undone};
-ghost use Rattle.nv_named.specs.nv_scan.declared.piece.Row.{Row};
-ghost use Rattle.nv_named.specs.nv_outcome.Outcome.{Outcome, IsOutcome};
+ghost use Rattle.nv_graph.specs.nv_journal.Undo.{undone};
+ghost use Rattle.nv_graph.specs.nv_scan.declared.piece.Row.{Row};
+ghost use Rattle.nv_graph.specs.nv_outcome.Outcome.{Outcome, IsOutcome};
 ghost use Rattle.nv_held.specs.Held.{Store};
 ghost use Rattle.nv_held.specs.Mounted.{ShowsSound, IsMounted, Keeps, faultless_outcome};
 

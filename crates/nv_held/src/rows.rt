@@ -4,8 +4,8 @@ ghost use Rattle.std.specs.Prelude.{◌≡◌, ◌≢◌, ◌⊎◌, ◌<◌, �
 ghost use Rattle.std.specs.List.{Contains};
 ghost use Rattle.nv_super.specs.Layout.{Layout};
 ghost use Rattle.nv_super.specs.Order.{Rises};
-ghost use Rattle.nv_named.specs.nv_scan.declared.piece.Row.{Row};
-ghost use Rattle.nv_named.specs.nv_check.Cross.{row_key};
+ghost use Rattle.nv_graph.specs.nv_scan.declared.piece.Row.{Row};
+ghost use Rattle.nv_graph.specs.nv_check.Cross.{row_key};
 ghost use Rattle.nv_held.specs.Held.{Held, Store, with_inode};
 ghost use Rattle.nv_held.specs.Mounted.{KeepsRow, KeepsRows};
 

@@ -16,7 +16,7 @@ use Rattle.nv_tree.proofs.Kept.{attributed_kept, created_kept, linked_kept, remo
 use Rattle.nv_tree.proofs.Same.{same_itself, same_symmetric, same_transitive}
 use Rattle.nv_tree.proofs.Texts.{says_one}
 use Rattle.nv_paths.specs.Seen.{node_of, tree_of}
-use Rattle.nv_calls.specs.nv_held.nv_named.Read.{row_of}
+use Rattle.nv_calls.specs.nv_held.nv_graph.Read.{row_of}
 use Rattle.nv_history.specs.declared.calls.Call.{Call}
 use Rattle.nv_history.specs.declared.calls.Call.TheVariants.{Create, MakeDirectory, Write, SetSize, SetAttributes, Link, Unlink, RemoveDirectory, Rename, Clean}
 use Rattle.nv_history.specs.Making.{AreMade, none, more, ByPath, ByPaths, IsMadeBy, is_unused_in, lowest_unused}

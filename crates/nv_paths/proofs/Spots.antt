@@ -10,7 +10,7 @@ use Rattle.nv_tree.specs.Path.{IsPath, Says}
 use Rattle.nv_tree.specs.Names.{Spells}
 use Rattle.nv_tree.specs.Tree.{as_directory, is_directory, walk}
 use Rattle.nv_tree.specs.Refusals.{Path, is_bad_name}
-use Rattle.nv_held.specs.nv_named.Read.{row_of}
+use Rattle.nv_held.specs.nv_graph.Read.{row_of}
 use Rattle.nv_paths.specs.Seen.{node_of, tree_of}
 use Rattle.nv_rows.proofs.Places.{numbered}
 use Rattle.nv_paths.proofs.Targets.{said}

@@ -7,7 +7,7 @@ use Rattle.nv_names.specs.Names.{name_at}
 use Rattle.nv_scan.specs.declared.piece.Row.{Row}
 use Rattle.nv_held.specs.Bytes.{byte_in}
 use Rattle.nv_tree.specs.Tree.{Node, Tree, found}
-use Rattle.nv_held.specs.nv_named.Read.{row_of}
+use Rattle.nv_held.specs.nv_graph.Read.{row_of}
 
 -- what a row shows
 abbrev pub node_of : Region → Row → Node

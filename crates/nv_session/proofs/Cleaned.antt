@@ -9,7 +9,7 @@ use Rattle.nv_super.proofs.Members.{stands}
 use Rattle.nv_report.specs.nv_scan.declared.piece.Row.{Row}
 use Rattle.nv_calls.specs.nv_held.Held.{Held, Store}
 use Rattle.nv_calls.specs.nv_held.Mounted.{IsMounted, ShowsSound}
-use Rattle.nv_calls.specs.nv_named.Read.{row_of}
+use Rattle.nv_calls.specs.nv_graph.Read.{row_of}
 use Rattle.nv_rows.specs.Rows.{place_in}
 use Rattle.nv_rows.proofs.Places.{at_place, numbered}
 use Rattle.nv_tree.specs.Tree.{Node, Tree, found}

@@ -16,7 +16,7 @@ use Rattle.nv_radix.specs.Pages.{block_at}
 use Rattle.nv_report.specs.nv_scan.declared.piece.Row.{Row}
 use Rattle.nv_report.specs.nv_outcome.Same.{SameRow, SameRows}
 use Rattle.nv_report.proofs.nv_outcome.OnlyOne.{same_outcome}
-use Rattle.nv_calls.specs.nv_named.Read.{row_of}
+use Rattle.nv_calls.specs.nv_graph.Read.{row_of}
 use Rattle.nv_tree.specs.Path.{last_name}
 use Rattle.nv_tree.specs.Calls.{links_at}
 use Rattle.nv_tree.specs.Tree.{Tree, found, in_use, last_in, walk}

@@ -7,7 +7,7 @@ use Rattle.nv_super.specs.declared.owners.Run.{Run}
 use Rattle.nv_alloc.specs.Taking.{all_blocks}
 use Rattle.nv_radix.specs.Pages.{block_at}
 use Rattle.nv_report.specs.nv_scan.declared.piece.Row.{Row}
-use Rattle.nv_calls.specs.nv_named.Read.{row_of}
+use Rattle.nv_calls.specs.nv_graph.Read.{row_of}
 use Rattle.nv_tree.specs.Tree.{Tree}
 use Rattle.nv_tree.specs.Refusals.{IsRefusedBy, MayWantMemory, Path, Tests, World, first_refusal, has_no_space, is_bad, is_dir, is_missing, is_too_large, stat_tests, target, walk_tests, write_tests, writing}
 use Rattle.nv_tree.specs.declared.refusal.Refusal.{Refusal}

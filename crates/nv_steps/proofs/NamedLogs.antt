@@ -16,7 +16,7 @@ use Rattle.nv_scan.specs.Rows.{AreNumbers}
 use Rattle.nv_held.specs.Held.{Held, good_in}
 use Rattle.nv_held.specs.Grows.{SameFile}
 use Rattle.nv_held.specs.Mounted.{KeepsRow}
-use Rattle.nv_held.specs.nv_named.Step.{IsGoodName}
+use Rattle.nv_held.specs.nv_graph.Step.{IsGoodName}
 use Rattle.nv_commit.specs.Extends.{extended}
 use Rattle.nv_steps.specs.LessNames.{HasLost}
 use Rattle.nv_steps.specs.NameEntries.{name_entries}

@@ -7,7 +7,7 @@ use Rattle.nv_super.proofs.Rising.{head_least, tail_rises, Contains-head, Contai
 use Rattle.nv_held.specs.nv_check.Cross.{row_key}
 use Rattle.nv_scan.proofs.RowKeys.{key_less}
 use Rattle.nv_scan.specs.declared.piece.Row.{Row}
-use Rattle.nv_held.specs.nv_named.Read.{row_of}
+use Rattle.nv_held.specs.nv_graph.Read.{row_of}
 use Rattle.nv_super.proofs.Members.{stands}
 
 -- a row at a place is the row of its number

@@ -22,7 +22,7 @@ use Rattle.nv_logpage.specs.Append.{appended, pages_after, place_of}
 use Rattle.nv_logpage.specs.Reads.{placed}
 use Rattle.nv_scan.specs.State.{says_size, says_time}
 use Rattle.nv_scan.proofs.Blocks.{in_range}
-use Rattle.nv_held.specs.nv_named.Step.{IsQuiet}
+use Rattle.nv_held.specs.nv_graph.Step.{IsQuiet}
 use Rattle.nv_held.specs.Held.{Held, Store}
 use Rattle.nv_held.specs.Blocks.{IsUnowned}
 use Rattle.nv_held.specs.Grows.{NoEntryFault}

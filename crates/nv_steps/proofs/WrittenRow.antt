@@ -18,7 +18,7 @@ use Rattle.nv_scan.specs.State.{block_of, says_group, says_mode, says_owner, say
 use Rattle.nv_scan.specs.Rows.{AreNumbers}
 use Rattle.nv_scan.specs.declared.numbers.Numbers.{Numbers}
 use Rattle.nv_scan.proofs.Words.{last_word-cons, words-more}
-use Rattle.nv_held.proofs.nv_named.MoreEntries.{quiet_entries}
+use Rattle.nv_held.proofs.nv_graph.MoreEntries.{quiet_entries}
 use Rattle.nv_held.specs.Held.{Held, Store, good_in}
 use Rattle.nv_held.specs.Grows.{SameNames, grown}
 use Rattle.nv_held.specs.Writes.{WritesData, written_pages}

@@ -1,8 +1,0 @@
-use Rattle.nv_graph.proofs.Root.{name_follows, node_follows}
-use Rattle.nv_graph.proofs.laws.changes_follow.Goals as goal
-
-pub returns-clause-name : goal.returns-clause-name
-returns-clause-name c = name_follows
-
-pub returns-clause-node : goal.returns-clause-node
-returns-clause-node c = node_follows

@@ -1,5 +1,0 @@
-use Rattle.nv_named.proofs.Shown.{only_graph}
-use Rattle.nv_named.proofs.laws.one_graph.Goals as goal
-
-pub returns : goal.returns
-returns c = λ R l g h p q. only_graph p q
