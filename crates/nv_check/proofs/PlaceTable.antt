@@ -1,5 +1,5 @@
 -- A table of the places of inodes.
-use Rattle.std.proofs.Common.{◌≡◌, ◌≢◌, ℕ, zero, suc, ◌+◌, ◌*◌, ◌^◌, ◌<◌, ◌≤◌, ◌⊎◌, inl, inr, eqb, Option, Some, None, List, ◌∷◌, length, get_or, replicate, refl, ap, sym, ◌∙◌, subst, arith, add-one, get_or-set_same, get_or-set_other, mul-le-mul_right}
+use Rattle.std.proofs.Common.{◌≡◌, ◌≢◌, ℕ, zero, suc, ◌+◌, ◌^◌, ◌<◌, ◌≤◌, ◌⊎◌, inl, inr, eqb, Option, Some, None, List, ◌∷◌, length, get_or, replicate, refl, ap, sym, ◌∙◌, subst, arith, add-one, get_or-set_same, get_or-set_other}
 use Rattle.std.proofs.Math.ListN.{set, get_or-map as get_or-map_default}
 use Rattle.std.proofs.lemmas.Bool.{cases_order, cases_lt, ne_eqb, eqb-true}
 use Rattle.std.proofs.lemmas.List.{get_or_default, length-map, map-set}
@@ -7,8 +7,6 @@ use Rattle.std.proofs.lemmas.Map.Keys.{IsDistinct-from_apart}
 use Rattle.std.proofs.lemmas.Map.Steps.{length-le_from_distinct_below}
 use Rattle.std.proofs.lemmas.Map.Views.{Contains-from_any}
 use Rattle.std.proofs.lemmas.Option.{same_Some}
-use Rattle.nv_super.specs.declared.superblock.Super.{Super}
-use Rattle.nv_super.specs.Layout.{HasAreas, inode_limit}
 use Rattle.nv_numbered.specs.Values.{AreNumbersBelow}
 use Rattle.nv_check.specs.Words.{place_in, places_in}
 use Rattle.nv_check.specs.Steps.{place_of, ArePlacesTo}
@@ -81,12 +79,9 @@ few_numbers limit numbers apart =
     (IsDistinct-from_apart eqb numbers (λ i j d less within. ne_eqb _ _ (λ e. apart.once i j less within (get_or_default numbers i 0 d (omega (arith, less, within)) ∙ e ∙ get_or_default numbers j d 0 within))))
     (λ q is. (let c = Contains-from_any eqb-true q numbers is in subst (λ (n : ℕ). n < limit) (get_or_default numbers c.0 0 q c.1 ∙ c.2) (apart.below c.0 c.1)))
 
--- one more than a place among the numbers of a region's inodes takes four bytes
-pub small_place : (sup : Super) (numbers : List ℕ) (place : ℕ) → HasAreas sup → AreNumbersBelow (inode_limit sup) numbers → place < length numbers → place + 1 < 2 ^ 32
-small_place sup numbers place areas apart within =
-    let few = few_numbers (inode_limit sup) numbers apart in
-    let most : 32 * sup.cpus * sup.table_blocks ≤ 2048 * sup.table_blocks = mul-le-mul_right sup.table_blocks (omega (arith, areas.cpus_to)) in
-    omega (arith, few, most, areas.tables_to, within)
+-- one more than a place among numbers below an end that takes four bytes takes four bytes
+pub small_place : (end : ℕ) (numbers : List ℕ) (place : ℕ) → end < 2 ^ 32 → AreNumbersBelow end numbers → place < length numbers → place + 1 < 2 ^ 32
+small_place end numbers place small apart within = let few = few_numbers end numbers apart in omega (arith, few, small, within)
 
 -- the next inode has no place yet
 pub vacant_next : (inodes : List ℕ) (n : ℕ) (words : List ℕ) → ((j k : ℕ) → j < k → k < length inodes → get_or inodes j 0 ≢ get_or inodes k 0) → n < length inodes → ArePlacesTo inodes n (places_in words) → get_or words (get_or inodes n 0) 0 ≡ 0

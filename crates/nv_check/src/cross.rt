@@ -1,9 +1,8 @@
 //! What is wrong between inodes.
 
-ghost use Rattle.std.specs.Prelude.{◌≡◌, [], map, IfOk, IsTrue, OnOk};
-ghost use Rattle.std.specs.List.{All};
-ghost use Rattle.nv_super.specs.Layout.{IsLayout, inode_limit, is_number};
+ghost use Rattle.std.specs.Prelude.{◌≡◌, [], map, IfOk, OnOk};
 ghost use Rattle.nv_super.specs.Order.{fault_key, Lists};
+ghost use Rattle.nv_inode.specs.Numbers.{number_end};
 ghost use Rattle.nv_scan.specs.declared.piece.Row.{Row as RowValue};
 ghost use Rattle.nv_numbered.specs.Values.{AreNumbersBelow};
 ghost use Rattle.nv_check.specs.Cross.{IsCrossFaultIn};
@@ -11,10 +10,11 @@ ghost use Rattle.nv_check.specs.Listings.{IsFault};
 ghost use Rattle.nv_check.specs.Steps.{ArePlaces, AreNumbersOfNames, AreFaults, unused_faults};
 
 use crate::counts::push_counts;
-use crate::tables::{Tables, tables_of};
+use crate::tables::{RowTables, tables_of};
 use crate::walk::push_far;
+use nv_inode::Tables;
 use nv_scan::RowList;
-use nv_super::{Fault, Super, sort_faults};
+use nv_super::{Fault, sort_faults};
 use std::alloc::{AllocError, Global};
 
 /// The faults, rising, between the rows of all inodes in use, which come in any order, no two of one inode.
@@ -25,18 +25,20 @@ use std::alloc::{AllocError, Global};
 ///
 /// Errors: `AllocError` where a growth was refused, or where 64 bits can't count the names of one inode. No memory holds
 /// so many names.
-pub fn cross_faults(alloc: Global, sup: &Super, rows: &RowList) -> Result<Vec<Fault>, AllocError>
-    requires layout { IsLayout sup.now }
-    requires apart { AreNumbersBelow (inode_limit sup.now) (map (λ (r : RowValue). r.inode) rows.now.items) }
-    requires numbers { All (λ (r : RowValue). IsTrue (is_number sup.now r.inode)) rows.now.items }
+pub fn cross_faults(
+    alloc: Global,
+    tables: &Tables,
+    rows: &RowList,
+) -> Result<Vec<Fault>, AllocError>
+    requires { AreNumbersBelow (number_end tables.now.layout) (map (λ (r : RowValue). r.inode) rows.now.items) }
     ensures { IfOk result (λ found. Lists fault_key (IsCrossFaultIn rows.now.items) found.items) }
 {
-    let tables = tables_of(alloc, sup, rows)?;
+    let tables = tables_of(alloc, tables, rows)?;
     sorted_faults(alloc, &tables)
 }
 
 /// The faults between the rows of these tables, rising.
-fn sorted_faults(alloc: Global, tables: &Tables<'_>) -> Result<Vec<Fault>, AllocError>
+fn sorted_faults(alloc: Global, tables: &RowTables<'_>) -> Result<Vec<Fault>, AllocError>
     requires places { ArePlaces tables.now.listings tables.now.places }
     requires counts { AreNumbersOfNames tables.now.listings tables.now.counts.items }
     requires unused { tables.now.unused.items ≡ unused_faults tables.now.places tables.now.listings }
@@ -49,7 +51,11 @@ fn sorted_faults(alloc: Global, tables: &Tables<'_>) -> Result<Vec<Fault>, Alloc
 }
 
 /// The faults between the rows, kind by kind.
-fn push_all(alloc: Global, faults: &mut Vec<Fault>, tables: &Tables<'_>) -> Result<(), AllocError>
+fn push_all(
+    alloc: Global,
+    faults: &mut Vec<Fault>,
+    tables: &RowTables<'_>,
+) -> Result<(), AllocError>
     requires places { ArePlaces tables.now.listings tables.now.places }
     requires counts { AreNumbersOfNames tables.now.listings tables.now.counts.items }
     requires unused { tables.now.unused.items ≡ unused_faults tables.now.places tables.now.listings }

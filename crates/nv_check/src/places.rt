@@ -1,14 +1,12 @@
 //! Where the row of each inode stands.
 
-ghost use Rattle.std.specs.Prelude.{◌≡◌, IfOk};
-ghost use Rattle.nv_super.specs.Layout.{IsLayout, inode_limit};
+ghost use Rattle.std.specs.Prelude.{◌≡◌, ◌<◌, ◌^◌, IfOk};
 ghost use Rattle.nv_numbered.specs.Values.{AreNumbersBelow};
 ghost use Rattle.nv_check.specs.Listings.{inodes_of};
 ghost use Rattle.nv_check.specs.Steps.{place_of, ArePlaces};
 
 use crate::listing::Listings;
 use nv_numbered::Leaves;
-use nv_super::Super;
 use std::alloc::{AllocError, Global};
 use std::marker::Model;
 
@@ -43,17 +41,17 @@ impl Places {
     }
 }
 
-/// The places of these rows.
+/// The places of these rows, whose inodes have numbers below an end.
 pub(crate) fn places_of(
     alloc: Global,
-    sup: &Super,
+    end: u64,
     listings: &Listings<'_>,
 ) -> Result<Places, AllocError>
-    requires layout { IsLayout sup.now }
-    requires apart { AreNumbersBelow (inode_limit sup.now) (inodes_of listings.now) }
+    requires small { end < 2 ^ 32 }
+    requires apart { AreNumbersBelow end (inodes_of listings.now) }
     ensures { IfOk result (λ places. ArePlaces listings.now places) }
 {
-    let mut words = Leaves::new(alloc, sup.inode_limit(), listings.len())?;
+    let mut words = Leaves::new(alloc, end, listings.len())?;
     for place in 0..listings.len() {
         words.insert(listings.head(place).inode, place as u32 + 1);
     }

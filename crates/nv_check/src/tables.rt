@@ -1,7 +1,7 @@
 //! What the checks read: the rows with their names listed, where each inode's row stands, and how often each is named.
 
 ghost use Rattle.std.specs.Prelude.{map, IfOk};
-ghost use Rattle.nv_super.specs.Layout.{IsLayout, inode_limit};
+ghost use Rattle.nv_inode.specs.Numbers.{number_end};
 ghost use Rattle.nv_scan.specs.declared.piece.Row.{Row as RowValue};
 ghost use Rattle.nv_numbered.specs.Values.{AreNumbersBelow};
 ghost use Rattle.nv_check.specs.Tables.{AreTables};
@@ -9,13 +9,14 @@ ghost use Rattle.nv_check.specs.Tables.{AreTables};
 use crate::counts::count_names;
 use crate::listing::{Listings, listings_of};
 use crate::places::{Places, places_of};
+use nv_inode::Tables;
 use nv_scan::RowList;
-use nv_super::{Fault, Super};
+use nv_super::Fault;
 use std::alloc::{AllocError, Global};
 
 /// Three tables over the same rows, and the faults that are found as the names are counted.
 #[derive(Drop)]
-pub(crate) struct Tables<'a> {
+pub(crate) struct RowTables<'a> {
     pub(crate) listings: Listings<'a>,
     pub(crate) places: Places,
     pub(crate) counts: Vec<u64>,
@@ -25,17 +26,16 @@ pub(crate) struct Tables<'a> {
 
 pub(crate) fn tables_of<'a>(
     alloc: Global,
-    sup: &Super,
+    tables: &Tables,
     rows: &'a RowList,
-) -> Result<Tables<'a>, AllocError>
-    requires layout { IsLayout sup.now }
-    requires apart { AreNumbersBelow (inode_limit sup.now) (map (λ (r : RowValue). r.inode) rows.now.items) }
+) -> Result<RowTables<'a>, AllocError>
+    requires { AreNumbersBelow (number_end tables.now.layout) (map (λ (r : RowValue). r.inode) rows.now.items) }
     ensures { IfOk result (λ tables. AreTables rows.now.items tables) }
 {
     let listings = listings_of(alloc, rows)?;
-    let places = places_of(alloc, sup, &listings)?;
+    let places = places_of(alloc, tables.number_end(), &listings)?;
     let (counts, unused) = count_names(alloc, &places, &listings)?;
-    Ok(Tables {
+    Ok(RowTables {
         listings,
         places,
         counts,

@@ -10,8 +10,11 @@ use Rattle.nv_super.specs.declared.owners.Run.{Run}
 use Rattle.nv_super.specs.declared.faults.Fault.{Fault}
 use Rattle.nv_super.specs.Layout.{Layout, fixed_layout}
 use Rattle.nv_super.specs.Super.{IsSuper}
+use Rattle.nv_inode.specs.Chains.{layout_of}
 use Rattle.nv_journal.specs.Undo.{undone}
-use Rattle.nv_held.specs.nv_outcome.Outcome.{IsFaulty, journal, inode, cross, double, Outcome, IsOutcome}
+use Rattle.nv_held.specs.nv_scan.Faults.{IsFaultOf}
+use Rattle.nv_held.specs.nv_outcome.Outcome.{IsCrossFault, IsDoubled, IsFaulty, journal, chain, inode, cross, double, Outcome, IsOutcome}
+use Rattle.nv_held.proofs.nv_outcome.Fixed.{no_chain_fault, to_fixed}
 use Rattle.nv_held.specs.nv_outcome.Same.{SameOutcome, lasting_outcome}
 use Rattle.nv_held.specs.nv_scan.declared.piece.Row.{Row}
 use Rattle.nv_held.proofs.nv_scan.ChainBlocks.{fixed_chainless}
@@ -41,11 +44,15 @@ none_listed (x ∷ xs) none = absurd (none x (Contains-head x xs))
 -- ---- the outcome
 
 module _ {left : Region} {s : Super} {after : Store} (can : CanRecover s left) (sound : ShowsSound (undone s left) s after) where
+  fixed : (P : Layout → Type 0) → P (layout_of s (undone s left)) → P (fixed_layout s)
+  fixed P h = to_fixed left s can.sup (undone s left) P h
+
   no_fault_left : (f : Fault) → IsFaulty left s f → ⊥
   no_fault_left f (journal h) = can.journals f h
-  no_fault_left f (inode i h) = let right = sound.faultless in no_inode_fault sound.shows right.clean i f h
-  no_fault_left f (cross h) = let right = sound.faultless in no_faults (graph_shown sound.shows) right.named f h
-  no_fault_left _ (double {b = b} {o = o} d) = let right = sound.faultless in none_doubled sound.shows (fixed_chainless s) right.undoubled b o d
+  no_fault_left f (chain h) = no_chain_fault left s can.sup (undone s left) f h
+  no_fault_left f (inode i h) = let right = sound.faultless in no_inode_fault sound.shows right.clean i f (fixed (λ l. IsFaultOf (undone s left) l i f) h)
+  no_fault_left f (cross h) = let right = sound.faultless in no_faults (graph_shown sound.shows) right.named f (fixed (λ l. IsCrossFault (undone s left) l f) h)
+  no_fault_left _ (double {b = b} {o = o} d) = let right = sound.faultless in none_doubled sound.shows (fixed_chainless s) right.undoubled b o (fixed (λ l. IsDoubled (undone s left) l b o) d)
 
   module _ (o : Outcome) (is : IsOutcome left o) where
     same_super : o.sup ≡ s

@@ -2,8 +2,9 @@
 
 ghost use Rattle.std.specs.Prelude.{◌≡◌, ◌↔◌, List, []};
 ghost use Rattle.nv_region.specs.Region.{Region};
-ghost use Rattle.nv_super.specs.Layout.{Layout, fixed_layout};
+ghost use Rattle.nv_super.specs.Layout.{Layout};
 ghost use Rattle.nv_super.specs.declared.faults.Fault.{Fault};
+ghost use Rattle.nv_inode.specs.Chains.{layout_of};
 ghost use Rattle.nv_outcome.specs.nv_journal.Undo.{undone};
 ghost use Rattle.nv_outcome.specs.nv_scan.declared.piece.Row.{Row};
 ghost use Rattle.nv_outcome.specs.Outcome.{AreRows, IsCrossFault, Outcome, IsOutcome};
@@ -34,5 +35,5 @@ pub fn graph_of_rows()
 
 /// Where an outcome has no faults, the graph of its rows is that of the undone region, and has none.
 pub fn faultless_outcome()
-    ensures { (region : Region) (o : Outcome) → IsOutcome region o → o.faults ≡ [] → HasFaultlessGraph (undone o.sup region) (fixed_layout o.sup) (graph_of o.rows) }
+    ensures { (region : Region) (o : Outcome) → IsOutcome region o → o.faults ≡ [] → HasFaultlessGraph (undone o.sup region) (layout_of o.sup (undone o.sup region)) (graph_of o.rows) }
 {}

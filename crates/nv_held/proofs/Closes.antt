@@ -17,12 +17,14 @@ use Rattle.nv_inode.specs.Slot.{slot_at, kind_at, is_right_log}
 use Rattle.nv_alloc.proofs.Changed.{AreRuns-same}
 use Rattle.nv_logpage.specs.declared.found.LogEnd.{LogEnd}
 use Rattle.nv_graph.specs.nv_scan.State.{block_of, named}
+use Rattle.nv_inode.specs.Chains.{layout_of}
 use Rattle.nv_graph.specs.nv_scan.Inode.{Log, IsInode, good_of}
 use Rattle.nv_graph.specs.nv_scan.Faults.{IsFaultOf, IsEntryFault, i1, i2, i3, l1, l2, l3, l4, entry}
 use Rattle.nv_graph.specs.nv_scan.Rows.{IsRow, AreNumbers}
 use Rattle.nv_graph.specs.nv_scan.declared.piece.Row.{Row}
 use Rattle.nv_graph.proofs.nv_scan.Pieces.{valid_one}
-use Rattle.nv_graph.specs.nv_outcome.Outcome.{AreRows, AreFreeLists, IsDoubled, IsCrossFault, IsFaulty, journal, inode, cross, double, Outcome, IsOutcome}
+use Rattle.nv_graph.specs.nv_outcome.Outcome.{AreRows, AreFreeLists, IsDoubled, IsCrossFault, IsFaulty, journal, chain, inode, cross, double, Outcome, IsOutcome}
+use Rattle.nv_graph.proofs.nv_outcome.Fixed.{from_fixed, no_chain_fault, to_fixed}
 use Rattle.nv_graph.proofs.nv_outcome.SuperOf.{layout_of_super, one_super}
 use Rattle.nv_graph.proofs.Bridge.{no_faults}
 use Rattle.nv_held.specs.Held.{Held, Store, Shows, ShowsSlot, log_of, good_in}
@@ -107,18 +109,26 @@ module _ {R : Region} {s : Super} {held : Store} (m : ShowsSound R s held) where
   pub own_undo : undone s R ≡ R
   own_undo = idle_undone s R (layout_of_super R s m.sup) m.idle
 
+  -- what is so of the undone region by its layout is so of the region by the fixed one, and back
+  fixed_own : (P : Region → Layout → Type 0) → P (undone s R) (layout_of s (undone s R)) → P R (fixed_layout s)
+  fixed_own P h = let Q : Region → Type 0 = λ U. P U (fixed_layout s) in subst Q own_undo (to_fixed R s m.sup (undone s R) (P (undone s R)) h)
+
+  own_fixed : (P : Region → Layout → Type 0) → P R (fixed_layout s) → P (undone s R) (layout_of s (undone s R))
+  own_fixed P h = from_fixed R s m.sup (undone s R) (P (undone s R)) (let Q : Region → Type 0 = λ U. P U (fixed_layout s) in subst Q (sym own_undo) h)
+
   no_fault_at_all : (f : Fault) → IsFaulty R s f → ⊥
   no_fault_at_all f (journal h) = idle_faultless s R f m.idle h
-  no_fault_at_all f (inode i h) = no_inode_fault m.shows m.faultless.clean i f (let P : Region → Type 0 = λ Q. IsFaultOf Q (fixed_layout s) i f in subst P own_undo h)
-  no_fault_at_all f (cross h) = no_faults (graph_shown m.shows) m.faultless.named f (let P : Region → Type 0 = λ Q. IsCrossFault Q (fixed_layout s) f in subst P own_undo h)
-  no_fault_at_all _ (double {b = b} {o = o} d) = none_doubled m.shows (fixed_chainless s) m.faultless.undoubled b o (let P : Region → Type 0 = λ Q. IsDoubled Q (fixed_layout s) b o in subst P own_undo d)
+  no_fault_at_all f (chain h) = no_chain_fault R s m.sup (undone s R) f h
+  no_fault_at_all f (inode i h) = no_inode_fault m.shows m.faultless.clean i f (fixed_own (λ Q l. IsFaultOf Q l i f) h)
+  no_fault_at_all f (cross h) = no_faults (graph_shown m.shows) m.faultless.named f (fixed_own (λ Q l. IsCrossFault Q l f) h)
+  no_fault_at_all _ (double {b = b} {o = o} d) = none_doubled m.shows (fixed_chainless s) m.faultless.undoubled b o (fixed_own (λ Q l. IsDoubled Q l b o) d)
 
   pub closing : (rows : List Row) (free : List (List Run)) → Keeps (fixed_layout s) held rows free → IsOutcome R (faultless_outcome s rows free)
   closing rows free keeps = record {
     sup = m.sup;
-    rows = (let P : Region → Type 0 = λ Q. AreRows Q (fixed_layout s) rows in subst P (sym own_undo) (rows_there m.shows rows keeps.in_rows));
-    free = (let P : Region → Type 0 = λ Q. AreFreeLists Q (fixed_layout s) free in subst P (sym own_undo) (lists_there m.shows (fixed_chainless s) free keeps.in_lists));
-    doubled = nothing_listed claim_key _ (λ x d. none_doubled m.shows (fixed_chainless s) m.faultless.undoubled x.0 x.1 (let P : Region → Type 0 = λ Q. IsDoubled Q (fixed_layout s) x.0 x.1 in subst P own_undo d));
+    rows = own_fixed (λ Q l. AreRows Q l rows) (rows_there m.shows rows keeps.in_rows);
+    free = own_fixed (λ Q l. AreFreeLists Q l free) (lists_there m.shows (fixed_chainless s) free keeps.in_lists);
+    doubled = nothing_listed claim_key _ (λ x d. none_doubled m.shows (fixed_chainless s) m.faultless.undoubled x.0 x.1 (fixed_own (λ Q l. IsDoubled Q l x.0 x.1) d));
     faults = nothing_listed fault_key _ no_fault_at_all;
   }
 
@@ -131,14 +141,10 @@ module _ {R : Region} {s : Super} {held : Store} (m : ShowsSound R s held) where
     outcome_faultless = none_listed o.faults (λ f c. no_fault_at_all f (subst (λ (t : Super). IsFaulty R t f) same_super (is.faults.each f c)))
 
     rows_of : AreRows R (fixed_layout s) o.rows
-    rows_of =
-        let there : AreRows (undone s R) (fixed_layout s) o.rows = subst (λ (t : Super). AreRows (undone t R) (fixed_layout t) o.rows) same_super is.rows in
-        let P : Region → Type 0 = λ Q. AreRows Q (fixed_layout s) o.rows in subst P own_undo there
+    rows_of = fixed_own (λ Q l. AreRows Q l o.rows) (subst (λ (t : Super). AreRows (undone t R) (layout_of t (undone t R)) o.rows) same_super is.rows)
 
     lists_of : AreFreeLists R (fixed_layout s) o.free
-    lists_of =
-        let there : AreFreeLists (undone s R) (fixed_layout s) o.free = subst (λ (t : Super). AreFreeLists (undone t R) (fixed_layout t) o.free) same_super is.free in
-        let P : Region → Type 0 = λ Q. AreFreeLists Q (fixed_layout s) o.free in subst P own_undo there
+    lists_of = fixed_own (λ Q l. AreFreeLists Q l o.free) (subst (λ (t : Super). AreFreeLists (undone t R) (layout_of t (undone t R)) o.free) same_super is.free)
 
     pub outcome_kept : Keeps (fixed_layout s) held o.rows o.free
     outcome_kept = record {

@@ -27,7 +27,8 @@ use Rattle.nv_graph.specs.nv_scan.Rows.{IsRow}
 use Rattle.nv_graph.specs.nv_scan.declared.piece.Row.{Row}
 use Rattle.nv_graph.proofs.nv_scan.InUse.{by_slot}
 use Rattle.nv_graph.proofs.nv_scan.Only.{IsInode-only, slot_in_use, kind_in_use}
-use Rattle.nv_graph.specs.nv_outcome.Outcome.{AreRows, AreFreeLists, IsDoubled, IsCrossFault, IsFaulty, journal, inode, cross, double, Outcome, IsOutcome}
+use Rattle.nv_graph.specs.nv_outcome.Outcome.{AreRows, AreFreeLists, IsDoubled, IsCrossFault, IsFaulty, journal, double, Outcome, IsOutcome}
+use Rattle.nv_graph.proofs.nv_outcome.Fixed.{IsFixed, fixed_outcome, from_fixed, inode_faulty, cross_faulty}
 use Rattle.nv_graph.proofs.nv_outcome.SuperOf.{layout_of_super}
 use Rattle.nv_graph.proofs.Bridge.{is_faultless}
 use Rattle.nv_graph.proofs.OfRows.{all_names}
@@ -179,20 +180,23 @@ module _ (R : Region) (l : Layout) (none : (i : ℕ) (f : Fault) → IsFaultOf R
     }
 
 module _ (R : Region) (o : Outcome) (is : IsOutcome R o) (no_faults : o.faults ≡ []) (own : undone o.sup R ≡ R) where
+  fixed : IsFixed R o
+  fixed = fixed_outcome R o is
+
   unfaulty : (f : Fault) → IsFaulty R o.sup f → ⊥
   unfaulty f h = none_in f (subst (λ (fs : List Fault). Contains fs f) no_faults (is.faults.all f h))
 
   no_inode_fault : (i : ℕ) (f : Fault) → IsFaultOf R (fixed_layout o.sup) i f → ⊥
-  no_inode_fault i f h = unfaulty f (inode i (let P : Region → Type 0 = λ Q. IsFaultOf Q (fixed_layout o.sup) i f in subst P (sym own) h))
+  no_inode_fault i f h = unfaulty f (inode_faulty R o.sup is.sup i f (let P : Region → Type 0 = λ Q. IsFaultOf Q (fixed_layout o.sup) i f in subst P (sym own) h))
 
   no_double : (b : ℕ) (p : Owner) → IsDoubled R (fixed_layout o.sup) b p → ⊥
-  no_double b p d = unfaulty (faults.B1 b p) (double (let P : Region → Type 0 = λ Q. IsDoubled Q (fixed_layout o.sup) b p in subst P (sym own) d))
+  no_double b p d = unfaulty (faults.B1 b p) (double (from_fixed R o.sup is.sup (undone o.sup R) (λ l. IsDoubled (undone o.sup R) l b p) (let P : Region → Type 0 = λ Q. IsDoubled Q (fixed_layout o.sup) b p in subst P (sym own) d)))
 
   no_cross : (f : Fault) → IsCrossFault R (fixed_layout o.sup) f → ⊥
-  no_cross f h = unfaulty f (cross (let P : Region → Type 0 = λ Q. IsCrossFault Q (fixed_layout o.sup) f in subst P (sym own) h))
+  no_cross f h = unfaulty f (cross_faulty R o.sup is.sup f (let P : Region → Type 0 = λ Q. IsCrossFault Q (fixed_layout o.sup) f in subst P (sym own) h))
 
   rows_are : AreRows R (fixed_layout o.sup) o.rows
-  rows_are = let P : Region → Type 0 = λ Q. AreRows Q (fixed_layout o.sup) o.rows in subst P own is.rows
+  rows_are = let P : Region → Type 0 = λ Q. AreRows Q (fixed_layout o.sup) o.rows in subst P own fixed.rows
 
   pub opening : (held : Store) × IsMounted R o.sup held o.rows o.free
   opening =
@@ -211,7 +215,7 @@ module _ (R : Region) (o : Outcome) (is : IsOutcome R o) (no_faults : o.faults �
           };
           keeps = record {
             in_rows = rows_kept R (fixed_layout o.sup) no_inode_fault o.rows rows_are;
-            in_lists = lists_kept R (fixed_layout o.sup) no_inode_fault shows (fixed_chainless o.sup) o.free (let P : Region → Type 0 = λ Q. AreFreeLists Q (fixed_layout o.sup) o.free in subst P own is.free);
+            in_lists = lists_kept R (fixed_layout o.sup) no_inode_fault shows (fixed_chainless o.sup) o.free (let P : Region → Type 0 = λ Q. AreFreeLists Q (fixed_layout o.sup) o.free in subst P own fixed.free);
           };
         },
       )

@@ -195,7 +195,7 @@ fixed_slot l i some low = first (i == 0) refl ∙ ap (λ (b : Bool). cond b (Som
     first false is = ap (λ (b : Bool). cond b None (some_at l i)) is
 
 -- and one whose slot stands behind it, at a place of the chain
-behind_slot : (l : Layout) (i c k j b : ℕ) → i / l.sup.cpus ≡ 32 * l.sup.table_blocks + 31 * k + j → i % l.sup.cpus ≡ c → i ≢ 0 → j < 31 → slice_get (chain_of l c) k ≡ Some b → slot_of l i ≡ Some (b * 4096 + 128 + 128 * j)
+pub behind_slot : (l : Layout) (i c k j b : ℕ) → i / l.sup.cpus ≡ 32 * l.sup.table_blocks + 31 * k + j → i % l.sup.cpus ≡ c → i ≢ 0 → j < 31 → slice_get (chain_of l c) k ≡ Some b → slot_of l i ≡ Some (b * 4096 + 128 + 128 * j)
 behind_slot l i c k j b place table some few has = first (i == 0) refl ∙ second (nat_lt (i / l.sup.cpus) (32 * l.sup.table_blocks)) refl ∙ third
   where
     first : (t : Bool) → (i == 0) ≡ t → slot_of l i ≡ some_at l i

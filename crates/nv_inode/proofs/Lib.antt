@@ -13,4 +13,5 @@ pub mod UpgradedTables
 pub mod TicketBlocks
 pub mod TicketsOnce
 pub mod NameNumbers
+pub mod NumberEnds
 pub mod BlockBounds

@@ -1,16 +1,13 @@
 -- A number that has a slot is one that a name can say.
-use Rattle.std.proofs.Common.{◌≡◌, ◌≢◌, ◌⊎◌, inl, inr, ◌≤◌, ◌<◌, ◌+◌, ◌-◌, ◌*◌, ◌/◌, ◌%◌, ◌==◌, ◌||◌, ◌&&◌, ℕ, zero, suc, Bool, true, false, true≢false, cond, eqb, eqb-true, eq-eqb, ne_eqb, IsTrue, List, [], ◌∷◌, length, map, Option, Some, None, refl, sym, ap, ◌∙◌, subst, arith}
-use Rattle.std.specs.Prelude.{nat_lt, slice_get}
+use Rattle.std.proofs.Common.{◌≡◌, ◌≤◌, ◌<◌, ◌+◌, ◌-◌, ◌*◌, ◌/◌, ◌%◌, ◌||◌, ℕ, zero, suc, Bool, true, false, true≢false, eqb, eqb-true, eq-eqb, ne_eqb, IsTrue, List, [], ◌∷◌, length, map, Some, refl, sym, ap, ◌∙◌, subst, arith}
 use Rattle.std.specs.List.{list_any, AllByRecursion, IsDistinct}
 use Rattle.std.proofs.Math.Nat.{zero-div}
 use Rattle.std.proofs.lemmas.Nat.{div-add-mod', mod_below, mul-add-lt}
 use Rattle.std.proofs.lemmas.List.{length-map}
 use Rattle.std.proofs.lemmas.Option.{slice_get_within}
 use Rattle.std.proofs.lemmas.Map.Steps.{length-le_from_distinct_below}
-use Rattle.std.proofs.lemmas.Bool.Decides.{nat_tests}
-use Rattle.std.proofs.lemmas.Bool.{cases_eq, lt-ltb}
 use Rattle.nv_super.specs.declared.superblock.Super.{Super}
-use Rattle.nv_super.specs.Layout.{Layout, IsLayout, chain_of, inode_limit, is_name_number, is_number, name_limit, slot_of, system_blocks}
+use Rattle.nv_super.specs.Layout.{Layout, chain_of, is_name_number, is_number, slot_of, system_blocks}
 use Rattle.nv_super.proofs.Names.{fixed_most, fixed_names, in_limit, limit_chains, number_below, number_parts}
 use Rattle.nv_inode.specs.Chains.{IsLaid}
 use Rattle.nv_inode.specs.Upgraded.{upgraded}

@@ -22,7 +22,7 @@ get_right [] ys k j is = ap (slice_get ys) (omega (arith, is))
 get_right (x ∷ xs) ys zero j is = absurd (omega (arith, is))
 get_right (x ∷ xs) ys (suc k) j is = get_right xs ys k j (omega (arith, is))
 
-range_at : {A : Type 0} (f : ℕ → A) (a n k : ℕ) → k < n → slice_get (map f (range_with_len a n)) k ≡ Some (f (a + k))
+pub range_at : {A : Type 0} (f : ℕ → A) (a n k : ℕ) → k < n → slice_get (map f (range_with_len a n)) k ≡ Some (f (a + k))
 range_at f a zero k less = absurd (omega (arith, less))
 range_at f a (suc n) zero less = let same : a ≡ a + 0 = omega arith in ap (λ (i : ℕ). Some (f i)) same
 range_at f a (suc n) (suc k) less = range_at f (a + 1) n k (omega (arith, less)) ∙ (let same : a + 1 + k ≡ a + suc k = omega arith in ap (λ (i : ℕ). Some (f i)) same)

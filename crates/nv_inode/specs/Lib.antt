@@ -3,6 +3,7 @@ pub mod Chains
 pub mod Tables
 pub mod FoundChains
 pub mod SlotBlocks
+pub mod Numbers
 pub mod Growing
 pub mod Upgraded
 pub mod Permitted

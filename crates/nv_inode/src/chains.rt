@@ -12,6 +12,7 @@ ghost use Rattle.nv_super.specs.Layout.{IsLayout, chain_of, extra_slot, slot_of}
 ghost use Rattle.nv_inode.specs.FoundChains.{AreChainsTo};
 ghost use Rattle.nv_inode.specs.Chains.{IsLaid, chain_faults, chain_in, end_fault, in_chains, layout_of, link_fault};
 ghost use Rattle.nv_inode.specs.SlotBlocks.{extra_block, extra_blocks, fixed_block, slot_blocks};
+ghost use Rattle.nv_inode.specs.Numbers.{longest, number_end, table_size};
 ghost use Rattle.nv_inode.specs.Permitted.{in_extra, in_fixed, is_key_offset, is_permitted_by, IsSlotWord, NamesSlotBy};
 
 use crate::blocks::SlotBlock;
@@ -108,6 +109,14 @@ impl Tables {
         )
     }
 
+    /// The blocks of a CPU's chain, in the order of its links.
+    pub fn chain(&self, cpu: u64) -> &[u64]
+        requires { cpu < self.now.layout.sup.cpus }
+        ensures { result.now ≡ chain_of self.now.layout cpu }
+    {
+        &self.chains[cpu as usize]
+    }
+
     /// The block at a place of a CPU's chain, if it has so many.
     fn chain_block(&self, cpu: u64, place: u64) -> Option<u64>
         ensures { result ≡ slice_get (chain_of self.now.layout cpu) place }
@@ -156,6 +165,38 @@ impl Tables {
             left -= count;
             cpu += 1;
         }
+    }
+
+    /// How many slots a CPU's table has, with those of its chain: its numbers are as many.
+    pub fn table_size(&self, cpu: u64) -> u64
+        requires { cpu < self.now.layout.sup.cpus }
+        ensures value { result ≡ table_size self.now.layout cpu }
+        ensures small { result < 2 ^ 32 }
+    {
+        let chain = &self.chains[cpu as usize];
+        BLOCK_SIZE / SLOT_SIZE * self.sup.table_blocks + EXTRA_SLOTS * chain.len() as u64
+    }
+
+    /// The end of the numbers: each that has a slot is below it. It looks at the length of each chain.
+    pub fn number_end(&self) -> u64
+        ensures value { result ≡ number_end self.now.layout }
+        ensures small { result < 2 ^ 32 }
+    {
+        let slots = BLOCK_SIZE / SLOT_SIZE * self.sup.table_blocks
+            + EXTRA_SLOTS * self.longest_chain();
+        self.sup.cpus * slots
+    }
+
+    /// How many blocks the longest chain has.
+    fn longest_chain(&self) -> u64
+        ensures value { result ≡ longest self.now.layout.chains }
+        ensures small { result ≤ 262144 }
+    {
+        let mut longest = 0;
+        for chain in &self.chains {
+            longest = longest.max(chain.len() as u64);
+        }
+        longest
     }
 
     /// Whether a block is one of a chain.

@@ -1,10 +1,10 @@
 //! Laws of the tables' chains.
 
-ghost use Rattle.std.specs.Prelude.{◌≡◌, ◌≢◌, ◌⊎◌, length, ◌≤◌, ◌<◌, ◌+◌, ◌*◌, ◌++◌, ◌∷◌, ℕ, IsTrue, false, eqb, List, [], Some, slice_get};
+ghost use Rattle.std.specs.Prelude.{◌≡◌, ◌≢◌, ◌⊎◌, ◌↔◌, length, ◌≤◌, ◌<◌, ◌+◌, ◌*◌, ◌/◌, ◌%◌, ◌++◌, ◌∷◌, ℕ, IsTrue, false, eqb, List, [], Some, slice_get};
 ghost use Rattle.std.specs.List.{Contains, list_any};
 ghost use Rattle.nv_super.specs.nv_region.Region.{Region, word};
 ghost use Rattle.nv_super.specs.declared.superblock.Super.{Super};
-ghost use Rattle.nv_super.specs.Layout.{IsLayout, Layout, chain_of, fixed_layout, is_name_number, slot_of, system_blocks};
+ghost use Rattle.nv_super.specs.Layout.{IsLayout, Layout, chain_of, fixed_layout, inode_limit, is_name_number, slot_of, system_blocks};
 ghost use Rattle.nv_super.specs.nv_region.Stops.{IsMixed};
 ghost use Rattle.nv_super.specs.nv_region.Stored.{Within};
 ghost use Rattle.nv_inode.specs.Growing.{CanLink, IsLinked, with_block};
@@ -13,6 +13,7 @@ ghost use Rattle.nv_super.specs.declared.superblock.SuperFault.TheVariants.{Vers
 ghost use Rattle.nv_inode.specs.Upgraded.{IsSuperButVersion, IsUpgraded, NoLinks, upgraded};
 ghost use Rattle.nv_inode.specs.Permitted.{is_permitted, is_permitted_by};
 ghost use Rattle.nv_inode.specs.SlotBlocks.{IsIn, slot_blocks};
+ghost use Rattle.nv_inode.specs.Numbers.{has_slot, number_end, table_size};
 ghost use Rattle.nv_inode.specs.declared.blocks.SlotBlock.{SlotBlock as SlotBlockValue};
 ghost use Rattle.nv_inode.specs.Chains.{IsChain, IsLaid, IsLink, SameLinks, chain_faults, chain_in, first_link, layout_of, link_behind};
 
@@ -67,6 +68,19 @@ pub fn linked_slots_are_unused()
 /// A name may say each number that has a slot.
 pub fn slots_have_names()
     ensures { (l : Layout) (i a : ℕ) → IsLaid l → slot_of l i ≡ Some a → IsTrue (is_name_number l.sup i) }
+{}
+
+/// A number above 0 has a slot where its place in its CPU's table is one that the table has. A CPU's fixed table has 32
+/// numbers for each of its blocks.
+pub fn numbers_with_slots()
+    ensures have { (l : Layout) (i : ℕ) → i ≢ 0 → (IsTrue (has_slot l i) ↔ (i / l.sup.cpus < table_size l (i % l.sup.cpus))) }
+    ensures fixed { (s : Super) (cpu : ℕ) → table_size (fixed_layout s) cpu ≡ 32 * s.table_blocks }
+{}
+
+/// Each number that has a slot is below the end of the numbers, which in fixed tables is their limit.
+pub fn numbers_have_an_end()
+    ensures below { (l : Layout) (i a : ℕ) → IsLaid l → slot_of l i ≡ Some a → i < number_end l }
+    ensures fixed { (s : Super) → number_end (fixed_layout s) ≡ inode_limit s }
 {}
 
 /// A number that a name may say stays one where the version becomes 2.

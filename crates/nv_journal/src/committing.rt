@@ -9,10 +9,12 @@ ghost use Rattle.nv_region.specs.Region.{put, size, word};
 ghost use Rattle.nv_region.specs.Stops.{NothingPending, LeavesOnly, One};
 ghost use Rattle.nv_region.specs.Fuses.{KeepsFuse};
 ghost use Rattle.nv_region.specs.Stored.{SameOutside, StoresOnly, Within};
+ghost use Rattle.nv_region.specs.Storing.{AtAnyMoment, StoresAndFences};
 ghost use Rattle.nv_journal.specs.Undo.{journal, enqueue};
 ghost use Rattle.nv_journal.specs.Pending.{BeforeOrAfter, Begun, CanUndo, HasRecords, IsEmpty};
 ghost use Rattle.nv_journal.specs.Recorded.{Recorded, Changes, CommitWords, JournalWords, Two};
 ghost use Rattle.nv_journal.specs.InOrder.{FirstIsFirst};
+ghost use Rattle.nv_journal.specs.Changing.{IsReady, StoresByJournal, UndoGives};
 ghost use Rattle.nv_journal.specs.Faults.{NoJournalFault};
 
 use crate::pending::{Pending, dequeue_word, enqueue_word};
@@ -31,15 +33,10 @@ pub fn begin<P: Pmem>(memory: &mut P, cpu: u64, records: &[(u64, u64)]) -> Resul
     requires empty { IsEmpty (P.region memory.old) cpu }
     requires few { length records.now ≤ 251 }
     ensures pending { OnOk result (HasRecords (P.region memory.new) cpu records.now) }
-    // The region as it reads, also after a stop.
-    ensures reads { Begun (P.region memory.old) cpu records.now (P.region memory.new) }
-    ensures wrote { StoresOnly (Within (journal cpu) 4096) (P.region memory.old) (P.region memory.new) (P.may_hold memory.old) (P.may_hold memory.new) }
+    ensures moments { AtAnyMoment P.region P.may_hold memory.old memory.new (Begun (P.region memory.old) cpu records.now) }
+    ensures kept { StoresAndFences P.region P.may_hold P.fuse (Within (journal cpu) 4096) (λ limit. journal cpu + 4096 ≤ limit) memory.old memory.new result }
     // Of the block its numbers and its records alone.
     ensures keeps_link { StoresOnly (JournalWords cpu) (P.region memory.old) (P.region memory.new) (P.may_hold memory.old) (P.may_hold memory.new) }
-    ensures stopped { is_err result ≡ (P.fuse memory.new).has_burnt }
-    ensures keeps_fuse { KeepsFuse (λ limit. journal cpu + 4096 ≤ limit) (P.fuse memory.old) (P.fuse memory.new) }
-    ensures settled { OnOk result (NothingPending (P.region memory.new) (P.may_hold memory.new)) }
-    ensures any_stop { NothingPending (P.region memory.old) (P.may_hold memory.old) → LeavesOnly (P.region memory.new) (P.may_hold memory.new) (Begun (P.region memory.old) cpu records.now) }
 {
     let pending = Pending::read(memory, cpu);
     write_records(memory, &pending, records)?;
@@ -124,35 +121,21 @@ pub fn change_two<P: Pmem>(
     second: u64,
     second_value: u64,
 ) -> Result<(), Stopped>
-    requires inside { journal cpu + 4096 ≤ size (P.region memory.old) }
-    requires empty { IsEmpty (P.region memory.old) cpu }
+    requires ready { IsReady (P.region memory.old) cpu }
     requires first { (first % 8 ≡ 0) × (first + 8 ≤ size (P.region memory.old)) }
     requires second { (second % 8 ≡ 0) × (second + 8 ≤ size (P.region memory.old)) }
     requires behind { (journal cpu + 4096 ≤ first) × (journal cpu + 4096 ≤ second) }
     // Both words are changed, and no other outside this journal's block.
     ensures done { OnOk result (SameOutside (put (put (P.region memory.old) first first_value) second second_value) (journal cpu) 4096 (P.region memory.new)) }
-    ensures empty { OnOk result (IsEmpty (P.region memory.new) cpu) }
-    ensures wrote { StoresOnly (Changes cpu first first_value second second_value) (P.region memory.old) (P.region memory.new) (P.may_hold memory.old) (P.may_hold memory.new) }
-    // Of the journal's block its numbers and its records alone.
-    ensures keeps_link { StoresOnly (CommitWords cpu first first_value second second_value) (P.region memory.old) (P.region memory.new) (P.may_hold memory.old) (P.may_hold memory.new) }
-    ensures stopped { is_err result ≡ (P.fuse memory.new).has_burnt }
-    ensures keeps_fuse { KeepsFuse (λ limit. (journal cpu + 4096 ≤ limit) × (first + 8 ≤ limit) × (second + 8 ≤ limit)) (P.fuse memory.old) (P.fuse memory.new) }
-    ensures settled { OnOk result (NothingPending (P.region memory.new) (P.may_hold memory.new)) }
+    ensures kept { StoresByJournal P.region P.may_hold P.fuse cpu (Two first first_value second second_value)
+        (λ limit. (journal cpu + 4096 ≤ limit) × (first + 8 ≤ limit) × (second + 8 ≤ limit)) memory.old memory.new result }
     // The first word is stored first.
     ensures in_order { first ≢ second → FirstIsFirst (P.region memory.old) first first_value second (P.region memory.new) }
     // The region as it reads and each that a stop leaves, of any number of CPUs: rolled back, both words are as they
-    // were, or both changed.
-    ensures reads { (permits : ℕ → Bool) (cpus : ℕ) → CanUndo permits cpus (P.region memory.old) cpu first second
-        → BeforeOrAfter permits cpus (P.region memory.old) first first_value second second_value (P.region memory.new) }
-    ensures any_stop { (permits : ℕ → Bool) (cpus : ℕ) → CanUndo permits cpus (P.region memory.old) cpu first second → NothingPending (P.region memory.old) (P.may_hold memory.old)
-        → LeavesOnly (P.region memory.new) (P.may_hold memory.new) (BeforeOrAfter permits cpus (P.region memory.old) first first_value second second_value) }
-    // Where nothing is wrong with a journal, nothing is wrong with one in these regions: its numbers are those of
-    // records, and each pending record names a permitted word.
-    ensures faultless { (permits : ℕ → Bool) (cpus : ℕ) → CanUndo permits cpus (P.region memory.old) cpu first second → NoJournalFault permits cpus (P.region memory.old)
-        → NoJournalFault permits cpus (P.region memory.new) }
-    ensures stop_is_faultless { (permits : ℕ → Bool) (cpus : ℕ) → CanUndo permits cpus (P.region memory.old) cpu first second → NoJournalFault permits cpus (P.region memory.old)
-        → NothingPending (P.region memory.old) (P.may_hold memory.old)
-        → LeavesOnly (P.region memory.new) (P.may_hold memory.new) (NoJournalFault permits cpus) }
+    // were, or both changed. Where nothing is wrong with a journal, nothing is wrong with one in these regions: its numbers
+    // are those of records, and each pending record names a permitted word.
+    ensures undo_gives { (permits : ℕ → Bool) (cpus : ℕ) → CanUndo permits cpus (P.region memory.old) cpu first second
+        → UndoGives P.region P.may_hold permits cpus memory.old memory.new (BeforeOrAfter permits cpus (P.region memory.old) first first_value second second_value) }
 {
     // Fewer than eight bytes stand behind the last word, so each of these addresses is a word's.
     let _end = memory.len();

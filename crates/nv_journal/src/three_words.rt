@@ -5,10 +5,12 @@ ghost use Rattle.nv_region.specs.Region.{size};
 ghost use Rattle.nv_region.specs.Stops.{NothingPending, LeavesOnly};
 ghost use Rattle.nv_region.specs.Fuses.{KeepsFuse};
 ghost use Rattle.nv_region.specs.Stored.{SameOutside, StoresOnly};
+ghost use Rattle.nv_region.specs.Storing.{AtAnyMoment, StoresAndFences};
 ghost use Rattle.nv_journal.specs.Undo.{journal};
 ghost use Rattle.nv_journal.specs.Pending.{IsEmpty};
 ghost use Rattle.nv_journal.specs.Several.{BeforeOrAll, CanUndoAll, ChangesAll, CommitsAll, Values, changed};
 ghost use Rattle.nv_journal.specs.InOrder.{ThreeInOrder};
+ghost use Rattle.nv_journal.specs.Changing.{IsReady, StoresByJournal, UndoGives};
 ghost use Rattle.nv_journal.specs.Faults.{NoJournalFault};
 
 use crate::committing::{begin, commit};
@@ -28,35 +30,21 @@ pub fn change_three<P: Pmem>(
     second: (u64, u64),
     third: (u64, u64),
 ) -> Result<(), Stopped>
-    requires inside { journal cpu + 4096 ≤ size (P.region memory.old) }
-    requires empty { IsEmpty (P.region memory.old) cpu }
+    requires ready { IsReady (P.region memory.old) cpu }
     requires first { (first.0 % 8 ≡ 0) × (first.0 + 8 ≤ size (P.region memory.old)) }
     requires second { (second.0 % 8 ≡ 0) × (second.0 + 8 ≤ size (P.region memory.old)) }
     requires third { (third.0 % 8 ≡ 0) × (third.0 + 8 ≤ size (P.region memory.old)) }
     requires behind { (journal cpu + 4096 ≤ first.0) × (journal cpu + 4096 ≤ second.0) × (journal cpu + 4096 ≤ third.0) }
     // All three words are changed, and no other outside this journal's block.
     ensures done { OnOk result (SameOutside (changed (first ∷ second ∷ third ∷ []) (P.region memory.old)) (journal cpu) 4096 (P.region memory.new)) }
-    ensures empty { OnOk result (IsEmpty (P.region memory.new) cpu) }
-    ensures wrote { StoresOnly (ChangesAll cpu (first ∷ second ∷ third ∷ [])) (P.region memory.old) (P.region memory.new) (P.may_hold memory.old) (P.may_hold memory.new) }
-    // Of the journal's block its numbers and its records alone.
-    ensures keeps_link { StoresOnly (CommitsAll cpu (first ∷ second ∷ third ∷ [])) (P.region memory.old) (P.region memory.new) (P.may_hold memory.old) (P.may_hold memory.new) }
-    ensures stopped { is_err result ≡ (P.fuse memory.new).has_burnt }
-    ensures keeps_fuse { KeepsFuse (λ limit. (journal cpu + 4096 ≤ limit) × (first.0 + 8 ≤ limit) × (second.0 + 8 ≤ limit) × (third.0 + 8 ≤ limit)) (P.fuse memory.old) (P.fuse memory.new) }
-    ensures settled { OnOk result (NothingPending (P.region memory.new) (P.may_hold memory.new)) }
+    ensures kept { StoresByJournal P.region P.may_hold P.fuse cpu (Values (first ∷ second ∷ third ∷ []))
+        (λ limit. (journal cpu + 4096 ≤ limit) × (first.0 + 8 ≤ limit) × (second.0 + 8 ≤ limit) × (third.0 + 8 ≤ limit)) memory.old memory.new result }
     // The first word is stored before the second, and that before the third.
     ensures in_order { first.0 ≢ second.0 → first.0 ≢ third.0 → second.0 ≢ third.0 → ThreeInOrder (P.region memory.old) first second third (P.region memory.new) }
     // The region as it reads and each that a stop leaves, of any number of CPUs: rolled back, all words are as they
-    // were, or all changed.
-    ensures reads { (permits : ℕ → Bool) (cpus : ℕ) → CanUndoAll permits cpus (P.region memory.old) cpu (first ∷ second ∷ third ∷ [])
-        → BeforeOrAll permits cpus (P.region memory.old) (first ∷ second ∷ third ∷ []) (P.region memory.new) }
-    ensures any_stop { (permits : ℕ → Bool) (cpus : ℕ) → CanUndoAll permits cpus (P.region memory.old) cpu (first ∷ second ∷ third ∷ []) → NothingPending (P.region memory.old) (P.may_hold memory.old)
-        → LeavesOnly (P.region memory.new) (P.may_hold memory.new) (BeforeOrAll permits cpus (P.region memory.old) (first ∷ second ∷ third ∷ [])) }
-    // Where nothing is wrong with a journal, nothing is wrong with one in these regions.
-    ensures faultless { (permits : ℕ → Bool) (cpus : ℕ) → CanUndoAll permits cpus (P.region memory.old) cpu (first ∷ second ∷ third ∷ []) → NoJournalFault permits cpus (P.region memory.old)
-        → NoJournalFault permits cpus (P.region memory.new) }
-    ensures stop_is_faultless { (permits : ℕ → Bool) (cpus : ℕ) → CanUndoAll permits cpus (P.region memory.old) cpu (first ∷ second ∷ third ∷ []) → NoJournalFault permits cpus (P.region memory.old)
-        → NothingPending (P.region memory.old) (P.may_hold memory.old)
-        → LeavesOnly (P.region memory.new) (P.may_hold memory.new) (NoJournalFault permits cpus) }
+    // were, or all changed. Where nothing is wrong with a journal, nothing is wrong with one in these regions.
+    ensures undo_gives { (permits : ℕ → Bool) (cpus : ℕ) → CanUndoAll permits cpus (P.region memory.old) cpu (first ∷ second ∷ third ∷ [])
+        → UndoGives P.region P.may_hold permits cpus memory.old memory.new (BeforeOrAll permits cpus (P.region memory.old) (first ∷ second ∷ third ∷ [])) }
 {
     // Fewer than eight bytes stand behind the last word, so each of these addresses is a word's.
     let _end = memory.len();

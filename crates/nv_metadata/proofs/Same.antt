@@ -14,6 +14,7 @@ use Rattle.nv_logpage.specs.ToTail.{SameToTail}
 use Rattle.nv_scan.specs.Inode.{Log, IsInode, right, wrong}
 use Rattle.nv_outcome.specs.Outcome.{Outcome, IsOutcome}
 use Rattle.nv_outcome.specs.Metadata.{SameMetadata}
+use Rattle.nv_outcome.proofs.Fixed.{to_fixed}
 use Rattle.nv_outcome.proofs.Metadata.{metadata_alone, same_inodes}
 use Rattle.nv_outcome.proofs.SameInodes.{SameInodes}
 use Rattle.nv_scan.proofs.Only.{slot_in_use}
@@ -64,7 +65,7 @@ module _ (s : Super) (R S : Region) (is : IsSuper R s) (g : IsGathered s R S) wh
   page (wrong slot used bad) b c = absurd (none_in b c)
 
   pub has_metadata : SameMetadata s R S
-  has_metadata = record { as_long = g.as_long; rest_as_long = g.rest_as_long; front = g.front; pages = λ i a log b h c. page h b c }
+  has_metadata = record { as_long = g.as_long; rest_as_long = g.rest_as_long; front = g.front; pages = λ i a log b h c. page (to_fixed R s is (undone s R) (λ l. IsInode (undone s R) l i a log) h) b c }
 
   size_same : size S ≡ size R
   size_same = λ i. 8 * g.as_long i + g.rest_as_long i
@@ -84,7 +85,8 @@ module _ (s : Super) (R S : Region) (is : IsSuper R s) (g : IsGathered s R S) wh
     as_long = sym g.as_long;
     rest_as_long = sym g.rest_as_long;
     front = λ at aligned low. sym (g.front at aligned low);
-    pages = λ i a log b h c at aligned here before. sym (page (inodes.back h) b c at aligned here (λ in_tail. (let low = before (in_tail ∙ ap (λ (t : ℕ). t / 4096) (sym (tail_same i a (slot_in_use h)))) in let same = tail_same i a (slot_in_use h) in omega (arith, low, same))));
+    pages = λ i a log b h c at aligned here before. (let fixed = to_fixed R s is (undone s S) (λ l. IsInode (undone s S) l i a log) h in
+        sym (page (inodes.back fixed) b c at aligned here (λ in_tail. (let low = before (in_tail ∙ ap (λ (t : ℕ). t / 4096) (sym (tail_same i a (slot_in_use fixed)))) in let same = tail_same i a (slot_in_use fixed) in omega (arith, low, same)))));
   }
 
   pub whole_outcome : (o : Outcome) → o.sup ≡ s → IsOutcome S o → IsOutcome R o

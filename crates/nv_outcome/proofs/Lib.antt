@@ -15,6 +15,7 @@ pub mod OnlyOne
 pub mod Again
 pub mod Reordered
 pub mod Tickets
+pub mod Fixed
 pub mod Exists
 pub mod SameInodes
 pub mod Metadata

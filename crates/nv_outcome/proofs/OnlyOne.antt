@@ -6,11 +6,12 @@ use Rattle.nv_region.specs.Region.{Region}
 use Rattle.nv_super.specs.declared.superblock.Super.{Super}
 use Rattle.nv_super.specs.declared.owners.Owner.{Owner}
 use Rattle.nv_super.specs.declared.owners.Run.{Run}
-use Rattle.nv_super.specs.Layout.{Layout, InPool, fixed_layout}
+use Rattle.nv_super.specs.Layout.{Layout, InPool}
 use Rattle.nv_super.specs.Order.{Rises, Lists, claim_key, fault_key}
 use Rattle.nv_super.proofs.Rising.{Contains-head, Contains-tail, Lists-only}
 use Rattle.nv_super.proofs.Runs.{AreRuns-only}
 use Rattle.nv_super.proofs.Members.{into_map, from_map}
+use Rattle.nv_inode.specs.Chains.{layout_of}
 use Rattle.nv_journal.specs.Undo.{undone}
 use Rattle.nv_alloc.specs.Taking.{pool_at}
 use Rattle.nv_check.specs.nv_scan.Inode.{Log, IsInode, IsInUse}
@@ -103,9 +104,9 @@ module _ {R : Region} {l : Layout} where
 pub same_outcome : (R : Region) (a b : Outcome) → IsOutcome R a → IsOutcome R b → SameOutcome a b
 same_outcome R a b p q = record {
   sup = e;
-  rows = same_rows a.rows b.rows p.rows (subst (λ (s : Super). AreRows (undone s R) (fixed_layout s) b.rows) e q.rows);
-  free = same_free a.free b.free p.free (subst (λ (s : Super). AreFreeLists (undone s R) (fixed_layout s) b.free) e q.free);
-  doubled = Lists-only claim_key _ b.doubled a.doubled (subst (λ (s : Super). Lists claim_key (λ (x : ℕ × Owner). IsDoubled (undone s R) (fixed_layout s) x.0 x.1) b.doubled) e q.doubled) p.doubled;
+  rows = same_rows a.rows b.rows p.rows (subst (λ (s : Super). AreRows (undone s R) (layout_of s (undone s R)) b.rows) e q.rows);
+  free = same_free a.free b.free p.free (subst (λ (s : Super). AreFreeLists (undone s R) (layout_of s (undone s R)) b.free) e q.free);
+  doubled = Lists-only claim_key _ b.doubled a.doubled (subst (λ (s : Super). Lists claim_key (λ (x : ℕ × Owner). IsDoubled (undone s R) (layout_of s (undone s R)) x.0 x.1) b.doubled) e q.doubled) p.doubled;
   faults = Lists-only fault_key _ b.faults a.faults (subst (λ (s : Super). Lists fault_key (IsFaulty R s) b.faults) e q.faults) p.faults;
 } where
   e : b.sup ≡ a.sup

@@ -4,10 +4,11 @@ use Rattle.std.specs.List.{Contains}
 use Rattle.nv_region.specs.Region.{Region}
 use Rattle.nv_super.specs.declared.faults.Fault.{Fault}
 use Rattle.nv_super.specs.declared.faults.Fault.TheVariants as faults
-use Rattle.nv_super.specs.Layout.{fixed_layout, InPool, PoolsCover}
+use Rattle.nv_super.specs.Layout.{InPool, PoolsCover}
 use Rattle.nv_super.proofs.Pools.{pools_cover}
 use Rattle.nv_super.proofs.Sorted.{one_owner}
 use Rattle.nv_super.proofs.Members.{none_in}
+use Rattle.nv_inode.specs.Chains.{layout_of}
 use Rattle.nv_journal.specs.Undo.{undone}
 use Rattle.nv_alloc.specs.Taking.{HasBlock, pool_at}
 use Rattle.nv_alloc.proofs.Sound.{free_within}
@@ -21,10 +22,10 @@ module _ {R : Region} {o : Outcome} (is : IsOutcome R o) where
   listed_below : (c b : ℕ) → HasBlock (pool_at o.free c) b → c < o.sup.cpus
   listed_below c b w = let n = is.free.pools in let h = free_within o.free c b w in omega (arith, n, h)
 
-  listed : (c b : ℕ) → HasBlock (pool_at o.free c) b → InPool o.sup c b × IsFree (undone o.sup R) (fixed_layout o.sup) b
+  listed : (c b : ℕ) → HasBlock (pool_at o.free c) b → InPool o.sup c b × IsFree (undone o.sup R) (layout_of o.sup (undone o.sup R)) b
   listed c b w = (is.free.each c (listed_below c b w)).each w.0 b w.1 w.2 w.3
 
-  pub shares_all : o.faults ≡ [] → SharesAll (undone o.sup R) (fixed_layout o.sup) o.free
+  pub shares_all : o.faults ≡ [] → SharesAll (undone o.sup R) (layout_of o.sup (undone o.sup R)) o.free
   shares_all none b low high = record {
     either = elim (owned_or_not is.rows b) [
       | inl w ↦ inr w

@@ -10,7 +10,7 @@ use Rattle.nv_region.specs.Region.{Region}
 use Rattle.nv_super.specs.declared.superblock.Super.{Super}
 use Rattle.nv_super.specs.declared.owners.Owner.{Owner}
 use Rattle.nv_super.specs.declared.faults.Fault.{Fault}
-use Rattle.nv_super.specs.Layout.{Layout, fixed_layout, system_blocks, InPool}
+use Rattle.nv_super.specs.Layout.{Layout, system_blocks, InPool}
 use Rattle.nv_super.specs.Order.{claim_key}
 use Rattle.nv_super.specs.Super.{IsSuper}
 use Rattle.nv_super.proofs.Pools.{pools_from, pools_to}
@@ -18,7 +18,7 @@ use Rattle.nv_super.proofs.Sorted.{one_owner}
 use Rattle.nv_super.specs.Owners.{claims_of}
 use Rattle.nv_super.proofs.Members.{into_map, from_map}
 use Rattle.nv_super.proofs.Rising.{Lists-same}
-use Rattle.nv_journal.specs.Chains.{IsLaid}
+use Rattle.nv_inode.specs.Chains.{IsLaid, chain_faults, layout_of}
 use Rattle.nv_journal.specs.Undo.{undone}
 use Rattle.nv_alloc.specs.FreeValue.{FreeLists}
 use Rattle.nv_alloc.proofs.Changed.{AreRuns-same}
@@ -26,9 +26,9 @@ use Rattle.nv_check.specs.nv_scan.Owners.{Owns}
 use Rattle.nv_check.specs.nv_scan.Faults.{Has}
 use Rattle.nv_check.specs.nv_scan.Work.{claims_in}
 use Rattle.nv_check.specs.nv_scan.declared.piece.Piece.{Piece}
-use Rattle.nv_outcome.specs.Outcome.{IsFree, IsDoubled, IsFaulty, journal, inode, cross, double, IsOutcome}
+use Rattle.nv_outcome.specs.Outcome.{IsFree, IsDoubled, IsFaulty, journal, chain, inode, cross, double, IsOutcome}
 use Rattle.nv_outcome.specs.Parts.{ArePieces, AreMaps, AreParts, rows_in, faults_in, double_fault}
-use Rattle.nv_check.proofs.nv_scan.FixedLayout.{fixed_laid}
+use Rattle.nv_inode.proofs.ReadChains.{region_laid}
 use Rattle.nv_outcome.proofs.Counts.{counted, some_claim, counted_twice, two_claims}
 use Rattle.nv_outcome.proofs.Pieces.{owned_claimed, claimed_owned, claims_once, own_faults}
 use Rattle.nv_outcome.proofs.RowsOf.{rows_are}
@@ -73,31 +73,41 @@ module _ {R : Region} {l : Layout} (ps : List Piece) (cs : List (ℕ × Owner)) 
 
 module _ {R : Region} {s : Super} {ps : List Piece} {cs : List (ℕ × Owner)} {first second : List ℕ}
     {free : FreeLists} {doubled : List (ℕ × Owner)} {js xs found : List Fault} where
-  pub all_faults : IsLaid (fixed_layout s) → AreParts R s ps cs first second free doubled js xs found → Has (IsFaulty R s) (js ++ (faults_in ps ++ (xs ++ map double_fault doubled)))
+  pub all_faults : IsLaid (layout_of s (undone s R)) → AreParts R s ps cs first second free doubled js xs found → Has (IsFaulty R s) (js ++ (chain_faults s (undone s R) ++ (faults_in ps ++ (xs ++ map double_fault doubled))))
   all_faults laid h = record {
     each = λ f c. elim (Contains-append_cases js _ f c) [
       | inl w ↦ journal (h.in_journals.each f w)
-      | inr w ↦ elim (Contains-append_cases (faults_in ps) _ f w) [
-        | inl v ↦ (let q = (own_faults ps h.scanned).each f v in inode q.0 q.1)
-        | inr v ↦ elim (Contains-append_cases xs _ f v) [
-          | inl u ↦ cross (cross_there (rows_are ps h.scanned) f (h.between.each f u))
-          | inr u ↦ (
-              let q = from_map double_fault doubled f u in
-              let P : Fault → Type 0 = λ g. IsFaulty R s g in
-              subst P (sym q.2) (double (doubled_is ps cs first second laid h.scanned h.claimed h.maps q.0 (h.owned_twice.each q.0 q.1))))
-        ]
-      ]
+      | inr w ↦ elim (Contains-append_cases chained _ f w) [ inl v ↦ chain v | inr v ↦ further laid h f v ]
     ];
     all = stands laid h;
   } where
-    stands : IsLaid (fixed_layout s) → AreParts R s ps cs first second free doubled js xs found → (f : Fault) → IsFaulty R s f → Contains (js ++ (faults_in ps ++ (xs ++ map double_fault doubled))) f
+    chained : List Fault
+    chained = chain_faults s (undone s R)
+
+    further : IsLaid (layout_of s (undone s R)) → AreParts R s ps cs first second free doubled js xs found → (f : Fault) → Contains (faults_in ps ++ (xs ++ map double_fault doubled)) f → IsFaulty R s f
+    further laid h f w = elim (Contains-append_cases (faults_in ps) _ f w) [
+      | inl v ↦ (let q = (own_faults ps h.scanned).each f v in inode q.0 q.1)
+      | inr v ↦ elim (Contains-append_cases xs _ f v) [
+        | inl u ↦ cross (cross_there (rows_are ps h.scanned) f (h.between.each f u))
+        | inr u ↦ (
+            let q = from_map double_fault doubled f u in
+            let P : Fault → Type 0 = λ g. IsFaulty R s g in
+            subst P (sym q.2) (double (doubled_is ps cs first second laid h.scanned h.claimed h.maps q.0 (h.owned_twice.each q.0 q.1))))
+      ]
+    ]
+
+    behind : (f : Fault) → Contains (faults_in ps ++ (xs ++ map double_fault doubled)) f → Contains (js ++ (chained ++ (faults_in ps ++ (xs ++ map double_fault doubled)))) f
+    behind f c = Contains-append_right js _ f (Contains-append_right chained _ f c)
+
+    stands : IsLaid (layout_of s (undone s R)) → AreParts R s ps cs first second free doubled js xs found → (f : Fault) → IsFaulty R s f → Contains (js ++ (chained ++ (faults_in ps ++ (xs ++ map double_fault doubled)))) f
     stands laid h f (journal w) = Contains-append_left js _ f (h.in_journals.all f w)
-    stands laid h f (inode i v) = Contains-append_right js _ f (Contains-append_left (faults_in ps) _ f ((own_faults ps h.scanned).all f (i, v)))
-    stands laid h f (cross u) = Contains-append_right js _ f (Contains-append_right (faults_in ps) _ f (Contains-append_left xs _ f (h.between.all f (cross_back (rows_are ps h.scanned) f u))))
-    stands laid h _ (double {b = b} {o = o} d) = Contains-append_right js _ _ (Contains-append_right (faults_in ps) _ _ (Contains-append_right xs _ _
+    stands laid h f (chain w) = Contains-append_right js _ f (Contains-append_left chained _ f w)
+    stands laid h f (inode i v) = behind f (Contains-append_left (faults_in ps) _ f ((own_faults ps h.scanned).all f (i, v)))
+    stands laid h f (cross u) = behind f (Contains-append_right (faults_in ps) _ f (Contains-append_left xs _ f (h.between.all f (cross_back (rows_are ps h.scanned) f u))))
+    stands laid h _ (double {b = b} {o = o} d) = behind _ (Contains-append_right (faults_in ps) _ _ (Contains-append_right xs _ _
         (into_map double_fault doubled (b, o) (h.owned_twice.all (b, o) (is_doubled ps cs first second laid h.scanned h.claimed h.maps (b, o) d)))))
 
-  free_is : IsLaid (fixed_layout s) → AreParts R s ps cs first second free doubled js xs found → system_blocks s ≤ s.blocks → (c : ℕ) → c < s.cpus → (b : ℕ) → InPool s c b × (has first b ≡ 0) → InPool s c b × IsFree (undone s R) (fixed_layout s) b
+  free_is : IsLaid (layout_of s (undone s R)) → AreParts R s ps cs first second free doubled js xs found → system_blocks s ≤ s.blocks → (c : ℕ) → c < s.cpus → (b : ℕ) → InPool s c b × (has first b ≡ 0) → InPool s c b × IsFree (undone s R) (layout_of s (undone s R)) b
   free_is laid h room c lt b w = (
     w.0,
     record {
@@ -109,7 +119,7 @@ module _ {R : Region} {s : Super} {ps : List Piece} {cs : List (ℕ × Owner)} {
     le_le : {k m n : ℕ} → k ≤ m → m ≤ n → k ≤ n
     le_le p q = omega arith
 
-  is_free : IsLaid (fixed_layout s) → AreParts R s ps cs first second free doubled js xs found → (c b : ℕ) → InPool s c b × IsFree (undone s R) (fixed_layout s) b → InPool s c b × (has first b ≡ 0)
+  is_free : IsLaid (layout_of s (undone s R)) → AreParts R s ps cs first second free doubled js xs found → (c b : ℕ) → InPool s c b × IsFree (undone s R) (layout_of s (undone s R)) b → InPool s c b × (has first b ≡ 0)
   is_free laid h c b w = (w.0, none (has first b) (λ k. (let o = counted_owned ps cs first second laid h.scanned h.claimed h.maps b k in w.1.unowned o.0 o.1))) where
     none : (n : ℕ) → (0 < n → ⊥) → n ≡ 0
     none zero f = refl
@@ -131,8 +141,8 @@ module _ {R : Region} {s : Super} {ps : List Piece} {cs : List (ℕ × Owner)} {
       all = λ f q. h.all.kept f ((all_faults laid h).all f q);
     };
   } where
-    laid : IsLaid (fixed_layout s)
-    laid = fixed_laid s (layout_of_super R s is)
+    laid : IsLaid (layout_of s (undone s R))
+    laid = region_laid s (undone s R) (layout_of_super R s is)
 
     room : system_blocks s ≤ s.blocks
     room = let layout = layout_of_super R s is in omega (arith, layout.areas.room)

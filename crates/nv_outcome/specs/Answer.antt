@@ -1,7 +1,7 @@
 -- What a recovery's answer stands for.
 use Rattle.std.specs.Prelude.{◌≡◌, []}
 use Rattle.nv_region.specs.Region.{Region}
-use Rattle.nv_super.specs.Layout.{fixed_layout}
+use Rattle.nv_inode.specs.Chains.{layout_of}
 use Rattle.nv_journal.specs.Undo.{undone}
 use Rattle.nv_outcome.specs.Outcome.{Outcome, IsOutcome}
 use Rattle.nv_outcome.specs.Shared.{SharesAll}
@@ -13,7 +13,7 @@ outcome_of r = record { sup = r.sup; rows = r.rows.items; free = r.free.pools; d
 
 -- each data block of the region stands in exactly one of the answer's free lists or has exactly one owner
 abbrev pub SharesBlocks : Region → Recovered → Type 0
-SharesBlocks R r = SharesAll R (fixed_layout r.sup) r.free.pools
+SharesBlocks R r = SharesAll R (layout_of r.sup R) r.free.pools
 
 -- The answer is the old region's outcome, the new region is the old with its journals rolled back, and where nothing is wrong each data block is free or owned, and not both.
 pub record IsAnswer (old new : Region) (r : Recovered) : Type 0 where

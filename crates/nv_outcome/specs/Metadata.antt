@@ -3,7 +3,8 @@ use Rattle.std.specs.Prelude.{◌≡◌, ℕ, ◌+◌, ◌*◌, length}
 use Rattle.std.specs.List.{Contains}
 use Rattle.nv_region.specs.Region.{Region, word}
 use Rattle.nv_super.specs.declared.superblock.Super.{Super}
-use Rattle.nv_super.specs.Layout.{fixed_layout, system_blocks}
+use Rattle.nv_super.specs.Layout.{system_blocks}
+use Rattle.nv_inode.specs.Chains.{layout_of}
 use Rattle.nv_journal.specs.Undo.{undone}
 use Rattle.nv_journal.specs.Undone.{SameBefore}
 use Rattle.nv_check.specs.nv_logpage.ToTail.{SameToTail}
@@ -16,4 +17,4 @@ pub record SameMetadata (s : Super) (R S : Region) : Type 0 where
   pub as_long : length S.words ≡ length R.words
   pub rest_as_long : length S.rest ≡ length R.rest
   pub front : SameBefore (4096 * system_blocks s) R S
-  pub pages : (i a : ℕ) (log : Log) (b : ℕ) → IsInode (undone s R) (fixed_layout s) i a log → Contains log.pages b → SameToTail (word (undone s R) (a + 24)) R S b
+  pub pages : (i a : ℕ) (log : Log) (b : ℕ) → IsInode (undone s R) (layout_of s (undone s R)) i a log → Contains log.pages b → SameToTail (word (undone s R) (a + 24)) R S b

@@ -8,10 +8,11 @@ use Rattle.nv_super.specs.declared.owners.Run.{Run}
 use Rattle.nv_super.specs.declared.kind.Kind.TheVariants.{File, Directory}
 use Rattle.nv_super.specs.declared.faults.Fault.{Fault}
 use Rattle.nv_super.specs.declared.faults.Fault.TheVariants as faults
-use Rattle.nv_super.specs.Layout.{Layout, system_blocks, fixed_layout, InPool}
+use Rattle.nv_super.specs.Layout.{Layout, system_blocks, InPool}
 use Rattle.nv_super.specs.Order.{fault_key, claim_key, Lists, Rises}
 use Rattle.nv_super.specs.Runs.{AreRuns}
 use Rattle.nv_super.specs.Super.{IsSuper}
+use Rattle.nv_inode.specs.Chains.{chain_faults, layout_of}
 use Rattle.nv_journal.specs.Undo.{undone}
 use Rattle.nv_journal.specs.Faults.{HasFault}
 use Rattle.nv_alloc.specs.Taking.{pool_at}
@@ -81,13 +82,16 @@ pub data IsCrossFault (R : Region) (l : Layout) : Fault → Type 0 where
   -- inode 1 isn't a directory in use
   c5 : ((a : ℕ) (log : Log) → IsInode R l 1 a log → log.kind ≡ Directory → ⊥) → IsCrossFault R l faults.C5
 
--- What is wrong with a region: with its journals as the region came, and with all else once they are rolled back.
+-- What is wrong with a region: with its journals as the region came, and with all else once they are rolled back. That leaves the
+-- layout as it is.
 pub data IsFaulty (R : Region) (s : Super) : Fault → Type 0 where
   journal : {f : Fault} → HasFault s R f → IsFaulty R s f
-  inode : {f : Fault} (i : ℕ) → IsFaultOf (undone s R) (fixed_layout s) i f → IsFaulty R s f
-  cross : {f : Fault} → IsCrossFault (undone s R) (fixed_layout s) f → IsFaulty R s f
+  -- the last link of a chain
+  chain : {f : Fault} → Contains (chain_faults s (undone s R)) f → IsFaulty R s f
+  inode : {f : Fault} (i : ℕ) → IsFaultOf (undone s R) (layout_of s (undone s R)) i f → IsFaulty R s f
+  cross : {f : Fault} → IsCrossFault (undone s R) (layout_of s (undone s R)) f → IsFaulty R s f
   -- a doubled block, once for each owner
-  double : {b : ℕ} {o : Owner} → IsDoubled (undone s R) (fixed_layout s) b o → IsFaulty R s (faults.B1 b o)
+  double : {b : ℕ} {o : Owner} → IsDoubled (undone s R) (layout_of s (undone s R)) b o → IsFaulty R s (faults.B1 b o)
 
 -- ---- the outcome
 
@@ -102,7 +106,7 @@ pub record Outcome : Type 0 where
 -- The outcome of a region whose superblock is accepted: of the region with its journals rolled back, but for the journals' own faults.
 pub record IsOutcome (R : Region) (o : Outcome) : Type 0 where
   pub sup : IsSuper R o.sup
-  pub rows : AreRows (undone o.sup R) (fixed_layout o.sup) o.rows
-  pub free : AreFreeLists (undone o.sup R) (fixed_layout o.sup) o.free
-  pub doubled : Lists claim_key (λ x. IsDoubled (undone o.sup R) (fixed_layout o.sup) x.0 x.1) o.doubled
+  pub rows : AreRows (undone o.sup R) (layout_of o.sup (undone o.sup R)) o.rows
+  pub free : AreFreeLists (undone o.sup R) (layout_of o.sup (undone o.sup R)) o.free
+  pub doubled : Lists claim_key (λ x. IsDoubled (undone o.sup R) (layout_of o.sup (undone o.sup R)) x.0 x.1) o.doubled
   pub faults : Lists fault_key (IsFaulty R o.sup) o.faults

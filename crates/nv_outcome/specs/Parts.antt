@@ -8,9 +8,10 @@ use Rattle.nv_super.specs.declared.superblock.Super.{Super}
 use Rattle.nv_super.specs.declared.owners.Owner.{Owner}
 use Rattle.nv_super.specs.declared.faults.Fault.{Fault}
 use Rattle.nv_super.specs.declared.faults.Fault.TheVariants as faults
-use Rattle.nv_super.specs.Layout.{Layout, slot_of, fixed_layout}
+use Rattle.nv_super.specs.Layout.{Layout, slot_of}
 use Rattle.nv_super.specs.Order.{fault_key, Lists, Rises, SortedOf}
 use Rattle.nv_super.specs.Owners.{claims_of}
+use Rattle.nv_inode.specs.Chains.{chain_faults, layout_of}
 use Rattle.nv_journal.specs.Undo.{undone}
 use Rattle.nv_journal.specs.Faults.{HasFault}
 use Rattle.nv_alloc.specs.FreeValue.{FreeLists}
@@ -41,14 +42,14 @@ pub record AreMaps (claims : List (ℕ × Owner)) (first second : List ℕ) : Ty
   pub once : (b : ℕ) → has first b ≡ min 1 (claims_of b claims)
   pub twice : (b : ℕ) → has second b ≡ min 1 (claims_of b claims - 1)
 
--- All parts of a recovery of a region: the pieces of its inodes; their claims, in any order, and the sets of blocks claimed; the free blocks; the claims of doubled blocks; the faults of its journals and those between its inodes; and all faults.
+-- All parts of a recovery of a region: the pieces of its inodes; their claims, in any order, and the sets of blocks claimed; the free blocks; the claims of doubled blocks; the faults of its journals and those between its inodes; and all faults, those of its chains too.
 pub record AreParts (R : Region) (s : Super) (pieces : List Piece) (claims : List (ℕ × Owner)) (first second : List ℕ)
     (free : FreeLists) (doubled : List (ℕ × Owner)) (journal cross found : List Fault) : Type 0 where
-  pub scanned : ArePieces (undone s R) (fixed_layout s) pieces
+  pub scanned : ArePieces (undone s R) (layout_of s (undone s R)) pieces
   pub claimed : IsPermutation (claims_in pieces) claims
   pub maps : AreMaps claims first second
   pub outside : AreOutside first s free
   pub owned_twice : AreDoubled claims second doubled
   pub in_journals : Lists fault_key (HasFault s R) journal
   pub between : Lists fault_key (IsCrossFaultIn (rows_in pieces)) cross
-  pub all : SortedOf fault_key (journal ++ (faults_in pieces ++ (cross ++ map double_fault doubled))) found
+  pub all : SortedOf fault_key (journal ++ (chain_faults s (undone s R) ++ (faults_in pieces ++ (cross ++ map double_fault doubled)))) found

@@ -6,8 +6,9 @@ ghost use Rattle.nv_super.specs.declared.superblock.Super.{Super};
 ghost use Rattle.nv_super.specs.declared.superblock.SuperFault.{SuperFault};
 ghost use Rattle.nv_super.specs.declared.owners.Owner.{Owner};
 ghost use Rattle.nv_super.specs.declared.faults.Fault.{Fault};
-ghost use Rattle.nv_super.specs.Layout.{Layout, fixed_layout};
+ghost use Rattle.nv_super.specs.Layout.{Layout};
 ghost use Rattle.nv_super.specs.Super.{IsSuper, IsRefused};
+ghost use Rattle.nv_inode.specs.Chains.{layout_of};
 ghost use Rattle.nv_journal.specs.Undo.{undone};
 ghost use Rattle.nv_alloc.specs.FreeValue.{FreeLists};
 ghost use Rattle.nv_check.specs.nv_scan.declared.piece.Row.{Row};
@@ -40,7 +41,7 @@ pub fn parts_make_the_outcome()
 
 /// Where an outcome has no faults, each data block stands in exactly one free list or has exactly one owner.
 pub fn each_block_once()
-    ensures { (region : Region) (o : Outcome) → IsOutcome region o → o.faults ≡ [] → SharesAll (undone o.sup region) (fixed_layout o.sup) o.free }
+    ensures { (region : Region) (o : Outcome) → IsOutcome region o → o.faults ≡ [] → SharesAll (undone o.sup region) (layout_of o.sup (undone o.sup region)) o.free }
 {}
 
 /// What is wrong between the rows of a region is what is wrong between its inodes.

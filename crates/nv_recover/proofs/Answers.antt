@@ -10,6 +10,7 @@ use Rattle.nv_super.specs.declared.owners.Owner.{Owner}
 use Rattle.nv_super.specs.declared.faults.Fault.{Fault}
 use Rattle.nv_super.specs.Layout.{fixed_layout}
 use Rattle.nv_super.specs.Order.{fault_key, SortedOf}
+use Rattle.nv_inode.specs.Chains.{chain_faults, layout_of}
 use Rattle.nv_journal.specs.Undo.{undone}
 use Rattle.nv_alloc.specs.FreeLists.{AreOutside}
 use Rattle.nv_scan.specs.declared.piece.Row.{Row}
@@ -18,6 +19,7 @@ use Rattle.nv_outcome.specs.nv_check.Doubled.{AreDoubled}
 use Rattle.nv_outcome.specs.Outcome.{IsOutcome}
 use Rattle.nv_outcome.specs.Parts.{ArePieces, AreParts, rows_in, faults_in, double_fault}
 use Rattle.nv_outcome.specs.Shared.{SharesAll}
+use Rattle.nv_outcome.proofs.Fixed.{from_fixed}
 use Rattle.nv_outcome.proofs.RowsOf.{rows_are}
 use Rattle.nv_outcome.proofs.Whole.{parts_outcome}
 use Rattle.nv_outcome.proofs.Shared.{shares_all}
@@ -39,24 +41,28 @@ sorted_otherwise key given others sorted moved are = record {
 }
 
 -- faults that are told in another order are the same in order
-told_otherwise : (journal own others cross : List Fault) (doubled : List (ℕ × Owner)) (faults : List Fault) → IsPermutation others own → SortedOf fault_key (all_told journal own cross doubled) faults → SortedOf fault_key (all_told journal others cross doubled) faults
-told_otherwise journal own others cross doubled faults moved = sorted_otherwise fault_key (all_told journal own cross doubled) (all_told journal others cross doubled) faults
-    (IsPermutation-append_right journal (others ++ (cross ++ map double_fault doubled)) (own ++ (cross ++ map double_fault doubled)) (IsPermutation-append_left (cross ++ map double_fault doubled) others own moved))
+told_otherwise : (journal chained own others cross : List Fault) (doubled : List (ℕ × Owner)) (faults : List Fault) → IsPermutation others own → SortedOf fault_key (all_told journal chained own cross doubled) faults → SortedOf fault_key (all_told journal chained others cross doubled) faults
+told_otherwise journal chained own others cross doubled faults moved = sorted_otherwise fault_key (all_told journal chained own cross doubled) (all_told journal chained others cross doubled) faults
+    (IsPermutation-append_right journal (chained ++ (others ++ rest)) (chained ++ (own ++ rest)) (IsPermutation-append_right chained (others ++ rest) (own ++ rest) (IsPermutation-append_left rest others own moved)))
+  where
+    rest : List Fault
+    rest = cross ++ map double_fault doubled
 
 -- words that cover some blocks, under another name
 pub covers_same : (blocks : ℕ) {here words : List ℕ} → here ≡ words → blocks ≤ 64 * length words → blocks ≤ 64 * length here
 covers_same blocks same covers = subst (λ (w : List ℕ). blocks ≤ 64 * length w) (sym same) covers
 
 -- the same, told of what is the same
-pub told_same : (journal : List Fault) {own own' cross cross' faults : List Fault} {doubled doubled' : List (ℕ × Owner)} → own ≡ own' → cross ≡ cross' → doubled ≡ doubled' → SortedOf fault_key (all_told journal own cross doubled) faults → SortedOf fault_key (all_told journal own' cross' doubled') faults
-told_same journal {faults = faults} one two three are = subst (λ (told : List Fault). SortedOf fault_key told faults) (λ i. all_told journal (one i) (two i) (three i)) are
+pub told_same : (journal : List Fault) {chained chained' own own' cross cross' faults : List Fault} {doubled doubled' : List (ℕ × Owner)} → chained ≡ chained' → own ≡ own' → cross ≡ cross' → doubled ≡ doubled' → SortedOf fault_key (all_told journal chained own cross doubled) faults → SortedOf fault_key (all_told journal chained' own' cross' doubled') faults
+told_same journal {faults = faults} zero one two three are = subst (λ (told : List Fault). SortedOf fault_key told faults) (λ i. all_told journal (zero i) (one i) (two i) (three i)) are
 
-grouped : (a b c d : List Fault) → ((a ++ b) ++ c) ++ d ≡ a ++ (b ++ (c ++ d))
-grouped a b c d = grind (arith, append_assoc)
+grouped : (a b c d e : List Fault) → (((a ++ b) ++ c) ++ d) ++ e ≡ a ++ (b ++ (c ++ (d ++ e)))
+grouped a b c d e = grind (arith, append_assoc)
 
-pub told_of : (journal own cross : List Fault) (doubled : List (ℕ × Owner)) {one two three : List Fault} → one ≡ journal ++ own → two ≡ one ++ cross → three ≡ two ++ map double_fault doubled → three ≡ all_told journal own cross doubled
-told_of journal own cross doubled p q r =
-    r ∙ (ap (λ (xs : List Fault). xs ++ map double_fault doubled) (q ∙ ap (λ (xs : List Fault). xs ++ cross) p) ∙ grouped journal own cross (map double_fault doubled))
+pub told_of : (journal chained own cross : List Fault) (doubled : List (ℕ × Owner)) {one two three four : List Fault} → one ≡ journal ++ chained → two ≡ one ++ own → three ≡ two ++ cross → four ≡ three ++ map double_fault doubled
+    → four ≡ all_told journal chained own cross doubled
+told_of journal chained own cross doubled p q r s =
+    s ∙ (ap (λ (xs : List Fault). xs ++ map double_fault doubled) (r ∙ ap (λ (xs : List Fault). xs ++ cross) (q ∙ ap (λ (xs : List Fault). xs ++ own) p)) ∙ grouped journal chained own cross (map double_fault doubled))
 
 -- What is made of what was scanned: the rows in order, the blocks that nobody owns, the claims of doubled blocks, and all faults in order.
 pub record IsMade (o : Started) (x : Scanned) (r : Recovered) : Type 0 where
@@ -65,19 +71,23 @@ pub record IsMade (o : Started) (x : Scanned) (r : Recovered) : Type 0 where
   pub numbers : r.rows.sup ≡ o.sup
   pub outside : AreOutside x.owned.blocks.items o.sup r.free
   pub owned_twice : r.doubled ≡ x.owned.doubled
-  pub all : SortedOf fault_key (all_told o.journal.items x.inodes.faults.items x.cross.items r.doubled.items) r.faults.items
+  pub all : SortedOf fault_key (all_told o.journal.items o.tables.faults x.inodes.faults.items x.cross.items r.doubled.items) r.faults.items
 
 module _ {old new : Region} {o : Started} {x : Scanned} {r : Recovered} (started : IsStarted old new o) (scanned : IsScanned new o.sup x) (made : IsMade o x r) where
+  chained : o.tables.faults ≡ chain_faults o.sup (undone o.sup old)
+  chained = started.chained ∙ ap (chain_faults o.sup) started.rolled_back
+
   parts : AreParts old o.sup scanned.pieces scanned.owned.claims x.owned.blocks.items scanned.owned.second r.free r.doubled.items o.journal.items x.cross.items r.faults.items
   parts = record {
-    scanned = subst (λ (R : Region). ArePieces R (fixed_layout o.sup) scanned.pieces) started.rolled_back scanned.inodes.pieces_are;
+    scanned = from_fixed old o.sup started.sup (undone o.sup old) (λ l. ArePieces (undone o.sup old) l scanned.pieces) (subst (λ (R : Region). ArePieces R (fixed_layout o.sup) scanned.pieces) started.rolled_back scanned.inodes.pieces_are);
     claimed = scanned.owned.claimed;
     maps = scanned.owned.maps;
     outside = made.outside;
     owned_twice = subst (λ (v : Vec (ℕ × Owner) Global). AreDoubled scanned.owned.claims scanned.owned.second v.items) (sym made.owned_twice) scanned.owned.doubled;
     in_journals = started.in_journals;
     between = same_cross (rows_in scanned.pieces) x.inodes.rows.items x.cross.items scanned.inodes.rows scanned.cross;
-    all = told_otherwise o.journal.items x.inodes.faults.items (faults_in scanned.pieces) x.cross.items r.doubled.items r.faults.items scanned.inodes.faults made.all;
+    all = subst (λ (told : List Fault). SortedOf fault_key (all_told o.journal.items told (faults_in scanned.pieces) x.cross.items r.doubled.items) r.faults.items) chained
+        (told_otherwise o.journal.items o.tables.faults x.inodes.faults.items (faults_in scanned.pieces) x.cross.items r.doubled.items r.faults.items scanned.inodes.faults made.all);
   }
 
   -- the rows of the pieces rise, so in order they are that list
@@ -96,7 +106,7 @@ module _ {old new : Region} {o : Started} {x : Scanned} {r : Recovered} (started
   answer_of = record {
     ok = outcome;
     rolled_back = rolled_back;
-    once = λ none. subst (λ (R : Region). SharesAll R (fixed_layout r.sup) r.free.pools) (sym rolled_back) (shares_all outcome none);
+    once = λ none. subst (λ (R : Region). SharesAll R (layout_of r.sup R) r.free.pools) (sym rolled_back) (shares_all outcome none);
     lists = made.outside.sup ∙ sym made.sup;
     numbers = made.numbers ∙ sym made.sup;
   }

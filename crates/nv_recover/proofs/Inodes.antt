@@ -1,15 +1,18 @@
 -- The rows and the faults of all inodes.
-use Rattle.std.proofs.Common.{◌≡◌, ℕ, ◌<◌, ◌≤◌, IsTrue, List, get_or, sym, subst, arith}
+use Rattle.std.proofs.Common.{◌≡◌, ◌∙◌, ℕ, ◌<◌, ◌≤◌, IsTrue, List, get_or, map, ap, sym, subst, arith}
 use Rattle.std.specs.List.{Contains}
 use Rattle.std.proofs.lemmas.Bool.Decides.{nat_tests}
 use Rattle.std.proofs.lemmas.List.Elements.{All-contains_itself}
 use Rattle.std.proofs.lemmas.List.Sorted.{All-permutation}
 use Rattle.nv_region.specs.Region.{Region}
 use Rattle.nv_super.specs.declared.superblock.Super.{Super}
-use Rattle.nv_super.specs.Layout.{IsLayout, inode_limit, is_number, fixed_layout}
+use Rattle.nv_super.specs.Layout.{IsLayout, Layout, inode_limit, is_number, fixed_layout}
+use Rattle.nv_inode.specs.Numbers.{number_end}
+use Rattle.nv_inode.proofs.NumberEnds.{fixed_end}
 use Rattle.nv_scan.specs.declared.piece.Row.{Row}
 use Rattle.nv_scan.specs.declared.piece.Piece.{Piece}
 use Rattle.nv_scan.proofs.Only.{slot_in_use}
+use Rattle.nv_outcome.specs.nv_rows.nv_numbered.Values.{AreNumbersBelow}
 use Rattle.nv_outcome.specs.Outcome.{AreRows}
 use Rattle.nv_outcome.specs.Parts.{rows_in}
 use Rattle.nv_outcome.proofs.RowsOf.{rows_are}
@@ -35,6 +38,10 @@ rows_apart {R} {s} {pieces} {x} layout inodes rows same = subst (AreApart s) (sy
 
   number : (row : Row) → Contains (rows_in pieces) row → (0 < row.inode) × (row.inode < inode_limit s)
   number row c = let w = are.each row c in slot_number s row.inode w.0 layout (slot_in_use w.2.inode)
+
+-- their numbers are below the end of those of the region's tables
+pub rows_below : (s : Super) (l : Layout) (rows : List Row) → l ≡ fixed_layout s → AreApart s rows → AreNumbersBelow (number_end l) (map (λ (r : Row). r.inode) rows)
+rows_below s l rows is are = subst (λ (end : ℕ). AreNumbersBelow end (map (λ (r : Row). r.inode) rows)) (sym (ap number_end is ∙ fixed_end s)) are.apart
 
 -- ---- numbers that are counted up to an end
 

@@ -8,11 +8,12 @@ use Rattle.nv_region.specs.Region.{Region}
 use Rattle.nv_super.specs.declared.superblock.Super.{Super}
 use Rattle.nv_super.specs.declared.owners.Owner.{Owner}
 use Rattle.nv_super.specs.declared.faults.Fault.{Fault}
-use Rattle.nv_super.specs.Layout.{inode_limit, is_number, fixed_layout}
+use Rattle.nv_super.specs.Layout.{Layout, inode_limit, is_number, fixed_layout}
 use Rattle.nv_super.specs.Order.{fault_key, Lists}
 use Rattle.nv_claimcore.specs.Finished.{works_of}
 use Rattle.nv_claimmap.specs.declared.map.Claimed.{Claimed}
-use Rattle.nv_scan.specs.Rows.{IsPiece}
+use Rattle.nv_scan.specs.Owners.{AreAllClaims}
+use Rattle.nv_scan.specs.Rows.{HasRows, IsPiece}
 use Rattle.nv_scan.specs.Work.{numbers_in, claims_in, ArePiecesOf}
 use Rattle.nv_scan.specs.declared.inodes.Inodes.{Inodes}
 use Rattle.nv_scan.specs.declared.inodes.ListedInodes.{ListedInodes}
@@ -89,12 +90,13 @@ TakeIn claims old_first old_second new_first new_second = (before : List (ℕ ×
 abbrev pub second_after : List ℕ → List ℕ → ℕ → List ℕ
 second_after first second b = if is_set first b then with_block second b else second
 
--- The rows and the claims are those of pieces of the region, and the sets are those of the claims, with a bit for each block.
-pub record AreSetsOf (R : Region) (s : Super) (pieces : List Piece) (rows : List Row) (first second : List ℕ) : Type 0 where
-  pub each : AllByRecursion (IsPiece R (fixed_layout s)) pieces
-  pub rows_are : rows ≡ rows_in pieces
+-- The pieces claim all that is owned in the region, there is a row for each inode in use, and the sets are those of the claims,
+-- with a bit for each block.
+pub record AreSetsOf (R : Region) (l : Layout) (pieces : List Piece) (rows : List Row) (first second : List ℕ) : Type 0 where
+  pub all : AreAllClaims R l (claims_in pieces)
+  pub rows_are : HasRows R l rows
   pub maps : AreMaps (claims_in pieces) first second
-  pub cover : Cover s first second
+  pub cover : Cover l.sup first second
 
 -- The blocks that these pieces claim, with a bit for each block of the region, and the claims of those that are claimed twice or more.
 pub record AreOwned (s : Super) (pieces : List Piece) (o : Owned) : Type 0 where
@@ -114,6 +116,6 @@ pub record IsScanned (R : Region) (s : Super) (x : Scanned) : Type 0 where
   pub owned : AreOwned s pieces x.owned
   pub cross : Lists fault_key (IsCrossFaultIn x.inodes.rows.items) x.cross.items
 
--- all faults that are told: of the journals, of the inodes, between them, and of doubled blocks
-abbrev pub all_told : List Fault → List Fault → List Fault → List (ℕ × Owner) → List Fault
-all_told journal own cross doubled = journal ++ (own ++ (cross ++ map double_fault doubled))
+-- all faults that are told: of the journals, of the chains, of the inodes, between them, and of doubled blocks
+abbrev pub all_told : List Fault → List Fault → List Fault → List Fault → List (ℕ × Owner) → List Fault
+all_told journal chained own cross doubled = journal ++ (chained ++ (own ++ (cross ++ map double_fault doubled)))

@@ -4,15 +4,17 @@ use Rattle.nv_region.specs.Region.{Region, HasBlocks}
 use Rattle.nv_super.specs.Layout.{IsLayout, fixed_layout}
 use Rattle.nv_super.specs.Order.{fault_key, Lists}
 use Rattle.nv_super.specs.Super.{IsSuper}
+use Rattle.nv_inode.specs.Chains.{chain_faults}
 use Rattle.nv_journal.specs.Undo.{undone}
 use Rattle.nv_journal.specs.Faults.{HasFault}
 use Rattle.nv_recover.specs.declared.starting.Started.{Started}
 
--- The superblock of the old region, its tables, which have no chains, and the faults of its journals; the new one is the old with its journals rolled back.
+-- The superblock of the old region, its tables, which have no chains, what is wrong with the chains of the new one, and the faults of the old one's journals; the new one is the old with its journals rolled back.
 pub record IsStarted (old new : Region) (o : Started) : Type 0 where
   pub sup : IsSuper old o.sup
   pub layout : IsLayout o.sup
   pub tables : o.tables.layout ≡ fixed_layout o.sup
+  pub chained : o.tables.faults ≡ chain_faults o.sup new
   pub rolled_back : new ≡ undone o.sup old
   pub blocks : HasBlocks new o.sup.blocks
   pub in_journals : Lists fault_key (HasFault o.sup old) o.journal.items

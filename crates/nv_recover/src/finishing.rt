@@ -33,7 +33,13 @@ pub(crate) fn finish(
         cross,
     } = scanned;
     let free = Allocators::from_words(alloc, &owned.blocks, &started.sup)?;
-    let faults = all_faults(started.journal, &inodes.faults, &cross, &owned.doubled)?;
+    let faults = all_faults(
+        started.journal,
+        started.tables.faults(),
+        &inodes.faults,
+        &cross,
+        &owned.doubled,
+    )?;
     let rows = Rows::from_rows(alloc, inodes.rows, &started.sup)?;
     Ok(Recovered {
         sup: started.sup,
@@ -44,16 +50,19 @@ pub(crate) fn finish(
     })
 }
 
-// All faults in order: of the journals, of the inodes by themselves, between them, and of doubled blocks.
+// All faults in order: of the journals, of the chains of the tables, of the inodes by themselves, between them, and of doubled
+// blocks.
 fn all_faults(
     journal: Vec<Fault>,
+    chained: &[Fault],
     own: &[Fault],
     cross: &[Fault],
     doubled: &[(u64, Owner)],
 ) -> Result<Vec<Fault>, AllocError>
-    ensures { IfOk result (λ faults. SortedOf fault_key (all_told journal.items own.now cross.now doubled.now) faults.items) }
+    ensures { IfOk result (λ faults. SortedOf fault_key (all_told journal.items chained.now own.now cross.now doubled.now) faults.items) }
 {
     let mut faults = journal;
+    faults.extend_from_slice(chained)?;
     faults.extend_from_slice(own)?;
     faults.extend_from_slice(cross)?;
     push_doubled(&mut faults, doubled)?;

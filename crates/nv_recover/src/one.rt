@@ -88,8 +88,8 @@ fn scan_all<P: Pmem>(
     ensures { IfOk result (IsScanned (P.region memory.now) sup.now) }
 {
     let (inodes, sets) = scan_tickets(alloc, memory, sup, tables)?;
-    let owned = sets.owned(alloc, sup, inodes.rows.as_rows())?;
-    let cross = cross_faults(alloc, sup, &inodes.rows)?;
+    let owned = sets.owned(alloc, tables, inodes.rows.as_rows())?;
+    let cross = cross_faults(alloc, tables, &inodes.rows)?;
     Ok(Scanned {
         inodes,
         owned,
@@ -108,7 +108,7 @@ fn scan_tickets<P: Pmem>(
     requires tables { tables.now.layout ≡ fixed_layout sup.now }
     requires blocks { HasBlocks (P.region memory.now) sup.now.blocks }
     ensures { IfOk result (λ r. (pieces drawn : List Piece) × AreInodes (P.region memory.now) sup.now pieces r.0 × IsPermutation (claims_in pieces) (claims_in drawn)
-        × AreSetsOf (P.region memory.now) sup.now drawn r.0.rows.items r.1.first.items r.1.second.items) }
+        × AreSetsOf (P.region memory.now) tables.now.layout drawn r.0.rows.items r.1.first.items r.1.second.items) }
 {
     let mut scanner = Scanner::new(alloc, sup);
     let mut inodes = Inodes::new(alloc);

@@ -102,7 +102,7 @@ fn scan_on_threads<P: Pmem + Sync, G: Gate + Sync, H: Threads + Sync>(
 {
     let (inodes, claimed) = scan_by_workers(rt, alloc, memory, sup, tables, workers, gate)?;
     let owned = owned_of(alloc, claimed)?;
-    let cross = cross_faults(alloc, sup, &inodes.rows)?;
+    let cross = cross_faults(alloc, tables, &inodes.rows)?;
     Ok(Scanned {
         inodes,
         owned,

@@ -112,7 +112,7 @@ fn scan_by_schedule<P: Pmem>(
     let (inodes, work, claims) = scan_apart(alloc, memory, sup, tables)?;
     let claimed = claim_all(alloc, sup, workers, schedule, work, claims)?;
     let owned = owned_of(alloc, claimed)?;
-    let cross = cross_faults(alloc, sup, &inodes.rows)?;
+    let cross = cross_faults(alloc, tables, &inodes.rows)?;
     Ok(Scanned {
         inodes,
         owned,

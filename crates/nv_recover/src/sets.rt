@@ -6,7 +6,6 @@ ghost use Rattle.std.specs.List.{All};
 ghost use Rattle.nv_blockset.specs.BlockSet.{with_block};
 ghost use Rattle.nv_region.specs.Region.{Region};
 ghost use Rattle.nv_super.specs.declared.owners.Owner.{Owner as OwnerValue};
-ghost use Rattle.nv_super.specs.Layout.{IsLayout};
 ghost use Rattle.nv_scan.specs.ChainBlocks.{table_claims};
 ghost use Rattle.nv_scan.specs.Claims.{log_claims, run_claims, data_claims, IsSmall};
 ghost use Rattle.nv_scan.specs.Work.{claims_among, claims_in};
@@ -18,10 +17,11 @@ ghost use Rattle.nv_recover.specs.Scanned.{AreOwned, AreSetsOf, Cover, Fits, Tak
 use crate::scanned::Owned;
 use nv_blockset::{contains, first_set, insert, insert_row, words_for};
 use nv_claimmap::Claimed;
+use nv_inode::Tables;
 use nv_numbered::Chunks;
 use nv_outcome::doubled;
 use nv_radix::Extent;
-use nv_scan::{ChainBlock, Claims, Row, claims_of_rows};
+use nv_scan::{ChainBlock, Claims, Row, claims_of};
 use nv_super::{MOST_BLOCKS, Owner, Super};
 use std::alloc::{AllocError, Global};
 
@@ -68,13 +68,17 @@ impl Sets {
         fill(&mut self.first, &mut self.second, claims);
     }
 
-    /// What the inodes of these rows own, where the sets are those of their claims.
-    pub fn owned(self, alloc: Global, sup: &Super, rows: &Chunks<Row>) -> Result<Owned, AllocError>
-        requires layout { IsLayout sup.now }
-        requires sets { (region : Region) × (pieces : List Piece) × AreSetsOf region sup.now pieces rows.now.items self.first.items self.second.items }
-        ensures { IfOk result (λ owned. (region : Region) (pieces : List Piece) → AreSetsOf region sup.now pieces rows.now.items self.first.items self.second.items → AreOwned sup.now pieces owned) }
+    /// What the chains of these tables and the inodes of these rows own, where the sets are those of their claims.
+    pub fn owned(
+        self,
+        alloc: Global,
+        tables: &Tables,
+        rows: &Chunks<Row>,
+    ) -> Result<Owned, AllocError>
+        requires { (region : Region) × (pieces : List Piece) × AreSetsOf region tables.now.layout pieces rows.now.items self.first.items self.second.items }
+        ensures { IfOk result (λ owned. (region : Region) (pieces : List Piece) → AreSetsOf region tables.now.layout pieces rows.now.items self.first.items self.second.items → AreOwned tables.now.layout.sup pieces owned) }
     {
-        let doubled = doubled_in(alloc, sup, rows, &self.second)?;
+        let doubled = doubled_in(alloc, tables, rows, &self.second)?;
         Ok(Owned {
             blocks: self.first,
             doubled,
@@ -95,23 +99,23 @@ pub(crate) fn owned_of(alloc: Global, claimed: Claimed) -> Result<Owned, AllocEr
     })
 }
 
-// The claims of the blocks in the second set. Only where there is such a block, the claims of all rows are listed: there are
-// no chains.
+// The claims of the blocks in the second set. Only where there is such a block, all claims are listed.
 fn doubled_in(
     alloc: Global,
-    sup: &Super,
+    tables: &Tables,
     rows: &Chunks<Row>,
     second: &[u64],
 ) -> Result<Vec<(u64, Owner)>, AllocError>
-    requires layout { IsLayout sup.now }
-    requires sets { (region : Region) × (pieces : List Piece) × (first : List ℕ) × AreSetsOf region sup.now pieces rows.now.items first second.now }
-    ensures { IfOk result (λ found. (region : Region) (pieces : List Piece) (first : List ℕ) → AreSetsOf region sup.now pieces rows.now.items first second.now
+    requires { (region : Region) × (pieces : List Piece) × (first : List ℕ) × AreSetsOf region tables.now.layout pieces rows.now.items first second.now }
+    ensures { IfOk result (λ found. (region : Region) (pieces : List Piece) (first : List ℕ) → AreSetsOf region tables.now.layout pieces rows.now.items first second.now
         → AreDoubled (claims_in pieces) second.now found.items) }
 {
-    if first_set(second, 0, sup.blocks) == sup.blocks {
+    tables.are_laid();
+    let blocks = tables.sup().blocks;
+    if first_set(second, 0, blocks) == blocks {
         return Ok(Vec::new(alloc));
     }
-    let claims = claims_of_rows(alloc, rows)?;
+    let claims = claims_of(alloc, tables, rows)?;
     doubled(alloc, &claims, second)
 }
 

@@ -3,6 +3,7 @@ pub mod Region
 pub mod Fuses
 pub mod Stops
 pub mod Stored
+pub mod Storing
 pub mod Lines
 pub mod StoredLines
 pub mod Marks

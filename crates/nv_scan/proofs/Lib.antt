@@ -24,4 +24,5 @@ pub mod Work
 pub mod RowKeys
 pub mod RowClaims
 pub mod RowHeads
+pub mod AllClaims
 pub use Rattle.nv_inode.proofs.FixedLayout

@@ -1,5 +1,6 @@
 -- The blocks of chains, as they are told and claimed.
-use Rattle.std.specs.Prelude.{◌≡◌, ℕ, List, [], ◌∷◌, Option, Some, None}
+use Rattle.std.specs.Prelude.{◌≡◌, ℕ, ◌+◌, List, [], ◌∷◌, Option, Some, None}
+use Rattle.std.specs.List.{flat_map, range_with_len}
 use Rattle.nv_super.specs.Layout.{Layout, chain_of}
 use Rattle.nv_super.specs.Order.{Lists, owner_key}
 use Rattle.nv_super.specs.declared.owners.Owner.{Owner}
@@ -15,6 +16,15 @@ IsChainless l = (c : ℕ) → chain_of l c ≡ []
 abbrev pub table_claims : Option ChainBlock → List (ℕ × Owner)
 table_claims None = []
 table_claims (Some t) = (t.block, owners.Table t.cpu t.place) ∷ []
+
+-- the claims of these blocks of a CPU's chain, the first of them its k-th
+abbrev pub chain_claims : ℕ → ℕ → List ℕ → List (ℕ × Owner)
+chain_claims c k [] = []
+chain_claims c k (b ∷ blocks) = (b, owners.Table c k) ∷ chain_claims c (k + 1) blocks
+
+-- the claims of the chains of the first CPUs, so many
+abbrev pub claims_of_chains : Layout → ℕ → List (ℕ × Owner)
+claims_of_chains l cpus = flat_map (λ c. chain_claims c 0 (chain_of l c)) (range_with_len 0 cpus)
 
 -- This block of a chain, or none, is what is told with the inode.
 abbrev pub TellsTable : Layout → ℕ → Option ChainBlock → Type 0

@@ -1,5 +1,6 @@
 -- The owners of blocks: the chains of tables, the pages of logs, and the pages of files.
-use Rattle.std.specs.Prelude.{◌≡◌, ℕ, ◌+◌, ◌*◌, ◌<◌, ◌≤◌, List, Some, slice_get}
+use Rattle.std.specs.Prelude.{◌≡◌, ◌↔◌, ℕ, ◌+◌, ◌*◌, ◌<◌, ◌≤◌, List, Some, slice_get}
+use Rattle.std.specs.List.{Contains}
 use Rattle.nv_region.specs.Region.{Region}
 use Rattle.nv_super.specs.declared.superblock.Super.{Super}
 use Rattle.nv_super.specs.Layout.{Layout, chain_of, system_blocks}
@@ -42,6 +43,10 @@ pub data IsTable (l : Layout) (i : ℕ) : ℕ × Owner → Type 0 where
 -- comes first, and then what the inode owns by itself.
 abbrev pub AreClaims : Region → Layout → ℕ → List (ℕ × Owner) → Type 0
 AreClaims R l i claims = Lists (λ (x : ℕ × Owner). owner_key x.1) (λ x. Owns R l x.0 x.1 × (teller l x.1 ≡ i)) claims
+
+-- each block with each of its owners, in any order
+abbrev pub AreAllClaims : Region → Layout → List (ℕ × Owner) → Type 0
+AreAllClaims R l claims = (b : ℕ) (o : Owner) → Contains claims (b, o) ↔ Owns R l b o
 
 -- a page that a file can have, and a data block
 abbrev pub IsDataPage : Super → ℕ → ℕ → Type 0

@@ -1,6 +1,7 @@
 -- The row of an inode in use, and all that is found of one inode.
 use Rattle.std.specs.Prelude.{◌≡◌, ℕ, ◌+◌, List, [], ◌∷◌}
 use Rattle.std.specs.Option.{MatchOption}
+use Rattle.std.specs.List.{Contains}
 use Rattle.nv_region.specs.Region.{Region, word}
 use Rattle.nv_super.specs.Layout.{Layout}
 use Rattle.nv_logpage.specs.declared.found.Placed.{Placed}
@@ -33,6 +34,11 @@ pub record IsRow (R : Region) (l : Layout) (a : ℕ) (log : Log) (row : Row) : T
   pub pages : row.pages.items ≡ log.pages
   pub index : (p : ℕ) → block_at row.index p ≡ block_of (good_of l log) p
   pub names : (q : List ℕ) → name_at row.names q ≡ named (good_of l log) q
+
+-- a row for each inode in use, in any order
+pub record HasRows (R : Region) (l : Layout) (rows : List Row) : Type 0 where
+  pub each : (row : Row) → Contains rows row → (a : ℕ) × (log : Log) × IsRow R l a log row
+  pub all : (i : ℕ) → IsInUse R l i → (row : Row) × Contains rows row × (row.inode ≡ i)
 
 -- rows are ordered by inode
 abbrev pub row_key : Row → List ℕ

@@ -1,22 +1,16 @@
 //! The blocks that an inode claims.
 
 ghost use Rattle.std.specs.Prelude.{◌≡◌, ◌*◌, ◌+◌, ◌<◌, ◌++◌, ℕ, List, [], None, IfOk, OnOk};
-ghost use Rattle.std.specs.List.{All, AllByRecursion};
-ghost use Rattle.nv_region.specs.Region.{Region};
-ghost use Rattle.nv_super.specs.Layout.{IsLayout, Layout};
+ghost use Rattle.std.specs.List.{All};
 ghost use Rattle.nv_super.specs.Order.{Lists, owner_key};
 ghost use Rattle.nv_radix.specs.Pages.{block_at};
 ghost use Rattle.nv_radix.specs.Runs.{block_by};
-ghost use Rattle.nv_scan.specs.ChainBlocks.{IsChainless, table_claims};
+ghost use Rattle.nv_scan.specs.ChainBlocks.{table_claims};
 ghost use Rattle.nv_scan.specs.Claims.{AreClaimsBy, AreSmall, IsClaim, log_claims, data_claims, IsSmall};
-ghost use Rattle.nv_scan.specs.Rows.{IsPiece};
-ghost use Rattle.nv_scan.specs.Work.{rows_in, claims_in};
-ghost use Rattle.nv_scan.specs.declared.piece.Piece.{Piece};
 
 use crate::chain_block::ChainBlock;
 use crate::piece::{LogPages, Row, extend_pages};
 use nv_claimmap::ClaimedRuns;
-use nv_numbered::Chunks;
 use nv_radix::{Extent, ExtentMap, FileIndex};
 use nv_super::{Owner, Run};
 use std::alloc::{AllocError, Global};
@@ -133,7 +127,7 @@ impl Claims {
     }
 
     /// What the inode of a row claims, without the block of a chain that may be told with it.
-    fn of_row(alloc: Global, row: &Row) -> Result<Claims, AllocError>
+    pub(crate) fn of_row(alloc: Global, row: &Row) -> Result<Claims, AllocError>
         requires { AreSmall (block_at row.now.index) }
         ensures { IfOk result (λ claims. Lists (λ x. owner_key x.1) (IsClaim row.now.inode row.now.pages.items row.now.index) claims.items) }
     {
@@ -144,23 +138,6 @@ impl Claims {
             runs: row.index.runs()?,
         })
     }
-}
-
-/// All that the inodes of these rows claim, one row after the other: what their pieces gave when they were scanned, for a
-/// caller that kept no claims. No row tells of the blocks of chains, so it is for regions without such blocks.
-///
-/// Errors: `AllocError` where a growth was refused.
-pub fn claims_of_rows(alloc: Global, rows: &Chunks<Row>) -> Result<ClaimedRuns, AllocError>
-    requires scanned { (region : Region) × (l : Layout) × IsLayout l.sup × (pieces : List Piece) × AllByRecursion (IsPiece region l) pieces × (rows.now.items ≡ rows_in pieces) }
-    ensures { IfOk result (λ claims. (region : Region) (l : Layout) (pieces : List Piece) → IsChainless l → AllByRecursion (IsPiece region l) pieces → rows.now.items ≡ rows_in pieces
-        → claims.items ≡ claims_in pieces) }
-{
-    let mut claims = ClaimedRuns::new(alloc);
-    for place in 0..rows.len() {
-        let own = Claims::of_row(alloc, rows.at(place))?;
-        own.add_to(&mut claims)?;
-    }
-    Ok(claims)
 }
 
 fn add_table(claims: &mut ClaimedRuns, table: Option<ChainBlock>) -> Result<(), AllocError>

@@ -6,6 +6,7 @@
 //! all inodes can be made in any order, and on any thread, before they are put together.
 #![tactic(auto)]
 
+mod all_claims;
 mod chain_block;
 mod claiming;
 mod claims;
@@ -24,8 +25,9 @@ mod tickets;
 mod touching;
 mod working;
 
+pub use all_claims::claims_of;
 pub use chain_block::ChainBlock;
-pub use claims::{Claims, claims_of_rows};
+pub use claims::Claims;
 pub use fold::{Fold, NameRoom};
 pub use inodes::{Inodes, ListedInodes};
 pub use laws::{

@@ -12,4 +12,4 @@ pub returns : goal.returns
 returns c =
     let listings = c.in_ok-tables.tables.listings in
     IfOk-weaker c.sorted_faults.result (λ (found : Vec Fault Global). Lists fault_key (IsFault listings) found.items) (λ (found : Vec Fault Global). Lists fault_key (IsCrossFaultIn c.args.rows.now.items) found.items)
-    (λ found l. cross_listed _ c.args.rows.now.items listings c.in_ok-tables.ensures.listings c.requires.apart found.items l) c.sorted_faults.ensures
+    (λ found l. cross_listed _ c.args.rows.now.items listings c.in_ok-tables.ensures.listings c.requires found.items l) c.sorted_faults.ensures

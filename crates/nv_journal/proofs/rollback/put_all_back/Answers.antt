@@ -1,4 +1,4 @@
-use Rattle.std.proofs.Common.{◌≡◌, ◌-◌, ◌*◌, ap, arith, subst, sym, ◌∙◌}
+use Rattle.std.proofs.Common.{rules, ◌≡◌, ◌-◌, ◌*◌, ap, arith, subst, sym, ◌∙◌}
 use Rattle.std.proofs.lemmas.Result.{on_ok_weaker}
 use Rattle.nv_region.proofs.Puts.{blocks_stay}
 use Rattle.nv_region.proofs.Fuses.{keeps_more}
@@ -19,11 +19,21 @@ put_back-requires g c = record {
   inside = omega (arith, c.place.ensures, c.requires.cpu, c.requires.layout.layout.areas.room);
 }
 
-pub returns-in_err-put_back-clause-wrote : goal.returns-in_err-put_back-clause-wrote
-returns-in_err-put_back-clause-wrote g c = stores_more _ _ _ _ _ _ _ _ (old_value c.args.tables.now.layout _ _ c.args.pending.now c.count-count.result c.loop-done.done c.place.result c.requires.layout c.requires.cpu c.requires.read c.count-count.ensures c.loop-done-test.true c.loop-done.invariant.so_far c.place.ensures (read_sound (g.P.Pmem.region c.args.memory.now) c.args.pending.now c.requires.read c.requires.sound)) c.loop-done.invariant.wrote c.put_back.ensures.wrote
+pub returns-in_err-put_back-clause-kept : goal.returns-in_err-put_back-clause-kept
+returns-in_err-put_back-clause-kept g c = record {
+  wrote = stores_more _ _ _ _ _ _ _ _ (old_value c.args.tables.now.layout _ _ c.args.pending.now c.count-count.result c.loop-done.done c.place.result c.requires.layout c.requires.cpu c.requires.read c.count-count.ensures c.loop-done-test.true c.loop-done.invariant.so_far c.place.ensures (read_sound (g.P.Pmem.region c.args.memory.now) c.args.pending.now c.requires.read c.requires.sound)) c.loop-done.invariant.wrote c.put_back.ensures.kept.wrote;
+  outside = outside_more _ _ _ _ _ c.loop-done.invariant.outside c.put_back.ensures.kept.outside;
+  stopped = search rules;
+  keeps_fuse = keeps_more (λ limit past. past) c.loop-done.invariant.keeps_fuse c.put_back.ensures.kept.keeps_fuse;
+}
 
-pub returns-in_err-put_back-clause-outside : goal.returns-in_err-put_back-clause-outside
-returns-in_err-put_back-clause-outside g c = outside_more _ _ _ _ _ c.loop-done.invariant.outside c.put_back.ensures.outside
+pub returns-clause-kept : goal.returns-clause-kept
+returns-clause-kept g c = record {
+  wrote = fenced_stores c.fence.result _ _ _ _ _ _ _ c.loop-done.invariant.wrote c.fence.ensures.same c.fence.ensures.fenced c.fence.ensures.refused_keep (g.met.P.Pmem.holds_now _);
+  outside = subst (λ (Q : Region). SameOutside (g.P.Pmem.region c.args.memory.now) 4096 (4096 * (slots_end c.args.tables.now.layout.sup - 1)) Q) (sym c.fence.ensures.same) c.loop-done.invariant.outside;
+  stopped = search rules;
+  keeps_fuse = search rules;
+}
 
 pub loop-done-preserved : goal.loop-done-preserved
 loop-done-preserved g c = record {
@@ -33,9 +43,9 @@ loop-done-preserved g c = record {
       (old_value c.args.tables.now.layout _ _ c.args.pending.now c.count-count.result c.loop-done.done c.place.result
       c.requires.layout c.requires.cpu c.requires.read c.count-count.ensures c.loop-done-test.true c.loop-done.invariant.so_far c.place.ensures
       (read_sound (g.P.Pmem.region c.args.memory.now) c.args.pending.now c.requires.read c.requires.sound))
-      c.loop-done.invariant.wrote c.put_back.ensures.wrote;
-  outside = outside_more _ _ _ _ _ c.loop-done.invariant.outside c.put_back.ensures.outside;
-  keeps_fuse = keeps_more (λ limit past. past) c.loop-done.invariant.keeps_fuse c.put_back.ensures.keeps_fuse;
+      c.loop-done.invariant.wrote c.put_back.ensures.kept.wrote;
+  outside = outside_more _ _ _ _ _ c.loop-done.invariant.outside c.put_back.ensures.kept.outside;
+  keeps_fuse = keeps_more (λ limit past. past) c.loop-done.invariant.keeps_fuse c.put_back.ensures.kept.keeps_fuse;
 }
 
 pub returns-clause-done : goal.returns-clause-done
@@ -49,9 +59,3 @@ returns-clause-done g c =
 
 pub returns-clause-settled : goal.returns-clause-settled
 returns-clause-settled g c = search depth 2 parts 0 steps 300000
-
-pub returns-clause-wrote : goal.returns-clause-wrote
-returns-clause-wrote g c = fenced_stores c.fence.result _ _ _ _ _ _ _ c.loop-done.invariant.wrote c.fence.ensures.same c.fence.ensures.fenced c.fence.ensures.refused_keep (g.met.P.Pmem.holds_now _)
-
-pub returns-clause-outside : goal.returns-clause-outside
-returns-clause-outside g c = subst (λ (Q : Region). SameOutside (g.P.Pmem.region c.args.memory.now) 4096 (4096 * (slots_end c.args.tables.now.layout.sup - 1)) Q) (sym c.fence.ensures.same) c.loop-done.invariant.outside

@@ -48,8 +48,26 @@ pub returns-then-not-permits-clause-done : goal.returns-then-not-permits-clause-
 returns-then-not-permits-clause-done g c =
     not_named (is_permitted_by c.args.tables.now.layout) (g.P.Pmem.region c.args.memory.now) c.args.place c.load-at.result c.load-at.ensures (sym c.permits.ensures.value ∙ c.if-not-permits.true)
 
-pub returns-then-not-permits-clause-wrote : goal.returns-then-not-permits-clause-wrote
-returns-then-not-permits-clause-wrote g c = stores_none _ _ _
+pub returns-then-not-permits-clause-kept : goal.returns-then-not-permits-clause-kept
+returns-then-not-permits-clause-kept g c = record {
+  wrote = stores_none _ _ _;
+  outside = outside_same _ _ _;
+  stopped = tt;
+  keeps_fuse = record { burnt = λ on. on; steady = λ on. on; stays_open = λ limit past on. on };
+}
+
+pub returns-clause-kept : goal.returns-clause-kept
+returns-clause-kept g c = record {
+  wrote = let named = sym c.permits.ensures.value ∙ c.if-not-permits.false in
+      record_stored (is_permitted_by c.args.tables.now.layout) (g.P.Pmem.region c.args.memory.now) c.args.place c.load-at.result c.load-at.ensures c.load-before.result c.load-before.ensures named c.store.result _ _ _
+      c.store.ensures.stored c.store.ensures.refused c.store.ensures.may_keep c.store.ensures.refused_keep;
+  outside = let lies = c.permits.ensures.lies c.if-not-permits.false in
+      outside_either _ _ _ 4096 (4096 * (slots_end c.args.tables.now.layout.sup - 1)) c.load-at.result c.load-before.result lies.aligned (behind_start c.load-at.result c.args.tables.now.layout.sup.cpus lies.behind) (before_data c.load-at.result (slots_end c.args.tables.now.layout.sup) (some_end c.args.tables.now.layout.sup.cpus (c.args.tables.now.layout.sup.cpus * c.args.tables.now.layout.sup.table_blocks) (slots_end c.args.tables.now.layout.sup) (end_least c.args.tables.now.layout.sup c.requires.layout.layout)) lies.before) (outside_same _ _ _)
+      (either_of c.store.result _ _ _ _ c.store.ensures.stored c.store.ensures.refused);
+  stopped = burnt_told c.store.result c.store.ensures.stopped;
+  keeps_fuse = let lies = c.permits.ensures.lies c.if-not-permits.false in
+      keeps_within (λ limit past. before_limit c.load-at.result (slots_end c.args.tables.now.layout.sup) limit lies.before past) c.store.ensures.keeps_fuse;
+}
 
 pub returns-clause-done : goal.returns-clause-done
 returns-clause-done g c =
@@ -57,18 +75,6 @@ returns-clause-done g c =
     on_ok_weaker c.store.result
     (λ stored. stored ∙ by_record (is_permitted_by c.args.tables.now.layout) (g.P.Pmem.region c.args.memory.now) c.args.place c.load-at.result c.load-at.ensures c.load-before.result c.load-before.ensures named)
     c.store.ensures.stored
-
-pub returns-clause-wrote : goal.returns-clause-wrote
-returns-clause-wrote g c =
-    let named = sym c.permits.ensures.value ∙ c.if-not-permits.false in
-    record_stored (is_permitted_by c.args.tables.now.layout) (g.P.Pmem.region c.args.memory.now) c.args.place c.load-at.result c.load-at.ensures c.load-before.result c.load-before.ensures named c.store.result _ _ _
-    c.store.ensures.stored c.store.ensures.refused c.store.ensures.may_keep c.store.ensures.refused_keep
-
-pub returns-clause-outside : goal.returns-clause-outside
-returns-clause-outside g c =
-    let lies = c.permits.ensures.lies c.if-not-permits.false in
-    outside_either _ _ _ 4096 (4096 * (slots_end c.args.tables.now.layout.sup - 1)) c.load-at.result c.load-before.result lies.aligned (behind_start c.load-at.result c.args.tables.now.layout.sup.cpus lies.behind) (before_data c.load-at.result (slots_end c.args.tables.now.layout.sup) (some_end c.args.tables.now.layout.sup.cpus (c.args.tables.now.layout.sup.cpus * c.args.tables.now.layout.sup.table_blocks) (slots_end c.args.tables.now.layout.sup) (end_least c.args.tables.now.layout.sup c.requires.layout.layout)) lies.before) (outside_same _ _ _)
-    (either_of c.store.result _ _ _ _ c.store.ensures.stored c.store.ensures.refused)
 
 pub load-at-requires-clause-aligned : goal.load-at-requires-clause-aligned
 load-at-requires-clause-aligned g c = c.requires.aligned
@@ -85,22 +91,5 @@ load-before-requires-clause-aligned g c = second_aligned c.args.place c.requires
 pub load-before-requires-clause-within : goal.load-before-requires-clause-within
 load-before-requires-clause-within g c = in_region _ c.args.tables.now.layout.sup.blocks (g.P.Pmem.region c.args.memory.now) (second_word c.args.place c.args.tables.now.layout.sup.blocks c.requires.inside) c.requires.blocks
 
-pub returns-then-not-permits-clause-outside : goal.returns-then-not-permits-clause-outside
-returns-then-not-permits-clause-outside g c = outside_same _ _ _
-
-pub returns-then-not-permits-clause-stopped : goal.returns-then-not-permits-clause-stopped
-returns-then-not-permits-clause-stopped g c = tt
-
-pub returns-then-not-permits-clause-keeps_fuse : goal.returns-then-not-permits-clause-keeps_fuse
-returns-then-not-permits-clause-keeps_fuse g c = record { burnt = λ on. on; steady = λ on. on; stays_open = λ limit past on. on }
-
 pub store-requires-clause-aligned : goal.store-requires-clause-aligned
 store-requires-clause-aligned g c = (c.permits.ensures.lies c.if-not-permits.false).aligned
-
-pub returns-clause-stopped : goal.returns-clause-stopped
-returns-clause-stopped g c = burnt_told c.store.result c.store.ensures.stopped
-
-pub returns-clause-keeps_fuse : goal.returns-clause-keeps_fuse
-returns-clause-keeps_fuse g c =
-    let lies = c.permits.ensures.lies c.if-not-permits.false in
-    keeps_within (λ limit past. before_limit c.load-at.result (slots_end c.args.tables.now.layout.sup) limit lies.before past) c.store.ensures.keeps_fuse

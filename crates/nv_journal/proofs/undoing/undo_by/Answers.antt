@@ -78,179 +78,110 @@ module _ (s : Super) (R : Region) (T : Layout) (layout : IsLayout s) (blocks : H
   wrote_so : (new : Region) (may may_new : Choices) → StoresOnly (UndoStoresBy T R) R new may may_new → StoresOnly (UndoStores s R) R new may may_new
   wrote_so new may may_new wrote = subst (λ (l : Layout). StoresOnly (UndoStoresBy l R) R new may may_new) are wrote
 
-pub returns-in_err-faults-clause-any_stop : goal.returns-in_err-faults-clause-any_stop
-returns-in_err-faults-clause-any_stop g c settled = fenced_leaves _ _ _ settled refl
-
-pub returns-clause-words : goal.returns-clause-words
-returns-clause-words g c = words_so c.args.sup.now (g.P.Pmem.region c.args.memory.now) c.args.tables.now.layout c.requires.layout c.requires.blocks c.requires.tables (g.P.Pmem.region c.roll_back_all.new.memory) c.in_ok-roll_back_all.ensures.done
-
-pub returns-clause-empty : goal.returns-clause-empty
-returns-clause-empty g c = empty_so c.args.sup.now (g.P.Pmem.region c.args.memory.now) c.args.tables.now.layout c.requires.layout c.requires.blocks c.requires.tables (g.P.Pmem.region c.roll_back_all.new.memory) c.in_ok-roll_back_all.ensures.done
-
-pub returns-clause-later_faults : goal.returns-clause-later_faults
-returns-clause-later_faults g c = later_so c.args.sup.now (g.P.Pmem.region c.args.memory.now) c.args.tables.now.layout c.requires.layout c.requires.blocks c.requires.tables (g.P.Pmem.region c.roll_back_all.new.memory) c.in_ok-roll_back_all.ensures.done
-
-pub returns-in_err-faults-clause-outside : goal.returns-in_err-faults-clause-outside
-returns-in_err-faults-clause-outside g c = outside_same _ _ _
-
-pub returns-in_err-faults-clause-keeps_fuse : goal.returns-in_err-faults-clause-keeps_fuse
-returns-in_err-faults-clause-keeps_fuse g c = record { burnt = λ on. on; steady = λ on. on; stays_open = λ limit past on. on }
-
-pub returns-in_err-roll_back_all-clause-outside : goal.returns-in_err-roll_back_all-clause-outside
-returns-in_err-roll_back_all-clause-outside g c = subst (λ (x : Super). SameOutside (g.P.Pmem.region c.args.memory.now) 4096 (4096 * (slots_end x - 1)) (g.P.Pmem.region c.roll_back_all.new.memory)) (ap (λ (l : Layout). l.sup) c.requires.tables) c.roll_back_all.ensures.outside
-
-pub returns-in_err-roll_back_all-clause-keeps_fuse : goal.returns-in_err-roll_back_all-clause-keeps_fuse
-returns-in_err-roll_back_all-clause-keeps_fuse g c = subst (λ (x : Super). KeepsFuse (λ limit. 4096 * slots_end x ≤ limit) (g.P.Pmem.fuse c.args.memory.now) (g.P.Pmem.fuse c.roll_back_all.new.memory)) (ap (λ (l : Layout). l.sup) c.requires.tables) c.roll_back_all.ensures.keeps_fuse
-
-pub returns-in_err-roll_back_all-clause-any_stop : goal.returns-in_err-roll_back_all-clause-any_stop
-returns-in_err-roll_back_all-clause-any_stop g c settled left may = reads_so c.args.sup.now (g.P.Pmem.region c.args.memory.now) c.args.tables.now.layout c.requires.layout c.requires.blocks c.requires.tables left (c.roll_back_all.ensures.any_stop settled left may)
-
-pub returns-clause-outside : goal.returns-clause-outside
-returns-clause-outside g c = subst (λ (x : Super). SameOutside (g.P.Pmem.region c.args.memory.now) 4096 (4096 * (slots_end x - 1)) (g.P.Pmem.region c.roll_back_all.new.memory)) (ap (λ (l : Layout). l.sup) c.requires.tables) c.roll_back_all.ensures.outside
-
-pub returns-clause-keeps_fuse : goal.returns-clause-keeps_fuse
-returns-clause-keeps_fuse g c = subst (λ (x : Super). KeepsFuse (λ limit. 4096 * slots_end x ≤ limit) (g.P.Pmem.fuse c.args.memory.now) (g.P.Pmem.fuse c.roll_back_all.new.memory)) (ap (λ (l : Layout). l.sup) c.requires.tables) c.roll_back_all.ensures.keeps_fuse
-
-pub returns-clause-any_stop : goal.returns-clause-any_stop
-returns-clause-any_stop g c settled left may = reads_so c.args.sup.now (g.P.Pmem.region c.args.memory.now) c.args.tables.now.layout c.requires.layout c.requires.blocks c.requires.tables left (c.roll_back_all.ensures.any_stop settled left may)
-
 pub returns-in_err-faults-clause-done : goal.returns-in_err-faults-clause-done
 returns-in_err-faults-clause-done g c = IfOk-from_err c.from_residual.result _ c.from_residual.ensures.0
 
-pub returns-in_err-faults-clause-words : goal.returns-in_err-faults-clause-words
-returns-in_err-faults-clause-words g c = IfOk-from_err c.from_residual.result _ c.from_residual.ensures.0
+pub returns-in_err-faults-clause-stores : goal.returns-in_err-faults-clause-stores
+returns-in_err-faults-clause-stores g c = record {
+  wrote = stores_none _ _ _;
+  quiet_journals = quiet_stores c.args.sup.now _ _ _ _ c.requires.layout (stores_none _ _ _);
+  outside = outside_same _ _ _;
+  blocks = c.requires.blocks;
+  chains = refl;
+}
 
-pub returns-in_err-faults-clause-faults : goal.returns-in_err-faults-clause-faults
-returns-in_err-faults-clause-faults g c = IfOk-from_err c.from_residual.result _ c.from_residual.ensures.0
+pub returns-in_err-faults-clause-ends : goal.returns-in_err-faults-clause-ends
+returns-in_err-faults-clause-ends g c = record {
+  quiet = λ quiet. refl;
+  quiet_done = λ quiet is. other_error c.from_residual.result Memory Stopped not_stopped c.from_residual.ensures.1 is;
+  open_done = λ opened is. other_error c.from_residual.result Memory Stopped not_stopped c.from_residual.ensures.1 is;
+  stopped = λ is. absurd (other_error c.from_residual.result Memory Stopped not_stopped c.from_residual.ensures.1 is);
+  keeps_fuse = record { burnt = λ on. on; steady = λ on. on; stays_open = λ limit past on. on };
+  settled = λ settled. IfOk-from_err c.from_residual.result _ c.from_residual.ensures.0;
+}
 
-pub returns-in_err-faults-clause-again : goal.returns-in_err-faults-clause-again
-returns-in_err-faults-clause-again g c = IfOk-from_err c.from_residual.result _ c.from_residual.ensures.0
+pub returns-in_err-faults-clause-moments : goal.returns-in_err-faults-clause-moments
+returns-in_err-faults-clause-moments g c = record {
+  reads = refl;
+  any_stop = λ settled. fenced_leaves _ _ _ settled refl;
+}
 
-pub returns-in_err-faults-clause-empty : goal.returns-in_err-faults-clause-empty
-returns-in_err-faults-clause-empty g c = IfOk-from_err c.from_residual.result _ c.from_residual.ensures.0
+pub returns-clause-done : goal.returns-clause-done
+returns-clause-done g c = record {
+  is = done_so c.args.sup.now (g.P.Pmem.region c.args.memory.now) c.args.tables.now.layout c.requires.layout c.requires.blocks c.requires.tables (g.P.Pmem.region c.roll_back_all.new.memory) c.in_ok-roll_back_all.ensures.done;
+  words = words_so c.args.sup.now (g.P.Pmem.region c.args.memory.now) c.args.tables.now.layout c.requires.layout c.requires.blocks c.requires.tables (g.P.Pmem.region c.roll_back_all.new.memory) c.in_ok-roll_back_all.ensures.done;
+  again = reads_so c.args.sup.now (g.P.Pmem.region c.args.memory.now) c.args.tables.now.layout c.requires.layout c.requires.blocks c.requires.tables (g.P.Pmem.region c.roll_back_all.new.memory) c.roll_back_all.ensures.moments.reads ∙ sym (done_so c.args.sup.now (g.P.Pmem.region c.args.memory.now) c.args.tables.now.layout c.requires.layout c.requires.blocks c.requires.tables (g.P.Pmem.region c.roll_back_all.new.memory) c.in_ok-roll_back_all.ensures.done);
+  empty = empty_so c.args.sup.now (g.P.Pmem.region c.args.memory.now) c.args.tables.now.layout c.requires.layout c.requires.blocks c.requires.tables (g.P.Pmem.region c.roll_back_all.new.memory) c.in_ok-roll_back_all.ensures.done;
+  later_faults = later_so c.args.sup.now (g.P.Pmem.region c.args.memory.now) c.args.tables.now.layout c.requires.layout c.requires.blocks c.requires.tables (g.P.Pmem.region c.roll_back_all.new.memory) c.in_ok-roll_back_all.ensures.done;
+}
 
-pub returns-in_err-faults-clause-later_faults : goal.returns-in_err-faults-clause-later_faults
-returns-in_err-faults-clause-later_faults g c = IfOk-from_err c.from_residual.result _ c.from_residual.ensures.0
+pub returns-clause-stores : goal.returns-clause-stores
+returns-clause-stores g c = record {
+  wrote = wrote_so c.args.sup.now (g.P.Pmem.region c.args.memory.now) c.args.tables.now.layout c.requires.layout c.requires.blocks c.requires.tables (g.P.Pmem.region c.roll_back_all.new.memory) _ _ c.roll_back_all.ensures.kept.wrote;
+  quiet_journals = quiet_stores c.args.sup.now _ _ _ _ c.requires.layout (wrote_so c.args.sup.now (g.P.Pmem.region c.args.memory.now) c.args.tables.now.layout c.requires.layout c.requires.blocks c.requires.tables (g.P.Pmem.region c.roll_back_all.new.memory) _ _ c.roll_back_all.ensures.kept.wrote);
+  outside = subst (λ (x : Super). SameOutside (g.P.Pmem.region c.args.memory.now) 4096 (4096 * (slots_end x - 1)) (g.P.Pmem.region c.roll_back_all.new.memory)) (ap (λ (l : Layout). l.sup) c.requires.tables) c.roll_back_all.ensures.kept.outside;
+  blocks = subst (λ (x : Super). HasBlocks (g.P.Pmem.region c.roll_back_all.new.memory) x.blocks) (ap (λ (l : Layout). l.sup) c.requires.tables) c.roll_back_all.ensures.kept.blocks;
+  chains = layout_so c.args.sup.now (g.P.Pmem.region c.args.memory.now) c.args.tables.now.layout c.requires.layout c.requires.blocks c.requires.tables (g.P.Pmem.region c.roll_back_all.new.memory) c.roll_back_all.ensures.moments.reads;
+}
 
-pub returns-in_err-faults-clause-blocks : goal.returns-in_err-faults-clause-blocks
-returns-in_err-faults-clause-blocks g c = c.requires.blocks
+pub returns-clause-ends : goal.returns-clause-ends
+returns-clause-ends g c = record {
+  quiet = λ quiet. c.roll_back_all.ensures.quiet (quiet_so c.args.sup.now (g.P.Pmem.region c.args.memory.now) c.args.tables.now.layout c.requires.layout c.requires.blocks c.requires.tables quiet);
+  quiet_done = λ quiet is. no_error is;
+  open_done = λ opened is. no_error is;
+  stopped = λ is. absurd (no_error is);
+  keeps_fuse = subst (λ (x : Super). KeepsFuse (λ limit. 4096 * slots_end x ≤ limit) (g.P.Pmem.fuse c.args.memory.now) (g.P.Pmem.fuse c.roll_back_all.new.memory)) (ap (λ (l : Layout). l.sup) c.requires.tables) c.roll_back_all.ensures.kept.keeps_fuse;
+  settled = λ settled. c.in_ok-roll_back_all.ensures.kept.settled settled;
+}
 
-pub returns-in_err-faults-clause-memory : goal.returns-in_err-faults-clause-memory
-returns-in_err-faults-clause-memory g c is = refl
-
-pub returns-in_err-faults-clause-quiet : goal.returns-in_err-faults-clause-quiet
-returns-in_err-faults-clause-quiet g c quiet = refl
-
-pub returns-in_err-faults-clause-quiet_done : goal.returns-in_err-faults-clause-quiet_done
-returns-in_err-faults-clause-quiet_done g c quiet is = other_error c.from_residual.result Memory Stopped not_stopped c.from_residual.ensures.1 is
-
-pub returns-in_err-faults-clause-stopped : goal.returns-in_err-faults-clause-stopped
-returns-in_err-faults-clause-stopped g c is = absurd (other_error c.from_residual.result Memory Stopped not_stopped c.from_residual.ensures.1 is)
-
-pub returns-in_err-faults-clause-open_done : goal.returns-in_err-faults-clause-open_done
-returns-in_err-faults-clause-open_done g c opened is = other_error c.from_residual.result Memory Stopped not_stopped c.from_residual.ensures.1 is
-
-pub returns-in_err-faults-clause-reads : goal.returns-in_err-faults-clause-reads
-returns-in_err-faults-clause-reads g c = refl
-
-pub returns-in_err-faults-clause-settled : goal.returns-in_err-faults-clause-settled
-returns-in_err-faults-clause-settled g c settled = IfOk-from_err c.from_residual.result _ c.from_residual.ensures.0
+pub returns-clause-moments : goal.returns-clause-moments
+returns-clause-moments g c = record {
+  reads = reads_so c.args.sup.now (g.P.Pmem.region c.args.memory.now) c.args.tables.now.layout c.requires.layout c.requires.blocks c.requires.tables (g.P.Pmem.region c.roll_back_all.new.memory) c.roll_back_all.ensures.moments.reads;
+  any_stop = λ settled left may. reads_so c.args.sup.now (g.P.Pmem.region c.args.memory.now) c.args.tables.now.layout c.requires.layout c.requires.blocks c.requires.tables left (c.roll_back_all.ensures.moments.any_stop settled left may);
+}
 
 pub returns-in_err-roll_back_all-clause-done : goal.returns-in_err-roll_back_all-clause-done
 returns-in_err-roll_back_all-clause-done g c = IfOk-from_err c.from_residual-in_err-roll_back_all.result _ c.from_residual-in_err-roll_back_all.ensures.0
 
-pub returns-in_err-roll_back_all-clause-words : goal.returns-in_err-roll_back_all-clause-words
-returns-in_err-roll_back_all-clause-words g c = IfOk-from_err c.from_residual-in_err-roll_back_all.result _ c.from_residual-in_err-roll_back_all.ensures.0
+pub returns-in_err-roll_back_all-clause-stores : goal.returns-in_err-roll_back_all-clause-stores
+returns-in_err-roll_back_all-clause-stores g c = record {
+  wrote = wrote_so c.args.sup.now (g.P.Pmem.region c.args.memory.now) c.args.tables.now.layout c.requires.layout c.requires.blocks c.requires.tables (g.P.Pmem.region c.roll_back_all.new.memory) _ _ c.roll_back_all.ensures.kept.wrote;
+  quiet_journals = quiet_stores c.args.sup.now _ _ _ _ c.requires.layout (wrote_so c.args.sup.now (g.P.Pmem.region c.args.memory.now) c.args.tables.now.layout c.requires.layout c.requires.blocks c.requires.tables (g.P.Pmem.region c.roll_back_all.new.memory) _ _ c.roll_back_all.ensures.kept.wrote);
+  outside = subst (λ (x : Super). SameOutside (g.P.Pmem.region c.args.memory.now) 4096 (4096 * (slots_end x - 1)) (g.P.Pmem.region c.roll_back_all.new.memory)) (ap (λ (l : Layout). l.sup) c.requires.tables) c.roll_back_all.ensures.kept.outside;
+  blocks = subst (λ (x : Super). HasBlocks (g.P.Pmem.region c.roll_back_all.new.memory) x.blocks) (ap (λ (l : Layout). l.sup) c.requires.tables) c.roll_back_all.ensures.kept.blocks;
+  chains = layout_so c.args.sup.now (g.P.Pmem.region c.args.memory.now) c.args.tables.now.layout c.requires.layout c.requires.blocks c.requires.tables (g.P.Pmem.region c.roll_back_all.new.memory) c.roll_back_all.ensures.moments.reads;
+}
+
+pub returns-in_err-roll_back_all-clause-ends : goal.returns-in_err-roll_back_all-clause-ends
+returns-in_err-roll_back_all-clause-ends g c = record {
+  quiet = λ quiet. c.roll_back_all.ensures.quiet (quiet_so c.args.sup.now (g.P.Pmem.region c.args.memory.now) c.args.tables.now.layout c.requires.layout c.requires.blocks c.requires.tables quiet);
+  quiet_done = λ quiet is. true≢false (sym (c.roll_back_all.ensures.quiet_done (quiet_so c.args.sup.now (g.P.Pmem.region c.args.memory.now) c.args.tables.now.layout c.requires.layout c.requires.blocks c.requires.tables quiet)) ∙ ap is_ok c.in_err-roll_back_all.was);
+  open_done = λ opened is. let on = (subst (λ (x : Super). KeepsFuse (λ limit. 4096 * slots_end x ≤ limit) (g.P.Pmem.fuse c.args.memory.now) (g.P.Pmem.fuse c.roll_back_all.new.memory)) (ap (λ (l : Layout). l.sup) c.requires.tables) c.roll_back_all.ensures.kept.keeps_fuse).stays_open (4096 * slots_end c.args.sup.now) (up_to _) opened in true≢false (sym c.in_err-roll_back_all.ensures.kept.stopped ∙ g.met.P.Pmem.open_unburnt c.roll_back_all.new.memory (4096 * slots_end c.args.sup.now) on);
+  stopped = λ is. c.in_err-roll_back_all.ensures.kept.stopped;
+  keeps_fuse = subst (λ (x : Super). KeepsFuse (λ limit. 4096 * slots_end x ≤ limit) (g.P.Pmem.fuse c.args.memory.now) (g.P.Pmem.fuse c.roll_back_all.new.memory)) (ap (λ (l : Layout). l.sup) c.requires.tables) c.roll_back_all.ensures.kept.keeps_fuse;
+  settled = λ settled. IfOk-from_err c.from_residual-in_err-roll_back_all.result _ c.from_residual-in_err-roll_back_all.ensures.0;
+}
+
+pub returns-in_err-roll_back_all-clause-moments : goal.returns-in_err-roll_back_all-clause-moments
+returns-in_err-roll_back_all-clause-moments g c = record {
+  reads = reads_so c.args.sup.now (g.P.Pmem.region c.args.memory.now) c.args.tables.now.layout c.requires.layout c.requires.blocks c.requires.tables (g.P.Pmem.region c.roll_back_all.new.memory) c.roll_back_all.ensures.moments.reads;
+  any_stop = λ settled left may. reads_so c.args.sup.now (g.P.Pmem.region c.args.memory.now) c.args.tables.now.layout c.requires.layout c.requires.blocks c.requires.tables left (c.roll_back_all.ensures.moments.any_stop settled left may);
+}
+
+pub returns-in_err-faults-clause-faults : goal.returns-in_err-faults-clause-faults
+returns-in_err-faults-clause-faults g c = IfOk-from_err c.from_residual.result _ c.from_residual.ensures.0
+
+pub returns-in_err-faults-clause-memory : goal.returns-in_err-faults-clause-memory
+returns-in_err-faults-clause-memory g c is = refl
 
 pub returns-in_err-roll_back_all-clause-faults : goal.returns-in_err-roll_back_all-clause-faults
 returns-in_err-roll_back_all-clause-faults g c = IfOk-from_err c.from_residual-in_err-roll_back_all.result _ c.from_residual-in_err-roll_back_all.ensures.0
 
-pub returns-in_err-roll_back_all-clause-again : goal.returns-in_err-roll_back_all-clause-again
-returns-in_err-roll_back_all-clause-again g c = IfOk-from_err c.from_residual-in_err-roll_back_all.result _ c.from_residual-in_err-roll_back_all.ensures.0
-
-pub returns-in_err-roll_back_all-clause-empty : goal.returns-in_err-roll_back_all-clause-empty
-returns-in_err-roll_back_all-clause-empty g c = IfOk-from_err c.from_residual-in_err-roll_back_all.result _ c.from_residual-in_err-roll_back_all.ensures.0
-
-pub returns-in_err-roll_back_all-clause-later_faults : goal.returns-in_err-roll_back_all-clause-later_faults
-returns-in_err-roll_back_all-clause-later_faults g c = IfOk-from_err c.from_residual-in_err-roll_back_all.result _ c.from_residual-in_err-roll_back_all.ensures.0
-
-pub returns-in_err-roll_back_all-clause-blocks : goal.returns-in_err-roll_back_all-clause-blocks
-returns-in_err-roll_back_all-clause-blocks g c = subst (λ (x : Super). HasBlocks (g.P.Pmem.region c.roll_back_all.new.memory) x.blocks) (ap (λ (l : Layout). l.sup) c.requires.tables) c.roll_back_all.ensures.blocks
-
 pub returns-in_err-roll_back_all-clause-memory : goal.returns-in_err-roll_back_all-clause-memory
 returns-in_err-roll_back_all-clause-memory g c is = absurd (other_error c.from_residual-in_err-roll_back_all.result Stopped Memory not_memory c.from_residual-in_err-roll_back_all.ensures.1 is)
-
-pub returns-in_err-roll_back_all-clause-quiet : goal.returns-in_err-roll_back_all-clause-quiet
-returns-in_err-roll_back_all-clause-quiet g c quiet = c.roll_back_all.ensures.quiet (quiet_so c.args.sup.now (g.P.Pmem.region c.args.memory.now) c.args.tables.now.layout c.requires.layout c.requires.blocks c.requires.tables quiet)
-
-pub returns-in_err-roll_back_all-clause-quiet_done : goal.returns-in_err-roll_back_all-clause-quiet_done
-returns-in_err-roll_back_all-clause-quiet_done g c quiet is = true≢false (sym (c.roll_back_all.ensures.quiet_done (quiet_so c.args.sup.now (g.P.Pmem.region c.args.memory.now) c.args.tables.now.layout c.requires.layout c.requires.blocks c.requires.tables quiet)) ∙ ap is_ok c.in_err-roll_back_all.was)
-
-pub returns-in_err-roll_back_all-clause-stopped : goal.returns-in_err-roll_back_all-clause-stopped
-returns-in_err-roll_back_all-clause-stopped g c is = c.in_err-roll_back_all.ensures.stopped
-
-pub returns-in_err-roll_back_all-clause-reads : goal.returns-in_err-roll_back_all-clause-reads
-returns-in_err-roll_back_all-clause-reads g c = reads_so c.args.sup.now (g.P.Pmem.region c.args.memory.now) c.args.tables.now.layout c.requires.layout c.requires.blocks c.requires.tables (g.P.Pmem.region c.roll_back_all.new.memory) c.roll_back_all.ensures.reads
-
-pub returns-in_err-roll_back_all-clause-settled : goal.returns-in_err-roll_back_all-clause-settled
-returns-in_err-roll_back_all-clause-settled g c settled = IfOk-from_err c.from_residual-in_err-roll_back_all.result _ c.from_residual-in_err-roll_back_all.ensures.0
-
-pub returns-clause-done : goal.returns-clause-done
-returns-clause-done g c = done_so c.args.sup.now (g.P.Pmem.region c.args.memory.now) c.args.tables.now.layout c.requires.layout c.requires.blocks c.requires.tables (g.P.Pmem.region c.roll_back_all.new.memory) c.in_ok-roll_back_all.ensures.done
 
 pub returns-clause-faults : goal.returns-clause-faults
 returns-clause-faults g c = subst (λ (l : Layout). Lists fault_key (IsJournalFault (is_permitted_by l) l.sup.cpus (g.P.Pmem.region c.args.memory.now)) c.in_ok-faults.faults.items) c.requires.tables c.in_ok-faults.ensures
 
-pub returns-clause-blocks : goal.returns-clause-blocks
-returns-clause-blocks g c = subst (λ (x : Super). HasBlocks (g.P.Pmem.region c.roll_back_all.new.memory) x.blocks) (ap (λ (l : Layout). l.sup) c.requires.tables) c.roll_back_all.ensures.blocks
-
 pub returns-clause-memory : goal.returns-clause-memory
 returns-clause-memory g c is = absurd (no_error is)
-
-pub returns-clause-quiet : goal.returns-clause-quiet
-returns-clause-quiet g c quiet = c.roll_back_all.ensures.quiet (quiet_so c.args.sup.now (g.P.Pmem.region c.args.memory.now) c.args.tables.now.layout c.requires.layout c.requires.blocks c.requires.tables quiet)
-
-pub returns-clause-quiet_done : goal.returns-clause-quiet_done
-returns-clause-quiet_done g c quiet is = no_error is
-
-pub returns-clause-stopped : goal.returns-clause-stopped
-returns-clause-stopped g c is = absurd (no_error is)
-
-pub returns-clause-open_done : goal.returns-clause-open_done
-returns-clause-open_done g c opened is = no_error is
-
-pub returns-clause-reads : goal.returns-clause-reads
-returns-clause-reads g c = reads_so c.args.sup.now (g.P.Pmem.region c.args.memory.now) c.args.tables.now.layout c.requires.layout c.requires.blocks c.requires.tables (g.P.Pmem.region c.roll_back_all.new.memory) c.roll_back_all.ensures.reads
-
-pub returns-clause-again : goal.returns-clause-again
-returns-clause-again g c = reads_so c.args.sup.now (g.P.Pmem.region c.args.memory.now) c.args.tables.now.layout c.requires.layout c.requires.blocks c.requires.tables (g.P.Pmem.region c.roll_back_all.new.memory) c.roll_back_all.ensures.reads ∙ sym (done_so c.args.sup.now (g.P.Pmem.region c.args.memory.now) c.args.tables.now.layout c.requires.layout c.requires.blocks c.requires.tables (g.P.Pmem.region c.roll_back_all.new.memory) c.in_ok-roll_back_all.ensures.done)
-
-pub returns-clause-settled : goal.returns-clause-settled
-returns-clause-settled g c settled = c.in_ok-roll_back_all.ensures.settled settled
-
-pub returns-clause-chains : goal.returns-clause-chains
-returns-clause-chains g c = layout_so c.args.sup.now (g.P.Pmem.region c.args.memory.now) c.args.tables.now.layout c.requires.layout c.requires.blocks c.requires.tables (g.P.Pmem.region c.roll_back_all.new.memory) c.roll_back_all.ensures.reads
-
-pub returns-in_err-roll_back_all-clause-chains : goal.returns-in_err-roll_back_all-clause-chains
-returns-in_err-roll_back_all-clause-chains g c = layout_so c.args.sup.now (g.P.Pmem.region c.args.memory.now) c.args.tables.now.layout c.requires.layout c.requires.blocks c.requires.tables (g.P.Pmem.region c.roll_back_all.new.memory) c.roll_back_all.ensures.reads
-
-pub returns-in_err-faults-clause-chains : goal.returns-in_err-faults-clause-chains
-returns-in_err-faults-clause-chains g c = refl
-
-pub returns-in_err-faults-clause-wrote : goal.returns-in_err-faults-clause-wrote
-returns-in_err-faults-clause-wrote g c = stores_none _ _ _
-
-pub returns-in_err-faults-clause-quiet_journals : goal.returns-in_err-faults-clause-quiet_journals
-returns-in_err-faults-clause-quiet_journals g c = quiet_stores c.args.sup.now _ _ _ _ c.requires.layout (stores_none _ _ _)
-
-pub returns-in_err-roll_back_all-clause-wrote : goal.returns-in_err-roll_back_all-clause-wrote
-returns-in_err-roll_back_all-clause-wrote g c = wrote_so c.args.sup.now (g.P.Pmem.region c.args.memory.now) c.args.tables.now.layout c.requires.layout c.requires.blocks c.requires.tables (g.P.Pmem.region c.roll_back_all.new.memory) _ _ c.roll_back_all.ensures.wrote
-
-pub returns-in_err-roll_back_all-clause-quiet_journals : goal.returns-in_err-roll_back_all-clause-quiet_journals
-returns-in_err-roll_back_all-clause-quiet_journals g c = quiet_stores c.args.sup.now _ _ _ _ c.requires.layout (wrote_so c.args.sup.now (g.P.Pmem.region c.args.memory.now) c.args.tables.now.layout c.requires.layout c.requires.blocks c.requires.tables (g.P.Pmem.region c.roll_back_all.new.memory) _ _ c.roll_back_all.ensures.wrote)
-
-pub returns-clause-wrote : goal.returns-clause-wrote
-returns-clause-wrote g c = wrote_so c.args.sup.now (g.P.Pmem.region c.args.memory.now) c.args.tables.now.layout c.requires.layout c.requires.blocks c.requires.tables (g.P.Pmem.region c.roll_back_all.new.memory) _ _ c.roll_back_all.ensures.wrote
-
-pub returns-clause-quiet_journals : goal.returns-clause-quiet_journals
-returns-clause-quiet_journals g c = quiet_stores c.args.sup.now _ _ _ _ c.requires.layout (wrote_so c.args.sup.now (g.P.Pmem.region c.args.memory.now) c.args.tables.now.layout c.requires.layout c.requires.blocks c.requires.tables (g.P.Pmem.region c.roll_back_all.new.memory) _ _ c.roll_back_all.ensures.wrote)

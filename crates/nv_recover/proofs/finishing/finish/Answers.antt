@@ -17,5 +17,5 @@ returns c = λ old new started scanned. answer_of started scanned record {
   numbers = c.in_ok-rows.ensures.sup;
   outside = subst (λ (first : List ℕ). AreOutside first c.args.started.sup c.in_ok-free.free) c.deref.ensures.value c.in_ok-free.ensures.outside;
   owned_twice = refl;
-  all = told_same c.args.started.journal.items c.deref-2.ensures.value c.deref-3.ensures.value c.deref-4.ensures.value c.in_ok-faults.ensures;
+  all = told_same c.args.started.journal.items c.faults.ensures c.deref-2.ensures.value c.deref-3.ensures.value c.deref-4.ensures.value c.in_ok-faults.ensures;
 }

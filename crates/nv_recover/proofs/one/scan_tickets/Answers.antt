@@ -2,18 +2,19 @@ use Rattle.std.proofs.Common.{refl, ◌≤◌, ◌<◌, ◌*◌, ◌++◌, [], �
 use Rattle.std.specs.List.{All}
 use Rattle.nv_region.specs.Region.{HasBlocks}
 use Rattle.nv_super.specs.declared.owners.Owner.{Owner}
-use Rattle.nv_super.specs.Layout.{Layout}
+use Rattle.nv_super.specs.Layout.{Layout, fixed_layout}
+use Rattle.nv_inode.proofs.FixedLayout.{fixed_laid}
 use Rattle.nv_scan.specs.ClaimList.{ClaimList}
 use Rattle.nv_scan.specs.Tickets.{ticket_count, numbers_of}
 use Rattle.nv_scan.specs.Work.{AreNext, claims_among, claims_in, rows_in}
 use Rattle.nv_scan.proofs.RowHeads.{heads_first}
 use Rattle.nv_scan.proofs.Work.{claims_join}
 use Rattle.nv_outcome.specs.Parts.{AreMaps}
-use Rattle.nv_recover.specs.Scanned.{AreWithin, Fits}
+use Rattle.nv_recover.specs.Scanned.{AreSetsOf, AreWithin, Fits}
 use Rattle.nv_recover.proofs.Inodes.{ended_at}
 use Rattle.nv_recover.proofs.InOrder.{first_in_order}
 use Rattle.nv_recover.proofs.MadeMaps.{within_cover}
-use Rattle.nv_recover.proofs.Owned.{pieces_within}
+use Rattle.nv_recover.proofs.Owned.{pieces_within, sets_of}
 use Rattle.nv_recover.proofs.Tickets.{first_none, first_more}
 use Rattle.nv_recover.proofs.one.scan_tickets.Goals as goal
 
@@ -81,5 +82,11 @@ pub returns : goal.returns
 returns g c =
     let l = c.loop-ticket in
     let first = l.invariant.first.1 in
-    let is = first_in_order c.requires.layout (ended_at (c.ticket_count-ticket-end.ensures ∙ ap ticket_count c.requires.tables) c.loop-ticket-test.false l.auto.ticket-end) first c.with_heads.ensures.rows c.with_heads.ensures.faults in
-    (is.0.sorted, l.invariant.first.0, is.1, is.0.claims, record { each = first.are.each; rows_are = c.with_heads.ensures.rows ∙ first.rows; maps = l.invariant.first.2; cover = l.invariant.cover })
+    let is = first_in_order c.requires.layout (ended_at (c.ticket_count-ticket-end.ensures ∙ ap ticket_count c.requires.tables) c.loop-ticket-test.false l.auto.ticket-end) first c.with_heads.ensures.rows c.with_heads.ensures.faults in (
+      is.0.sorted,
+      l.invariant.first.0,
+      is.1,
+      is.0.claims,
+      subst (λ (x : Layout). AreSetsOf (g.P.Pmem.region c.args.memory.now) x l.invariant.first.0 c.with_heads.result.rows.items l.sets.first.items l.sets.second.items) (sym c.requires.tables)
+          (sets_of (g.P.Pmem.region c.args.memory.now) (fixed_layout c.args.sup.now) is.0.sorted l.invariant.first.0 c.with_heads.result.rows.items l.sets.first.items l.sets.second.items (fixed_laid c.args.sup.now c.requires.layout) is.1.pieces_are is.1.rows is.0.claims l.invariant.first.2 l.invariant.cover),
+    )

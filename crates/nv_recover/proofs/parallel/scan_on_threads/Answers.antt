@@ -1,14 +1,11 @@
 use Rattle.std.proofs.Common.{refl}
 use Rattle.nv_recover.proofs.Claims.{claims_covered}
-use Rattle.nv_recover.proofs.Inodes.{rows_apart}
+use Rattle.nv_recover.proofs.Inodes.{rows_apart, rows_below}
 use Rattle.nv_recover.proofs.Owned.{owned_claimed}
 use Rattle.nv_recover.proofs.parallel.scan_on_threads.Goals as goal
 
-pub cross_faults-requires-clause-apart : goal.cross_faults-requires-clause-apart
-cross_faults-requires-clause-apart g c = (rows_apart c.requires.layout c.in_ok-inodes.ensures.1 _ refl).apart
-
-pub cross_faults-requires-clause-numbers : goal.cross_faults-requires-clause-numbers
-cross_faults-requires-clause-numbers g c = (rows_apart c.requires.layout c.in_ok-inodes.ensures.1 _ refl).numbers
+pub cross_faults-requires : goal.cross_faults-requires
+cross_faults-requires g c = rows_below c.args.sup.now c.args.tables.now.layout _ c.requires.tables (rows_apart c.requires.layout c.in_ok-inodes.ensures.1 _ refl)
 
 pub owned_of-requires : goal.owned_of-requires
 owned_of-requires g c = let is = c.in_ok-inodes.ensures in record { covers = claims_covered c.args.sup.now is.0 c.in_ok-inodes.claimed c.requires.layout is.1.pieces_are is.2 refl refl }

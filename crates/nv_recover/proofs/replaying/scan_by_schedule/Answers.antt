@@ -1,6 +1,6 @@
 use Rattle.std.proofs.Common.{refl}
 use Rattle.nv_recover.proofs.Claims.{work_inside, claims_covered, claimed_by_sets}
-use Rattle.nv_recover.proofs.Inodes.{rows_apart}
+use Rattle.nv_recover.proofs.Inodes.{rows_apart, rows_below}
 use Rattle.nv_recover.proofs.Owned.{owned_claimed}
 use Rattle.nv_recover.proofs.replaying.scan_by_schedule.Goals as goal
 
@@ -8,11 +8,8 @@ pub claim_all-requires-clause-inside : goal.claim_all-requires-clause-inside
 claim_all-requires-clause-inside g c = let is = c.in_ok-inodes.ensures.inodes in
     work_inside c.args.sup.now is.0 c.requires.layout is.1.pieces_are c.in_ok-inodes.work.items is.2
 
-pub cross_faults-requires-clause-apart : goal.cross_faults-requires-clause-apart
-cross_faults-requires-clause-apart g c = (rows_apart c.requires.layout c.in_ok-inodes.ensures.inodes.1 _ refl).apart
-
-pub cross_faults-requires-clause-numbers : goal.cross_faults-requires-clause-numbers
-cross_faults-requires-clause-numbers g c = (rows_apart c.requires.layout c.in_ok-inodes.ensures.inodes.1 _ refl).numbers
+pub cross_faults-requires : goal.cross_faults-requires
+cross_faults-requires g c = rows_below c.args.sup.now c.args.tables.now.layout _ c.requires.tables (rows_apart c.requires.layout c.in_ok-inodes.ensures.inodes.1 _ refl)
 
 pub owned_of-requires : goal.owned_of-requires
 owned_of-requires g c =

@@ -1,10 +1,10 @@
-use Rattle.std.proofs.Common.{◌≡◌, ◌≢◌, ◌∙◌, ◌*◌, IsTrue, ap, refl, subst}
+use Rattle.std.proofs.Common.{◌≡◌, ◌≢◌, ◌∙◌, ◌*◌, IsTrue, ap, refl, subst, sym}
 use Rattle.nv_region.proofs.Fuses.{keeps_within}
 use Rattle.nv_super.specs.Layout.{system_blocks}
 use Rattle.nv_super.specs.declared.superblock.Super.{Super}
 use Rattle.nv_super.proofs.Accepted.{super_outside}
 use Rattle.nv_journal.specs.Undone.{AllQuiet}
-use Rattle.nv_inode.proofs.FixedLayout.{layout_fixed}
+use Rattle.nv_inode.proofs.FixedLayout.{layout_fixed, fixed_faults}
 use Rattle.nv_outcome.proofs.SuperOf.{one_super, version_of_super}
 use Rattle.nv_recover.specs.Errors.{Fails, comes_first, error_of_undo}
 use Rattle.nv_recover.specs.declared.errors.RecoverError.{RecoverError}
@@ -99,6 +99,8 @@ returns-clause-ok g c = record {
   sup = c.in_ok-sup.ensures.accepted;
   layout = c.in_ok-sup.ensures.layout;
   tables = c.in_ok-tables.ensures.layout ∙ layout_fixed c.in_ok-sup.sup (g.P.Pmem.region c.args.memory.now) (version_of_super (g.P.Pmem.region c.args.memory.now) c.in_ok-sup.sup c.in_ok-sup.ensures.accepted);
+  chained = (let one = version_of_super (g.P.Pmem.region c.args.memory.now) c.in_ok-sup.sup c.in_ok-sup.ensures.accepted in
+      c.in_ok-tables.ensures.faults ∙ fixed_faults c.in_ok-sup.sup (g.P.Pmem.region c.args.memory.now) one ∙ sym (fixed_faults c.in_ok-sup.sup (g.P.Pmem.region c.undo_by.new.memory) one));
   rolled_back = c.in_ok-journal.ensures.done;
   blocks = c.undo_by.ensures.blocks;
   in_journals = c.in_ok-journal.ensures.faults;

@@ -5,10 +5,7 @@ use Rattle.nv_recover.proofs.Owned.{owned_by_sets, sets_same}
 use Rattle.nv_recover.proofs.sets.Sets.owned.Goals as goal
 
 pub doubled_in-requires : goal.doubled_in-requires
-doubled_in-requires c = let given = c.requires.sets in record {
-  layout = c.requires.layout;
-  sets = (given.0, given.1, c.args.self.first.items, sets_same refl c.deref.ensures.value given.2);
-}
+doubled_in-requires c = let given = c.requires in (given.0, given.1, c.args.self.first.items, sets_same refl c.deref.ensures.value given.2)
 
 pub returns : goal.returns
 returns c = λ region pieces are. owned_by_sets _ are refl
