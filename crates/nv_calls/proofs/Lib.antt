@@ -19,6 +19,10 @@ pub mod CreatedHeld
 pub mod CreatedRows
 pub mod CreatedTree
 pub mod TwoRows
+pub mod ReplaceAt
+pub mod TakenEntries
+pub mod GoneHeld
+pub mod TakenHeld
 pub mod BothHeld
 pub mod BothMounted
 pub mod BothTree

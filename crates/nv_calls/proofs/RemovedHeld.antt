@@ -1,37 +1,26 @@
 -- What is held once a name and its inode are gone: nothing is wrong with it, and the free lists and the directory's row are of it.
-use Rattle.std.proofs.Common.{◌≡◌, ◌≢◌, ◌↔◌, ℕ, ◌%◌, ◌<◌, ◌≤◌, ◌⊎◌, inl, inr, eqb, List, ◌++◌, length, take, take_all, ap, sym, ◌∙◌, subst, arith, Option, Some, None}
-use Rattle.std.specs.List.{Contains, IsDistinct}
+use Rattle.std.proofs.Common.{◌≡◌, ◌≢◌, ℕ, ◌%◌, ◌≤◌, inl, inr, List, length, take, ap, sym, ◌∙◌, subst, Option, Some, None}
 use Rattle.std.specs.Option.{option_and_then, option_map}
 use Rattle.nv_region.specs.Region.{Region}
 use Rattle.nv_super.specs.declared.superblock.Super.{Super}
 use Rattle.nv_super.specs.declared.kind.Kind.TheVariants.{File, Directory}
-use Rattle.nv_super.specs.declared.owners.Run.{Run}
-use Rattle.nv_super.specs.Layout.{Layout, fixed_layout, system_blocks}
+use Rattle.nv_super.specs.Layout.{Layout, fixed_layout}
 use Rattle.nv_super.proofs.Options.{some_is}
 use Rattle.nv_alloc.specs.FreeValue.{FreeLists}
-use Rattle.nv_alloc.specs.Taking.{HasBlock}
 use Rattle.nv_entry.specs.declared.entry.Entry.{Entry}
 use Rattle.nv_entry.specs.declared.entry.Entry.TheVariants.{Name}
 use Rattle.nv_entry.specs.declared.entry.Operation.TheVariants.{Remove}
 use Rattle.nv_logpage.specs.Append.{end_of, needed, place_of}
-use Rattle.nv_logpage.proofs.DataBlocks.{one_page, pages_are}
-use Rattle.nv_logpage.proofs.RightLogs.{head_starts}
 use Rattle.nv_names.specs.Names.{name_at}
 use Rattle.nv_scan.specs.declared.piece.Row.{Row}
 use Rattle.nv_held.specs.Held.{Held, Store}
-use Rattle.nv_held.specs.Blocks.{IsUnowned, KeepsFree, NoneDoubled, OwnsNew}
+use Rattle.nv_held.specs.Blocks.{KeepsFree, OwnsNew}
 use Rattle.nv_held.specs.Graph.{graph_in, target_in}
-use Rattle.nv_held.specs.Grows.{AreFree, Maps, SameFile}
-use Rattle.nv_held.specs.Lists.{WasTaken}
+use Rattle.nv_held.specs.Grows.{AreFree, SameFile}
 use Rattle.nv_held.specs.Mounted.{IsFaultless, ShowsSound}
-use Rattle.nv_held.proofs.Growing.{free_but, grown_owns}
-use Rattle.nv_held.proofs.ListsKept.{lists_change}
-use Rattle.nv_held.proofs.Owning.{other_held, same_held, still_undoubled}
-use Rattle.nv_held.proofs.Shown.{stands_at}
 use Rattle.nv_held.specs.nv_graph.Step.{IsGoodName}
-use Rattle.nv_commit.specs.Extends.{extended, with_log}
+use Rattle.nv_commit.specs.Extends.{extended}
 use Rattle.nv_commit.specs.Together.{ShowsIdle}
-use Rattle.nv_commit.proofs.BlocksOf.{gone_free}
 use Rattle.nv_commit.proofs.Called.{directory_gone_faultless, file_gone_faultless}
 use Rattle.nv_steps.specs.LessNames.{GivesRow}
 use Rattle.nv_calls.specs.AtPlaces.{CanGo}
@@ -39,8 +28,8 @@ use Rattle.nv_steps.specs.NameEntries.{name_entries, with_gone}
 use Rattle.nv_steps.specs.Steps.{ShowsRow}
 use Rattle.nv_steps.specs.Taken.{TakesEach}
 use Rattle.nv_steps.proofs.NameEntries.{name_file}
-use Rattle.nv_steps.proofs.TakenBlocks.{are_free, is_taken, was_taken}
-use Rattle.nv_steps.proofs.OneByOne.{single_takes, takes_of}
+use Rattle.nv_steps.proofs.TakenBlocks.{are_free}
+use Rattle.nv_calls.proofs.GoneHeld.{lists_then, own_then}
 
 module _ {R : Region} {s : Super} {held : Store} {h f : Held} {row gone : Row} {free mid : FreeLists} {cpu : ℕ} (time : ℕ) (name : List ℕ) (fresh : List ℕ) (shows : ShowsRow R s held h row free) (shows_gone : ShowsRow R s held f gone free)
     (directory : h.kind ≡ Directory) (good : IsGoodName s gone.inode name) (named : (graph_in (fixed_layout s) held).name row.inode name ≡ Some gone.inode) (can_go : CanGo gone)
@@ -56,9 +45,6 @@ module _ {R : Region} {s : Super} {held : Store} {h f : Held} {row gone : Row} {
 
   abbrev grown_log : Held
   grown_log = extended h entries fresh
-
-  abbrev less : Store
-  less = with_log held row.inode h entries fresh
 
   abbrev then : Store
   then = with_gone held row.inode h entries fresh i
@@ -91,69 +77,18 @@ module _ {R : Region} {s : Super} {held : Store} {h f : Held} {row gone : Row} {
         let clash : Directory ≡ File = sym directory ∙ ap (λ (x : Held). x.kind) one ∙ sym told.kind ∙ w.0 in
         cc
 
-  there : less i ≡ Some f
-  there = other_held held row.inode i (Some grown_log) (λ e. differ (sym e)) ∙ shows_gone.holds
-
-  -- ---- blocks
+  file_stays : SameFile l h grown_log
+  file_stays = name_file l h directory Remove i name good at time end pages
 
   pub fresh_free : AreFree l held fresh
   fresh_free = are_free taken l held shows.lists lists
 
-  pages_now : grown_log.pages ≡ h.pages ++ fresh
-  pages_now = ap (λ (ps : List ℕ). h.pages ++ ps) (take_all (needed (h.tail % 4096) entries) fresh (omega (arith, count)))
-
-  file_stays : SameFile l h grown_log
-  file_stays = name_file l h directory Remove i name good at time end pages
-
-  but : (b : ℕ) → IsUnowned l less b ↔ (IsUnowned l held b × (Contains fresh b → ⊥))
-  but = free_but l held row.inode h grown_log shows.holds fresh pages_now fresh_free file_stays
-
-  -- the blocks of what goes, by its row
-  gone_has : {after : FreeLists} (given : GivesRow mid gone after) (b : ℕ) → HasBlock given.runs b → Contains f.pages b ⊎ Maps l f b
-  gone_has given b w =
-      let told = shows_gone.told in
-      elim ((given.blocks b).0 w) [ inl log ↦ inl (subst (λ (ps : List ℕ). Contains ps b) told.pages log) | inr mapped ↦ inr (mapped.0, sym (told.index mapped.0) ∙ mapped.1) ]
-
-  has_gone : {after : FreeLists} (given : GivesRow mid gone after) (b : ℕ) → Contains f.pages b ⊎ Maps l f b → HasBlock given.runs b
-  has_gone given b w =
-      let told = shows_gone.told in
-      (given.blocks b).1 (elim w [ inl log ↦ inl (subst (λ (ps : List ℕ). Contains ps b) (sym told.pages) log) | inr mapped ↦ inr (mapped.0, told.index mapped.0 ∙ mapped.1) ])
-
-  pages_inside : (b : ℕ) → Contains f.pages b → (system_blocks s ≤ b) × (b < s.blocks)
-  pages_inside b c =
-      let sound = shows_gone.sound in
-      let v = stands_at sound.shows i f shows_gone.holds in
-      let all = pages_are (one_page s f.head (head_starts s f.head f.tail v.is.right)) v.is.reads in
-      (all.behind b c, all.within b c)
-
   module _ {S : Region} (idle : ShowsIdle S s then) where
-    once : IsDistinct eqb grown_log.pages
-    once =
-        let v = stands_at idle.shows row.inode grown_log (other_held less i row.inode None differ ∙ same_held held row.inode (Some grown_log)) in
-        let all = pages_are (one_page s h.head (head_starts s h.head grown_log.tail v.is.right)) v.is.reads in
-        all.once
-
     own : OwnsNew l held row.inode (Some grown_log)
-    own = grown_owns l held row.inode h grown_log shows.holds fresh pages_now fresh_free file_stays was.undoubled once
+    own = own_then entries fresh shows shows_gone differ file_stays lists taken count idle
 
-    less_undoubled : NoneDoubled l less
-    less_undoubled = still_undoubled l held row.inode (Some grown_log) own was.undoubled
-
-    -- The free lists are those of the free blocks: without the ones that were taken, and with those that were given back.
     pub removed_lists : {after : FreeLists} (given : GivesRow mid gone after) → KeepsFree l then after.pools
-    removed_lists {after} given =
-        let same = taken.same in
-        lists_change l held then taken.from mid after (single_takes fresh) given.runs (subst (λ (pools : List (List Run)). KeepsFree l held pools) (sym same.pools) shows.lists) (same.sup ∙ lists) (takes_of taken) given.joined (λ b. (to b, from b))
-      where
-        left : (b : ℕ) → IsUnowned l then b ↔ (IsUnowned l less b ⊎ (Contains f.pages b ⊎ Maps l f b))
-        left = gone_free l less i f there less_undoubled pages_inside
-
-        to : (b : ℕ) → IsUnowned l then b → (IsUnowned l held b × (WasTaken (single_takes fresh) b → ⊥)) ⊎ HasBlock given.runs b
-        to b now = elim ((left b).0 now) [ inl stays ↦ (let w = (but b).0 stays in inl (w.0, λ t. w.1 (is_taken fresh b t))) | inr went ↦ inr (has_gone given b went) ]
-
-        from : (b : ℕ) → (IsUnowned l held b × (WasTaken (single_takes fresh) b → ⊥)) ⊎ HasBlock given.runs b → IsUnowned l then b
-        from b (inl w) = (left b).1 (inl ((but b).1 (w.0, λ c. w.1 (was_taken fresh b c))))
-        from b (inr w) = (left b).1 (inr (gone_has given b w))
+    removed_lists given = lists_then entries fresh shows shows_gone differ file_stays lists taken count idle given
 
     -- The region is sound.
     pub removed_sound : ShowsSound S s then

@@ -15,6 +15,7 @@ mod reading;
 mod removing;
 mod removing_directory;
 mod renaming;
+mod replacing;
 mod sizes;
 mod stating;
 mod stops;

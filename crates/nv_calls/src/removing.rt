@@ -97,7 +97,7 @@ pub(crate) fn remove_named<P: Pmem>(
 }
 
 /// At most so many blocks are an inode's own: those of its log, and one a page of its size.
-fn most_blocks(row: &Row) -> usize
+pub(crate) fn most_blocks(row: &Row) -> usize
     ensures { result ≡ length row.now.pages.items + div_ceil row.now.numbers.size 4096 }
 {
     row.pages.as_slice().len() + row.numbers.size.div_ceil(BLOCK_SIZE) as usize

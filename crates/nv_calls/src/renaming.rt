@@ -116,8 +116,8 @@ fn move_across<P: Pmem>(
     done
 }
 
-/// What `move_both` and `move_within` are told of a move.
-fn other_name<'a>(moved: &Move<'a>, time: u64) -> OtherName<'a>
+/// What the steps of names are told of a move.
+pub(crate) fn other_name<'a>(moved: &Move<'a>, time: u64) -> OtherName<'a>
     ensures inode { result.inode ≡ moved.now.from.target }
     ensures name { result.name.now ≡ moved.now.from.name.now }
     ensures other { result.other.now ≡ moved.now.name.now }

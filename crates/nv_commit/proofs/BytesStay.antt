@@ -19,6 +19,8 @@ use Rattle.nv_commit.specs.Extends.{CanExtend}
 use Rattle.nv_commit.specs.Together.{CanExtendTwo, TogetherWords}
 use Rattle.nv_commit.specs.Makes.{CanMake, MakeWords}
 use Rattle.nv_commit.specs.Removes.{CanRemove, RemoveWords}
+use Rattle.nv_commit.specs.Replaces.{CanReplace, ReplaceWords}
+use Rattle.nv_commit.specs.ThreeLogs.{CanExtendThree, ThreeTogether}
 use Rattle.nv_commit.proofs.Extends.{loose_there, slots}
 use Rattle.nv_commit.proofs.Makes.{prepared_loose}
 
@@ -72,3 +74,32 @@ module _ {R : Region} {s : Super} {held : Store} {cpu d : ℕ} {g : Held} {x : E
 
   pub removed_bytes : (S : Region) → IsMixed R (RemoveWords cpu x slot) S → (i : ℕ) (h : Held) → held i ≡ Some h → (y : ℕ) → byte_of S (fixed_layout s) h y ≡ byte_of R (fixed_layout s) h y
   removed_bytes S mixed i h is y = data_stays (fixed_layout s) (RemoveWords cpu x slot) R S h mixed (λ p b k v maps block w. off_removed is p b k v maps block w) y
+
+-- And where one goes as its name is given to another.
+module _ {R : Region} {s : Super} {held : Store} {cpu d : ℕ} {g : Held} {x : Extension} {e : ℕ} {f : Held} {y : Extension} {j slot : ℕ} (can : CanReplace R s held cpu d g x e f y j slot) where
+  off_replaced : {i : ℕ} {h : Held} → held i ≡ Some h → (p b k v : ℕ) → block_of (good_in (fixed_layout s) h) p ≡ Some b → 8 * k / 4096 ≡ b → ReplaceWords cpu x y slot k v → ⊥
+  off_replaced is p b k v maps block (inl (inl w)) = off_loose can.two.first is p b k v maps block (loose_there can.two.first k v w)
+  off_replaced is p b k v maps block (inl (inr w)) = off_loose can.two.second is p b k v maps block (loose_there can.two.second k v w)
+  off_replaced is p b k v maps block (inr (inl w)) = off_journal can.two.first is p b k v maps block cpu can.two.journals w.0 w.1
+  off_replaced is p b k v maps block (inr (inr (inl w))) = off_slot can.two.first is p b k v maps block d x.slot (x.slot + 24) can.two.first.at (omega arith) (omega arith) w.0
+  off_replaced is p b k v maps block (inr (inr (inr (inl w)))) = off_slot can.two.first is p b k v maps block e y.slot (y.slot + 24) can.two.second.at (omega arith) (omega arith) w.0
+  off_replaced is p b k v maps block (inr (inr (inr (inr (inl w))))) = off_slot can.two.first is p b k v maps block j slot slot can.at (omega arith) (omega arith) w.0
+  off_replaced is p b k v maps block (inr (inr (inr (inr (inr w))))) = absurd w
+
+  pub replaced_bytes : (S : Region) → IsMixed R (ReplaceWords cpu x y slot) S → (i : ℕ) (h : Held) → held i ≡ Some h → (z : ℕ) → byte_of S (fixed_layout s) h z ≡ byte_of R (fixed_layout s) h z
+  replaced_bytes S mixed i h is z = data_stays (fixed_layout s) (ReplaceWords cpu x y slot) R S h mixed (λ p b k v maps block w. off_replaced is p b k v maps block w) z
+
+-- And where three logs grow together.
+module _ {R : Region} {s : Super} {held : Store} {cpu i : ℕ} {h : Held} {x : Extension} {j : ℕ} {g : Held} {y : Extension} {k : ℕ} {f : Held} {z : Extension} (can : CanExtendThree R s held cpu i h x j g y k f z) where
+  off_three : {m : ℕ} {o : Held} → held m ≡ Some o → (p b n v : ℕ) → block_of (good_in (fixed_layout s) o) p ≡ Some b → 8 * n / 4096 ≡ b → ThreeTogether cpu x y z n v → ⊥
+  off_three is p b n v maps block (inl (inl w)) = off_loose can.third is p b n v maps block (loose_there can.third n v w)
+  off_three is p b n v maps block (inl (inr (inl w))) = off_loose can.two.first is p b n v maps block (loose_there can.two.first n v w)
+  off_three is p b n v maps block (inl (inr (inr w))) = off_loose can.two.second is p b n v maps block (loose_there can.two.second n v w)
+  off_three is p b n v maps block (inr (inl w)) = off_journal can.third is p b n v maps block cpu can.two.journals w.0 w.1
+  off_three is p b n v maps block (inr (inr (inl w))) = off_slot can.third is p b n v maps block i x.slot (x.slot + 24) can.two.first.at (omega arith) (omega arith) w.0
+  off_three is p b n v maps block (inr (inr (inr (inl w)))) = off_slot can.third is p b n v maps block j y.slot (y.slot + 24) can.two.second.at (omega arith) (omega arith) w.0
+  off_three is p b n v maps block (inr (inr (inr (inr (inl w))))) = off_slot can.third is p b n v maps block k z.slot (z.slot + 24) can.third.at (omega arith) (omega arith) w.0
+  off_three is p b n v maps block (inr (inr (inr (inr (inr w))))) = absurd w
+
+  pub three_bytes : (S : Region) → IsMixed R (ThreeTogether cpu x y z) S → (m : ℕ) (o : Held) → held m ≡ Some o → (a : ℕ) → byte_of S (fixed_layout s) o a ≡ byte_of R (fixed_layout s) o a
+  three_bytes S mixed m o is a = data_stays (fixed_layout s) (ThreeTogether cpu x y z) R S o mixed (λ p b n v maps block w. off_three is p b n v maps block w) a

@@ -1,15 +1,22 @@
 -- An inode that goes together with the entries that say so.
-use Rattle.std.specs.Prelude.{◌≡◌, ◌≢◌, ◌⊎◌, ℕ, ◌+◌, ◌<◌, Some, None}
-use Rattle.nv_region.specs.Region.{Region}
+use Rattle.std.specs.Prelude.{◌≡◌, ◌≢◌, ◌⊎◌, ℕ, ◌+◌, ◌%◌, ◌<◌, ◌≤◌, Some, None}
+use Rattle.nv_region.specs.Region.{Region, size}
 use Rattle.nv_region.specs.Stops.{Choices}
 use Rattle.nv_super.specs.declared.superblock.Super.{Super}
 use Rattle.nv_super.specs.Layout.{fixed_layout, slot_of}
+use Rattle.nv_journal.specs.Undo.{journal}
 use Rattle.nv_journal.specs.Recorded.{Changes}
 use Rattle.nv_logpage.specs.Append.{AppendWords, end_of}
 use Rattle.nv_held.specs.Held.{Held, Store, with_inode}
 use Rattle.nv_commit.specs.declared.together.Extension.{Extension}
 use Rattle.nv_commit.specs.Extends.{CanExtend, with_log}
 use Rattle.nv_commit.specs.Together.{UndoneShows}
+
+-- What is owed where a slot's valid word is cleared by a CPU's journal: it is a whole word of the region, behind the journal.
+pub record CanClear (R : Region) (cpu slot : ℕ) : Type 0 where
+  pub whole : slot % 8 ≡ 0
+  pub inside : slot + 8 ≤ size R
+  pub behind : journal cpu + 4096 ≤ slot
 
 -- A sound region shows an inode that can have these behind its log's tail. Another has this slot, and the CPU is one of the
 -- region's.

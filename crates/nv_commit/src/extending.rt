@@ -5,6 +5,7 @@ ghost use Rattle.nv_region.specs.Region.{size};
 ghost use Rattle.nv_region.specs.Stops.{LeavesOnly, NothingPending, PendingOnly};
 ghost use Rattle.nv_region.specs.Fuses.{KeepsFuse};
 ghost use Rattle.nv_region.specs.Stored.{StoresOnly};
+ghost use Rattle.nv_region.specs.Storing.{AtAnyMoment, StoresAndFences};
 ghost use Rattle.nv_super.specs.declared.superblock.Super.{Super};
 ghost use Rattle.nv_super.specs.Layout.{fixed_layout};
 ghost use Rattle.nv_logpage.specs.Append.{AppendWords, CanAppend, EndBy, end_of};
@@ -39,16 +40,11 @@ pub fn extend_log<P: Pmem>(
     // The region shows the inode with the grown log. Where nothing is wrong with that, nothing is wrong with the region.
     ensures shows { (s : Super) (held : Store) (i : ℕ) (h : Held) → CanExtend (P.region memory.old) s held i h slot tail entries.now fresh.now
         → OnOk result (ShowsMoved (P.region memory.old) s (with_log held i h entries.now fresh.now) (P.region memory.new)) }
-    ensures settled { OnOk result (NothingPending (P.region memory.new) (P.may_hold memory.new)) }
-    ensures wrote { StoresOnly (ExtendWords slot tail entries.now fresh.now) (P.region memory.old) (P.region memory.new) (P.may_hold memory.old) (P.may_hold memory.new) }
-    ensures stopped { is_err result ≡ (P.fuse memory.new).has_burnt }
-    ensures keeps_fuse { KeepsFuse (λ limit. EndBy (tail / 4096 ∷ fresh.now) limit × (slot + 32 ≤ limit)) (P.fuse memory.old) (P.fuse memory.new) }
+    ensures kept { StoresAndFences P.region P.may_hold P.fuse (ExtendWords slot tail entries.now fresh.now)
+        (λ limit. EndBy (tail / 4096 ∷ fresh.now) limit × (slot + 32 ≤ limit)) memory.old memory.new result }
     // The region as it reads, also after a stop, and each that a stop leaves.
-    ensures reads { (s : Super) (held : Store) (i : ℕ) (h : Held) → CanExtend (P.region memory.old) s held i h slot tail entries.now fresh.now
-        → BeforeOrExtended (P.region memory.old) s held i h entries.now fresh.now (P.region memory.new) }
-    ensures any_stop { (s : Super) (held : Store) (i : ℕ) (h : Held) → CanExtend (P.region memory.old) s held i h slot tail entries.now fresh.now
-        → NothingPending (P.region memory.old) (P.may_hold memory.old)
-        → LeavesOnly (P.region memory.new) (P.may_hold memory.new) (BeforeOrExtended (P.region memory.old) s held i h entries.now fresh.now) }
+    ensures moments { (s : Super) (held : Store) (i : ℕ) (h : Held) → CanExtend (P.region memory.old) s held i h slot tail entries.now fresh.now
+        → AtAnyMoment P.region P.may_hold memory.old memory.new (BeforeOrExtended (P.region memory.old) s held i h entries.now fresh.now) }
     // So it is too where loose words were pending, as those of data that the entries write.
     ensures loose_stop { (s : Super) (held : Store) (i : ℕ) (h : Held) → CanExtend (P.region memory.old) s held i h slot tail entries.now fresh.now
         → PendingOnly (P.region memory.old) (P.may_hold memory.old) (Loose (fixed_layout s) held)

@@ -6,6 +6,7 @@ ghost use Rattle.nv_region.specs.Region.{size};
 ghost use Rattle.nv_region.specs.Stops.{LeavesOnly, NothingPending};
 ghost use Rattle.nv_region.specs.Fuses.{KeepsFuse};
 ghost use Rattle.nv_region.specs.Stored.{StoresOnly, Within};
+ghost use Rattle.nv_region.specs.Storing.{AtAnyMoment, StoresAndFences};
 ghost use Rattle.nv_super.specs.declared.superblock.Super.{Super};
 ghost use Rattle.nv_inode.specs.Slot.{with_slot};
 ghost use Rattle.nv_journal.specs.Pending.{IsEmpty};
@@ -55,20 +56,15 @@ pub fn make_inode<P: Pmem>(
     ensures ends { IfOk result (λ new. (new.0 ≡ tail_of inode.now) × (new.1 ≡ end_of directory.now.fresh.now 0 directory.now.tail directory.now.entries.now)) }
     ensures shows { (s : Super) (held : Store) (j i : ℕ) (h : Held) → CanMake (P.region memory.old) s held cpu j inode.now i h directory.now
         → OnOk result (ShowsIdle (P.region memory.new) s (with_made held j inode.now i h directory.now)) }
-    ensures settled { OnOk result (NothingPending (P.region memory.new) (P.may_hold memory.new)) }
-    ensures wrote { StoresOnly (MakeWords cpu inode.now directory.now) (P.region memory.old) (P.region memory.new) (P.may_hold memory.old) (P.may_hold memory.new) }
-    ensures stopped { is_err result ≡ (P.fuse memory.new).has_burnt }
-    ensures keeps_fuse { KeepsFuse (λ limit. EndBy (inode.now.page ∷ []) limit × EndBy (directory.now.tail / 4096 ∷ directory.now.fresh.now) limit × (inode.now.slot + 40 ≤ limit)
-        × (directory.now.slot + 32 ≤ limit)) (P.fuse memory.old) (P.fuse memory.new) }
+    ensures kept { StoresAndFences P.region P.may_hold P.fuse (MakeWords cpu inode.now directory.now)
+        (λ limit. EndBy (inode.now.page ∷ []) limit × EndBy (directory.now.tail / 4096 ∷ directory.now.fresh.now) limit × (inode.now.slot + 40 ≤ limit)
+        × (directory.now.slot + 32 ≤ limit)) memory.old memory.new result }
     // The valid word is stored before the tail.
     ensures in_order { (s : Super) (held : Store) (j i : ℕ) (h : Held) → CanMake (P.region memory.old) s held cpu j inode.now i h directory.now
         → FirstIsFirst (P.region memory.old) inode.now.slot 1 (directory.now.slot + 24) (P.region memory.new) }
     // The region as it reads, also after a stop, and each that a stop leaves.
-    ensures reads { (s : Super) (held : Store) (j i : ℕ) (h : Held) → CanMake (P.region memory.old) s held cpu j inode.now i h directory.now
-        → BeforeOrMade s held j inode.now i h directory.now (P.region memory.new) }
-    ensures any_stop { (s : Super) (held : Store) (j i : ℕ) (h : Held) → CanMake (P.region memory.old) s held cpu j inode.now i h directory.now
-        → NothingPending (P.region memory.old) (P.may_hold memory.old)
-        → LeavesOnly (P.region memory.new) (P.may_hold memory.new) (BeforeOrMade s held j inode.now i h directory.now) }
+    ensures moments { (s : Super) (held : Store) (j i : ℕ) (h : Held) → CanMake (P.region memory.old) s held cpu j inode.now i h directory.now
+        → AtAnyMoment P.region P.may_hold memory.old memory.new (BeforeOrMade s held j inode.now i h directory.now) }
 {
     // The region's length is a u64, and fewer than eight bytes stand behind the last word.
     let _length = memory.len();

@@ -5,6 +5,7 @@ ghost use Rattle.nv_region.specs.Region.{size};
 ghost use Rattle.nv_region.specs.Stops.{LeavesOnly, NothingPending};
 ghost use Rattle.nv_region.specs.Fuses.{KeepsFuse};
 ghost use Rattle.nv_region.specs.Stored.{StoresOnly};
+ghost use Rattle.nv_region.specs.Storing.{AtAnyMoment, StoresAndFences};
 ghost use Rattle.nv_super.specs.declared.superblock.Super.{Super};
 ghost use Rattle.nv_journal.specs.Pending.{IsEmpty};
 ghost use Rattle.nv_journal.specs.InOrder.{FirstIsFirst};
@@ -12,7 +13,7 @@ ghost use Rattle.nv_journal.specs.Undo.{journal};
 ghost use Rattle.nv_logpage.specs.Append.{EndBy, end_of};
 ghost use Rattle.nv_held.specs.Held.{Held, Store};
 ghost use Rattle.nv_commit.specs.Together.{CanCommit, ShowsIdle};
-ghost use Rattle.nv_commit.specs.Removes.{BeforeOrRemoved, CanRemove, RemoveWords, with_removed};
+ghost use Rattle.nv_commit.specs.Removes.{BeforeOrRemoved, CanClear, CanRemove, RemoveWords, with_removed};
 
 use crate::extending::{TAIL, append_entries};
 use crate::together::Extension;
@@ -33,26 +34,18 @@ pub fn remove_inode<P: Pmem>(
 ) -> Result<u64, Stopped>
     requires empty { IsEmpty (P.region memory.old) cpu }
     requires directory { CanCommit (P.region memory.old) cpu directory.now }
-    requires whole { slot % 8 ≡ 0 }
-    requires inside { slot + 8 ≤ size (P.region memory.old) }
-    requires behind { journal cpu + 4096 ≤ slot }
+    requires slot { CanClear (P.region memory.old) cpu slot }
     ensures end { IfOk result (λ new. new ≡ end_of directory.now.fresh.now 0 directory.now.tail directory.now.entries.now) }
     ensures shows { (s : Super) (held : Store) (i j : ℕ) (h : Held) → CanRemove (P.region memory.old) s held cpu i h directory.now j slot
         → OnOk result (ShowsIdle (P.region memory.new) s (with_removed held i h directory.now j)) }
-    ensures settled { OnOk result (NothingPending (P.region memory.new) (P.may_hold memory.new)) }
-    ensures wrote { StoresOnly (RemoveWords cpu directory.now slot) (P.region memory.old) (P.region memory.new) (P.may_hold memory.old) (P.may_hold memory.new) }
-    ensures stopped { is_err result ≡ (P.fuse memory.new).has_burnt }
-    ensures keeps_fuse { KeepsFuse (λ limit. EndBy (directory.now.tail / 4096 ∷ directory.now.fresh.now) limit × (directory.now.slot + 32 ≤ limit)
-        × (slot + 8 ≤ limit)) (P.fuse memory.old) (P.fuse memory.new) }
+    ensures kept { StoresAndFences P.region P.may_hold P.fuse (RemoveWords cpu directory.now slot)
+        (λ limit. EndBy (directory.now.tail / 4096 ∷ directory.now.fresh.now) limit × (directory.now.slot + 32 ≤ limit) × (slot + 8 ≤ limit)) memory.old memory.new result }
     // The tail is stored before the valid word.
     ensures in_order { (s : Super) (held : Store) (i j : ℕ) (h : Held) → CanRemove (P.region memory.old) s held cpu i h directory.now j slot
         → FirstIsFirst (P.region memory.old) (directory.now.slot + 24) (end_of directory.now.fresh.now 0 directory.now.tail directory.now.entries.now) slot (P.region memory.new) }
     // The region as it reads, also after a stop, and each that a stop leaves.
-    ensures reads { (s : Super) (held : Store) (i j : ℕ) (h : Held) → CanRemove (P.region memory.old) s held cpu i h directory.now j slot
-        → BeforeOrRemoved s held i h directory.now j (P.region memory.new) }
-    ensures any_stop { (s : Super) (held : Store) (i j : ℕ) (h : Held) → CanRemove (P.region memory.old) s held cpu i h directory.now j slot
-        → NothingPending (P.region memory.old) (P.may_hold memory.old)
-        → LeavesOnly (P.region memory.new) (P.may_hold memory.new) (BeforeOrRemoved s held i h directory.now j) }
+    ensures moments { (s : Super) (held : Store) (i j : ℕ) (h : Held) → CanRemove (P.region memory.old) s held cpu i h directory.now j slot
+        → AtAnyMoment P.region P.may_hold memory.old memory.new (BeforeOrRemoved s held i h directory.now j) }
 {
     // The region's length is a u64, and fewer than eight bytes stand behind the last word.
     let _length = memory.len();

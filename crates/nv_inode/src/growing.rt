@@ -5,6 +5,7 @@ ghost use Rattle.nv_super.specs.nv_region.Region.{size, word};
 ghost use Rattle.nv_super.specs.nv_region.Stops.{LeavesOnly, NothingPending};
 ghost use Rattle.nv_super.specs.nv_region.Fuses.{KeepsFuse};
 ghost use Rattle.nv_super.specs.nv_region.Stored.{StoresOnly, Within};
+ghost use Rattle.nv_region.specs.Storing.{StoresAndFences};
 ghost use Rattle.nv_inode.specs.Growing.{IsLinked, Links, LinksOrNot};
 
 use crate::words::set_word;
@@ -24,10 +25,7 @@ pub fn link_block<P: Pmem>(memory: &mut P, link: u64, block: u64) -> Result<(), 
     requires block { 4096 * block + 4096 ≤ size (P.region memory.old) }
     requires apart { (link < 4096 * block) ⊎ (4096 * block + 4096 ≤ link) }
     ensures linked { OnOk result (IsLinked (P.region memory.old) link block (P.region memory.new)) }
-    ensures settled { OnOk result (NothingPending (P.region memory.new) (P.may_hold memory.new)) }
-    ensures wrote { StoresOnly (Links link block) (P.region memory.old) (P.region memory.new) (P.may_hold memory.old) (P.may_hold memory.new) }
-    ensures stopped { is_err result ≡ (P.fuse memory.new).has_burnt }
-    ensures keeps_fuse { KeepsFuse (λ limit. (link + 8 ≤ limit) × (4096 * block + 4096 ≤ limit)) (P.fuse memory.old) (P.fuse memory.new) }
+    ensures kept { StoresAndFences P.region P.may_hold P.fuse (Links link block) (λ limit. (link + 8 ≤ limit) × (4096 * block + 4096 ≤ limit)) memory.old memory.new result }
     ensures any_stop { NothingPending (P.region memory.old) (P.may_hold memory.old) → LeavesOnly (P.region memory.new) (P.may_hold memory.new) (LinksOrNot (P.region memory.old) link block) }
 {
     // The region's length is a u64, and so is each address in it.

@@ -9,6 +9,7 @@ ghost use Rattle.nv_region.specs.Region.{Region, size};
 ghost use Rattle.nv_region.specs.Stops.{LeavesOnly, NothingPending};
 ghost use Rattle.nv_region.specs.Fuses.{KeepsFuse};
 ghost use Rattle.nv_region.specs.Stored.{StoresOnly};
+ghost use Rattle.nv_region.specs.Storing.{AtAnyMoment, StoresEach, StoresUnfenced};
 ghost use Rattle.nv_super.specs.Layout.{is_data_address, is_page_start};
 ghost use Rattle.nv_super.specs.declared.superblock.Super.{Super};
 ghost use Rattle.nv_inode.specs.Slot.{is_right_log};
@@ -16,6 +17,7 @@ ghost use Rattle.nv_entry.specs.Spelling.{Stands, entry_length};
 ghost use Rattle.nv_logpage.specs.declared.found.Placed.{Placed};
 ghost use Rattle.nv_logpage.specs.Reads.{Reads};
 ghost use Rattle.nv_logpage.specs.Append.{AllDiffer, AppendWords, CanAppend, CanBePages, EndBy, EntryWords, FreshFor, Laid, Linked, appended, end_of, needed};
+ghost use Rattle.nv_logpage.specs.Places.{IsInPage};
 ghost use Rattle.nv_logpage.specs.Writing.{FitPages, FromOrIn, LinkWords, PageFrom, Settled};
 
 use nv_entry::{Entry, length, write_entry};
@@ -68,26 +70,19 @@ pub fn append<P: Pmem>(
     ensures reads { (s : Super) (head : ℕ) (es : List Placed) (all : List ℕ) → IsTrue (is_page_start s head) → FreshFor s fresh.now all → Reads (P.region memory.old) s head tail es all None
         → IfOk result (λ new. Reads (P.region memory.new) s head new (es ++ appended fresh.now 0 tail entries.now) (all ++ take (needed (tail % 4096) entries.now) fresh.now) None) }
 
-    // Up to the old tail the log is read as it was, also where a stop refuses a store half-way.
-    ensures unread { (s : Super) (head : ℕ) (es : List Placed) (all : List ℕ) → IsTrue (is_page_start s head) → FreshFor s fresh.now all → Reads (P.region memory.old) s head tail es all None
-        → Reads (P.region memory.new) s head tail es all None }
+    // Up to the old tail the log is read as it was, also where a stop refuses a store half-way, and in each region that a stop
+    // leaves.
+    ensures moments { (s : Super) (head : ℕ) (es : List Placed) (all : List ℕ) → IsTrue (is_page_start s head) → FreshFor s fresh.now all → Reads (P.region memory.old) s head tail es all None
+        → AtAnyMoment P.region P.may_hold memory.old memory.new (λ left. Reads left s head tail es all None) }
 
     // The new tail is right for an inode whose log began in a data block.
     ensures right { (s : Super) (head : ℕ) → IsTrue (is_page_start s head) → IsTrue (is_data_address s tail) → CanBePages s fresh.now → (8 ≤ tail % 4096) ⊎ (0 < length entries.now)
         → IfOk result (λ new. IsTrue (is_right_log s head new)) }
-    ensures wrote { StoresOnly (AppendWords tail fresh.now) (P.region memory.old) (P.region memory.new) (P.may_hold memory.old) (P.may_hold memory.new) }
+    ensures kept { StoresEach P.region P.may_hold P.fuse (AppendWords tail fresh.now) (λ limit. EndBy (tail / 4096 ∷ fresh.now) limit) (length entries.now) memory.old memory.new result }
 
     // No link is written before all entries are.
     ensures order { StoresOnly (EntryWords tail fresh.now) (P.region memory.old) (P.region memory.new) (P.may_hold memory.old) (P.may_hold memory.new)
         ⊎ Laid (P.region memory.new) fresh.now 0 tail entries.now }
-    ensures len { size (P.region memory.new) ≡ size (P.region memory.old) }
-    ensures nothing { length entries.now ≡ 0 → (is_err result ≡ false) × (memory.new ≡ memory.old) }
-    ensures stopped { 0 < length entries.now → is_err result ≡ (P.fuse memory.new).has_burnt }
-    ensures keeps_fuse { KeepsFuse (λ limit. EndBy (tail / 4096 ∷ fresh.now) limit) (P.fuse memory.old) (P.fuse memory.new) }
-
-    // A stop at any moment of the call leaves the log as it was up to the old tail.
-    ensures any_stop { (s : Super) (head : ℕ) (es : List Placed) (all : List ℕ) → IsTrue (is_page_start s head) → FreshFor s fresh.now all → Reads (P.region memory.old) s head tail es all None
-        → NothingPending (P.region memory.old) (P.may_hold memory.old) → LeavesOnly (P.region memory.new) (P.may_hold memory.new) (λ left. Reads left s head tail es all None) }
 {
     // The region's length is a u64, and so is each address up to it.
     let _end = memory.len();
@@ -109,11 +104,7 @@ fn write_entries<P: Pmem>(
     ensures end { IfOk result (λ r. (r.0 ≡ end_of fresh.now 0 tail entries.now) × (r.1 ≡ needed (tail % 4096) entries.now)) }
     ensures fit { OnOk result (FitPages entries.now) }
     ensures laid { IfOk result (λ r. (S : Region) → Settled (P.region memory.new) S (tail / 4096 ∷ fresh.now) r.1 r.0 → Laid S fresh.now 0 tail entries.now) }
-    ensures wrote { StoresOnly (EntryWords tail fresh.now) (P.region memory.old) (P.region memory.new) (P.may_hold memory.old) (P.may_hold memory.new) }
-    ensures len { size (P.region memory.new) ≡ size (P.region memory.old) }
-    ensures nothing { length entries.now ≡ 0 → (is_err result ≡ false) × (memory.new ≡ memory.old) }
-    ensures stopped { 0 < length entries.now → is_err result ≡ (P.fuse memory.new).has_burnt }
-    ensures keeps_fuse { KeepsFuse (λ limit. EndBy (tail / 4096 ∷ fresh.now) limit) (P.fuse memory.old) (P.fuse memory.new) }
+    ensures kept { StoresEach P.region P.may_hold P.fuse (EntryWords tail fresh.now) (λ limit. EndBy (tail / 4096 ∷ fresh.now) limit) (length entries.now) memory.old memory.new result }
 {
     let mut place = tail;
     let mut used = 0;
@@ -139,19 +130,16 @@ fn write_turned<P: Pmem>(
     entry: &Entry,
     next: u64,
 ) -> Result<(), Stopped>
-    requires whole { place % 8 ≡ 0 }
-    requires offset { place % 4096 ≤ 4064 }
-    requires inside { place / 4096 * 4096 + 4096 ≤ size (P.region memory.old) }
+    requires place { IsInPage (P.region memory.old) place }
     requires next_inside { 4096 * next + 4096 ≤ size (P.region memory.old) }
     requires small { size (P.region memory.old) < 2 ^ 64 }
     requires short { entry_length entry.now ≤ 4064 }
     requires apart { next ≢ place / 4096 }
     ensures entry { OnOk result (Stands (P.region memory.new) (4096 * next) entry.now) }
     ensures marker { OnOk result (place % 4096 < 4064 → Stands (P.region memory.new) place Entry.NextPage) }
-    ensures wrote { StoresOnly (FromOrIn place next) (P.region memory.old) (P.region memory.new) (P.may_hold memory.old) (P.may_hold memory.new) }
-    ensures len { size (P.region memory.new) ≡ size (P.region memory.old) }
+    ensures kept { StoresUnfenced P.region P.may_hold P.fuse (FromOrIn place next)
+        (λ limit. (place / 4096 * 4096 + 4096 ≤ limit) × (4096 * next + 4096 ≤ limit)) memory.old memory.new }
     ensures stopped { is_err result ≡ (P.fuse memory.new).has_burnt }
-    ensures keeps_fuse { KeepsFuse (λ limit. (place / 4096 * 4096 + 4096 ≤ limit) × (4096 * next + 4096 ≤ limit)) (P.fuse memory.old) (P.fuse memory.new) }
 {
     write_marker(memory, place)?;
     write_entry(memory, next * BLOCK_SIZE, entry)
@@ -159,14 +147,10 @@ fn write_turned<P: Pmem>(
 
 /// Writes a next-page entry, where the page has room for it.
 fn write_marker<P: Pmem>(memory: &mut P, place: u64) -> Result<(), Stopped>
-    requires whole { place % 8 ≡ 0 }
-    requires offset { place % 4096 ≤ 4064 }
-    requires inside { place / 4096 * 4096 + 4096 ≤ size (P.region memory.old) }
+    requires place { IsInPage (P.region memory.old) place }
     ensures marker { OnOk result (place % 4096 < 4064 → Stands (P.region memory.new) place Entry.NextPage) }
-    ensures wrote { StoresOnly (PageFrom place) (P.region memory.old) (P.region memory.new) (P.may_hold memory.old) (P.may_hold memory.new) }
-    ensures len { size (P.region memory.new) ≡ size (P.region memory.old) }
+    ensures kept { StoresUnfenced P.region P.may_hold P.fuse (PageFrom place) (λ limit. place / 4096 * 4096 + 4096 ≤ limit) memory.old memory.new }
     ensures stopped { OnErr result (IsTrue (P.fuse memory.new).has_burnt) }
-    ensures keeps_fuse { KeepsFuse (λ limit. place / 4096 * 4096 + 4096 ≤ limit) (P.fuse memory.old) (P.fuse memory.new) }
 {
     if place % BLOCK_SIZE < LINK {
         write_entry(memory, place, &Entry::NextPage)
@@ -187,11 +171,9 @@ fn link_pages<P: Pmem>(
     requires inside { EndBy (first ∷ fresh.now) (size (P.region memory.old)) }
     requires small { size (P.region memory.old) < 2 ^ 64 }
     ensures linked { OnOk result (Linked (P.region memory.new) (first ∷ fresh.now) count) }
-    ensures wrote { StoresOnly (LinkWords (first ∷ fresh.now) count) (P.region memory.old) (P.region memory.new) (P.may_hold memory.old) (P.may_hold memory.new) }
-    ensures len { size (P.region memory.new) ≡ size (P.region memory.old) }
+    ensures kept { StoresUnfenced P.region P.may_hold P.fuse (LinkWords (first ∷ fresh.now) count) (λ limit. EndBy (first ∷ fresh.now) limit) memory.old memory.new }
     ensures nothing { count ≡ 0 → (is_err result ≡ false) × (memory.new ≡ memory.old) }
     ensures stopped { (P.fuse memory.old).has_burnt ≡ false → is_err result ≡ (P.fuse memory.new).has_burnt }
-    ensures keeps_fuse { KeepsFuse (λ limit. EndBy (first ∷ fresh.now) limit) (P.fuse memory.old) (P.fuse memory.new) }
 {
     let mut page = first;
     for k in 0..count {

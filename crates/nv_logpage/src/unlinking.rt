@@ -5,7 +5,7 @@ ghost use Rattle.std.specs.List.{Contains};
 ghost use Rattle.nv_region.specs.Region.{put, size};
 ghost use Rattle.nv_region.specs.Stops.{LeavesOnly, NothingPending, One};
 ghost use Rattle.nv_region.specs.Fuses.{KeepsFuse};
-ghost use Rattle.nv_region.specs.Stored.{StoresOnly};
+ghost use Rattle.nv_region.specs.Storing.{StoresAndFences};
 ghost use Rattle.nv_super.specs.declared.superblock.Super.{Super};
 ghost use Rattle.nv_super.specs.Layout.{is_page_start};
 ghost use Rattle.nv_logpage.specs.declared.found.Placed.{Placed};
@@ -37,10 +37,8 @@ pub fn unlink_page<P: Pmem>(
         → Reads (P.region memory.old) s head tail es pages.now None
         → OnOk result (Without (P.region memory.new) s (head_without head pages.now place) tail es pages.now place) }
     ensures done { OnOk result (P.region memory.new ≡ put (P.region memory.old) (word_to head_at pages.now place) (page_behind pages.now place)) }
-    ensures settled { OnOk result (NothingPending (P.region memory.new) (P.may_hold memory.new)) }
-    ensures wrote { StoresOnly (One (word_to head_at pages.now place) (page_behind pages.now place)) (P.region memory.old) (P.region memory.new) (P.may_hold memory.old) (P.may_hold memory.new) }
-    ensures stopped { is_err result ≡ (P.fuse memory.new).has_burnt }
-    ensures keeps_fuse { KeepsFuse (λ limit. EndBy pages.now limit × (head_at + 8 ≤ limit)) (P.fuse memory.old) (P.fuse memory.new) }
+    ensures kept { StoresAndFences P.region P.may_hold P.fuse (One (word_to head_at pages.now place) (page_behind pages.now place))
+        (λ limit. EndBy pages.now limit × (head_at + 8 ≤ limit)) memory.old memory.new result }
     ensures any_stop { NothingPending (P.region memory.old) (P.may_hold memory.old)
         → LeavesOnly (P.region memory.new) (P.may_hold memory.new) (λ left. (left ≡ P.region memory.old)
         ⊎ (left ≡ put (P.region memory.old) (word_to head_at pages.now place) (page_behind pages.now place))) }

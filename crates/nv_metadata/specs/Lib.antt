@@ -1,5 +1,6 @@
 pub mod Blocks
 pub mod Memory
+pub mod Holding
 pub mod Linked
 pub mod Walk
 pub mod Gathered

@@ -13,6 +13,7 @@ ghost use Rattle.nv_region.specs.Fuses.{KeepsFuse};
 ghost use Rattle.nv_region.specs.ImageState.{as_it_reads, fuse_state, open_not_burnt};
 ghost use Rattle.nv_super.specs.Layout.{most_blocks};
 ghost use Rattle.nv_metadata.specs.Memory.{held};
+ghost use Rattle.nv_metadata.specs.Holding.{BeginsWith, SameShape, StoresInFront};
 
 use byteorder::{ByteOrder, LittleEndian};
 use nv_region::{Pmem, Stopped};
@@ -117,14 +118,10 @@ impl MetadataRegion {
         requires behind { self.old.memory.front ≤ 4096 * block }
         requires within { 4096 * block < size self.old.memory.region }
         requires whole { length bytes.now % 8 ≡ 0 }
-        ensures piece { OnOk result ((at : ℕ) → at % 8 ≡ 0 → at / 4096 ≡ block → at % 4096 < length bytes.now → word self.new.memory.region at ≡ little_number 8 (drop (at % 4096) bytes.now)) }
-        ensures zeros { OnOk result ((at : ℕ) → at % 8 ≡ 0 → at / 4096 ≡ block → length bytes.now ≤ at % 4096 → word self.new.memory.region at ≡ 0) }
-        ensures others { OnOk result ((at : ℕ) → at % 8 ≡ 0 → at / 4096 ≢ block → word self.new.memory.region at ≡ word self.old.memory.region at) }
+        ensures begins { OnOk result (BeginsWith self.old.memory.region block bytes.now self.new.memory.region) }
         ensures held { OnOk result ((held self.new block ≡ length bytes.now) × ((b : ℕ) → b ≢ block → held self.new b ≡ held self.old b)) }
         ensures whole { OnOk result (held self.new block % 8 ≡ 0) }
-        ensures as_long { length self.new.memory.region.words ≡ length self.old.memory.region.words }
-        ensures rest { self.new.memory.region.rest ≡ self.old.memory.region.rest }
-        ensures open { (self.new.memory.front ≡ self.old.memory.front) × (self.new.memory.burnt ≡ self.old.memory.burnt) }
+        ensures same { SameShape self.old self.new }
         ensures refused { OnErr result (self.new ≡ self.old) }
     {
         let count = without_zeros(bytes);
@@ -144,13 +141,9 @@ impl MetadataRegion {
         requires behind { self.old.memory.front ≤ 4096 * block }
         requires within { 4096 * block < size self.old.memory.region }
         requires whole { length piece.now % 8 ≡ 0 }
-        ensures piece { OnOk result ((at : ℕ) → at % 8 ≡ 0 → at / 4096 ≡ block → at % 4096 < length piece.now → word self.new.memory.region at ≡ little_number 8 (drop (at % 4096) piece.now)) }
-        ensures zeros { OnOk result ((at : ℕ) → at % 8 ≡ 0 → at / 4096 ≡ block → length piece.now ≤ at % 4096 → word self.new.memory.region at ≡ 0) }
-        ensures others { OnOk result ((at : ℕ) → at % 8 ≡ 0 → at / 4096 ≢ block → word self.new.memory.region at ≡ word self.old.memory.region at) }
+        ensures begins { OnOk result (BeginsWith self.old.memory.region block piece.now self.new.memory.region) }
         ensures held { OnOk result ((held self.new block ≡ known) × ((b : ℕ) → b ≢ block → held self.new b ≡ held self.old b)) }
-        ensures as_long { length self.new.memory.region.words ≡ length self.old.memory.region.words }
-        ensures rest { self.new.memory.region.rest ≡ self.old.memory.region.rest }
-        ensures open { (self.new.memory.front ≡ self.old.memory.front) × (self.new.memory.burnt ≡ self.old.memory.burnt) }
+        ensures same { SameShape self.old self.new }
         ensures refused { OnErr result (self.new ≡ self.old) }
     {
         let start = narrow(self.bytes.len())?;
@@ -273,10 +266,7 @@ impl Pmem for MetadataRegion {
         ensures refused_keep { OnErr result (NoneAdded (as_it_reads self.old.memory) (as_it_reads self.new.memory)) }
         ensures stopped { is_err result ≡ self.new.memory.burnt }
         ensures keeps_fuse { KeepsFuse (λ limit. at + 8 ≤ limit) (fuse_state self.old.memory) (fuse_state self.new.memory) }
-        // A store is refused behind the front, and each one from then on.
-        ensures burns { self.new.memory.burnt ≡ (self.old.memory.burnt || nat_le self.old.memory.front at) }
-        ensures front { self.new.memory.front ≡ self.old.memory.front }
-        ensures pieces { self.new.counts ≡ self.old.counts }
+        ensures in_front { StoresInFront self.old at self.new }
     {
         if self.burnt || at >= self.front.len() as u64 {
             self.burnt = true;

@@ -6,7 +6,8 @@ ghost use Rattle.nv_region.specs.Region.{HasBlocks, region_of};
 ghost use Rattle.nv_super.specs.Layout.{HasAreas, is_page_start, system_blocks};
 ghost use Rattle.nv_inode.specs.Slot.{is_right_log};
 ghost use Rattle.nv_metadata.specs.Linked.{IsLinked, link_in, wanted};
-ghost use Rattle.nv_metadata.specs.Memory.{CanHold, SameFront, Shows, held};
+ghost use Rattle.nv_metadata.specs.Memory.{CanHold, SameFront, Shows};
+ghost use Rattle.nv_metadata.specs.Holding.{CanFetch, HoldsMore};
 ghost use Rattle.nv_metadata.specs.Walk.{IsFetched, AreFetched};
 ghost use Rattle.nv_metadata.specs.declared.logs.LogEnds.{LogEnds as LogEndsValue};
 
@@ -138,17 +139,10 @@ fn fetch<B: Blocks>(
     block: u64,
     count: usize,
 ) -> Result<(), GatherError>
-    requires areas { HasAreas sup.now }
-    requires can { CanHold sup.now memory.old }
-    requires behind { system_blocks sup.now ≤ block }
-    requires inside { block < sup.now.blocks }
-    requires whole { count % 8 ≡ 0 }
-    requires few { count ≤ 4096 }
+    requires can { CanFetch sup.now memory.old block count }
     ensures can { CanHold sup.now memory.new }
     ensures front { SameFront memory.old memory.new }
-    ensures held { OnOk result (count ≤ held memory.new block) }
-    ensures keeps { OnOk result ((b : ℕ) → held memory.old b ≤ held memory.new b) }
-    ensures only { OnOk result ((b : ℕ) → b ≢ block → held memory.new b ≡ held memory.old b) }
+    ensures more { OnOk result (HoldsMore memory.old block count memory.new) }
     ensures shows { (image : List ℕ) → B.bytes source.now ≡ Some image → Shows (region_of image) memory.old → OnOk result (Shows (region_of image) memory.new) }
     ensures known { (image : List ℕ) → B.bytes source.now ≡ Some image → length image ≡ 4096 * sup.now.blocks → IfErr result (λ e. e ≡ GatherError.Memory) }
 {
@@ -167,19 +161,12 @@ fn fetch_piece<B: Blocks, const SIZE: usize>(
     block: u64,
     count: usize,
 ) -> Result<(), GatherError>
-    requires areas { HasAreas sup.now }
-    requires can { CanHold sup.now memory.old }
-    requires behind { system_blocks sup.now ≤ block }
-    requires inside { block < sup.now.blocks }
-    requires whole { count % 8 ≡ 0 }
-    requires few { count ≤ 4096 }
+    requires can { CanFetch sup.now memory.old block count }
     requires room { count ≤ SIZE }
     requires small { SIZE ≤ 4096 }
     ensures can { CanHold sup.now memory.new }
     ensures front { SameFront memory.old memory.new }
-    ensures held { OnOk result (count ≤ held memory.new block) }
-    ensures keeps { OnOk result ((b : ℕ) → held memory.old b ≤ held memory.new b) }
-    ensures only { OnOk result ((b : ℕ) → b ≢ block → held memory.new b ≡ held memory.old b) }
+    ensures more { OnOk result (HoldsMore memory.old block count memory.new) }
     ensures shows { (image : List ℕ) → B.bytes source.now ≡ Some image → Shows (region_of image) memory.old → OnOk result (Shows (region_of image) memory.new) }
     ensures known { (image : List ℕ) → B.bytes source.now ≡ Some image → length image ≡ 4096 * sup.now.blocks → IfErr result (λ e. e ≡ GatherError.Memory) }
 {

@@ -8,3 +8,4 @@ pub mod LinkSpots
 pub mod NamedAt
 pub mod RemoveTests
 pub mod MoveSpots
+pub mod ReplaceSpots

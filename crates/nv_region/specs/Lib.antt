@@ -11,4 +11,5 @@ pub mod Recent
 pub mod Fenced
 pub mod Kept
 pub mod ImageState
+pub mod OneStore
 pub mod Fronts

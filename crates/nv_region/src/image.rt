@@ -11,6 +11,7 @@ ghost use Rattle.nv_region.specs.Region.{size, word, put, region_of, bytes_of, w
 ghost use Rattle.nv_region.specs.Stops.{NothingPending, NoneAdded, Adds, One};
 ghost use Rattle.nv_region.specs.Fuses.{KeepsFuse};
 ghost use Rattle.nv_region.specs.ImageState.{as_it_reads, is_open_to, fuse_state, open_not_burnt};
+ghost use Rattle.nv_region.specs.OneStore.{StoresInFront};
 
 use crate::memory::{MOST_BYTES, RegionRefusal};
 use crate::{Pmem, Stopped};
@@ -148,8 +149,7 @@ impl Pmem for ImageRegion<'_> {
         ensures stopped { is_err result ≡ self.new.burnt }
         ensures keeps_fuse { KeepsFuse (λ limit. at + 8 ≤ limit) (fuse_state self.old) (fuse_state self.new) }
         // A store is refused behind the front, and each one from then on.
-        ensures burns { self.new.burnt ≡ (self.old.burnt || nat_le self.old.front at) }
-        ensures front { self.new.front ≡ self.old.front }
+        ensures in_front { StoresInFront self.old at self.new }
     {
         let number = (at / 8) as usize;
         if self.burnt || number >= self.front.len() {

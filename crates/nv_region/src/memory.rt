@@ -14,6 +14,7 @@ ghost use Rattle.nv_region.specs.Stops.{MayBeLeft, NothingPending, NoneAdded, Ad
 ghost use Rattle.nv_region.specs.Lines.{Each, StoppedAmong, put_words};
 ghost use Rattle.nv_region.specs.Fuses.{KeepsFuse};
 ghost use Rattle.nv_region.specs.RegionState.{RegionState, fenced_or_last, burns_at_store, burns_at_fence, one_passed, after_store, after_stores, fuse_state, is_steady, steady_unburnt};
+ghost use Rattle.nv_region.specs.OneStore.{PassesFuse};
 ghost use Rattle.nv_region.specs.Kept.{kept};
 ghost use Rattle.nv_region.specs.StoredLines.{words_before};
 
@@ -346,10 +347,7 @@ impl Pmem for MemRegion {
         ensures stopped { is_err result ≡ self.new.burnt }
         ensures keeps_fuse { KeepsFuse (λ limit. at + 8 ≤ limit) (fuse_state self.old) (fuse_state self.new) }
         // The fuse burns where it says.
-        ensures burns { self.new.burnt ≡ (self.old.burnt || burns_at_store self.old.fuse at) }
-        ensures counts { OnOk result (self.new.fuse ≡ one_passed self.old.fuse) }
-        ensures fenced { self.new.fenced ≡ self.old.fenced }
-        ensures after { self.new ≡ after_store self.old at value }
+        ensures passes { PassesFuse self.old at value self.new result }
     {
         if self.burnt {
             return Err(Stopped);

@@ -1,5 +1,5 @@
 -- Two logs that were grown and whose rows were settled: what is owed before the commit, and what was done.
-use Rattle.std.proofs.Common.{◌≡◌, refl, ◌≢◌, ℕ, ◌+◌, ◌/◌, ◌%◌, ◌≤◌, List, [], ◌∷◌, ◌++◌, length, take, drop, ap, sym, ◌∙◌, subst, arith, Bool, true, false, cond, inl, inr, Some}
+use Rattle.std.proofs.Common.{◌≡◌, refl, ◌≢◌, ℕ, suc, ◌+◌, ◌/◌, ◌%◌, ◌<◌, ◌≤◌, nat_le, List, [], ◌∷◌, ◌++◌, length, take, drop, ap, sym, ◌∙◌, subst, arith, Bool, true, false, cond, inl, inr, Some}
 use Rattle.std.proofs.lemmas.List.{length-drop, length-take-le, take-append-drop}
 use Rattle.smallvec.specs.SmallVec.{HasRoomFor}
 use Rattle.nv_region.specs.Region.{Region, size, word}
@@ -12,6 +12,8 @@ use Rattle.nv_journal.specs.Undo.{undone}
 use Rattle.nv_journal.specs.InOrder.{FirstIsFirst}
 use Rattle.nv_alloc.specs.FreeValue.{FreeLists}
 use Rattle.nv_entry.specs.declared.entry.Entry.{Entry}
+use Rattle.nv_entry.specs.Spelling.{entry_length}
+use Rattle.nv_logpage.specs.Reads.{is_next_page}
 use Rattle.nv_logpage.specs.Append.{AreGiven, EndBy, end_of, needed}
 use Rattle.nv_names.specs.Names.{EachOnce, Names, name_at}
 use Rattle.nv_held.specs.nv_outcome.Same.{SameRow}
@@ -27,7 +29,7 @@ use Rattle.nv_commit.proofs.BytesStay.{together_bytes}
 use Rattle.nv_commit.proofs.Left.{one_held}
 use Rattle.nv_commit.proofs.LeftUndone.{undone_can, undone_files, undone_idle, undone_recovers}
 use Rattle.nv_steps.specs.Grown.{HasGrown, StandsRight}
-use Rattle.nv_steps.specs.MoreNames.{AppendsLogs, GrowsSame, NamesOnce, ReadiesRow}
+use Rattle.nv_steps.specs.MoreNames.{AppendsLogs, AreFew, GrowsSame, NamesOnce, ReadiesRow}
 use Rattle.nv_steps.specs.NewNames.{CanName, ShowsNamed}
 use Rattle.nv_steps.specs.Steps.{ShowsRow}
 use Rattle.nv_steps.specs.Stopped.{AppendedBoth}
@@ -49,8 +51,19 @@ needed_one offset (e ∷ []) one = by _ where
   by false = omega arith
 needed_one offset (e ∷ f ∷ es) one = absurd (omega (arith, one))
 
+-- Entries take a page each at most.
+pub needed_few : (offset : ℕ) (es : List Entry) → needed offset es ≤ length es
+needed_few offset [] = omega arith
+needed_few offset (e ∷ es) = by (nat_le (offset + entry_length e) 4064) (needed_few (offset + entry_length e) es) (needed_few (entry_length e) es) where
+  by : (b : Bool) → needed (offset + entry_length e) es ≤ length es → needed (entry_length e) es ≤ length es → cond b (needed (offset + entry_length e) es) (suc (needed (entry_length e) es)) ≤ suc (length es)
+  by true one two = omega (arith, one)
+  by false one two = omega (arith, two)
+
+pub few_one : (e : Entry) → is_next_page e ≡ false → AreFew (e ∷ [])
+few_one e given = record { given = (given, tt); some = omega arith; few = omega arith }
+
 -- a row that was made ready and then settled
-grows_same : {old mid new : Row} {blocks fresh : List ℕ} {last end : ℕ} → SameRow old mid → HasGrown mid blocks last new → blocks ≡ fresh → last ≡ end → GrowsSame old fresh end new
+pub grows_same : {old mid new : Row} {blocks fresh : List ℕ} {last end : ℕ} → SameRow old mid → HasGrown mid blocks last new → blocks ≡ fresh → last ≡ end → GrowsSame old fresh end new
 grows_same {old} {mid} {new} {blocks} {fresh} {last} {end} same grown is ends = record {
   inode = grown.inode ∙ same.inode;
   kind = grown.kind ∙ same.kind;
@@ -62,12 +75,12 @@ grows_same {old} {mid} {new} {blocks} {fresh} {last} {end} same grown is ends = 
   names = λ q. ap (λ (m : Names). name_at m q) grown.names ∙ same.names q;
 }
 
-once_still : (old : Row) {mid new : Row} {blocks : List ℕ} {last : ℕ} → NamesOnce old mid → HasGrown mid blocks last new → NamesOnce old new
+pub once_still : (old : Row) {mid new : Row} {blocks : List ℕ} {last : ℕ} → NamesOnce old mid → HasGrown mid blocks last new → NamesOnce old new
 once_still old once grown = (once.0, subst EachOnce (sym grown.names) once.1)
 
 module _ {R : Region} {s : Super} {free after : FreeLists} {first second row other : Row} {cpu : ℕ} {items : List ℕ} {entries others : List Entry} {names more_names : ℕ} (ready : ReadiesRow first row entries names) (other_ready : ReadiesRow second other others more_names)
     (stands : StandsRight R s free first × CanName R s cpu first.inode first) (other_stands : StandsRight R s free second × CanName R s cpu second.inode second) (taken : TakesEach free cpu items after) (counted : length items ≡ needed (first.tail % 4096) entries + needed (second.tail % 4096) others)
-    (apart : first.inode ≢ second.inode) (given : AreGiven entries) (more_given : AreGiven others) (some : length entries ≡ 1) (more_some : length others ≡ 1) where
+    (apart : first.inode ≢ second.inode) (given : AreGiven entries) (more_given : AreGiven others) (some : 0 < length entries) (more_some : 0 < length others) where
   abbrev n : ℕ
   n = needed (first.tail % 4096) entries
 
@@ -139,8 +152,8 @@ module _ {R : Region} {s : Super} {free after : FreeLists} {first second row oth
       pub second_commits : CanCommit R cpu y
       second_commits = row_commits others two other_stands.1 more_taken more_count more_given y other_slot_is other_tail_is other_es other_blocks
 
-      extends_two : (held : Store) (f h : Held) → ShowsRow R s held f first free → ShowsRow R s held h second free → CanExtendTwo R s held cpu first.inode f x second.inode h y
-      extends_two held f h shows shows_other = can_extend_two entries others fresh more (let right = stands.0 in right.lists) all count more_count given more_given (omega (arith, some)) (omega (arith, more_some)) shows shows_other (let can = stands.1 in can.cpu_below) apart blocks other_blocks
+      pub extends_two : (held : Store) (f h : Held) → ShowsRow R s held f first free → ShowsRow R s held h second free → CanExtendTwo R s held cpu first.inode f x second.inode h y
+      extends_two held f h shows shows_other = can_extend_two entries others fresh more (let right = stands.0 in right.lists) all count more_count given more_given some more_some shows shows_other (let can = stands.1 in can.cpu_below) apart blocks other_blocks
           (λ w. as_extension entries stands.0 stands.1 first_taken count given x slot_is tail_is es blocks w) (λ w. as_extension others two other_stands.1 more_taken more_count more_given y other_slot_is other_tail_is other_es other_blocks w)
 
       -- Memory that is open past the region is open past all that is stored.

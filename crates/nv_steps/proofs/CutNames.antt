@@ -1,224 +1,44 @@
--- The removal of a name and its inode, once they are committed and the directory's row is settled.
-use Rattle.std.proofs.Common.{◌≡◌, ◌≢◌, ℕ, ◌+◌, ◌*◌, ◌/◌, ◌%◌, ◌≤◌, cond, nat_eq, inl, inr, Option, List, ◌∷◌, ◌++◌, length, refl, ap, sym, ◌∙◌, subst, arith, Some, None}
-use Rattle.std.specs.Cmp.Lexicographic.{pointwise}
-use Rattle.nv_region.specs.Region.{Region, size, word}
-use Rattle.nv_region.specs.Stops.{Choices, IsMixed, LeavesOnly, MayBeLeft, NothingPending}
-use Rattle.nv_region.specs.Stored.{StoresOnly}
-use Rattle.nv_region.proofs.Stops.{mixed_left}
+-- The removal of a name and its inode, once the directory's log has grown without the inode and the row is settled.
+use Rattle.std.proofs.Common.{ℕ, inl, inr, List}
+use Rattle.nv_region.specs.Region.{Region}
 use Rattle.nv_super.specs.declared.superblock.Super.{Super}
-use Rattle.nv_super.specs.Layout.{fixed_layout, slot_address, slot_of}
-use Rattle.nv_super.proofs.Slots.{slots_apart}
-use Rattle.nv_scan.proofs.Pieces.{slot_is}
-use Rattle.nv_journal.specs.Undo.{journal, undone}
+use Rattle.nv_super.specs.Layout.{fixed_layout}
 use Rattle.nv_alloc.specs.FreeValue.{FreeLists}
-use Rattle.nv_entry.specs.declared.entry.Entry.{Entry}
 use Rattle.nv_entry.specs.declared.entry.Operation.TheVariants.{Remove}
-use Rattle.nv_logpage.specs.Append.{EndBy, end_of, needed}
 use Rattle.nv_names.specs.Names.{EachOnce}
-use Rattle.nv_scan.specs.declared.numbers.Numbers.{Numbers}
 use Rattle.nv_scan.specs.declared.piece.Row.{Row}
-use Rattle.nv_held.specs.nv_outcome.Same.{SameRow}
-use Rattle.nv_held.specs.Held.{Held, Store, with_inode}
-use Rattle.nv_held.specs.Bytes.{byte_of}
-use Rattle.nv_held.proofs.nv_outcome.SuperOf.{layout_of_super, version_of_super}
-use Rattle.nv_commit.specs.declared.together.Extension.{Extension}
-use Rattle.nv_commit.specs.Extends.{with_log}
-use Rattle.nv_commit.specs.Together.{CanCommit, ShowsIdle, UndoneShows}
+use Rattle.nv_held.specs.Held.{Store}
 use Rattle.nv_commit.specs.Stopped.{LeavesEither}
-use Rattle.nv_commit.specs.Removes.{BeforeOrRemoved, CanRemove, RemoveWords, with_removed}
-use Rattle.nv_commit.proofs.BytesStay.{removed_bytes}
-use Rattle.nv_commit.proofs.Left.{one_held}
-use Rattle.nv_commit.proofs.LeftUndone.{undone_bytes, undone_can, undone_idle, undone_recovers}
-use Rattle.nv_steps.specs.Grown.{StandsRight}
-use Rattle.nv_steps.specs.LessNames.{CutsName, HasLost}
-use Rattle.nv_steps.specs.NameEntries.{name_entries, with_gone}
-use Rattle.nv_steps.specs.NewNames.{CanName}
-use Rattle.nv_steps.specs.Steps.{ShowsRow}
+use Rattle.nv_steps.specs.LessNames.{CutsName}
+use Rattle.nv_steps.specs.NameEntries.{name_entries}
 use Rattle.nv_steps.specs.Stopped.{Cut}
-use Rattle.nv_steps.specs.Taken.{TakesEach}
-use Rattle.nv_steps.proofs.LessName.{found_without, once_without, without}
-use Rattle.nv_journal.specs.InOrder.{FirstIsFirst}
-use Rattle.nv_steps.specs.InOrder.{TailIsFirst}
-use Rattle.nv_steps.proofs.OneByOne.{by_rule}
-use Rattle.nv_steps.proofs.LogGrows.{can_extend, stores_within_region}
-use Rattle.nv_steps.proofs.TwoLogs.{as_extension, row_commits}
-use Rattle.nv_steps.specs.Fronts.{SameFrontBut}
-use Rattle.nv_steps.proofs.OtherJournals.{removed_front, undone_front}
-use Rattle.nv_steps.specs.Stores.{StoresIn, one_less}
-use Rattle.nv_steps.proofs.Stores.{less_stores}
+use Rattle.nv_steps.specs.Takes.{AppendedLess, AppendsLess}
+use Rattle.nv_steps.specs.Unlinks.{DropsName}
+use Rattle.nv_steps.proofs.LessName.{once_without}
+use Rattle.nv_steps.proofs.Took.{drops_one, less_row}
+use Rattle.nv_steps.proofs.UnlinkedAt.{drops_after}
 
--- a row that was made ready and then settled
-lost_after : {old mid new : Row} {fresh others : List ℕ} {end last : ℕ} (name : List ℕ) (time : ℕ) → SameRow old mid → HasLost mid fresh end name time new → fresh ≡ others → end ≡ last → HasLost old others last name time new
-lost_after {old} {mid} {new} {fresh} {others} {end} {last} name time same lost blocks ends = record {
-  inode = lost.inode ∙ same.inode;
-  kind = lost.kind ∙ same.kind;
-  numbers = lost.numbers ∙ ap (λ (n : Numbers). record n { time = time }) same.numbers;
-  head = lost.head ∙ same.head;
-  tail = lost.tail ∙ ends;
-  pages = lost.pages ∙ (λ t. same.pages t ++ blocks t);
-  index = λ p. lost.index p ∙ same.index p;
-  names = λ q. lost.names q ∙ (λ t. cond (pointwise nat_eq q name) None (same.names q t));
-}
-
--- the directory's row without the name, as it was before it was made ready
-abbrev lost_row : Row → Row → List ℕ → ℕ → List ℕ → ℕ → Row
-lost_row old mid fresh end name time = record mid { numbers = record mid.numbers { time = time }; tail = end; pages = record mid.pages { items = mid.pages.items ++ fresh }; names = record old.names { names = without name old.names.names } }
-
-lost_row_has : (old mid : Row) (fresh : List ℕ) (end : ℕ) (name : List ℕ) (time : ℕ) → SameRow old mid → HasLost mid fresh end name time (lost_row old mid fresh end name time)
-lost_row_has old mid fresh end name time same = record {
-  inode = refl;
-  kind = refl;
-  numbers = refl;
-  head = refl;
-  tail = refl;
-  pages = refl;
-  index = λ p. refl;
-  names = λ q. found_without old.names.names name q ∙ ap (λ (o : Option (ℕ × ℕ)). cond (pointwise nat_eq q name) None o) (sym (same.names q));
-}
-
-module _ {R : Region} {s : Super} {free after : FreeLists} {old mid : Row} {cpu j : ℕ} {fresh : List ℕ} (stands : StandsRight R s free old) (can : CanName R s cpu j old) (taken : TakesEach free cpu fresh after) (name : List ℕ) (time : ℕ)
-    (count : length fresh ≡ needed (old.tail % 4096) (name_entries Remove j name time)) (same : SameRow old mid) where
-  abbrev entries : List Entry
-  entries = name_entries Remove j name time
-
-  -- the slot of the inode that goes
-  gone_slot : slot_of (fixed_layout s) j ≡ Some (slot_address s j)
-  gone_slot = slot_is s j stands.layout can.number
-
-  pub slot_whole : slot_address s j % 8 ≡ 0
-  slot_whole = let apart = slots_apart s stands.layout in let whole = apart.whole j (slot_address s j) gone_slot in omega (arith, whole)
-
-  pub slot_inside : slot_address s j + 8 ≤ size R
-  slot_inside =
-      let apart = slots_apart s stands.layout in
-      let before = apart.before j (slot_address s j) gone_slot in
-      let layout = stands.layout in
-      let areas = layout.areas in
-      let room = areas.room in
-      let blocks = stands.blocks in
-      omega (arith, before, room, blocks)
-
-  pub slot_behind : journal cpu + 4096 ≤ slot_address s j
-  slot_behind =
-      let apart = slots_apart s stands.layout in
-      let behind : (1 + s.cpus) * 4096 ≤ slot_address s j = apart.behind j (slot_address s j) gone_slot in
-      let below = can.cpu_below in
-      let before : journal cpu + 4096 ≤ (1 + s.cpus) * 4096 = omega (arith, below) in
-      omega (arith, behind, before)
-
-  module _ (x : Extension) (slot : x.slot ≡ slot_address s mid.inode) (tail : x.tail ≡ mid.tail) (more : x.entries.now ≡ entries) (blocks : x.fresh.now ≡ fresh) where
-    old_slot : x.slot ≡ slot_address s old.inode
-    old_slot = slot ∙ ap (slot_address s) same.inode
-
-    old_tail : x.tail ≡ old.tail
-    old_tail = tail ∙ same.tail
-
-    pub commits : CanCommit R cpu x
-    commits = row_commits entries stands can taken count (refl, tt) x old_slot old_tail more blocks
-
-    can_remove : (gone : ℕ) → gone ≡ slot_address s j → old.inode ≢ j → (held : Store) (h : Held) → ShowsRow R s held h old free → CanRemove R s held cpu mid.inode h x j gone
-    can_remove gone there differ held h shows = subst (λ (d : ℕ). CanRemove R s held cpu d h x j gone) (sym same.inode) (record {
-      journals = can.cpu_below;
-      parent = as_extension entries stands can taken count (refl, tt) x old_slot old_tail more blocks (can_extend entries shows stands.lists taken count (refl, tt) (omega arith));
-      at = gone_slot ∙ ap (λ (a : ℕ). Some a) (sym there);
-      differ = differ;
-    })
-
-    -- Nothing else is stored.
-    cut_stores : (S : Region) (gone : ℕ) → gone ≡ slot_address s j → old.inode ≢ j → {held : Store} {h : Held} → ShowsRow R s held h old free → IsMixed R (RemoveWords cpu x gone) S → StoresIn s held (one_less s cpu old.inode j) R S
-    cut_stores S gone there differ {held} {h} shows mixed = subst (λ (d : ℕ). StoresIn s held (one_less s cpu d j) R S) same.inode (less_stores (can_remove gone there differ held h shows) slot there mixed)
-
-    -- The valid word is stored after the directory's tail.
-    cut_in_order : (S : Region) (gone : ℕ) → gone ≡ slot_address s j → old.inode ≢ j → {held : Store} {h : Held} → ShowsRow R s held h old free
-        → (CanRemove R s held cpu mid.inode h x j gone → FirstIsFirst R (x.slot + 24) (end_of x.fresh.now 0 x.tail x.entries.now) gone S) → TailIsFirst R S s free.pools cpu old.inode old.tail entries (slot_address s j)
-    cut_in_order S gone there differ {held} {h} shows orders = elim (orders (can_remove gone there differ held h shows)) [
-      | inl still ↦ inl (subst (λ (a : ℕ). word S a ≡ word R a) there still)
-      | inr stored ↦ inr (record {
-        fresh = fresh;
-        rest = after.pools;
-        taken = by_rule taken;
-        count = count;
-        moved = subst (λ (a : ℕ). word S (a + 24) ≡ end_of fresh 0 old.tail entries) old_slot (stored ∙ (λ t. end_of (blocks t) 0 (old_tail t) (more t)));
-      })
-    ]
-
-    -- Both.
-    pub cut_told : (S : Region) (gone : ℕ) → gone ≡ slot_address s j → old.inode ≢ j → {held : Store} {h : Held} → ShowsRow R s held h old free
-        → (CanRemove R s held cpu mid.inode h x j gone → FirstIsFirst R (x.slot + 24) (end_of x.fresh.now 0 x.tail x.entries.now) gone S) → IsMixed R (RemoveWords cpu x gone) S
-        → TailIsFirst R S s free.pools cpu old.inode old.tail entries (slot_address s j) × StoresIn s held (one_less s cpu old.inode j) R S
-    cut_told S gone there differ shows orders mixed = (cut_in_order S gone there differ shows orders, cut_stores S gone there differ shows mixed)
-
-    store_as : (held : Store) (d : ℕ) (h : Held) → with_removed held d h x j ≡ with_gone held d h entries fresh j
-    store_as held d h = λ t. with_inode (with_log held d h (more t) (blocks t)) j None
-
-    cuts_name_by : {S : Region} {new : Row} (gone end : ℕ) (bs : List ℕ) → gone ≡ slot_address s j → old.inode ≢ j → bs ≡ fresh → end ≡ end_of x.fresh.now 0 x.tail x.entries.now → HasLost mid bs end name time new → EachOnce old.names → EachOnce new.names
-        → ((held : Store) (h : Held) → CanRemove R s held cpu mid.inode h x j gone → ShowsIdle S s (with_removed held mid.inode h x j))
-        → ((held : Store) (h : Held) → CanRemove R s held cpu mid.inode h x j gone → (i : ℕ) (g : Held) → held i ≡ Some g → (y : ℕ) → byte_of S (fixed_layout s) g y ≡ byte_of R (fixed_layout s) g y)
-        → ((held : Store) (h : Held) → CanRemove R s held cpu mid.inode h x j gone → SameFrontBut s.cpus cpu R S) → CutsName R S s free after cpu old new j time name
-    cuts_name_by {S} {new} gone end bs there differ others ends lost once once_now shows bytes front = record {
-      fresh = fresh;
-      taken = taken;
-      count = count;
-      directory = lost_after name time same lost others (ends ∙ (λ t. end_of (blocks t) 0 (old_tail t) (more t)));
-      once = once;
-      once_now = once_now;
-      shows = λ held h seen. record {
-        idle = subst (λ (st : Store). ShowsIdle S s st) (store_as held old.inode h) (subst (λ (d : ℕ). ShowsIdle S s (with_removed held d h x j)) same.inode (shows held h (can_remove gone there differ held h seen)));
-        bytes = bytes held h (can_remove gone there differ held h seen);
-        front = front held h (can_remove gone there differ held h seen);
-      };
+pub cuts_name : {R S : Region} {s : Super} {free after : FreeLists} {cpu : ℕ} {old grown new : Row} (j : ℕ) (name : List ℕ) (time : ℕ) → AppendsLess R S s free after cpu old grown j (name_entries Remove j name time) → DropsName grown name time new → EachOnce new.names
+    → CutsName R S s free after cpu old new j time name
+cuts_name j name time grew drops once_new =
+    let once = grew.once in
+    record {
+      fresh = grew.fresh;
+      taken = grew.taken;
+      count = grew.count;
+      directory = drops_after name time grew.row drops;
+      once = once.0;
+      once_now = once_new;
+      shows = grew.shows;
     }
 
-    pub cuts_name : {S : Region} {new : Row} (gone end : ℕ) (bs : List ℕ) → gone ≡ slot_address s j → old.inode ≢ j → bs ≡ fresh → end ≡ end_of x.fresh.now 0 x.tail x.entries.now → HasLost mid bs end name time new → EachOnce old.names → EachOnce new.names
-        → ((held : Store) (h : Held) → CanRemove R s held cpu mid.inode h x j gone → ShowsIdle S s (with_removed held mid.inode h x j)) → IsMixed R (RemoveWords cpu x gone) S → CutsName R S s free after cpu old new j time name
-    cuts_name {S} gone end bs there differ others ends lost once once_now shows mixed = cuts_name_by gone end bs there differ others ends lost once once_now shows (λ held h can. removed_bytes can S mixed) (λ held h can. removed_front can S mixed)
-
-    -- What a stop leaves: the row that the directory would have is as it was but for the name, the time and the log.
-    module _ (gone : ℕ) (there : gone ≡ slot_address s j) (differ : old.inode ≢ j) {held : Store} {h : Held} (shows : ShowsRow R s held h old free) (once : EachOnce old.names) (now : Region) (first_may last_may : Choices) (wrote : StoresOnly (RemoveWords cpu x gone) R now first_may last_may) (settled : NothingPending R first_may) where
-      removes : CanRemove R s held cpu mid.inode h x j gone
-      removes = can_remove gone there differ held h shows
-
-      mixed : (left : Region) → MayBeLeft now last_may left → IsMixed R (RemoveWords cpu x gone) left
-      mixed left may = let stored = wrote.mixed in mixed_left R now (RemoveWords cpu x gone) first_may last_may stored.as_long stored.same_rest settled wrote.adds left may
-
-      any_idle : (left : Region) → UndoneShows s (with_removed held mid.inode h x j) left → (other : Store) (g : Held) → CanRemove R s other cpu mid.inode g x j gone → ShowsIdle (undone s left) s (with_removed other mid.inode g x j)
-      any_idle left w other g here =
-          let parent = here.parent in
-          let one = shows.sound in
-          let two = parent.sound in
-          let equal : held ≡ other = one_held one.shows two.shows in
-          let both : Some h ≡ Some g = sym shows.holds ∙ ap held (sym same.inode) ∙ ap (λ (st : Store). st mid.inode) equal ∙ parent.holds in
-          let is : h ≡ g = cc in
-          subst (λ (k : Held). ShowsIdle (undone s left) s (with_removed other mid.inode k x j)) is (subst (λ (st : Store). ShowsIdle (undone s left) s (with_removed st mid.inode h x j)) equal (undone_idle w))
-
-      any_bytes : (left : Region) → IsMixed R (RemoveWords cpu x gone) left → (other : Store) (g : Held) → CanRemove R s other cpu mid.inode g x j gone → (i : ℕ) (f : Held) → other i ≡ Some f → (y : ℕ) → byte_of (undone s left) (fixed_layout s) f y ≡ byte_of R (fixed_layout s) f y
-      any_bytes left stored other g here i f is y = let parent = here.parent in let sound = parent.sound in undone_bytes s left f (layout_of_super R s sound.sup) (version_of_super R s sound.sup) y ∙ removed_bytes here left stored i f is y
-
-      any_front : (left : Region) → IsMixed R (RemoveWords cpu x gone) left → (other : Store) (g : Held) → CanRemove R s other cpu mid.inode g x j gone → SameFrontBut s.cpus cpu R (undone s left)
-      any_front left stored other g here = let parent = here.parent in let sound = parent.sound in undone_front s cpu R left (layout_of_super R s sound.sup) sound.idle (removed_front here left stored)
-
-      cut_by : (left : Region) → IsMixed R (RemoveWords cpu x gone) left → BeforeOrRemoved s held mid.inode h x j left → LeavesEither R (fixed_layout s) held (Cut R s free cpu old j time name) left
-      cut_by left stored (inl w) = inl (undone_recovers w R (removed_bytes removes left stored) (let sound = shows.sound in sound.faultless))
-      cut_by left stored (inr w) =
-          let end = end_of x.fresh.now 0 x.tail x.entries.now in
-          inr (
-            undone_can w,
-            (
-              after,
-              lost_row old mid fresh end name time,
-              cuts_name_by {S = undone s left} gone end fresh there differ refl refl (lost_row_has old mid fresh end name time same) once (once_without old.names.names name once) (any_idle left w) (any_bytes left stored) (any_front left stored),
-            ),
-          )
-
-      pub left_cut : (CanRemove R s held cpu mid.inode h x j gone → NothingPending R first_may → LeavesOnly now last_may (BeforeOrRemoved s held mid.inode h x j)) → LeavesOnly now last_may (LeavesEither R (fixed_layout s) held (Cut R s free cpu old j time name))
-      left_cut stops left may = cut_by left (mixed left may) (stops removes settled left may)
-
-  -- Memory that is open past the region is open past all that is stored.
-  pub cuts_within : (a b t : ℕ) (bs : List ℕ) → a ≡ slot_address s j → b ≡ slot_address s mid.inode → t ≡ mid.tail → bs ≡ fresh → (limit : ℕ) → size R ≤ limit
-      → EndBy (t / 4096 ∷ bs) limit × (b + 32 ≤ limit) × (a + 8 ≤ limit)
-  cuts_within a b t bs gone slot tail blocks limit past =
-      let w = stores_within_region entries bs b stands taken count (refl, tt) blocks (slot ∙ ap (slot_address s) same.inode) limit past in (
-        subst (λ (n : ℕ). EndBy (n / 4096 ∷ bs) limit) (sym (tail ∙ same.tail)) w.0,
-        w.1,
-        omega (arith, slot_inside, gone, past),
-      )
+-- What a stop leaves of it, by what it leaves of the log.
+pub left_cut : {R : Region} {s : Super} {free : FreeLists} {cpu : ℕ} {held : Store} (old : Row) (j : ℕ) (name : List ℕ) (time : ℕ) (left : Region)
+    → LeavesEither R (fixed_layout s) held (AppendedLess R s free cpu old j (name_entries Remove j name time)) left → LeavesEither R (fixed_layout s) held (Cut R s free cpu old j time name) left
+left_cut old j name time left (inl same) = inl same
+left_cut old j name time left (inr w) =
+    let made = w.1 in
+    let grown = made.1 in
+    let grew = made.2 in
+    let once = grew.once in
+    inr (w.0, (made.0, less_row grown name time, cuts_name {new = less_row grown name time} j name time grew (drops_one grown name time) (once_without grown.names.names name once.1)))

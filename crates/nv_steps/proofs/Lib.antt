@@ -58,3 +58,11 @@ pub mod UnlinkedAt
 pub mod MovedAt
 pub mod MovedRow
 pub mod Took
+pub mod ThreeChanges
+pub mod Reserved
+pub mod Owed
+pub mod LogsLess
+pub mod TookAcross
+pub mod LogsThree
+pub mod LessenedAcross
+pub mod Lessened

@@ -35,7 +35,7 @@ use Rattle.nv_steps.specs.Fronts.{SameFrontBut}
 -- ---- what was stored
 
 -- of the words in front of the tables those of one journal alone were stored
-stored_front : (R S : Region) (cpus cpu : ℕ) (these : Choices) → IsMixed R these S → ((k v : ℕ) → these k v → 8 * k < (1 + cpus) * 4096 → 8 * k / 4096 ≡ 1 + cpu) → SameFrontBut cpus cpu R S
+pub stored_front : (R S : Region) (cpus cpu : ℕ) (these : Choices) → IsMixed R these S → ((k v : ℕ) → these k v → 8 * k < (1 + cpus) * 4096 → 8 * k / 4096 ≡ 1 + cpu) → SameFrontBut cpus cpu R S
 stored_front R S cpus cpu these mixed here = record {
   len = mixed_size mixed;
   words = λ at whole low other. mixed_word R S these at whole mixed (λ v one. other (let there = here (at / 8) v one (omega (arith, whole, low)) in omega (arith, whole, there)));
@@ -43,7 +43,7 @@ stored_front R S cpus cpu these mixed here = record {
 
 module _ {R : Region} {s : Super} {held : Store} {d : ℕ} {g : Held} {slot tail : ℕ} {entries : List Entry} {fresh : List ℕ} (can : CanExtend R s held d g slot tail entries fresh) (k v : ℕ) (low : 8 * k < (1 + s.cpus) * 4096) where
   -- no loose word stands there
-  off_loose : Loose (fixed_layout s) held k v → ⊥
+  pub off_loose : Loose (fixed_layout s) held k v → ⊥
   off_loose (inl free) = let from = free.from in omega (arith, from, low)
   off_loose (inr (inl w)) =
       let sound = can.sound in
@@ -58,7 +58,7 @@ module _ {R : Region} {s : Super} {held : Store} {d : ℕ} {g : Held} {slot tail
       omega (arith, behind, from, low)
 
   -- nor one of a slot
-  off_slot : (m a at : ℕ) → slot_of (fixed_layout s) m ≡ Some a → a ≤ at → k ≡ at / 8 → ⊥
+  pub off_slot : (m a at : ℕ) → slot_of (fixed_layout s) m ≡ Some a → a ≤ at → k ≡ at / 8 → ⊥
   off_slot m a at there from here =
       let clear : SlotsClear (fixed_layout s) held = slots can in
       let whole = clear.whole m a there in
@@ -66,7 +66,7 @@ module _ {R : Region} {s : Super} {held : Store} {d : ℕ} {g : Held} {slot tail
       omega (arith, here, from, whole, behind, low)
 
 -- a word of this CPU's journal
-in_block : (cpu k : ℕ) → journal cpu ≤ 8 * k → 8 * k < journal cpu + 4096 → 8 * k / 4096 ≡ 1 + cpu
+pub in_block : (cpu k : ℕ) → journal cpu ≤ 8 * k → 8 * k < journal cpu + 4096 → 8 * k / 4096 ≡ 1 + cpu
 in_block cpu k from below = omega (arith, from, below)
 
 module _ {R : Region} {s : Super} {held : Store} {cpu d e : ℕ} {g f : Held} {x y : Extension} (can : CanExtendTwo R s held cpu d g x e f y) where

@@ -49,7 +49,7 @@ module _ {s : Super} {held : Store} (p : Places) where
   changes_in cpu a v b w own whole also one two k x (inr (inl c)) = word_in a whole one k c.0
   changes_in cpu a v b w own whole also one two k x (inr (inr c)) = word_in b also two k c.0
 
-second_in : (a b : ℕ) → Contains (a ∷ b ∷ []) b
+pub second_in : (a b : ℕ) → Contains (a ∷ b ∷ []) b
 second_in a b = Contains-tail a (b ∷ []) b (Contains-head b [])
 
 -- One log: what is stored of it, in a region that is as the first one, or has other data in free blocks.

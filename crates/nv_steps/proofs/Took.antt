@@ -17,7 +17,8 @@ use Rattle.nv_radix.specs.Pages.{block_at}
 use Rattle.nv_held.specs.nv_outcome.Same.{SameRow}
 use Rattle.nv_held.specs.Held.{Held, Store}
 use Rattle.nv_commit.specs.Stopped.{LeavesEither}
-use Rattle.nv_steps.specs.MoreNames.{AddsName}
+use Rattle.nv_steps.specs.MoreNames.{AddsName, GrowsSame}
+use Rattle.nv_steps.specs.Moves.{HasMoved}
 use Rattle.nv_steps.specs.NameEntries.{with_gone}
 use Rattle.nv_steps.specs.NewNames.{ShowsNamed}
 use Rattle.nv_steps.specs.Steps.{ShowsRow}
@@ -33,15 +34,49 @@ over : {A : Type 0} (b : Bool) (x y z : A) → cond b y (cond b x z) ≡ cond b 
 over true x y z = refl
 over false x y z = refl
 
+-- A row that grew by such entries, and then is settled.
+pub took_after : {old grown less bare new : Row} {fresh : List ℕ} {end place spot : ℕ} (i : ℕ) (name other : List ℕ) (time : ℕ) → GrowsSame old fresh end grown → DropsName grown name time less → EachOnce less.names → DropsName less other time bare
+    → AddsName bare other i place time new → place ≡ spot → EachOnce new.names → EachOnce old.names → HasMoved old fresh end name other i spot time new
+took_after {old} {grown} {less} {bare} {new} {fresh} {end} {place} {spot} i name other time row drops once_less cuts adds at once_new once_old =
+    let lost = drops.rest in
+    let cut = cuts.rest in
+    let got = adds.rest in
+    record {
+      inode = got.inode ∙ cut.inode ∙ lost.inode ∙ row.inode;
+      kind = got.kind ∙ cut.kind ∙ lost.kind ∙ row.kind;
+      numbers = adds.numbers ∙ ap (λ (n : Numbers). record n { time = time }) (cuts.numbers ∙ ap (λ (n : Numbers). record n { time = time }) (drops.numbers ∙ ap (λ (n : Numbers). record n { time = time }) row.numbers));
+      head = got.head ∙ cut.head ∙ lost.head ∙ row.head;
+      tail = got.tail ∙ cut.tail ∙ lost.tail ∙ row.tail;
+      pages = (λ t. (got.pages t).items) ∙ (λ t. (cut.pages t).items) ∙ (λ t. (lost.pages t).items) ∙ row.pages;
+      index = λ p. (λ t. block_at (got.index t) p) ∙ (λ t. block_at (cut.index t) p) ∙ (λ t. block_at (lost.index t) p) ∙ row.index p;
+      between = less.names;
+      lost = λ q. drops.names q ∙ (λ t. cond (pointwise nat_eq q name) None (row.names q t));
+      names = λ q. adds.names q ∙ (λ t. cond (pointwise nat_eq q other) (Some (i, at t)) (cuts.names q t)) ∙ over (pointwise nat_eq q other) None (Some (i, spot)) (name_at less.names q);
+      once = once_old;
+      once_between = once_less;
+      once_now = once_new;
+    }
+
+-- where its last entry stands
+pub taken_place : (end len : ℕ) (fresh : List ℕ) (tail i j : ℕ) (name other : List ℕ) (time : ℕ) → end ≡ end_of fresh 0 tail (take_entries i j name other time) → len ≡ entry_length (Name (record { operation = Add; inode = i; time = time; name = other })) → end - len ≡ take_place fresh tail i j name other time
+taken_place end len fresh tail i j name other time ends is = omega (arith, ends, is)
+
 module _ {R S : Region} {s : Super} {free after : FreeLists} {cpu : ℕ} {old mid grown : Row} (i j : ℕ) (name other : List ℕ) (time : ℕ) (same : SameRow old mid) (grew : AppendsLess R S s free after cpu mid grown j (take_entries i j name other time)) where
   abbrev entries : List Entry
   entries = take_entries i j name other time
 
-  place_is : (len : ℕ) → len ≡ entry_length (Name (record { operation = Add; inode = i; time = time; name = other })) → grown.tail - len ≡ take_place grew.fresh old.tail i j name other time
-  place_is len is =
-      let row = grew.row in
-      let ends : grown.tail ≡ end_of grew.fresh 0 old.tail entries = row.tail ∙ ap (λ (t : ℕ). end_of grew.fresh 0 t entries) same.tail in
-      omega (arith, ends, is)
+  grew_from : GrowsSame old grew.fresh (end_of grew.fresh 0 old.tail entries) grown
+  grew_from =
+      let row = grew.row in record {
+        inode = row.inode ∙ same.inode;
+        kind = row.kind ∙ same.kind;
+        numbers = row.numbers ∙ same.numbers;
+        head = row.head ∙ same.head;
+        tail = row.tail ∙ ap (λ (t : ℕ). end_of grew.fresh 0 t entries) same.tail;
+        pages = row.pages ∙ ap (λ (ps : List ℕ). ps ++ grew.fresh) same.pages;
+        index = λ p. row.index p ∙ same.index p;
+        names = λ q. row.names q ∙ same.names q;
+      }
 
   shows_old : (held : Store) (h : Held) → ShowsRow R s held h old free → ShowsNamed R S s cpu held (with_gone held old.inode h entries grew.fresh j)
   shows_old held h seen = subst (λ (d : ℕ). ShowsNamed R S s cpu held (with_gone held d h entries grew.fresh j)) same.inode (grew.shows held h (shows_same same seen))
@@ -49,44 +84,25 @@ module _ {R S : Region} {s : Super} {free after : FreeLists} {cpu : ℕ} {old mi
   -- The row is settled.
   pub takes_within : {less bare new : Row} (len : ℕ) → len ≡ entry_length (Name (record { operation = Add; inode = i; time = time; name = other })) → DropsName grown name time less → EachOnce less.names → DropsName less other time bare
       → AddsName bare other i (grown.tail - len) time new → EachOnce new.names → EachOnce old.names → TakesWithin R S s free after cpu old new i j name other time
-  takes_within {less} {bare} {new} len length_is drops once_less cuts adds once_new once_old =
-      let row = grew.row in
-      let lost = drops.rest in
-      let cut = cuts.rest in
-      let got = adds.rest in
-      record {
-        fresh = grew.fresh;
-        taken = grew.taken;
-        count = grew.count ∙ ap (λ (t : ℕ). needed (t % 4096) entries) same.tail;
-        row = record {
-          inode = got.inode ∙ cut.inode ∙ lost.inode ∙ row.inode ∙ same.inode;
-          kind = got.kind ∙ cut.kind ∙ lost.kind ∙ row.kind ∙ same.kind;
-          numbers = adds.numbers ∙ ap (λ (n : Numbers). record n { time = time }) (cuts.numbers ∙ ap (λ (n : Numbers). record n { time = time }) (drops.numbers ∙ ap (λ (n : Numbers). record n { time = time }) (row.numbers ∙ same.numbers)));
-          head = got.head ∙ cut.head ∙ lost.head ∙ row.head ∙ same.head;
-          tail = got.tail ∙ cut.tail ∙ lost.tail ∙ row.tail ∙ ap (λ (t : ℕ). end_of grew.fresh 0 t entries) same.tail;
-          pages = (λ t. (got.pages t).items) ∙ (λ t. (cut.pages t).items) ∙ (λ t. (lost.pages t).items) ∙ row.pages ∙ ap (λ (ps : List ℕ). ps ++ grew.fresh) same.pages;
-          index = λ p. (λ t. block_at (got.index t) p) ∙ (λ t. block_at (cut.index t) p) ∙ (λ t. block_at (lost.index t) p) ∙ row.index p ∙ same.index p;
-          between = less.names;
-          lost = λ q. drops.names q ∙ (λ t. cond (pointwise nat_eq q name) None ((row.names q ∙ same.names q) t));
-          names = λ q. adds.names q ∙ (λ t. cond (pointwise nat_eq q other) (Some (i, place_is len length_is t)) (cuts.names q t)) ∙ over (pointwise nat_eq q other) None (Some (i, take_place grew.fresh old.tail i j name other time)) (name_at less.names q);
-          once = once_old;
-          once_between = once_less;
-          once_now = once_new;
-        };
-        shows = shows_old;
-      }
+  takes_within {less} {bare} {new} len length_is drops once_less cuts adds once_new once_old = record {
+    fresh = grew.fresh;
+    taken = grew.taken;
+    count = grew.count ∙ ap (λ (t : ℕ). needed (t % 4096) entries) same.tail;
+    row = took_after i name other time grew_from drops once_less cuts adds (taken_place grown.tail len grew.fresh old.tail i j name other time (let row = grew_from in row.tail) length_is) once_new once_old;
+    shows = shows_old;
+  }
 
 -- ---- a stop
 
 -- the row without a name
-abbrev less_row : Row → List ℕ → ℕ → Row
+abbrev pub less_row : Row → List ℕ → ℕ → Row
 less_row grown name time = record grown { numbers = record grown.numbers { time = time }; names = record grown.names { names = without name grown.names.names } }
 
-drops_one : (grown : Row) (name : List ℕ) (time : ℕ) → DropsName grown name time (less_row grown name time)
+pub drops_one : (grown : Row) (name : List ℕ) (time : ℕ) → DropsName grown name time (less_row grown name time)
 drops_one grown name time = record { rest = record { inode = refl; kind = refl; head = refl; tail = refl; pages = refl; index = refl }; numbers = refl; names = λ q. found_without grown.names.names name q }
 
 -- the name that was taken out isn't there
-gone_name : (grown : Row) (name : List ℕ) (time : ℕ) → name_at (less_row grown name time).names name ≡ None
+pub gone_name : (grown : Row) (name : List ℕ) (time : ℕ) → name_at (less_row grown name time).names name ≡ None
 gone_name grown name time = found_without grown.names.names name name ∙ ap (λ (b : Bool). cond b None (name_at grown.names name)) ((bytes_decides name name).1 refl)
 
 -- What a stop leaves of a name that is given so, by what it leaves of the log.

@@ -39,37 +39,33 @@ drops_after {old} {mid} {new} {fresh} {end} name time grew drops =
       names = λ q. drops.names q ∙ (λ t. cond (pointwise nat_eq q name) None (grew.names q t));
     }
 
-module _ {R S : Region} {s : Super} {free after : FreeLists} {cpu : ℕ} {rows mid : List Row} {i j time : ℕ} {name : List ℕ} (read : Row) (grew : AppendsLogs R S s free after cpu rows mid i (name_entries Remove read.inode name time) j (links_entries (read.numbers.links - 1) time)) (read_at : slice_get rows j ≡ Some read) (differ : i ≢ j) where
-  abbrev entries : List Entry
-  entries = name_entries Remove read.inode name time
-
-  abbrev others : List Entry
-  others = links_entries (read.numbers.links - 1) time
-
+-- Of two logs that grew, the second one's row was read before.
+module _ {R S : Region} {s : Super} {free after : FreeLists} {cpu : ℕ} {rows mid : List Row} {i j : ℕ} {entries others : List Entry} (read : Row) (grew : AppendsLogs R S s free after cpu rows mid i entries j others) (read_at : slice_get rows j ≡ Some read) (differ : i ≢ j) where
   abbrev first : Row
   first = grew.first
 
-  grown_rows : GrowsTwo R S s free after cpu rows mid i first entries j read others (λ fresh now. GrowsSame first fresh (end_of fresh 0 first.tail entries) now) (λ more now. GrowsSame read more (end_of more 0 read.tail others) now)
+  pub grown_rows : GrowsTwo R S s free after cpu rows mid i grew.first entries j read others (λ fresh now. GrowsSame grew.first fresh (end_of fresh 0 first.tail entries) now) (λ more now. GrowsSame read more (end_of more 0 read.tail others) now)
   grown_rows =
       let step = grew.step in
       subst (λ (r : Row). GrowsTwo R S s free after cpu rows mid i first entries j r others (λ fresh now. GrowsSame first fresh (end_of fresh 0 first.tail entries) now) (λ more now. GrowsSame r more (end_of more 0 r.tail others) now)) (same_Some _ _ (sym step.other_at ∙ read_at)) grew.step
 
-  directory_there : slice_get mid i ≡ Some grown_rows.first_now
-  directory_there = ap (λ (rs : List Row). slice_get rs i) grown_rows.put ∙ first_set rows i j first read grown_rows.first_now grown_rows.second_now grown_rows.at grown_rows.other_at differ
+  pub first_there : slice_get mid i ≡ Some grown_rows.first_now
+  first_there = ap (λ (rs : List Row). slice_get rs i) grown_rows.put ∙ first_set rows i j first read grown_rows.first_now grown_rows.second_now grown_rows.at grown_rows.other_at differ
 
-  file_there : slice_get mid j ≡ Some grown_rows.second_now
-  file_there = ap (λ (rs : List Row). slice_get rs j) grown_rows.put ∙ second_set rows i j first read grown_rows.first_now grown_rows.second_now grown_rows.at grown_rows.other_at differ
+  pub second_there : slice_get mid j ≡ Some grown_rows.second_now
+  second_there = ap (λ (rs : List Row). slice_get rs j) grown_rows.put ∙ second_set rows i j first read grown_rows.first_now grown_rows.second_now grown_rows.at grown_rows.other_at differ
 
+module _ {R S : Region} {s : Super} {free after : FreeLists} {cpu : ℕ} {rows mid : List Row} {i j time : ℕ} {name : List ℕ} (read : Row) (grew : AppendsLogs R S s free after cpu rows mid i (name_entries Remove read.inode name time) j (links_entries (read.numbers.links - 1) time)) (read_at : slice_get rows j ≡ Some read) (differ : i ≢ j) where
   -- Both rows are settled.
   pub unlinks_at_places : {c d : Row} (a b : Row) → slice_get mid i ≡ Some a → DropsName a name time c → EachOnce c.names → slice_get (set mid i c) j ≡ Some b → CountsLinks b (read.numbers.links - 1) time d → UnlinksAt R S s free after cpu rows (set (set mid i c) j d) i j name time
   unlinks_at_places {c} {d} a b a_at drops once_c b_at counts =
-      let step = grown_rows in
-      let first_is : a ≡ step.first_now = same_Some _ _ (sym a_at ∙ directory_there) in
-      let second_is : b ≡ step.second_now = same_Some _ _ (sym b_at ∙ other_set mid i j c differ ∙ file_there) in
+      let step = grown_rows read grew read_at differ in
+      let first_is : a ≡ step.first_now = same_Some _ _ (sym a_at ∙ first_there read grew read_at differ) in
+      let second_is : b ≡ step.second_now = same_Some _ _ (sym b_at ∙ other_set mid i j c differ ∙ second_there read grew read_at differ) in
       let drops_now : DropsName step.first_now name time c = subst (λ (r : Row). DropsName r name time c) first_is drops in
       let counts_now : CountsLinks step.second_now (read.numbers.links - 1) time d = subst (λ (r : Row). CountsLinks r (read.numbers.links - 1) time d) second_is counts in
       record {
-        directory = first;
+        directory = grew.first;
         file = read;
         step = record {
           first_now = c;
@@ -91,6 +87,10 @@ module _ {R S : Region} {s : Super} {free after : FreeLists} {cpu : ℕ} {rows m
       }
 
 -- ---- a stop
+
+-- the first of two rows
+pub at_first : {a b c d : Row} → (c ∷ d ∷ []) ≡ (a ∷ b ∷ []) → a ≡ c
+at_first same = sym (same_Some _ _ (ap (λ (rs : List Row). slice_get rs 0) same))
 
 -- a row with a name less
 abbrev pub dropped_row : Row → List ℕ → ℕ → Row
@@ -119,6 +119,3 @@ left_unlinked {R} {s} {free} directory file name time left (inr w) =
             (record { rest = record { inode = refl; kind = refl; head = refl; tail = refl; pages = refl; index = refl }; numbers = refl; names = refl }),
       ),
     )
-  where
-    at_first : {a b c d : Row} → (c ∷ d ∷ []) ≡ (a ∷ b ∷ []) → a ≡ c
-    at_first same = sym (same_Some _ _ (ap (λ (rs : List Row). slice_get rs 0) same))

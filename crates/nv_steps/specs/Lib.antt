@@ -19,3 +19,5 @@ pub mod Moves
 pub mod Stopped
 pub mod Cleans
 pub mod Takes
+pub mod Across
+pub mod Lessens

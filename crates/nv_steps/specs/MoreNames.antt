@@ -1,5 +1,5 @@
 -- A name more or less, and a link count, by the rows that stand for them.
-use Rattle.std.specs.Prelude.{◌≡◌, ℕ, ◌+◌, ◌%◌, ◌≤◌, nat_eq, if◌then◌else◌, List, ◌++◌, length, set, slice_get, Some}
+use Rattle.std.specs.Prelude.{◌≡◌, ℕ, ◌+◌, ◌%◌, ◌<◌, ◌≤◌, nat_eq, if◌then◌else◌, List, ◌++◌, length, set, slice_get, Some}
 use Rattle.std.specs.Cmp.Lexicographic.{pointwise}
 use Rattle.smallvec.specs.SmallVec.{HasRoomFor}
 use Rattle.nv_region.specs.Region.{Region}
@@ -7,7 +7,7 @@ use Rattle.nv_super.specs.declared.superblock.Super.{Super}
 use Rattle.nv_alloc.specs.FreeValue.{FreeLists}
 use Rattle.nv_entry.specs.declared.entry.Operation.TheVariants.{Add}
 use Rattle.nv_entry.specs.declared.entry.Entry.{Entry}
-use Rattle.nv_logpage.specs.Append.{end_of, needed}
+use Rattle.nv_logpage.specs.Append.{AreGiven, end_of, needed}
 use Rattle.nv_names.specs.Names.{EachOnce, name_at}
 use Rattle.nv_held.specs.nv_outcome.Same.{SameRow}
 use Rattle.nv_radix.specs.Pages.{block_at}
@@ -69,6 +69,12 @@ abbrev pub NamesOnce : Row → Row → Type 0
 NamesOnce old new = EachOnce old.names × EachOnce new.names
 
 -- ---- a row made ready
+
+-- These are some entries, and not many.
+pub record AreFew (entries : List Entry) : Type 0 where
+  pub given : AreGiven entries
+  pub some : 0 < length entries
+  pub few : length entries < 4096
 
 -- The row is as before but for room: for the pages that these entries take, and for so many names.
 pub record ReadiesRow (old new : Row) (entries : List Entry) (names : ℕ) : Type 0 where

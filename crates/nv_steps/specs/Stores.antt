@@ -49,6 +49,14 @@ one_more s cpu j d = record { logs = d ∷ []; slots = j ∷ []; journals = cpu 
 abbrev pub one_less : Super → ℕ → ℕ → ℕ → Places
 one_less s cpu d j = record { logs = d ∷ []; slots = []; journals = cpu ∷ []; words = tail_address s d ∷ slot_address s j ∷ [] }
 
+-- an inode that goes as its name is given to another, by the logs of two directories
+abbrev pub two_less : Super → ℕ → ℕ → ℕ → ℕ → Places
+two_less s cpu d e j = record { logs = d ∷ e ∷ []; slots = []; journals = cpu ∷ []; words = tail_address s d ∷ tail_address s e ∷ slot_address s j ∷ [] }
+
+-- three logs that grow together
+abbrev pub three_logs : Super → ℕ → ℕ → ℕ → ℕ → Places
+three_logs s cpu i j k = record { logs = i ∷ j ∷ k ∷ []; slots = []; journals = cpu ∷ []; words = tail_address s i ∷ tail_address s j ∷ tail_address s k ∷ [] }
+
 -- a log that loses the page of this place among its pages, if there is one: the word that leads to the page
 abbrev pub one_page_less : Super → ℕ → List ℕ → Option ℕ → Places
 one_page_less s i pages o = record { logs = []; slots = []; journals = []; words = option_map_or (λ (k : ℕ). word_to (slot_address s i + 16) pages k ∷ []) o [] }

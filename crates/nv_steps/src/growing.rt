@@ -7,14 +7,14 @@ ghost use Rattle.nv_region.specs.Stops.{LeavesOnly, NothingPending};
 ghost use Rattle.nv_region.specs.Fuses.{KeepsFuse};
 ghost use Rattle.nv_super.specs.Layout.{IsLayout, fixed_layout, inode_limit, slot_address};
 ghost use Rattle.nv_alloc.specs.Taking.{all_blocks};
-ghost use Rattle.nv_logpage.specs.Append.{AreGiven, needed};
+ghost use Rattle.nv_logpage.specs.Append.{needed};
 ghost use Rattle.nv_names.specs.Names.{name_at};
 ghost use Rattle.nv_held.specs.nv_outcome.Same.{SameRow};
 ghost use Rattle.nv_held.specs.Held.{Held, Store};
 ghost use Rattle.nv_commit.specs.Stopped.{LeavesEither};
 ghost use Rattle.nv_tree.specs.declared.refusal.Refusal.{Refusal as RefusalValue};
 ghost use Rattle.nv_steps.specs.Grown.{StandsRight};
-ghost use Rattle.nv_steps.specs.MoreNames.{AppendsLogs, NamesOnce, ReadiesRow};
+ghost use Rattle.nv_steps.specs.MoreNames.{AppendsLogs, AreFew, NamesOnce, ReadiesRow};
 ghost use Rattle.nv_steps.specs.NewNames.{CanName};
 ghost use Rattle.nv_steps.specs.Steps.{LeavesStep, RefusesStep, ShowsRow};
 ghost use Rattle.nv_steps.specs.Stopped.{AppendedBoth};
@@ -43,8 +43,8 @@ pub(crate) struct Growth<'a> {
     pub names: usize,
 }
 
-/// Writes an entry behind each of the logs of two rows, over blocks that it takes, the first log's first. Both rows get the new tails
-/// and the new pages, and there is room for the names.
+/// Writes entries behind the logs of two rows, over blocks that it takes, the first log's first. Both rows get the new tails and the
+/// new pages, and there is room for the names.
 ///
 /// `NoSpace` where all pools together have too few blocks, `Memory` where a growth was refused; both change nothing.
 /// `Stopped` where the fuse has burnt.
@@ -62,9 +62,10 @@ pub(crate) fn append_logs<P: Pmem>(
     requires apart { row.old.inode ≢ other.old.inode }
     requires stands { StandsRight (P.region memory.old) sup.now free.old row.old × CanName (P.region memory.old) sup.now cpu row.old.inode row.old }
     requires other_stands { StandsRight (P.region memory.old) sup.now free.old other.old × CanName (P.region memory.old) sup.now cpu other.old.inode other.old }
-    requires given { AreGiven first.now.entries.now × (length first.now.entries.now ≡ 1) }
-    requires more_given { AreGiven second.now.entries.now × (length second.now.entries.now ≡ 1) }
+    requires given { AreFew first.now.entries.now }
+    requires more_given { AreFew second.now.entries.now }
     ensures appended { OnOk result (AppendsLogs (P.region memory.old) (P.region memory.new) sup.now free.old free.new cpu (row.old ∷ other.old ∷ []) (row.new ∷ other.new ∷ []) 0 first.now.entries.now 1 second.now.entries.now) }
+    ensures first_room { OnOk result (first.now.names ≤ row.new.names.room) }
     ensures room { OnOk result (second.now.names ≤ other.new.names.room) }
     ensures enough { OnOk result (needed (row.old.tail % 4096) first.now.entries.now + needed (other.old.tail % 4096) second.now.entries.now ≤ all_blocks free.old.pools) }
     ensures settled { OnOk result (NothingPending (P.region memory.new) (P.may_hold memory.new)) }
@@ -101,14 +102,19 @@ pub(crate) fn append_logs<P: Pmem>(
 }
 
 /// How many blocks the log of a row takes.
-fn blocks_for(row: &Row, growth: &Growth<'_>) -> u64
+pub(crate) fn blocks_for(row: &Row, growth: &Growth<'_>) -> u64
     ensures { result ≡ needed (row.now.tail % 4096) growth.now.entries.now }
 {
     pages_needed(row.tail, growth.entries)
 }
 
 /// Entries for the log of a row, over these blocks.
-fn extension<'a>(sup: &Super, row: &Row, entries: &'a [Entry], fresh: &'a [u64]) -> Extension<'a>
+pub(crate) fn extension<'a>(
+    sup: &Super,
+    row: &Row,
+    entries: &'a [Entry],
+    fresh: &'a [u64],
+) -> Extension<'a>
     requires layout { IsLayout sup.now }
     requires number { row.now.inode < inode_limit sup.now }
     ensures slot { result.slot ≡ slot_address sup.now row.now.inode }
@@ -127,7 +133,7 @@ fn extension<'a>(sup: &Super, row: &Row, entries: &'a [Entry], fresh: &'a [u64])
 /// Takes the blocks that both logs need, each by itself, and makes room for them in both rows.
 ///
 /// `NoSpace` where all pools together have fewer blocks, `Memory` where a growth was refused. Both leave the free lists.
-fn prepare_logs(
+pub(crate) fn prepare_logs(
     alloc: Global,
     free: &mut Allocators,
     cpu: u64,
@@ -137,12 +143,13 @@ fn prepare_logs(
     second: &Growth<'_>,
 ) -> Result<Vec<u64>, Refusal>
     requires cpu { cpu < free.old.sup.cpus }
-    requires one { length first.now.entries.now ≡ 1 }
-    requires other_one { length second.now.entries.now ≡ 1 }
+    requires few { length first.now.entries.now < 4096 }
+    requires more_few { length second.now.entries.now < 4096 }
     ensures taken { IfOk result (λ blocks. TakesEach free.old cpu blocks.items free.new) }
     ensures count { IfOk result (λ blocks. length blocks.items ≡ needed (row.old.tail % 4096) first.now.entries.now + needed (other.old.tail % 4096) second.now.entries.now) }
     ensures enough { OnOk result (needed (row.old.tail % 4096) first.now.entries.now + needed (other.old.tail % 4096) second.now.entries.now ≤ all_blocks free.old.pools) }
     ensures refused { IfErr result (λ e. RefusesStep e (needed (row.old.tail % 4096) first.now.entries.now + needed (other.old.tail % 4096) second.now.entries.now) free.old) }
+    ensures room { OnOk result (free.old.room ≤ free.new.room) }
     ensures goes_on { IfErr result (λ e. e ≡ RefusalValue.Stopped → ⊥) }
     ensures unchanged { OnErr result (SamePools free.old free.new) }
     ensures row { SameRow row.old row.new }
@@ -170,7 +177,7 @@ fn prepare_logs(
 }
 
 /// Makes room in a row for so many pages and so many names.
-fn make_room(row: &mut Row, pages: usize, names: usize) -> Result<(), AllocError>
+pub(crate) fn make_room(row: &mut Row, pages: usize, names: usize) -> Result<(), AllocError>
     ensures row { SameRow row.old row.new }
     ensures pages { OnOk result (HasRoomFor row.new.pages pages) }
     ensures names { OnOk result (names ≤ row.new.names.room) }

@@ -1,6 +1,6 @@
 //! A log that grows while another inode goes, and the row that stands for it: all growths first, then the commit, then the row.
 
-ghost use Rattle.std.specs.Prelude.{◌≡◌, ◌≢◌, ◌%◌, ◌<◌, ◌≤◌, length, IsTrue, IfErr, OnOk};
+ghost use Rattle.std.specs.Prelude.{◌≡◌, ◌≢◌, ◌%◌, ◌<◌, ◌≤◌, length, IsTrue, IfOk, IfErr, OnOk, OnErr};
 ghost use Rattle.nv_super.specs.Layout.{fixed_layout, slot_address};
 ghost use Rattle.smallvec.specs.SmallVec.{HasRoomFor};
 ghost use Rattle.nv_region.specs.Region.{size};
@@ -9,6 +9,7 @@ ghost use Rattle.nv_region.specs.Fuses.{KeepsFuse};
 ghost use Rattle.nv_alloc.specs.Taking.{all_blocks};
 ghost use Rattle.nv_logpage.specs.Append.{AreGiven, needed};
 ghost use Rattle.nv_names.specs.Names.{EachOnce};
+ghost use Rattle.nv_held.specs.nv_outcome.Same.{SameRow};
 ghost use Rattle.nv_held.specs.Held.{Held, Store};
 ghost use Rattle.nv_commit.specs.Stopped.{LeavesEither};
 ghost use Rattle.nv_tree.specs.declared.refusal.Refusal.{Refusal as RefusalValue};
@@ -18,10 +19,11 @@ ghost use Rattle.nv_steps.specs.Steps.{LeavesStep, RefusesStep, ShowsRow};
 ghost use Rattle.nv_steps.specs.InOrder.{TailIsFirst};
 ghost use Rattle.nv_steps.specs.Stores.{StoresIn, one_less};
 ghost use Rattle.nv_steps.specs.Takes.{AppendedLess, AppendsLess};
+ghost use Rattle.nv_steps.specs.Taken.{SamePools, TakesEach};
 
-use crate::removing::prepare_cut;
+use crate::preparing::prepare_log;
 use crate::settling::settle_log;
-use nv_alloc::Allocators;
+use nv_alloc::{AllocRefusal, Allocators};
 use nv_commit::{Extension, remove_inode};
 use nv_entry::Entry;
 use nv_region::Pmem;
@@ -85,6 +87,44 @@ pub fn append_less<P: Pmem>(
     };
     settle_less(row, &fresh, end);
     Ok(())
+}
+
+/// Takes the blocks that entries need behind the tail of a log, each by itself. It makes room for their pages in the
+/// row, and in the free lists for so many blocks that come.
+///
+/// `NoSpace` where all pools together have fewer blocks, `Memory` where a growth was refused. Both leave the free lists.
+fn prepare_cut(
+    alloc: Global,
+    free: &mut Allocators,
+    cpu: u64,
+    row: &mut Row,
+    entries: &[Entry],
+    coming: usize,
+) -> Result<Vec<u64>, Refusal>
+    requires cpu { cpu < free.old.sup.cpus }
+    ensures taken { IfOk result (λ blocks. TakesEach free.old cpu blocks.items free.new) }
+    ensures count { IfOk result (λ blocks. length blocks.items ≡ needed (row.old.tail % 4096) entries.now) }
+    ensures pages_room { IfOk result (λ blocks. HasRoomFor row.new.pages (length blocks.items)) }
+    ensures room { OnOk result (coming ≤ free.new.room) }
+    ensures enough { OnOk result (needed (row.old.tail % 4096) entries.now ≤ all_blocks free.old.pools) }
+    ensures once { EachOnce row.old.names }
+    ensures row { SameRow row.old row.new }
+    ensures names_room { row.new.names.room ≡ row.old.names.room }
+    ensures refused { IfErr result (λ e. RefusesStep e (needed (row.old.tail % 4096) entries.now) free.old) }
+    ensures goes_on { IfErr result (λ e. e ≡ RefusalValue.Stopped → ⊥) }
+    ensures unchanged { OnErr result (SamePools free.old free.new) }
+{
+    // A name index says of itself that it has no name twice.
+    let _names = row.names.len();
+    let tail = row.tail;
+    if free.reserve(coming).is_err() {
+        return Err(Refusal::Memory);
+    }
+    match prepare_log(alloc, free, cpu, &mut row.pages, tail, entries) {
+        Ok(fresh) => Ok(fresh),
+        Err(AllocRefusal::NoSpace) => Err(Refusal::NoSpace),
+        Err(AllocRefusal::Memory) => Err(Refusal::Memory),
+    }
 }
 
 /// Puts the new pages and the new tail of its log into a row, which has room for them, and whose names stay.

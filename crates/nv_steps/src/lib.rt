@@ -5,6 +5,7 @@
 //! commits, and settles without taking memory.
 #![tactic(auto)]
 
+mod across;
 mod appending;
 mod attributes;
 mod blocks;
@@ -12,6 +13,8 @@ mod cleaning;
 mod copying;
 mod giving;
 mod growing;
+mod growing_less;
+mod growing_three;
 mod lessening;
 mod linking;
 mod making;
@@ -29,6 +32,7 @@ mod taking;
 mod unlinking;
 mod writing;
 
+pub use across::{lessen_across, take_across};
 pub use attributes::change_attributes;
 pub use cleaning::{clean_log, dead_pages_of};
 pub use giving::give_row;
@@ -39,6 +43,6 @@ pub use planning::Plan;
 pub use removing::{Gone, cut_name};
 pub use renaming::{OtherName, move_both, move_within};
 pub use resizing::resize;
-pub use taking::{Displaced, take_within};
+pub use taking::{Displaced, lessen_within, take_within};
 pub use unlinking::unlink_both;
 pub use writing::change_bytes;

@@ -1,6 +1,6 @@
-//! A name of one inode that is given to another in its directory, by the directory's row: the first inode goes.
+//! A name of one inode that is given to another in its directory: the first inode goes, or counts a link less.
 
-ghost use Rattle.std.specs.Prelude.{◌≡◌, ◌≢◌, ◌%◌, ◌≤◌, IsTrue, IfErr, OnOk};
+ghost use Rattle.std.specs.Prelude.{◌≡◌, ◌≢◌, ◌+◌, ◌-◌, ◌%◌, ◌<◌, ◌≤◌, [], ◌∷◌, IsTrue, IfErr, OnOk};
 ghost use Rattle.nv_super.specs.Layout.{fixed_layout, slot_address};
 ghost use Rattle.nv_region.specs.Region.{size};
 ghost use Rattle.nv_region.specs.Stops.{LeavesOnly, NothingPending};
@@ -8,21 +8,25 @@ ghost use Rattle.nv_region.specs.Fuses.{KeepsFuse};
 ghost use Rattle.nv_alloc.specs.Taking.{all_blocks};
 ghost use Rattle.nv_logpage.specs.Append.{needed};
 ghost use Rattle.nv_names.specs.Names.{IsName};
+ghost use Rattle.nv_held.specs.nv_outcome.Same.{SameRow};
 ghost use Rattle.nv_held.specs.Held.{Held, Store};
 ghost use Rattle.nv_commit.specs.Stopped.{LeavesEither};
 ghost use Rattle.nv_tree.specs.declared.refusal.Refusal.{Refusal as RefusalValue};
 ghost use Rattle.nv_steps.specs.Grown.{StandsRight};
+ghost use Rattle.nv_steps.specs.NameEntries.{links_entries};
 ghost use Rattle.nv_steps.specs.NewNames.{CanName};
 ghost use Rattle.nv_steps.specs.Steps.{LeavesStep, RefusesStep, ShowsRow};
-ghost use Rattle.nv_steps.specs.InOrder.{TailIsFirst};
-ghost use Rattle.nv_steps.specs.Stores.{StoresIn, one_less};
+ghost use Rattle.nv_steps.specs.InOrder.{TailIsFirst, tail_address};
+ghost use Rattle.nv_steps.specs.Lessens.{Lessened, LessensAt};
+ghost use Rattle.nv_steps.specs.Stores.{StoresIn, one_less, two_logs};
 ghost use Rattle.nv_steps.specs.Takes.{TakesWithin, TookWithin, take_entries};
 
+use crate::growing::{Growth, append_logs};
 use crate::lessening::append_less;
 use crate::renaming::OtherName;
-use crate::settling_names::{add_name, remove_name};
+use crate::settling_names::{add_name, remove_name, set_links};
 use nv_alloc::Allocators;
-use nv_entry::{Operation, length, name_entry};
+use nv_entry::{Entry, LinksEntry, Operation, length, name_entry};
 use nv_region::Pmem;
 use nv_scan::Row;
 use nv_super::Super;
@@ -103,5 +107,74 @@ pub fn take_within<P: Pmem>(
     remove_name(directory, moved.name, moved.time);
     remove_name(directory, moved.other, moved.time);
     add_name(directory, moved.other, moved.inode, place, moved.time);
+    Ok(())
+}
+
+/// Takes a name out of a directory, and gives its inode the name of a file that keeps others: the file's log says one link less.
+///
+/// `NoSpace` where all pools together have too few blocks, `Memory` where a growth was refused; both change nothing.
+/// `Stopped` where the fuse has burnt.
+pub fn lessen_within<P: Pmem>(
+    alloc: Global,
+    memory: &mut P,
+    sup: &Super,
+    free: &mut Allocators,
+    cpu: u64,
+    directory: &mut Row,
+    file: &mut Row,
+    moved: &OtherName<'_>,
+) -> Result<(), Refusal>
+    requires apart { directory.old.inode ≢ file.old.inode }
+    requires stands { StandsRight (P.region memory.old) sup.now free.old directory.old × CanName (P.region memory.old) sup.now cpu directory.old.inode directory.old }
+    requires file_stands { StandsRight (P.region memory.old) sup.now free.old file.old × CanName (P.region memory.old) sup.now cpu file.old.inode file.old }
+    requires more { 1 < file.old.numbers.links }
+    requires name { IsName moved.now.name.now }
+    requires other { IsName moved.now.other.now }
+    ensures lessened { OnOk result (LessensAt (P.region memory.old) (P.region memory.new) sup.now free.old free.new cpu (directory.old ∷ file.old ∷ []) (directory.new ∷ file.new ∷ []) 0 1 moved.now.inode moved.now.name.now moved.now.other.now moved.now.time) }
+    ensures enough { OnOk result (needed (directory.old.tail % 4096) (take_entries moved.now.inode file.old.inode moved.now.name.now moved.now.other.now moved.now.time) + needed (file.old.tail % 4096) (links_entries (file.old.numbers.links - 1) moved.now.time) ≤ all_blocks free.old.pools) }
+    ensures settled { OnOk result (NothingPending (P.region memory.new) (P.may_hold memory.new)) }
+    ensures refused { IfErr result (λ e. RefusesStep e (needed (directory.old.tail % 4096) (take_entries moved.now.inode file.old.inode moved.now.name.now moved.now.other.now moved.now.time) + needed (file.old.tail % 4096) (links_entries (file.old.numbers.links - 1) moved.now.time)) free.old) }
+    ensures unchanged { IfErr result (λ e. (e ≡ RefusalValue.Stopped → ⊥) → LeavesStep memory.old memory.new free.old free.new directory.old directory.new × SameRow file.old file.new) }
+    ensures stopped { IfErr result (λ e. e ≡ RefusalValue.Stopped → IsTrue (P.fuse memory.new).has_burnt) }
+    ensures inode { directory.new.inode ≡ directory.old.inode }
+    ensures file_inode { file.new.inode ≡ file.old.inode }
+    ensures lists { free.new.sup ≡ free.old.sup }
+    ensures length { size (P.region memory.new) ≡ size (P.region memory.old) }
+    ensures keeps_fuse { KeepsFuse (λ limit. size (P.region memory.old) ≤ limit) (P.fuse memory.old) (P.fuse memory.new) }
+    // Every word outside these places is as it was.
+    ensures wrote { (held : Store) (h f : Held) → ShowsRow (P.region memory.old) sup.now held h directory.old free.old → ShowsRow (P.region memory.old) sup.now held f file.old free.old
+        → StoresIn sup.now held (two_logs sup.now cpu directory.old.inode file.old.inode) (P.region memory.old) (P.region memory.new) }
+    // The directory's tail is stored first.
+    ensures in_order { (held : Store) (h f : Held) → ShowsRow (P.region memory.old) sup.now held h directory.old free.old → ShowsRow (P.region memory.old) sup.now held f file.old free.old
+        → TailIsFirst (P.region memory.old) (P.region memory.new) sup.now free.old.pools cpu directory.old.inode directory.old.tail (take_entries moved.now.inode file.old.inode moved.now.name.now moved.now.other.now moved.now.time) (tail_address sup.now file.old.inode) }
+    // Whatever a stop leaves: recovery finds what is held, or it with the name given and a link less, without faults.
+    ensures any_stop { (held : Store) (h f : Held) → ShowsRow (P.region memory.old) sup.now held h directory.old free.old → ShowsRow (P.region memory.old) sup.now held f file.old free.old
+        → NothingPending (P.region memory.old) (P.may_hold memory.old)
+        → LeavesOnly (P.region memory.new) (P.may_hold memory.new) (LeavesEither (P.region memory.old) (fixed_layout sup.now) held (Lessened (P.region memory.old) sup.now free.old cpu directory.old file.old moved.now.inode moved.now.name.now moved.now.other.now moved.now.time)) }
+{
+    let time = moved.time;
+    let count = file.numbers.links - 1;
+    let names = [
+        name_entry(Operation::Remove, moved.inode, moved.name, time),
+        name_entry(Operation::Remove, file.inode, moved.other, time),
+        name_entry(Operation::Add, moved.inode, moved.other, time),
+    ];
+    let links = [Entry::Links(LinksEntry { count, time })];
+    let first = Growth {
+        entries: &names,
+        names: 1,
+    };
+    let second = Growth {
+        entries: &links,
+        names: 0,
+    };
+    append_logs(
+        alloc, memory, sup, free, cpu, directory, &first, file, &second,
+    )?;
+    let place = directory.tail - length(&names[2]);
+    remove_name(directory, moved.name, time);
+    remove_name(directory, moved.other, time);
+    add_name(directory, moved.other, moved.inode, place, time);
+    set_links(file, count, time);
     Ok(())
 }

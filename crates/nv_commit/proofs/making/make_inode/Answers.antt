@@ -1,4 +1,4 @@
-use Rattle.std.proofs.Common.{ℕ, ◌+◌, inr, subst, ◌≡◌, ◌∙◌, sym, inl, arith}
+use Rattle.std.proofs.Common.{rules, ℕ, ◌+◌, inr, subst, ◌≡◌, ◌∙◌, sym, inl, arith}
 use Rattle.nv_region.specs.Region.{size}
 use Rattle.nv_region.proofs.Fuses.{keeps_more, keeps_within}
 use Rattle.nv_region.proofs.Wordwise.{stores_more, stores_within}
@@ -22,73 +22,70 @@ change_two-requires g c =
     let directory = c.requires.directory in
     let same : size (g.P.Pmem.region c.prepare.new.memory) ≡ size (g.P.Pmem.region c.args.memory.now) = mixed_size c.prepare.ensures.wrote.mixed in
     record {
-      inside = omega (arith, directory.slot_behind, directory.inside, same);
-      empty = journal_waits inode directory c.prepare.ensures.wrote.mixed c.requires.empty;
+      ready = record { inside = omega (arith, directory.slot_behind, directory.inside, same); empty = journal_waits inode directory c.prepare.ensures.wrote.mixed c.requires.empty };
       first = (inode.whole, omega (arith, inode.inside, same));
       second = (omega (arith, directory.whole), omega (arith, directory.inside, same));
       behind = (inode.slot_behind, omega (arith, directory.slot_behind));
     }
 
-pub returns-in_err-ends-clause-reads : goal.returns-in_err-ends-clause-reads
-returns-in_err-ends-clause-reads g c s held j i h can = inl (sound_undone (sound_before can _ c.prepare.ensures.wrote.mixed))
+pub returns-in_err-ends-clause-moments : goal.returns-in_err-ends-clause-moments
+returns-in_err-ends-clause-moments g c s held j i h can = record {
+  reads = inl (sound_undone (sound_before can _ c.prepare.ensures.wrote.mixed));
+  any_stop = λ settled. left_undone can _ _ _ c.prepare.ensures.wrote settled;
+}
 
-pub returns-in_err-ends-clause-any_stop : goal.returns-in_err-ends-clause-any_stop
-returns-in_err-ends-clause-any_stop g c s held j i h can settled = left_undone can _ _ _ c.prepare.ensures.wrote settled
+pub returns-in_err-ends-clause-kept : goal.returns-in_err-ends-clause-kept
+returns-in_err-ends-clause-kept g c = record {
+  wrote = stores_within (MakeWords c.args.cpu c.args.inode.now c.args.directory.now) (PrepareWords c.args.inode.now c.args.directory.now) _ _ _ _ (λ k v w. inl w) c.prepare.ensures.wrote;
+  stopped = search rules;
+  keeps_fuse = keeps_within (λ limit past. (past.0, past.1, past.2)) c.prepare.ensures.keeps_fuse;
+  settled = search rules;
+}
 
-pub returns-in_err-ends-clause-keeps_fuse : goal.returns-in_err-ends-clause-keeps_fuse
-returns-in_err-ends-clause-keeps_fuse g c = keeps_within (λ limit past. (past.0, past.1, past.2)) c.prepare.ensures.keeps_fuse
+pub returns-in_err-change_two-clause-moments : goal.returns-in_err-change_two-clause-moments
+returns-in_err-change_two-clause-moments g c s held j i h can = record {
+  reads = made_undone can c.in_ok-ends.ensures.prepared c.requires.inode.inside c.requires.directory.inside c.len-length.ensures.short _ ((c.change_two.ensures.undo_gives (is_permitted s) s.cpus (can_undo can c.in_ok-ends.ensures.prepared c.len-length.ensures.short)).reads)
+      (((c.change_two.ensures.undo_gives (is_permitted s) s.cpus (can_undo can c.in_ok-ends.ensures.prepared c.len-length.ensures.short)).faultless (faultless can c.in_ok-ends.ensures.prepared)).reads);
+  any_stop = λ settled left may. made_undone can c.in_ok-ends.ensures.prepared c.requires.inode.inside c.requires.directory.inside c.len-length.ensures.short left ((c.change_two.ensures.undo_gives (is_permitted s) s.cpus (can_undo can c.in_ok-ends.ensures.prepared c.len-length.ensures.short)).any_stop c.in_ok-ends.ensures.settled left may)
+      (((c.change_two.ensures.undo_gives (is_permitted s) s.cpus (can_undo can c.in_ok-ends.ensures.prepared c.len-length.ensures.short)).faultless (faultless can c.in_ok-ends.ensures.prepared)).any_stop c.in_ok-ends.ensures.settled left may);
+}
 
-pub returns-in_err-ends-clause-wrote : goal.returns-in_err-ends-clause-wrote
-returns-in_err-ends-clause-wrote g c = stores_within (MakeWords c.args.cpu c.args.inode.now c.args.directory.now) (PrepareWords c.args.inode.now c.args.directory.now) _ _ _ _ (λ k v w. inl w) c.prepare.ensures.wrote
+pub returns-in_err-change_two-clause-kept : goal.returns-in_err-change_two-clause-kept
+returns-in_err-change_two-clause-kept g c = record {
+  wrote = stores_more (MakeWords c.args.cpu c.args.inode.now c.args.directory.now) (Changes c.args.cpu c.args.inode.now.slot 1 (c.args.directory.now.slot + 24) c.in_ok-ends.ends.1) _ _ _ _ _ _
+      (λ k v w. inr (subst (λ (m : ℕ). Changes c.args.cpu c.args.inode.now.slot 1 (c.args.directory.now.slot + 24) m k v) c.in_ok-ends.ensures.prepared.last_end w))
+      (stores_within (MakeWords c.args.cpu c.args.inode.now c.args.directory.now) (PrepareWords c.args.inode.now c.args.directory.now) _ _ _ _ (λ k v w. inl w) c.prepare.ensures.wrote) c.change_two.ensures.kept.wrote;
+  stopped = search rules;
+  keeps_fuse = let behind = c.requires.directory.slot_behind in
+      keeps_more (λ limit past. (let first = past.2 in let second = past.3 in (omega (arith, behind, second), omega (arith, first), omega (arith, second)))) (keeps_within (λ limit past. (past.0, past.1, past.2)) c.prepare.ensures.keeps_fuse) c.change_two.ensures.kept.keeps_fuse;
+  settled = search rules;
+}
 
-pub returns-in_err-change_two-clause-reads : goal.returns-in_err-change_two-clause-reads
-returns-in_err-change_two-clause-reads g c s held j i h can =
-    made_undone can c.in_ok-ends.ensures.prepared c.requires.inode.inside c.requires.directory.inside c.len-length.ensures.short _ (c.change_two.ensures.reads (is_permitted s) s.cpus (can_undo can c.in_ok-ends.ensures.prepared c.len-length.ensures.short))
-    (c.change_two.ensures.faultless (is_permitted s) s.cpus (can_undo can c.in_ok-ends.ensures.prepared c.len-length.ensures.short) (faultless can c.in_ok-ends.ensures.prepared))
+pub returns-clause-moments : goal.returns-clause-moments
+returns-clause-moments g c s held j i h can = record {
+  reads = made_undone can c.in_ok-ends.ensures.prepared c.requires.inode.inside c.requires.directory.inside c.len-length.ensures.short _ ((c.change_two.ensures.undo_gives (is_permitted s) s.cpus (can_undo can c.in_ok-ends.ensures.prepared c.len-length.ensures.short)).reads)
+      (((c.change_two.ensures.undo_gives (is_permitted s) s.cpus (can_undo can c.in_ok-ends.ensures.prepared c.len-length.ensures.short)).faultless (faultless can c.in_ok-ends.ensures.prepared)).reads);
+  any_stop = λ settled left may. made_undone can c.in_ok-ends.ensures.prepared c.requires.inode.inside c.requires.directory.inside c.len-length.ensures.short left ((c.change_two.ensures.undo_gives (is_permitted s) s.cpus (can_undo can c.in_ok-ends.ensures.prepared c.len-length.ensures.short)).any_stop c.in_ok-ends.ensures.settled left may)
+      (((c.change_two.ensures.undo_gives (is_permitted s) s.cpus (can_undo can c.in_ok-ends.ensures.prepared c.len-length.ensures.short)).faultless (faultless can c.in_ok-ends.ensures.prepared)).any_stop c.in_ok-ends.ensures.settled left may);
+}
 
-pub returns-in_err-change_two-clause-any_stop : goal.returns-in_err-change_two-clause-any_stop
-returns-in_err-change_two-clause-any_stop g c s held j i h can settled left may =
-    made_undone can c.in_ok-ends.ensures.prepared c.requires.inode.inside c.requires.directory.inside c.len-length.ensures.short left (c.change_two.ensures.any_stop (is_permitted s) s.cpus (can_undo can c.in_ok-ends.ensures.prepared c.len-length.ensures.short) c.in_ok-ends.ensures.settled left may)
-    (c.change_two.ensures.stop_is_faultless (is_permitted s) s.cpus (can_undo can c.in_ok-ends.ensures.prepared c.len-length.ensures.short) (faultless can c.in_ok-ends.ensures.prepared) c.in_ok-ends.ensures.settled left may)
-
-pub returns-in_err-change_two-clause-keeps_fuse : goal.returns-in_err-change_two-clause-keeps_fuse
-returns-in_err-change_two-clause-keeps_fuse g c =
-    let behind = c.requires.directory.slot_behind in
-    keeps_more (λ limit past. (let first = past.2 in let second = past.3 in (omega (arith, behind, second), omega (arith, first), omega (arith, second)))) (keeps_within (λ limit past. (past.0, past.1, past.2)) c.prepare.ensures.keeps_fuse) c.change_two.ensures.keeps_fuse
-
-pub returns-in_err-change_two-clause-wrote : goal.returns-in_err-change_two-clause-wrote
-returns-in_err-change_two-clause-wrote g c =
-    stores_more (MakeWords c.args.cpu c.args.inode.now c.args.directory.now) (Changes c.args.cpu c.args.inode.now.slot 1 (c.args.directory.now.slot + 24) c.in_ok-ends.ends.1) _ _ _ _ _ _
-    (λ k v w. inr (subst (λ (m : ℕ). Changes c.args.cpu c.args.inode.now.slot 1 (c.args.directory.now.slot + 24) m k v) c.in_ok-ends.ensures.prepared.last_end w))
-    (stores_within (MakeWords c.args.cpu c.args.inode.now c.args.directory.now) (PrepareWords c.args.inode.now c.args.directory.now) _ _ _ _ (λ k v w. inl w) c.prepare.ensures.wrote) c.change_two.ensures.wrote
-
-pub returns-clause-reads : goal.returns-clause-reads
-returns-clause-reads g c s held j i h can =
-    made_undone can c.in_ok-ends.ensures.prepared c.requires.inode.inside c.requires.directory.inside c.len-length.ensures.short _ (c.change_two.ensures.reads (is_permitted s) s.cpus (can_undo can c.in_ok-ends.ensures.prepared c.len-length.ensures.short))
-    (c.change_two.ensures.faultless (is_permitted s) s.cpus (can_undo can c.in_ok-ends.ensures.prepared c.len-length.ensures.short) (faultless can c.in_ok-ends.ensures.prepared))
-
-pub returns-clause-any_stop : goal.returns-clause-any_stop
-returns-clause-any_stop g c s held j i h can settled left may =
-    made_undone can c.in_ok-ends.ensures.prepared c.requires.inode.inside c.requires.directory.inside c.len-length.ensures.short left (c.change_two.ensures.any_stop (is_permitted s) s.cpus (can_undo can c.in_ok-ends.ensures.prepared c.len-length.ensures.short) c.in_ok-ends.ensures.settled left may)
-    (c.change_two.ensures.stop_is_faultless (is_permitted s) s.cpus (can_undo can c.in_ok-ends.ensures.prepared c.len-length.ensures.short) (faultless can c.in_ok-ends.ensures.prepared) c.in_ok-ends.ensures.settled left may)
-
-pub returns-clause-keeps_fuse : goal.returns-clause-keeps_fuse
-returns-clause-keeps_fuse g c =
-    let behind = c.requires.directory.slot_behind in
-    keeps_more (λ limit past. (let first = past.2 in let second = past.3 in (omega (arith, behind, second), omega (arith, first), omega (arith, second)))) (keeps_within (λ limit past. (past.0, past.1, past.2)) c.prepare.ensures.keeps_fuse) c.change_two.ensures.keeps_fuse
-
-pub returns-clause-wrote : goal.returns-clause-wrote
-returns-clause-wrote g c =
-    stores_more (MakeWords c.args.cpu c.args.inode.now c.args.directory.now) (Changes c.args.cpu c.args.inode.now.slot 1 (c.args.directory.now.slot + 24) c.in_ok-ends.ends.1) _ _ _ _ _ _
-    (λ k v w. inr (subst (λ (m : ℕ). Changes c.args.cpu c.args.inode.now.slot 1 (c.args.directory.now.slot + 24) m k v) c.in_ok-ends.ensures.prepared.last_end w))
-    (stores_within (MakeWords c.args.cpu c.args.inode.now c.args.directory.now) (PrepareWords c.args.inode.now c.args.directory.now) _ _ _ _ (λ k v w. inl w) c.prepare.ensures.wrote) c.change_two.ensures.wrote
+pub returns-clause-kept : goal.returns-clause-kept
+returns-clause-kept g c = record {
+  wrote = stores_more (MakeWords c.args.cpu c.args.inode.now c.args.directory.now) (Changes c.args.cpu c.args.inode.now.slot 1 (c.args.directory.now.slot + 24) c.in_ok-ends.ends.1) _ _ _ _ _ _
+      (λ k v w. inr (subst (λ (m : ℕ). Changes c.args.cpu c.args.inode.now.slot 1 (c.args.directory.now.slot + 24) m k v) c.in_ok-ends.ensures.prepared.last_end w))
+      (stores_within (MakeWords c.args.cpu c.args.inode.now c.args.directory.now) (PrepareWords c.args.inode.now c.args.directory.now) _ _ _ _ (λ k v w. inl w) c.prepare.ensures.wrote) c.change_two.ensures.kept.wrote;
+  stopped = search rules;
+  keeps_fuse = let behind = c.requires.directory.slot_behind in
+      keeps_more (λ limit past. (let first = past.2 in let second = past.3 in (omega (arith, behind, second), omega (arith, first), omega (arith, second)))) (keeps_within (λ limit past. (past.0, past.1, past.2)) c.prepare.ensures.keeps_fuse) c.change_two.ensures.kept.keeps_fuse;
+  settled = search rules;
+}
 
 pub returns-clause-ends : goal.returns-clause-ends
 returns-clause-ends g c = (c.in_ok-ends.ensures.prepared.first_end, c.in_ok-ends.ensures.prepared.last_end)
 
 pub returns-clause-shows : goal.returns-clause-shows
 returns-clause-shows g c s held j i h can =
-    made_idle can c.in_ok-ends.ensures.prepared c.requires.inode.inside c.requires.directory.inside c.len-length.ensures.short _ c.in_ok-change_two.ensures.done c.in_ok-change_two.ensures.empty
+    made_idle can c.in_ok-ends.ensures.prepared c.requires.inode.inside c.requires.directory.inside c.len-length.ensures.short _ c.in_ok-change_two.ensures.done c.in_ok-change_two.ensures.kept.empty
 
 pub returns-in_err-ends-clause-in_order : goal.returns-in_err-ends-clause-in_order
 returns-in_err-ends-clause-in_order g c s held j i h can = inl (tail_same can.parent.sound (sound_before can (g.P.Pmem.region c.prepare.new.memory) c.prepare.ensures.wrote.mixed) can.parent.at can.parent.holds)

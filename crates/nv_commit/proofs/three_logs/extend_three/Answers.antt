@@ -1,4 +1,4 @@
-use Rattle.std.proofs.Common.{ℕ, ◌+◌, ◌∷◌, [], ◌≡◌, inl, inr, subst, arith}
+use Rattle.std.proofs.Common.{rules, ℕ, ◌+◌, ◌∷◌, [], ◌≡◌, inl, inr, subst, arith}
 use Rattle.nv_region.specs.Region.{size}
 use Rattle.nv_region.proofs.Fuses.{keeps_more, keeps_within}
 use Rattle.nv_region.proofs.Wordwise.{stores_more, stores_within}
@@ -26,25 +26,64 @@ change_three-requires g c =
     let third = c.requires.third in
     let same : size (g.P.Pmem.region c.append_three.new.memory) ≡ size (g.P.Pmem.region c.args.memory.now) = mixed_size c.append_three.ensures.wrote.mixed in
     record {
-      inside = omega (arith, first.slot_behind, first.inside, same);
-      empty = words_empty first second third c.append_three.ensures.wrote.mixed c.requires.empty;
+      ready = record { inside = omega (arith, first.slot_behind, first.inside, same); empty = words_empty first second third c.append_three.ensures.wrote.mixed c.requires.empty };
       first = (omega (arith, first.whole), omega (arith, first.inside, same));
       second = (omega (arith, second.whole), omega (arith, second.inside, same));
       third = (omega (arith, third.whole), omega (arith, third.inside, same));
       behind = (omega (arith, first.slot_behind), omega (arith, second.slot_behind), omega (arith, third.slot_behind));
     }
 
-pub returns-in_err-ends-clause-reads : goal.returns-in_err-ends-clause-reads
-returns-in_err-ends-clause-reads g c s held i j k h p f can = inl (sound_undone (three_before can _ c.append_three.ensures.wrote.mixed))
+pub returns-in_err-ends-clause-moments : goal.returns-in_err-ends-clause-moments
+returns-in_err-ends-clause-moments g c s held i j k h p f can = record {
+  reads = inl (sound_undone (three_before can _ c.append_three.ensures.wrote.mixed));
+  any_stop = λ settled. three_left can _ _ _ c.append_three.ensures.wrote settled;
+}
 
-pub returns-in_err-ends-clause-any_stop : goal.returns-in_err-ends-clause-any_stop
-returns-in_err-ends-clause-any_stop g c s held i j k h p f can settled = three_left can _ _ _ c.append_three.ensures.wrote settled
+pub returns-in_err-ends-clause-kept : goal.returns-in_err-ends-clause-kept
+returns-in_err-ends-clause-kept g c = record {
+  wrote = stores_within (ThreeTogether c.args.cpu c.args.first.now c.args.second.now c.args.third.now) (ThreeWords c.args.first.now c.args.second.now c.args.third.now) _ _ _ _ (λ k v w. inl w) c.append_three.ensures.wrote;
+  stopped = search rules;
+  keeps_fuse = keeps_within (λ limit past. (past.0, past.1, past.2)) c.append_three.ensures.keeps_fuse;
+  settled = search rules;
+}
 
-pub returns-in_err-ends-clause-keeps_fuse : goal.returns-in_err-ends-clause-keeps_fuse
-returns-in_err-ends-clause-keeps_fuse g c = keeps_within (λ limit past. (past.0, past.1, past.2)) c.append_three.ensures.keeps_fuse
+pub returns-clause-moments : goal.returns-clause-moments
+returns-clause-moments g c s held i j k h p f can = record {
+  reads = three_undone can c.in_ok-ends.ensures.appended c.requires.first.inside c.requires.second.inside c.requires.third.inside c.len-length.ensures.short _ ((c.change_three.ensures.undo_gives (is_permitted s) s.cpus (can_undo_three can c.in_ok-ends.ensures.appended c.requires.first.inside c.requires.second.inside c.requires.third.inside c.len-length.ensures.short)).reads)
+      (((c.change_three.ensures.undo_gives (is_permitted s) s.cpus (can_undo_three can c.in_ok-ends.ensures.appended c.requires.first.inside c.requires.second.inside c.requires.third.inside c.len-length.ensures.short)).faultless (three_faultless can c.in_ok-ends.ensures.appended)).reads);
+  any_stop = λ settled left may. three_undone can c.in_ok-ends.ensures.appended c.requires.first.inside c.requires.second.inside c.requires.third.inside c.len-length.ensures.short left ((c.change_three.ensures.undo_gives (is_permitted s) s.cpus (can_undo_three can c.in_ok-ends.ensures.appended c.requires.first.inside c.requires.second.inside c.requires.third.inside c.len-length.ensures.short)).any_stop c.in_ok-ends.ensures.settled left may)
+      (((c.change_three.ensures.undo_gives (is_permitted s) s.cpus (can_undo_three can c.in_ok-ends.ensures.appended c.requires.first.inside c.requires.second.inside c.requires.third.inside c.len-length.ensures.short)).faultless (three_faultless can c.in_ok-ends.ensures.appended)).any_stop c.in_ok-ends.ensures.settled left may);
+}
 
-pub returns-in_err-ends-clause-wrote : goal.returns-in_err-ends-clause-wrote
-returns-in_err-ends-clause-wrote g c = stores_within (ThreeTogether c.args.cpu c.args.first.now c.args.second.now c.args.third.now) (ThreeWords c.args.first.now c.args.second.now c.args.third.now) _ _ _ _ (λ k v w. inl w) c.append_three.ensures.wrote
+pub returns-clause-kept : goal.returns-clause-kept
+returns-clause-kept g c = record {
+  wrote = stores_more (ThreeTogether c.args.cpu c.args.first.now c.args.second.now c.args.third.now) (ChangesAll c.args.cpu ((c.args.first.now.slot + 24, c.in_ok-ends.ends.0) ∷ (c.args.second.now.slot + 24, c.in_ok-ends.ends.1) ∷ (c.args.third.now.slot + 24, c.in_ok-ends.ends.2) ∷ [])) _ _ _ _ _ _
+      (λ k v w. inr (subst (λ (n : ℕ). ChangesAll c.args.cpu ((c.args.first.now.slot + 24, n) ∷ (c.args.second.now.slot + 24, (end_of c.args.second.now.fresh.now 0 c.args.second.now.tail c.args.second.now.entries.now)) ∷ (c.args.third.now.slot + 24, (end_of c.args.third.now.fresh.now 0 c.args.third.now.tail c.args.third.now.entries.now)) ∷ []) k v) c.in_ok-ends.ensures.appended.both.first_end (subst (λ (n : ℕ). ChangesAll c.args.cpu ((c.args.first.now.slot + 24, c.in_ok-ends.ends.0) ∷ (c.args.second.now.slot + 24, n) ∷ (c.args.third.now.slot + 24, (end_of c.args.third.now.fresh.now 0 c.args.third.now.tail c.args.third.now.entries.now)) ∷ []) k v) c.in_ok-ends.ensures.appended.both.second_end (subst (λ (n : ℕ). ChangesAll c.args.cpu ((c.args.first.now.slot + 24, c.in_ok-ends.ends.0) ∷ (c.args.second.now.slot + 24, c.in_ok-ends.ends.1) ∷ (c.args.third.now.slot + 24, n) ∷ []) k v) c.in_ok-ends.ensures.appended.third_end w))))
+      (stores_within (ThreeTogether c.args.cpu c.args.first.now c.args.second.now c.args.third.now) (ThreeWords c.args.first.now c.args.second.now c.args.third.now) _ _ _ _ (λ k v w. inl w) c.append_three.ensures.wrote) c.change_three.ensures.kept.wrote;
+  stopped = search rules;
+  keeps_fuse = let behind = c.requires.first.slot_behind in
+      keeps_more (λ limit past. (let first = past.3 in let second = past.4 in let third = past.5 in (omega (arith, behind, first), omega (arith, first), omega (arith, second), omega (arith, third)))) (keeps_within (λ limit past. (past.0, past.1, past.2)) c.append_three.ensures.keeps_fuse) c.change_three.ensures.kept.keeps_fuse;
+  settled = search rules;
+}
+
+pub returns-in_err-change_three-clause-moments : goal.returns-in_err-change_three-clause-moments
+returns-in_err-change_three-clause-moments g c s held i j k h p f can = record {
+  reads = three_undone can c.in_ok-ends.ensures.appended c.requires.first.inside c.requires.second.inside c.requires.third.inside c.len-length.ensures.short _ ((c.change_three.ensures.undo_gives (is_permitted s) s.cpus (can_undo_three can c.in_ok-ends.ensures.appended c.requires.first.inside c.requires.second.inside c.requires.third.inside c.len-length.ensures.short)).reads)
+      (((c.change_three.ensures.undo_gives (is_permitted s) s.cpus (can_undo_three can c.in_ok-ends.ensures.appended c.requires.first.inside c.requires.second.inside c.requires.third.inside c.len-length.ensures.short)).faultless (three_faultless can c.in_ok-ends.ensures.appended)).reads);
+  any_stop = λ settled left may. three_undone can c.in_ok-ends.ensures.appended c.requires.first.inside c.requires.second.inside c.requires.third.inside c.len-length.ensures.short left ((c.change_three.ensures.undo_gives (is_permitted s) s.cpus (can_undo_three can c.in_ok-ends.ensures.appended c.requires.first.inside c.requires.second.inside c.requires.third.inside c.len-length.ensures.short)).any_stop c.in_ok-ends.ensures.settled left may)
+      (((c.change_three.ensures.undo_gives (is_permitted s) s.cpus (can_undo_three can c.in_ok-ends.ensures.appended c.requires.first.inside c.requires.second.inside c.requires.third.inside c.len-length.ensures.short)).faultless (three_faultless can c.in_ok-ends.ensures.appended)).any_stop c.in_ok-ends.ensures.settled left may);
+}
+
+pub returns-in_err-change_three-clause-kept : goal.returns-in_err-change_three-clause-kept
+returns-in_err-change_three-clause-kept g c = record {
+  wrote = stores_more (ThreeTogether c.args.cpu c.args.first.now c.args.second.now c.args.third.now) (ChangesAll c.args.cpu ((c.args.first.now.slot + 24, c.in_ok-ends.ends.0) ∷ (c.args.second.now.slot + 24, c.in_ok-ends.ends.1) ∷ (c.args.third.now.slot + 24, c.in_ok-ends.ends.2) ∷ [])) _ _ _ _ _ _
+      (λ k v w. inr (subst (λ (n : ℕ). ChangesAll c.args.cpu ((c.args.first.now.slot + 24, n) ∷ (c.args.second.now.slot + 24, (end_of c.args.second.now.fresh.now 0 c.args.second.now.tail c.args.second.now.entries.now)) ∷ (c.args.third.now.slot + 24, (end_of c.args.third.now.fresh.now 0 c.args.third.now.tail c.args.third.now.entries.now)) ∷ []) k v) c.in_ok-ends.ensures.appended.both.first_end (subst (λ (n : ℕ). ChangesAll c.args.cpu ((c.args.first.now.slot + 24, c.in_ok-ends.ends.0) ∷ (c.args.second.now.slot + 24, n) ∷ (c.args.third.now.slot + 24, (end_of c.args.third.now.fresh.now 0 c.args.third.now.tail c.args.third.now.entries.now)) ∷ []) k v) c.in_ok-ends.ensures.appended.both.second_end (subst (λ (n : ℕ). ChangesAll c.args.cpu ((c.args.first.now.slot + 24, c.in_ok-ends.ends.0) ∷ (c.args.second.now.slot + 24, c.in_ok-ends.ends.1) ∷ (c.args.third.now.slot + 24, n) ∷ []) k v) c.in_ok-ends.ensures.appended.third_end w))))
+      (stores_within (ThreeTogether c.args.cpu c.args.first.now c.args.second.now c.args.third.now) (ThreeWords c.args.first.now c.args.second.now c.args.third.now) _ _ _ _ (λ k v w. inl w) c.append_three.ensures.wrote) c.change_three.ensures.kept.wrote;
+  stopped = search rules;
+  keeps_fuse = let behind = c.requires.first.slot_behind in
+      keeps_more (λ limit past. (let first = past.3 in let second = past.4 in let third = past.5 in (omega (arith, behind, first), omega (arith, first), omega (arith, second), omega (arith, third)))) (keeps_within (λ limit past. (past.0, past.1, past.2)) c.append_three.ensures.keeps_fuse) c.change_three.ensures.kept.keeps_fuse;
+  settled = search rules;
+}
 
 pub returns-in_err-ends-clause-in_order : goal.returns-in_err-ends-clause-in_order
 returns-in_err-ends-clause-in_order g c s held i j k h p f can = (inl (tail_same can.two.second.sound (three_before can (g.P.Pmem.region c.append_three.new.memory) c.append_three.ensures.wrote.mixed) can.two.second.at can.two.second.holds), inl (tail_same can.third.sound (three_before can (g.P.Pmem.region c.append_three.new.memory) c.append_three.ensures.wrote.mixed) can.third.at can.third.holds))
@@ -53,28 +92,7 @@ pub returns-clause-ends : goal.returns-clause-ends
 returns-clause-ends g c = (c.in_ok-ends.ensures.appended.both.first_end, c.in_ok-ends.ensures.appended.both.second_end, c.in_ok-ends.ensures.appended.third_end)
 
 pub returns-clause-shows : goal.returns-clause-shows
-returns-clause-shows g c s held i j k h p f can = three_idle can c.in_ok-ends.ensures.appended c.requires.first.inside c.requires.second.inside c.requires.third.inside c.len-length.ensures.short _ c.in_ok-change_three.ensures.done c.in_ok-change_three.ensures.empty
-
-pub returns-in_err-change_three-clause-reads : goal.returns-in_err-change_three-clause-reads
-returns-in_err-change_three-clause-reads g c s held i j k h p f can =
-    three_undone can c.in_ok-ends.ensures.appended c.requires.first.inside c.requires.second.inside c.requires.third.inside c.len-length.ensures.short _ (c.change_three.ensures.reads (is_permitted s) s.cpus (can_undo_three can c.in_ok-ends.ensures.appended c.requires.first.inside c.requires.second.inside c.requires.third.inside c.len-length.ensures.short))
-    (c.change_three.ensures.faultless (is_permitted s) s.cpus (can_undo_three can c.in_ok-ends.ensures.appended c.requires.first.inside c.requires.second.inside c.requires.third.inside c.len-length.ensures.short) (three_faultless can c.in_ok-ends.ensures.appended))
-
-pub returns-in_err-change_three-clause-any_stop : goal.returns-in_err-change_three-clause-any_stop
-returns-in_err-change_three-clause-any_stop g c s held i j k h p f can settled left may =
-    three_undone can c.in_ok-ends.ensures.appended c.requires.first.inside c.requires.second.inside c.requires.third.inside c.len-length.ensures.short left (c.change_three.ensures.any_stop (is_permitted s) s.cpus (can_undo_three can c.in_ok-ends.ensures.appended c.requires.first.inside c.requires.second.inside c.requires.third.inside c.len-length.ensures.short) c.in_ok-ends.ensures.settled left may)
-    (c.change_three.ensures.stop_is_faultless (is_permitted s) s.cpus (can_undo_three can c.in_ok-ends.ensures.appended c.requires.first.inside c.requires.second.inside c.requires.third.inside c.len-length.ensures.short) (three_faultless can c.in_ok-ends.ensures.appended) c.in_ok-ends.ensures.settled left may)
-
-pub returns-in_err-change_three-clause-keeps_fuse : goal.returns-in_err-change_three-clause-keeps_fuse
-returns-in_err-change_three-clause-keeps_fuse g c =
-    let behind = c.requires.first.slot_behind in
-    keeps_more (λ limit past. (let first = past.3 in let second = past.4 in let third = past.5 in (omega (arith, behind, first), omega (arith, first), omega (arith, second), omega (arith, third)))) (keeps_within (λ limit past. (past.0, past.1, past.2)) c.append_three.ensures.keeps_fuse) c.change_three.ensures.keeps_fuse
-
-pub returns-in_err-change_three-clause-wrote : goal.returns-in_err-change_three-clause-wrote
-returns-in_err-change_three-clause-wrote g c =
-    stores_more (ThreeTogether c.args.cpu c.args.first.now c.args.second.now c.args.third.now) (ChangesAll c.args.cpu ((c.args.first.now.slot + 24, c.in_ok-ends.ends.0) ∷ (c.args.second.now.slot + 24, c.in_ok-ends.ends.1) ∷ (c.args.third.now.slot + 24, c.in_ok-ends.ends.2) ∷ [])) _ _ _ _ _ _
-    (λ k v w. inr (subst (λ (n : ℕ). ChangesAll c.args.cpu ((c.args.first.now.slot + 24, n) ∷ (c.args.second.now.slot + 24, (end_of c.args.second.now.fresh.now 0 c.args.second.now.tail c.args.second.now.entries.now)) ∷ (c.args.third.now.slot + 24, (end_of c.args.third.now.fresh.now 0 c.args.third.now.tail c.args.third.now.entries.now)) ∷ []) k v) c.in_ok-ends.ensures.appended.both.first_end (subst (λ (n : ℕ). ChangesAll c.args.cpu ((c.args.first.now.slot + 24, c.in_ok-ends.ends.0) ∷ (c.args.second.now.slot + 24, n) ∷ (c.args.third.now.slot + 24, (end_of c.args.third.now.fresh.now 0 c.args.third.now.tail c.args.third.now.entries.now)) ∷ []) k v) c.in_ok-ends.ensures.appended.both.second_end (subst (λ (n : ℕ). ChangesAll c.args.cpu ((c.args.first.now.slot + 24, c.in_ok-ends.ends.0) ∷ (c.args.second.now.slot + 24, c.in_ok-ends.ends.1) ∷ (c.args.third.now.slot + 24, n) ∷ []) k v) c.in_ok-ends.ensures.appended.third_end w))))
-    (stores_within (ThreeTogether c.args.cpu c.args.first.now c.args.second.now c.args.third.now) (ThreeWords c.args.first.now c.args.second.now c.args.third.now) _ _ _ _ (λ k v w. inl w) c.append_three.ensures.wrote) c.change_three.ensures.wrote
+returns-clause-shows g c s held i j k h p f can = three_idle can c.in_ok-ends.ensures.appended c.requires.first.inside c.requires.second.inside c.requires.third.inside c.len-length.ensures.short _ c.in_ok-change_three.ensures.done c.in_ok-change_three.ensures.kept.empty
 
 pub returns-in_err-change_three-clause-in_order : goal.returns-in_err-change_three-clause-in_order
 returns-in_err-change_three-clause-in_order g c s held i j k h p f can =
@@ -86,27 +104,6 @@ returns-in_err-change_three-clause-in_order g c s held i j k h p f can =
     subst (λ (n : ℕ). ThreeInOrder (g.P.Pmem.region c.args.memory.now) (c.args.first.now.slot + 24, n) (new_tail c.args.second.now) (new_tail c.args.third.now) (g.P.Pmem.region c.change_three.new.memory)) c.in_ok-ends.ensures.appended.both.first_end
     (subst (λ (n : ℕ). ThreeInOrder (g.P.Pmem.region c.args.memory.now) (c.args.first.now.slot + 24, c.in_ok-ends.ends.0) (c.args.second.now.slot + 24, n) (new_tail c.args.third.now) (g.P.Pmem.region c.change_three.new.memory)) c.in_ok-ends.ensures.appended.both.second_end
     (subst (λ (n : ℕ). ThreeInOrder (g.P.Pmem.region c.args.memory.now) (c.args.first.now.slot + 24, c.in_ok-ends.ends.0) (c.args.second.now.slot + 24, c.in_ok-ends.ends.1) (c.args.third.now.slot + 24, n) (g.P.Pmem.region c.change_three.new.memory)) c.in_ok-ends.ensures.appended.third_end ordered))
-
-pub returns-clause-reads : goal.returns-clause-reads
-returns-clause-reads g c s held i j k h p f can =
-    three_undone can c.in_ok-ends.ensures.appended c.requires.first.inside c.requires.second.inside c.requires.third.inside c.len-length.ensures.short _ (c.change_three.ensures.reads (is_permitted s) s.cpus (can_undo_three can c.in_ok-ends.ensures.appended c.requires.first.inside c.requires.second.inside c.requires.third.inside c.len-length.ensures.short))
-    (c.change_three.ensures.faultless (is_permitted s) s.cpus (can_undo_three can c.in_ok-ends.ensures.appended c.requires.first.inside c.requires.second.inside c.requires.third.inside c.len-length.ensures.short) (three_faultless can c.in_ok-ends.ensures.appended))
-
-pub returns-clause-any_stop : goal.returns-clause-any_stop
-returns-clause-any_stop g c s held i j k h p f can settled left may =
-    three_undone can c.in_ok-ends.ensures.appended c.requires.first.inside c.requires.second.inside c.requires.third.inside c.len-length.ensures.short left (c.change_three.ensures.any_stop (is_permitted s) s.cpus (can_undo_three can c.in_ok-ends.ensures.appended c.requires.first.inside c.requires.second.inside c.requires.third.inside c.len-length.ensures.short) c.in_ok-ends.ensures.settled left may)
-    (c.change_three.ensures.stop_is_faultless (is_permitted s) s.cpus (can_undo_three can c.in_ok-ends.ensures.appended c.requires.first.inside c.requires.second.inside c.requires.third.inside c.len-length.ensures.short) (three_faultless can c.in_ok-ends.ensures.appended) c.in_ok-ends.ensures.settled left may)
-
-pub returns-clause-keeps_fuse : goal.returns-clause-keeps_fuse
-returns-clause-keeps_fuse g c =
-    let behind = c.requires.first.slot_behind in
-    keeps_more (λ limit past. (let first = past.3 in let second = past.4 in let third = past.5 in (omega (arith, behind, first), omega (arith, first), omega (arith, second), omega (arith, third)))) (keeps_within (λ limit past. (past.0, past.1, past.2)) c.append_three.ensures.keeps_fuse) c.change_three.ensures.keeps_fuse
-
-pub returns-clause-wrote : goal.returns-clause-wrote
-returns-clause-wrote g c =
-    stores_more (ThreeTogether c.args.cpu c.args.first.now c.args.second.now c.args.third.now) (ChangesAll c.args.cpu ((c.args.first.now.slot + 24, c.in_ok-ends.ends.0) ∷ (c.args.second.now.slot + 24, c.in_ok-ends.ends.1) ∷ (c.args.third.now.slot + 24, c.in_ok-ends.ends.2) ∷ [])) _ _ _ _ _ _
-    (λ k v w. inr (subst (λ (n : ℕ). ChangesAll c.args.cpu ((c.args.first.now.slot + 24, n) ∷ (c.args.second.now.slot + 24, (end_of c.args.second.now.fresh.now 0 c.args.second.now.tail c.args.second.now.entries.now)) ∷ (c.args.third.now.slot + 24, (end_of c.args.third.now.fresh.now 0 c.args.third.now.tail c.args.third.now.entries.now)) ∷ []) k v) c.in_ok-ends.ensures.appended.both.first_end (subst (λ (n : ℕ). ChangesAll c.args.cpu ((c.args.first.now.slot + 24, c.in_ok-ends.ends.0) ∷ (c.args.second.now.slot + 24, n) ∷ (c.args.third.now.slot + 24, (end_of c.args.third.now.fresh.now 0 c.args.third.now.tail c.args.third.now.entries.now)) ∷ []) k v) c.in_ok-ends.ensures.appended.both.second_end (subst (λ (n : ℕ). ChangesAll c.args.cpu ((c.args.first.now.slot + 24, c.in_ok-ends.ends.0) ∷ (c.args.second.now.slot + 24, c.in_ok-ends.ends.1) ∷ (c.args.third.now.slot + 24, n) ∷ []) k v) c.in_ok-ends.ensures.appended.third_end w))))
-    (stores_within (ThreeTogether c.args.cpu c.args.first.now c.args.second.now c.args.third.now) (ThreeWords c.args.first.now c.args.second.now c.args.third.now) _ _ _ _ (λ k v w. inl w) c.append_three.ensures.wrote) c.change_three.ensures.wrote
 
 pub returns-clause-in_order : goal.returns-clause-in_order
 returns-clause-in_order g c s held i j k h p f can =

@@ -1,4 +1,4 @@
-use Rattle.std.proofs.Common.{ℕ, ◌+◌, inr, subst, ◌≡◌, inl, arith}
+use Rattle.std.proofs.Common.{rules, ℕ, ◌+◌, inr, subst, ◌≡◌, inl, arith}
 use Rattle.nv_region.specs.Region.{size}
 use Rattle.nv_region.proofs.Fuses.{keeps_more, keeps_within}
 use Rattle.nv_region.proofs.Wordwise.{stores_more, stores_within}
@@ -23,73 +23,70 @@ change_two-requires g c =
     let second = c.requires.second in
     let same : size (g.P.Pmem.region c.append_both.new.memory) ≡ size (g.P.Pmem.region c.args.memory.now) = mixed_size c.append_both.ensures.wrote.mixed in
     record {
-      inside = omega (arith, first.slot_behind, first.inside, same);
-      empty = still_empty first second c.append_both.ensures.wrote.mixed c.requires.empty;
+      ready = record { inside = omega (arith, first.slot_behind, first.inside, same); empty = still_empty first second c.append_both.ensures.wrote.mixed c.requires.empty };
       first = (omega (arith, first.whole), omega (arith, first.inside, same));
       second = (omega (arith, second.whole), omega (arith, second.inside, same));
       behind = (omega (arith, first.slot_behind), omega (arith, second.slot_behind));
     }
 
-pub returns-in_err-ends-clause-reads : goal.returns-in_err-ends-clause-reads
-returns-in_err-ends-clause-reads g c s held i j h k can = inl (sound_undone (both_before can _ c.append_both.ensures.wrote.mixed))
+pub returns-in_err-ends-clause-moments : goal.returns-in_err-ends-clause-moments
+returns-in_err-ends-clause-moments g c s held i j h k can = record {
+  reads = inl (sound_undone (both_before can _ c.append_both.ensures.wrote.mixed));
+  any_stop = λ settled. both_left can _ _ _ c.append_both.ensures.wrote settled;
+}
 
-pub returns-in_err-ends-clause-any_stop : goal.returns-in_err-ends-clause-any_stop
-returns-in_err-ends-clause-any_stop g c s held i j h k can settled = both_left can _ _ _ c.append_both.ensures.wrote settled
+pub returns-in_err-ends-clause-kept : goal.returns-in_err-ends-clause-kept
+returns-in_err-ends-clause-kept g c = record {
+  wrote = stores_within (TogetherWords c.args.cpu c.args.first.now c.args.second.now) (BothWords c.args.first.now c.args.second.now) _ _ _ _ (λ k v w. inl w) c.append_both.ensures.wrote;
+  stopped = search rules;
+  keeps_fuse = keeps_within (λ limit past. (past.0, past.1)) c.append_both.ensures.keeps_fuse;
+  settled = search rules;
+}
 
-pub returns-in_err-ends-clause-keeps_fuse : goal.returns-in_err-ends-clause-keeps_fuse
-returns-in_err-ends-clause-keeps_fuse g c = keeps_within (λ limit past. (past.0, past.1)) c.append_both.ensures.keeps_fuse
+pub returns-in_err-change_two-clause-moments : goal.returns-in_err-change_two-clause-moments
+returns-in_err-change_two-clause-moments g c s held i j h k can = record {
+  reads = undone_either can c.in_ok-ends.ensures.appended c.requires.first.inside c.requires.second.inside c.len-length.ensures.short _ ((c.change_two.ensures.undo_gives (is_permitted s) s.cpus (can_undo can c.in_ok-ends.ensures.appended c.len-length.ensures.short)).reads)
+      (((c.change_two.ensures.undo_gives (is_permitted s) s.cpus (can_undo can c.in_ok-ends.ensures.appended c.len-length.ensures.short)).faultless (faultless can c.in_ok-ends.ensures.appended)).reads);
+  any_stop = λ settled left may. undone_either can c.in_ok-ends.ensures.appended c.requires.first.inside c.requires.second.inside c.len-length.ensures.short left ((c.change_two.ensures.undo_gives (is_permitted s) s.cpus (can_undo can c.in_ok-ends.ensures.appended c.len-length.ensures.short)).any_stop c.in_ok-ends.ensures.settled left may)
+      (((c.change_two.ensures.undo_gives (is_permitted s) s.cpus (can_undo can c.in_ok-ends.ensures.appended c.len-length.ensures.short)).faultless (faultless can c.in_ok-ends.ensures.appended)).any_stop c.in_ok-ends.ensures.settled left may);
+}
 
-pub returns-in_err-change_two-clause-reads : goal.returns-in_err-change_two-clause-reads
-returns-in_err-change_two-clause-reads g c s held i j h k can =
-    undone_either can c.in_ok-ends.ensures.appended c.requires.first.inside c.requires.second.inside c.len-length.ensures.short _ (c.change_two.ensures.reads (is_permitted s) s.cpus (can_undo can c.in_ok-ends.ensures.appended c.len-length.ensures.short))
-    (c.change_two.ensures.faultless (is_permitted s) s.cpus (can_undo can c.in_ok-ends.ensures.appended c.len-length.ensures.short) (faultless can c.in_ok-ends.ensures.appended))
+pub returns-in_err-change_two-clause-kept : goal.returns-in_err-change_two-clause-kept
+returns-in_err-change_two-clause-kept g c = record {
+  wrote = stores_more (TogetherWords c.args.cpu c.args.first.now c.args.second.now) (Changes c.args.cpu (c.args.first.now.slot + 24) c.in_ok-ends.ends.0 (c.args.second.now.slot + 24) c.in_ok-ends.ends.1) _ _ _ _ _ _
+      (λ k v w. inr (subst (λ (n : ℕ). Changes c.args.cpu (c.args.first.now.slot + 24) n (c.args.second.now.slot + 24) (end_of c.args.second.now.fresh.now 0 c.args.second.now.tail c.args.second.now.entries.now) k v) c.in_ok-ends.ensures.appended.first_end (subst (λ (n : ℕ). Changes c.args.cpu (c.args.first.now.slot + 24) c.in_ok-ends.ends.0 (c.args.second.now.slot + 24) n k v) c.in_ok-ends.ensures.appended.second_end w)))
+      (stores_within (TogetherWords c.args.cpu c.args.first.now c.args.second.now) (BothWords c.args.first.now c.args.second.now) _ _ _ _ (λ k v w. inl w) c.append_both.ensures.wrote) c.change_two.ensures.kept.wrote;
+  stopped = search rules;
+  keeps_fuse = let behind = c.requires.first.slot_behind in
+      keeps_more (λ limit past. (let first = past.2 in let second = past.3 in (omega (arith, behind, first), omega (arith, first), omega (arith, second)))) (keeps_within (λ limit past. (past.0, past.1)) c.append_both.ensures.keeps_fuse) c.change_two.ensures.kept.keeps_fuse;
+  settled = search rules;
+}
 
-pub returns-in_err-change_two-clause-any_stop : goal.returns-in_err-change_two-clause-any_stop
-returns-in_err-change_two-clause-any_stop g c s held i j h k can settled left may =
-    undone_either can c.in_ok-ends.ensures.appended c.requires.first.inside c.requires.second.inside c.len-length.ensures.short left (c.change_two.ensures.any_stop (is_permitted s) s.cpus (can_undo can c.in_ok-ends.ensures.appended c.len-length.ensures.short) c.in_ok-ends.ensures.settled left may)
-    (c.change_two.ensures.stop_is_faultless (is_permitted s) s.cpus (can_undo can c.in_ok-ends.ensures.appended c.len-length.ensures.short) (faultless can c.in_ok-ends.ensures.appended) c.in_ok-ends.ensures.settled left may)
+pub returns-clause-moments : goal.returns-clause-moments
+returns-clause-moments g c s held i j h k can = record {
+  reads = undone_either can c.in_ok-ends.ensures.appended c.requires.first.inside c.requires.second.inside c.len-length.ensures.short _ ((c.change_two.ensures.undo_gives (is_permitted s) s.cpus (can_undo can c.in_ok-ends.ensures.appended c.len-length.ensures.short)).reads)
+      (((c.change_two.ensures.undo_gives (is_permitted s) s.cpus (can_undo can c.in_ok-ends.ensures.appended c.len-length.ensures.short)).faultless (faultless can c.in_ok-ends.ensures.appended)).reads);
+  any_stop = λ settled left may. undone_either can c.in_ok-ends.ensures.appended c.requires.first.inside c.requires.second.inside c.len-length.ensures.short left ((c.change_two.ensures.undo_gives (is_permitted s) s.cpus (can_undo can c.in_ok-ends.ensures.appended c.len-length.ensures.short)).any_stop c.in_ok-ends.ensures.settled left may)
+      (((c.change_two.ensures.undo_gives (is_permitted s) s.cpus (can_undo can c.in_ok-ends.ensures.appended c.len-length.ensures.short)).faultless (faultless can c.in_ok-ends.ensures.appended)).any_stop c.in_ok-ends.ensures.settled left may);
+}
 
-pub returns-in_err-change_two-clause-keeps_fuse : goal.returns-in_err-change_two-clause-keeps_fuse
-returns-in_err-change_two-clause-keeps_fuse g c =
-    let behind = c.requires.first.slot_behind in
-    keeps_more (λ limit past. (let first = past.2 in let second = past.3 in (omega (arith, behind, first), omega (arith, first), omega (arith, second)))) (keeps_within (λ limit past. (past.0, past.1)) c.append_both.ensures.keeps_fuse) c.change_two.ensures.keeps_fuse
-
-pub returns-clause-reads : goal.returns-clause-reads
-returns-clause-reads g c s held i j h k can =
-    undone_either can c.in_ok-ends.ensures.appended c.requires.first.inside c.requires.second.inside c.len-length.ensures.short _ (c.change_two.ensures.reads (is_permitted s) s.cpus (can_undo can c.in_ok-ends.ensures.appended c.len-length.ensures.short))
-    (c.change_two.ensures.faultless (is_permitted s) s.cpus (can_undo can c.in_ok-ends.ensures.appended c.len-length.ensures.short) (faultless can c.in_ok-ends.ensures.appended))
-
-pub returns-clause-any_stop : goal.returns-clause-any_stop
-returns-clause-any_stop g c s held i j h k can settled left may =
-    undone_either can c.in_ok-ends.ensures.appended c.requires.first.inside c.requires.second.inside c.len-length.ensures.short left (c.change_two.ensures.any_stop (is_permitted s) s.cpus (can_undo can c.in_ok-ends.ensures.appended c.len-length.ensures.short) c.in_ok-ends.ensures.settled left may)
-    (c.change_two.ensures.stop_is_faultless (is_permitted s) s.cpus (can_undo can c.in_ok-ends.ensures.appended c.len-length.ensures.short) (faultless can c.in_ok-ends.ensures.appended) c.in_ok-ends.ensures.settled left may)
-
-pub returns-clause-keeps_fuse : goal.returns-clause-keeps_fuse
-returns-clause-keeps_fuse g c =
-    let behind = c.requires.first.slot_behind in
-    keeps_more (λ limit past. (let first = past.2 in let second = past.3 in (omega (arith, behind, first), omega (arith, first), omega (arith, second)))) (keeps_within (λ limit past. (past.0, past.1)) c.append_both.ensures.keeps_fuse) c.change_two.ensures.keeps_fuse
+pub returns-clause-kept : goal.returns-clause-kept
+returns-clause-kept g c = record {
+  wrote = stores_more (TogetherWords c.args.cpu c.args.first.now c.args.second.now) (Changes c.args.cpu (c.args.first.now.slot + 24) c.in_ok-ends.ends.0 (c.args.second.now.slot + 24) c.in_ok-ends.ends.1) _ _ _ _ _ _
+      (λ k v w. inr (subst (λ (n : ℕ). Changes c.args.cpu (c.args.first.now.slot + 24) n (c.args.second.now.slot + 24) (end_of c.args.second.now.fresh.now 0 c.args.second.now.tail c.args.second.now.entries.now) k v) c.in_ok-ends.ensures.appended.first_end (subst (λ (n : ℕ). Changes c.args.cpu (c.args.first.now.slot + 24) c.in_ok-ends.ends.0 (c.args.second.now.slot + 24) n k v) c.in_ok-ends.ensures.appended.second_end w)))
+      (stores_within (TogetherWords c.args.cpu c.args.first.now c.args.second.now) (BothWords c.args.first.now c.args.second.now) _ _ _ _ (λ k v w. inl w) c.append_both.ensures.wrote) c.change_two.ensures.kept.wrote;
+  stopped = search rules;
+  keeps_fuse = let behind = c.requires.first.slot_behind in
+      keeps_more (λ limit past. (let first = past.2 in let second = past.3 in (omega (arith, behind, first), omega (arith, first), omega (arith, second)))) (keeps_within (λ limit past. (past.0, past.1)) c.append_both.ensures.keeps_fuse) c.change_two.ensures.kept.keeps_fuse;
+  settled = search rules;
+}
 
 pub returns-clause-ends : goal.returns-clause-ends
 returns-clause-ends g c = (c.in_ok-ends.ensures.appended.first_end, c.in_ok-ends.ensures.appended.second_end)
 
 pub returns-clause-shows : goal.returns-clause-shows
 returns-clause-shows g c s held i j h k can =
-    both_idle can c.in_ok-ends.ensures.appended c.requires.first.inside c.requires.second.inside c.len-length.ensures.short _ c.in_ok-change_two.ensures.done c.in_ok-change_two.ensures.empty
-
-pub returns-in_err-ends-clause-wrote : goal.returns-in_err-ends-clause-wrote
-returns-in_err-ends-clause-wrote g c = stores_within (TogetherWords c.args.cpu c.args.first.now c.args.second.now) (BothWords c.args.first.now c.args.second.now) _ _ _ _ (λ k v w. inl w) c.append_both.ensures.wrote
-
-pub returns-in_err-change_two-clause-wrote : goal.returns-in_err-change_two-clause-wrote
-returns-in_err-change_two-clause-wrote g c =
-    stores_more (TogetherWords c.args.cpu c.args.first.now c.args.second.now) (Changes c.args.cpu (c.args.first.now.slot + 24) c.in_ok-ends.ends.0 (c.args.second.now.slot + 24) c.in_ok-ends.ends.1) _ _ _ _ _ _
-    (λ k v w. inr (subst (λ (n : ℕ). Changes c.args.cpu (c.args.first.now.slot + 24) n (c.args.second.now.slot + 24) (end_of c.args.second.now.fresh.now 0 c.args.second.now.tail c.args.second.now.entries.now) k v) c.in_ok-ends.ensures.appended.first_end (subst (λ (n : ℕ). Changes c.args.cpu (c.args.first.now.slot + 24) c.in_ok-ends.ends.0 (c.args.second.now.slot + 24) n k v) c.in_ok-ends.ensures.appended.second_end w)))
-    (stores_within (TogetherWords c.args.cpu c.args.first.now c.args.second.now) (BothWords c.args.first.now c.args.second.now) _ _ _ _ (λ k v w. inl w) c.append_both.ensures.wrote) c.change_two.ensures.wrote
-
-pub returns-clause-wrote : goal.returns-clause-wrote
-returns-clause-wrote g c =
-    stores_more (TogetherWords c.args.cpu c.args.first.now c.args.second.now) (Changes c.args.cpu (c.args.first.now.slot + 24) c.in_ok-ends.ends.0 (c.args.second.now.slot + 24) c.in_ok-ends.ends.1) _ _ _ _ _ _
-    (λ k v w. inr (subst (λ (n : ℕ). Changes c.args.cpu (c.args.first.now.slot + 24) n (c.args.second.now.slot + 24) (end_of c.args.second.now.fresh.now 0 c.args.second.now.tail c.args.second.now.entries.now) k v) c.in_ok-ends.ensures.appended.first_end (subst (λ (n : ℕ). Changes c.args.cpu (c.args.first.now.slot + 24) c.in_ok-ends.ends.0 (c.args.second.now.slot + 24) n k v) c.in_ok-ends.ensures.appended.second_end w)))
-    (stores_within (TogetherWords c.args.cpu c.args.first.now c.args.second.now) (BothWords c.args.first.now c.args.second.now) _ _ _ _ (λ k v w. inl w) c.append_both.ensures.wrote) c.change_two.ensures.wrote
+    both_idle can c.in_ok-ends.ensures.appended c.requires.first.inside c.requires.second.inside c.len-length.ensures.short _ c.in_ok-change_two.ensures.done c.in_ok-change_two.ensures.kept.empty
 
 pub returns-in_err-ends-clause-in_order : goal.returns-in_err-ends-clause-in_order
 returns-in_err-ends-clause-in_order g c s held i j h k can = inl (tail_same can.second.sound (both_before can (g.P.Pmem.region c.append_both.new.memory) c.append_both.ensures.wrote.mixed) can.second.at can.second.holds)

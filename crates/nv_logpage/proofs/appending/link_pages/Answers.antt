@@ -72,21 +72,26 @@ store_word-requires-clause-within g c = subst (λ (n : ℕ). c.loop-k.page * 409
 pub returns-in_err-store_word-clause-linked : goal.returns-in_err-store_word-clause-linked
 returns-in_err-store_word-clause-linked g c = IfOk-from_err c.from_residual.result _ c.from_residual.ensures.0
 
-pub returns-in_err-store_word-clause-wrote : goal.returns-in_err-store_word-clause-wrote
-returns-in_err-store_word-clause-wrote g c = (stores_more _ _ _ _ _ _ _ _ (λ i x w. one_link c.args.first c.args.fresh.now c.args.count c.loop-k.k c.loop-k.page i c.loop-k-test.true c.loop-k.invariant.page w.0) c.loop-k.invariant.wrote
-    (stored_only c.store_word.result _ _ (c.loop-k.page * 4096 + 4064) _ _ _ (link_aligned c.loop-k.page) c.store_word.ensures.stored c.store_word.ensures.refused c.store_word.ensures.may_keep))
+pub returns-in_err-store_word-clause-kept : goal.returns-in_err-store_word-clause-kept
+returns-in_err-store_word-clause-kept g c = record {
+  wrote = (stores_more _ _ _ _ _ _ _ _ (λ i x w. one_link c.args.first c.args.fresh.now c.args.count c.loop-k.k c.loop-k.page i c.loop-k-test.true c.loop-k.invariant.page w.0) c.loop-k.invariant.wrote
+      (stored_only c.store_word.result _ _ (c.loop-k.page * 4096 + 4064) _ _ _ (link_aligned c.loop-k.page) c.store_word.ensures.stored c.store_word.ensures.refused c.store_word.ensures.may_keep));
+  len = ap size c.in_err-store_word.ensures.refused ∙ c.loop-k.invariant.len;
+  keeps_fuse = keeps_more (λ limit end. link_within c.args.first c.args.fresh.now c.args.count c.loop-k.k c.loop-k.page limit c.requires.count c.loop-k-test.true c.loop-k.invariant.page end) c.loop-k.invariant.keeps_fuse c.store_word.ensures.keeps_fuse;
+}
 
-pub returns-in_err-store_word-clause-len : goal.returns-in_err-store_word-clause-len
-returns-in_err-store_word-clause-len g c = ap size c.in_err-store_word.ensures.refused ∙ c.loop-k.invariant.len
+pub returns-clause-kept : goal.returns-clause-kept
+returns-clause-kept g c = record {
+  wrote = c.loop-k.invariant.wrote;
+  len = c.loop-k.invariant.len;
+  keeps_fuse = c.loop-k.invariant.keeps_fuse;
+}
 
 pub returns-in_err-store_word-clause-nothing : goal.returns-in_err-store_word-clause-nothing
 returns-in_err-store_word-clause-nothing g c none = some_counted c.loop-k-test.true none
 
 pub returns-in_err-store_word-clause-stopped : goal.returns-in_err-store_word-clause-stopped
 returns-in_err-store_word-clause-stopped g c was = c.from_residual.ensures.0 ∙ sym (ap is_err c.in_err-store_word.was) ∙ c.store_word.ensures.stopped
-
-pub returns-in_err-store_word-clause-keeps_fuse : goal.returns-in_err-store_word-clause-keeps_fuse
-returns-in_err-store_word-clause-keeps_fuse g c = keeps_more (λ limit end. link_within c.args.first c.args.fresh.now c.args.count c.loop-k.k c.loop-k.page limit c.requires.count c.loop-k-test.true c.loop-k.invariant.page end) c.loop-k.invariant.keeps_fuse c.store_word.ensures.keeps_fuse
 
 pub loop-k-init : goal.loop-k-init
 loop-k-init g c = record {
@@ -118,17 +123,8 @@ loop-k-smaller g c = one_less c.loop-k.k c.args.count c.loop-k-test.true
 pub returns-clause-linked : goal.returns-clause-linked
 returns-clause-linked g c = subst (Linked (g.P.Pmem.region c.loop-k.memory) (c.args.first ∷ c.args.fresh.now)) (all_done c.loop-k.auto.k-end c.loop-k-test.false) c.loop-k.invariant.linked
 
-pub returns-clause-wrote : goal.returns-clause-wrote
-returns-clause-wrote g c = c.loop-k.invariant.wrote
-
-pub returns-clause-len : goal.returns-clause-len
-returns-clause-len g c = c.loop-k.invariant.len
-
 pub returns-clause-nothing : goal.returns-clause-nothing
 returns-clause-nothing g c none = (refl, c.loop-k.invariant.nothing (all_done c.loop-k.auto.k-end c.loop-k-test.false ∙ none))
 
 pub returns-clause-stopped : goal.returns-clause-stopped
 returns-clause-stopped g c was = sym (c.loop-k.invariant.quiet was)
-
-pub returns-clause-keeps_fuse : goal.returns-clause-keeps_fuse
-returns-clause-keeps_fuse g c = c.loop-k.invariant.keeps_fuse

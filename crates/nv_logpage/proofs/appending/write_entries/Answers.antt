@@ -93,11 +93,11 @@ loop-entry-preserved g c =
           let more = page_left c.requires.can c.loop-entry.invariant.writing c.entry-item.result c.length-size.result c.loop-entry-test.true c.entry-item.is c.length-size.ensures.value w.if-place-size-le-LINK.false in
           record {
             writing = rw (w.memory-is, w.place-is ∙ next_ends b c.length-size.result (entry_length c.entry-item.result) c.length-size.ensures.value, w.used-is) (writing_turns _ _ _ _ _ _ c.args.tail c.args.entries.now c.args.fresh.now c.loop-entry.entry-index c.loop-entry.used c.loop-entry.place c.entry-item.result c.requires.can c.loop-entry.invariant.writing c.loop-entry-test.true c.entry-item.is b refl (short_entry _ _ c.length-size.ensures.value c.length-size.ensures.short) (subst (λ (n : ℕ). 4064 < c.loop-entry.place % 4096 + n) c.length-size.ensures.value w.if-place-size-le-LINK.false)
-                w.in_ok-write_turned.ensures.entry w.in_ok-write_turned.ensures.marker w.write_turned.ensures.wrote w.write_turned.ensures.len);
+                w.in_ok-write_turned.ensures.entry w.in_ok-write_turned.ensures.marker w.write_turned.ensures.kept.wrote w.write_turned.ensures.kept.len);
             nothing = λ none. one_more _ none;
             quiet = λ some. rw w.memory-is (sym w.write_turned.ensures.stopped ∙ ap is_err w.in_ok-write_turned.was);
             keeps_fuse = rw w.memory-is (keeps_more (λ limit end. (page_by c.requires.can c.loop-entry.invariant.writing limit end, next_by c.args.fresh.now c.args.tail c.loop-entry.used limit more end))
-                c.loop-entry.invariant.keeps_fuse w.write_turned.ensures.keeps_fuse);
+                c.loop-entry.invariant.keeps_fuse w.write_turned.ensures.kept.keeps_fuse);
           }
     ]
 
@@ -125,14 +125,38 @@ returns-in_err-write_entry-clause-fit g c = IfOk-from_err c.from_residual.result
 pub returns-in_err-write_entry-clause-laid : goal.returns-in_err-write_entry-clause-laid
 returns-in_err-write_entry-clause-laid g c = IfOk-from_err c.from_residual.result _ c.from_residual.ensures.0
 
-pub returns-in_err-write_entry-clause-len : goal.returns-in_err-write_entry-clause-len
-returns-in_err-write_entry-clause-len g c = c.write_entry.ensures.rest.len ∙ c.loop-entry.invariant.writing.len
+pub returns-in_err-write_entry-clause-kept : goal.returns-in_err-write_entry-clause-kept
+returns-in_err-write_entry-clause-kept g c = record {
+  stores = record {
+    wrote = fitted_words _ _ _ _ _ _ c.args.tail c.args.entries.now c.args.fresh.now c.loop-entry.entry-index c.loop-entry.used c.loop-entry.place c.entry-item.result c.requires.can c.loop-entry.invariant.writing c.loop-entry-test.true c.entry-item.is (subst (λ (n : ℕ). c.loop-entry.place % 4096 + n ≤ 4064) c.length-size.ensures.value c.if-place-size-le-LINK.true) c.write_entry.ensures.wrote;
+    len = c.write_entry.ensures.rest.len ∙ c.loop-entry.invariant.writing.len;
+    keeps_fuse = keeps_more (λ limit end. fits_by c.requires.can c.loop-entry.invariant.writing c.length-size.result (entry_length c.entry-item.result) limit c.length-size.ensures.value c.if-place-size-le-LINK.true end) c.loop-entry.invariant.keeps_fuse c.write_entry.ensures.keeps_fuse;
+  };
+  nothing = λ none. some_before c.loop-entry-test.true none;
+  stopped = λ some. c.from_residual.ensures.0 ∙ sym (ap is_err c.in_err-write_entry.was) ∙ c.write_entry.ensures.stopped;
+}
 
-pub returns-in_err-write_entry-clause-nothing : goal.returns-in_err-write_entry-clause-nothing
-returns-in_err-write_entry-clause-nothing g c none = some_before c.loop-entry-test.true none
+pub returns-in_err-write_turned-clause-kept : goal.returns-in_err-write_turned-clause-kept
+returns-in_err-write_turned-clause-kept g c = record {
+  stores = record {
+    wrote = turned_words _ _ _ _ _ _ c.args.tail c.args.entries.now c.args.fresh.now c.loop-entry.entry-index c.loop-entry.used c.loop-entry.place c.entry-item.result c.requires.can c.loop-entry.invariant.writing c.loop-entry-test.true c.entry-item.is (get_or c.args.fresh.now c.loop-entry.used 0) refl (page_left c.requires.can c.loop-entry.invariant.writing c.entry-item.result c.length-size.result c.loop-entry-test.true c.entry-item.is c.length-size.ensures.value c.if-place-size-le-LINK.false) c.write_turned.ensures.kept.wrote;
+    len = c.write_turned.ensures.kept.len ∙ c.loop-entry.invariant.writing.len;
+    keeps_fuse = keeps_more (λ limit end. (page_by c.requires.can c.loop-entry.invariant.writing limit end, next_by c.args.fresh.now c.args.tail c.loop-entry.used limit (page_left c.requires.can c.loop-entry.invariant.writing c.entry-item.result c.length-size.result c.loop-entry-test.true c.entry-item.is c.length-size.ensures.value c.if-place-size-le-LINK.false) end)) c.loop-entry.invariant.keeps_fuse c.write_turned.ensures.kept.keeps_fuse;
+  };
+  nothing = λ none. some_before c.loop-entry-test.true none;
+  stopped = λ some. c.from_residual-in_err-write_turned.ensures.0 ∙ sym (ap is_err c.in_err-write_turned.was) ∙ c.write_turned.ensures.stopped;
+}
 
-pub returns-in_err-write_entry-clause-stopped : goal.returns-in_err-write_entry-clause-stopped
-returns-in_err-write_entry-clause-stopped g c some = c.from_residual.ensures.0 ∙ sym (ap is_err c.in_err-write_entry.was) ∙ c.write_entry.ensures.stopped
+pub returns-clause-kept : goal.returns-clause-kept
+returns-clause-kept g c = record {
+  stores = record {
+    wrote = c.loop-entry.invariant.writing.wrote;
+    len = c.loop-entry.invariant.writing.len;
+    keeps_fuse = c.loop-entry.invariant.keeps_fuse;
+  };
+  nothing = λ none. (refl, c.loop-entry.invariant.nothing (none_reached c.loop-entry.auto.entry-index-end none));
+  stopped = λ some. sym (c.loop-entry.invariant.quiet (some_reached c.loop-entry-test.false some));
+}
 
 pub returns-in_err-write_turned-clause-end : goal.returns-in_err-write_turned-clause-end
 returns-in_err-write_turned-clause-end g c = IfOk-from_err c.from_residual-in_err-write_turned.result _ c.from_residual-in_err-write_turned.ensures.0
@@ -143,41 +167,14 @@ returns-in_err-write_turned-clause-fit g c = IfOk-from_err c.from_residual-in_er
 pub returns-in_err-write_turned-clause-laid : goal.returns-in_err-write_turned-clause-laid
 returns-in_err-write_turned-clause-laid g c = IfOk-from_err c.from_residual-in_err-write_turned.result _ c.from_residual-in_err-write_turned.ensures.0
 
-pub returns-in_err-write_turned-clause-len : goal.returns-in_err-write_turned-clause-len
-returns-in_err-write_turned-clause-len g c = c.write_turned.ensures.len ∙ c.loop-entry.invariant.writing.len
-
-pub returns-in_err-write_turned-clause-nothing : goal.returns-in_err-write_turned-clause-nothing
-returns-in_err-write_turned-clause-nothing g c none = some_before c.loop-entry-test.true none
-
-pub returns-in_err-write_turned-clause-stopped : goal.returns-in_err-write_turned-clause-stopped
-returns-in_err-write_turned-clause-stopped g c some = c.from_residual-in_err-write_turned.ensures.0 ∙ sym (ap is_err c.in_err-write_turned.was) ∙ c.write_turned.ensures.stopped
-
-pub returns-in_err-write_entry-clause-wrote : goal.returns-in_err-write_entry-clause-wrote
-returns-in_err-write_entry-clause-wrote g c = fitted_words _ _ _ _ _ _ c.args.tail c.args.entries.now c.args.fresh.now c.loop-entry.entry-index c.loop-entry.used c.loop-entry.place c.entry-item.result c.requires.can c.loop-entry.invariant.writing c.loop-entry-test.true c.entry-item.is (subst (λ (n : ℕ). c.loop-entry.place % 4096 + n ≤ 4064) c.length-size.ensures.value c.if-place-size-le-LINK.true) c.write_entry.ensures.wrote
-
-pub returns-in_err-write_turned-clause-wrote : goal.returns-in_err-write_turned-clause-wrote
-returns-in_err-write_turned-clause-wrote g c = turned_words _ _ _ _ _ _ c.args.tail c.args.entries.now c.args.fresh.now c.loop-entry.entry-index c.loop-entry.used c.loop-entry.place c.entry-item.result c.requires.can c.loop-entry.invariant.writing c.loop-entry-test.true c.entry-item.is (get_or c.args.fresh.now c.loop-entry.used 0) refl (page_left c.requires.can c.loop-entry.invariant.writing c.entry-item.result c.length-size.result c.loop-entry-test.true c.entry-item.is c.length-size.ensures.value c.if-place-size-le-LINK.false) c.write_turned.ensures.wrote
-
-pub returns-in_err-write_entry-clause-keeps_fuse : goal.returns-in_err-write_entry-clause-keeps_fuse
-returns-in_err-write_entry-clause-keeps_fuse g c = keeps_more (λ limit end. fits_by c.requires.can c.loop-entry.invariant.writing c.length-size.result (entry_length c.entry-item.result) limit c.length-size.ensures.value c.if-place-size-le-LINK.true end) c.loop-entry.invariant.keeps_fuse c.write_entry.ensures.keeps_fuse
-
-pub returns-in_err-write_turned-clause-keeps_fuse : goal.returns-in_err-write_turned-clause-keeps_fuse
-returns-in_err-write_turned-clause-keeps_fuse g c = keeps_more (λ limit end. (page_by c.requires.can c.loop-entry.invariant.writing limit end, next_by c.args.fresh.now c.args.tail c.loop-entry.used limit (page_left c.requires.can c.loop-entry.invariant.writing c.entry-item.result c.length-size.result c.loop-entry-test.true c.entry-item.is c.length-size.ensures.value c.if-place-size-le-LINK.false) end)) c.loop-entry.invariant.keeps_fuse c.write_turned.ensures.keeps_fuse
-
 pub overflow_add-place-then-place-size-le-LINK : goal.overflow_add-place-then-place-size-le-LINK
 overflow_add-place-then-place-size-le-LINK g c = below _ (size (g.P.Pmem.region c.args.memory.now)) (fits_by c.requires.can c.loop-entry.invariant.writing c.length-size.result c.length-size.result (size (g.P.Pmem.region c.args.memory.now)) refl c.if-place-size-le-LINK.true c.requires.can.inside) c.requires.small
 
 pub bounds-fresh-used : goal.bounds-fresh-used
 bounds-fresh-used g c = page_left c.requires.can c.loop-entry.invariant.writing c.entry-item.result c.length-size.result c.loop-entry-test.true c.entry-item.is c.length-size.ensures.value c.if-place-size-le-LINK.false
 
-pub write_turned-requires-clause-whole : goal.write_turned-requires-clause-whole
-write_turned-requires-clause-whole g c = c.loop-entry.invariant.writing.whole
-
-pub write_turned-requires-clause-offset : goal.write_turned-requires-clause-offset
-write_turned-requires-clause-offset g c = c.loop-entry.invariant.writing.offset
-
-pub write_turned-requires-clause-inside : goal.write_turned-requires-clause-inside
-write_turned-requires-clause-inside g c = page_inside c.requires.can c.loop-entry.invariant.writing
+pub write_turned-requires-clause-place : goal.write_turned-requires-clause-place
+write_turned-requires-clause-place g c = record { whole = c.loop-entry.invariant.writing.whole; offset = c.loop-entry.invariant.writing.offset; inside = page_inside c.requires.can c.loop-entry.invariant.writing }
 
 pub write_turned-requires-clause-next_inside : goal.write_turned-requires-clause-next_inside
 write_turned-requires-clause-next_inside g c = subst (λ (n : ℕ). 4096 * get_or c.args.fresh.now c.loop-entry.used 0 + 4096 ≤ n) (sym c.loop-entry.invariant.writing.len) (next_by c.args.fresh.now c.args.tail c.loop-entry.used (size (g.P.Pmem.region c.args.memory.now)) (page_left c.requires.can c.loop-entry.invariant.writing c.entry-item.result c.length-size.result c.loop-entry-test.true c.entry-item.is c.length-size.ensures.value c.if-place-size-le-LINK.false) c.requires.can.inside)
@@ -205,18 +202,3 @@ returns-clause-fit g c = all_fit c.requires.can c.loop-entry.invariant.writing c
 
 pub returns-clause-laid : goal.returns-clause-laid
 returns-clause-laid g c = all_laid c.requires.can c.loop-entry.invariant.writing c.loop-entry-test.false
-
-pub returns-clause-wrote : goal.returns-clause-wrote
-returns-clause-wrote g c = c.loop-entry.invariant.writing.wrote
-
-pub returns-clause-len : goal.returns-clause-len
-returns-clause-len g c = c.loop-entry.invariant.writing.len
-
-pub returns-clause-nothing : goal.returns-clause-nothing
-returns-clause-nothing g c none = (refl, c.loop-entry.invariant.nothing (none_reached c.loop-entry.auto.entry-index-end none))
-
-pub returns-clause-stopped : goal.returns-clause-stopped
-returns-clause-stopped g c some = sym (c.loop-entry.invariant.quiet (some_reached c.loop-entry-test.false some))
-
-pub returns-clause-keeps_fuse : goal.returns-clause-keeps_fuse
-returns-clause-keeps_fuse g c = c.loop-entry.invariant.keeps_fuse

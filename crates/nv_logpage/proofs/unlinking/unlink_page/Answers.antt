@@ -1,4 +1,4 @@
-use Rattle.std.proofs.Common.{◌≡◌, ◌≤◌, ◌+◌, ◌*◌, ◌-◌, get_or, arith}
+use Rattle.std.proofs.Common.{◌+◌, ◌*◌, ◌-◌, get_or, arith}
 use Rattle.nv_logpage.proofs.Unlinked.{first_word, later_word, unlinked_where_done}
 use Rattle.nv_logpage.proofs.unlinking.unlink_page.Goals as goal
 

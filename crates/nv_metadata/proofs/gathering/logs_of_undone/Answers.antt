@@ -15,7 +15,7 @@ returns-clause-logs c image are long =
     let R = region_of image in
     let M = c.in_ok-memory.memory.memory.region in
     logs_there s (undone s R) (undone s M) c.requires.layout (same_rolled_back s R M c.requires.layout c.requires.version shows.as_long (λ at aligned low. shows.front at aligned (let long_front = made.open.0 in omega (arith, low, long_front, c.requires.front)))) c.in_ok-right_logs.field-0.items
-    (subst (λ (U : Region). AreLogs U s c.in_ok-right_logs.field-0.items) c.in_ok-undo.ensures.done (record { all = found.all; only = found.only }))
+    (subst (λ (U : Region). AreLogs U s c.in_ok-right_logs.field-0.items) c.in_ok-undo.ensures.done.is (record { all = found.all; only = found.only }))
 
 pub returns-clause-right : goal.returns-clause-right
 returns-clause-right c =

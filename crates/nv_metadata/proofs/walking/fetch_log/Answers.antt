@@ -43,7 +43,7 @@ pages-preserved g c =
           let fetched = c.in_ok-fetch.ensures in
           subst (λ (l : Listed). IsWalked s (region_of image) c.args.log.head c.args.log.tail c.args.memory.now c.fetch.new.memory l.blocks c.in-Some.next) (sym c.in_ok-push-in-Some.ensures.pushed)
           (walked_on s (region_of image) c.args.log.head c.args.log.tail c.args.memory.now c.pages.memory c.fetch.new.memory c.pages.walked.blocks c.pages.block is
-          (record { shows = fetched.shows image known is.shows; high = c.fetch.ensures.can.front; behind = c.pages.invariant.behind; here = subst (λ (n : ℕ). n ≤ held c.fetch.new.memory c.pages.block) c.wanted.ensures.wanted fetched.held; keeps = fetched.keeps; only = fetched.only }) c.in-Some.next said.apart said.start leads));
+          (record { shows = fetched.shows image known is.shows; high = c.fetch.ensures.can.front; behind = c.pages.invariant.behind; here = subst (λ (n : ℕ). n ≤ held c.fetch.new.memory c.pages.block) c.wanted.ensures.wanted fetched.more.here; keeps = fetched.more.keeps; only = fetched.more.only }) c.in-Some.next said.apart said.start leads));
     }
 
 pub returns-in-None-clause-fetched : goal.returns-in-None-clause-fetched
@@ -51,4 +51,4 @@ returns-in-None-clause-fetched g c image known shows =
     let is = c.pages.invariant.walked image known shows in
     let fetched = c.in_ok-fetch.ensures in
     walked_all c.args.sup.now (region_of image) c.args.log.head c.args.log.tail c.args.memory.now c.pages.memory c.fetch.new.memory c.pages.walked.blocks c.pages.block is
-    (record { shows = fetched.shows image known is.shows; high = c.fetch.ensures.can.front; behind = c.pages.invariant.behind; here = subst (λ (n : ℕ). n ≤ held c.fetch.new.memory c.pages.block) c.wanted.ensures.wanted fetched.held; keeps = fetched.keeps; only = fetched.only }) c.in-None.ensures.none
+    (record { shows = fetched.shows image known is.shows; high = c.fetch.ensures.can.front; behind = c.pages.invariant.behind; here = subst (λ (n : ℕ). n ≤ held c.fetch.new.memory c.pages.block) c.wanted.ensures.wanted fetched.more.here; keeps = fetched.more.keeps; only = fetched.more.only }) c.in-None.ensures.none

@@ -65,12 +65,12 @@ returns-in_err-tables-clause-wrote g c = stores_none _ _ _
 
 pub returns-in_err-journal-clause-quiet : goal.returns-in_err-journal-clause-quiet
 returns-in_err-journal-clause-quiet g c = λ s is quiet. let R = g.P.Pmem.region c.args.memory.now in
-    c.undo_by.ensures.quiet (subst (λ (t : Super). AllQuiet t.cpus R) (one_super R c.in_ok-sup.sup s c.in_ok-sup.ensures.accepted is) quiet)
+    c.undo_by.ensures.ends.quiet (subst (λ (t : Super). AllQuiet t.cpus R) (one_super R c.in_ok-sup.sup s c.in_ok-sup.ensures.accepted is) quiet)
 
 pub returns-in_err-journal-clause-quiet_done : goal.returns-in_err-journal-clause-quiet_done
 returns-in_err-journal-clause-quiet_done g c = λ s is quiet. let R = g.P.Pmem.region c.args.memory.now in
     handed c.from_residual-in_err-journal.result (error_of_undo c.in_err-journal.field-0.0) (λ (e : RecoverError). e ≢ Stopped) c.from_residual-in_err-journal.ensures.1
-    (no_stop_of c.undo_by.result c.in_err-journal.field-0.0 c.in_err-journal.was (c.undo_by.ensures.quiet_done (subst (λ (t : Super). AllQuiet t.cpus R) (one_super R c.in_ok-sup.sup s c.in_ok-sup.ensures.accepted is) quiet)))
+    (no_stop_of c.undo_by.result c.in_err-journal.field-0.0 c.in_err-journal.was (c.undo_by.ensures.ends.quiet_done (subst (λ (t : Super). AllQuiet t.cpus R) (one_super R c.in_ok-sup.sup s c.in_ok-sup.ensures.accepted is) quiet)))
 
 pub returns-in_err-journal-clause-err : goal.returns-in_err-journal-clause-err
 returns-in_err-journal-clause-err g c = λ workers schedule.
@@ -78,21 +78,21 @@ returns-in_err-journal-clause-err g c = λ workers schedule.
     let Q = g.P.Pmem.region c.undo_by.new.memory in
     let is = c.in_ok-sup.ensures.accepted in
     handed c.from_residual-in_err-journal.result (error_of_undo c.in_err-journal.field-0.0) (λ (e : RecoverError). Fails workers schedule e R Q) c.from_residual-in_err-journal.ensures.1
-    (fails_of c.undo_by.result c.in_err-journal.field-0.0 R Q c.in_ok-sup.sup c.in_err-journal.was is (super_outside R Q _ c.undo_by.ensures.outside c.in_ok-sup.sup is) (λ none. ap (λ m. g.P.Pmem.region m) (c.undo_by.ensures.memory none)) c.undo_by.ensures.reads workers schedule)
+    (fails_of c.undo_by.result c.in_err-journal.field-0.0 R Q c.in_ok-sup.sup c.in_err-journal.was is (super_outside R Q _ c.undo_by.ensures.stores.outside c.in_ok-sup.sup is) (λ none. ap (λ m. g.P.Pmem.region m) (c.undo_by.ensures.memory none)) c.undo_by.ensures.moments.reads workers schedule)
 
 pub returns-in_err-journal-clause-stopped : goal.returns-in_err-journal-clause-stopped
 returns-in_err-journal-clause-stopped g c =
     let X = IsTrue (g.P.Pmem.fuse c.undo_by.new.memory).has_burnt in
     handed c.from_residual-in_err-journal.result (error_of_undo c.in_err-journal.field-0.0) (λ (e : RecoverError). e ≡ Stopped → X) c.from_residual-in_err-journal.ensures.1
-    (burnt_of c.undo_by.result c.in_err-journal.field-0.0 X c.in_err-journal.was c.undo_by.ensures.stopped)
+    (burnt_of c.undo_by.result c.in_err-journal.field-0.0 X c.in_err-journal.was c.undo_by.ensures.ends.stopped)
 
 pub returns-in_err-journal-clause-keeps_fuse : goal.returns-in_err-journal-clause-keeps_fuse
-returns-in_err-journal-clause-keeps_fuse g c = keeps_within (λ limit past. front_of (g.P.Pmem.region c.args.memory.now) c.in_ok-sup.sup limit c.in_ok-sup.ensures.accepted (past c.in_ok-sup.sup c.in_ok-sup.ensures.accepted)) c.undo_by.ensures.keeps_fuse
+returns-in_err-journal-clause-keeps_fuse g c = keeps_within (λ limit past. front_of (g.P.Pmem.region c.args.memory.now) c.in_ok-sup.sup limit c.in_ok-sup.ensures.accepted (past c.in_ok-sup.sup c.in_ok-sup.ensures.accepted)) c.undo_by.ensures.ends.keeps_fuse
 
 pub returns-in_err-journal-clause-unstopped : goal.returns-in_err-journal-clause-unstopped
 returns-in_err-journal-clause-unstopped g c = λ s is free. let R = g.P.Pmem.region c.args.memory.now in
     handed c.from_residual-in_err-journal.result (error_of_undo c.in_err-journal.field-0.0) (λ (e : RecoverError). e ≢ Stopped) c.from_residual-in_err-journal.ensures.1
-    (no_stop_of c.undo_by.result c.in_err-journal.field-0.0 c.in_err-journal.was (c.undo_by.ensures.open_done (open_front R c.in_ok-sup.sup (g.P.Pmem.fuse c.args.memory.now) c.in_ok-sup.ensures.accepted (subst (λ (t : Super). IsTrue ((g.P.Pmem.fuse c.args.memory.now).is_open (4096 * system_blocks t))) (one_super R c.in_ok-sup.sup s c.in_ok-sup.ensures.accepted is) free))))
+    (no_stop_of c.undo_by.result c.in_err-journal.field-0.0 c.in_err-journal.was (c.undo_by.ensures.ends.open_done (open_front R c.in_ok-sup.sup (g.P.Pmem.fuse c.args.memory.now) c.in_ok-sup.ensures.accepted (subst (λ (t : Super). IsTrue ((g.P.Pmem.fuse c.args.memory.now).is_open (4096 * system_blocks t))) (one_super R c.in_ok-sup.sup s c.in_ok-sup.ensures.accepted is) free))))
 
 pub returns-clause-ok : goal.returns-clause-ok
 returns-clause-ok g c = record {
@@ -101,35 +101,35 @@ returns-clause-ok g c = record {
   tables = c.in_ok-tables.ensures.layout ∙ layout_fixed c.in_ok-sup.sup (g.P.Pmem.region c.args.memory.now) (version_of_super (g.P.Pmem.region c.args.memory.now) c.in_ok-sup.sup c.in_ok-sup.ensures.accepted);
   chained = (let one = version_of_super (g.P.Pmem.region c.args.memory.now) c.in_ok-sup.sup c.in_ok-sup.ensures.accepted in
       c.in_ok-tables.ensures.faults ∙ fixed_faults c.in_ok-sup.sup (g.P.Pmem.region c.args.memory.now) one ∙ sym (fixed_faults c.in_ok-sup.sup (g.P.Pmem.region c.undo_by.new.memory) one));
-  rolled_back = c.in_ok-journal.ensures.done;
-  blocks = c.undo_by.ensures.blocks;
+  rolled_back = c.in_ok-journal.ensures.done.is;
+  blocks = c.undo_by.ensures.stores.blocks;
   in_journals = c.in_ok-journal.ensures.faults;
 }
 
 pub returns-clause-quiet : goal.returns-clause-quiet
 returns-clause-quiet g c = λ s is quiet. let R = g.P.Pmem.region c.args.memory.now in
-    c.undo_by.ensures.quiet (subst (λ (t : Super). AllQuiet t.cpus R) (one_super R c.in_ok-sup.sup s c.in_ok-sup.ensures.accepted is) quiet)
+    c.undo_by.ensures.ends.quiet (subst (λ (t : Super). AllQuiet t.cpus R) (one_super R c.in_ok-sup.sup s c.in_ok-sup.ensures.accepted is) quiet)
 
 pub returns-clause-keeps_fuse : goal.returns-clause-keeps_fuse
-returns-clause-keeps_fuse g c = keeps_within (λ limit past. front_of (g.P.Pmem.region c.args.memory.now) c.in_ok-sup.sup limit c.in_ok-sup.ensures.accepted (past c.in_ok-sup.sup c.in_ok-sup.ensures.accepted)) c.undo_by.ensures.keeps_fuse
+returns-clause-keeps_fuse g c = keeps_within (λ limit past. front_of (g.P.Pmem.region c.args.memory.now) c.in_ok-sup.sup limit c.in_ok-sup.ensures.accepted (past c.in_ok-sup.sup c.in_ok-sup.ensures.accepted)) c.undo_by.ensures.ends.keeps_fuse
 
 pub returns-in_err-sup-clause-any_stop : goal.returns-in_err-sup-clause-any_stop
 returns-in_err-sup-clause-any_stop g c = λ s is none. stop_before (g.P.Pmem.region c.args.memory.now) (g.P.Pmem.may_hold c.args.memory.now) s is none
 
 pub returns-in_err-journal-clause-any_stop : goal.returns-in_err-journal-clause-any_stop
-returns-in_err-journal-clause-any_stop g c = λ s is none. stop_undone (g.P.Pmem.region c.args.memory.now) (g.P.Pmem.region c.undo_by.new.memory) (g.P.Pmem.may_hold c.undo_by.new.memory) c.in_ok-sup.sup c.in_ok-sup.ensures.layout c.in_ok-sup.ensures.accepted (c.undo_by.ensures.any_stop none)
+returns-in_err-journal-clause-any_stop g c = λ s is none. stop_undone (g.P.Pmem.region c.args.memory.now) (g.P.Pmem.region c.undo_by.new.memory) (g.P.Pmem.may_hold c.undo_by.new.memory) c.in_ok-sup.sup c.in_ok-sup.ensures.layout c.in_ok-sup.ensures.accepted (c.undo_by.ensures.moments.any_stop none)
 
 pub returns-clause-any_stop : goal.returns-clause-any_stop
-returns-clause-any_stop g c = λ s is none. stop_undone (g.P.Pmem.region c.args.memory.now) (g.P.Pmem.region c.undo_by.new.memory) (g.P.Pmem.may_hold c.undo_by.new.memory) c.in_ok-sup.sup c.in_ok-sup.ensures.layout c.in_ok-sup.ensures.accepted (c.undo_by.ensures.any_stop none)
+returns-clause-any_stop g c = λ s is none. stop_undone (g.P.Pmem.region c.args.memory.now) (g.P.Pmem.region c.undo_by.new.memory) (g.P.Pmem.may_hold c.undo_by.new.memory) c.in_ok-sup.sup c.in_ok-sup.ensures.layout c.in_ok-sup.ensures.accepted (c.undo_by.ensures.moments.any_stop none)
 
 pub returns-clause-settled : goal.returns-clause-settled
-returns-clause-settled g c = c.in_ok-journal.ensures.settled
+returns-clause-settled g c = c.in_ok-journal.ensures.ends.settled
 
 pub returns-in_err-sup-clause-wrote : goal.returns-in_err-sup-clause-wrote
 returns-in_err-sup-clause-wrote g c = stores_none _ _ _
 
 pub returns-in_err-journal-clause-wrote : goal.returns-in_err-journal-clause-wrote
-returns-in_err-journal-clause-wrote g c = recovery_stores _ _ _ _ c.in_ok-sup.sup c.in_ok-sup.ensures.accepted c.undo_by.ensures.wrote
+returns-in_err-journal-clause-wrote g c = recovery_stores _ _ _ _ c.in_ok-sup.sup c.in_ok-sup.ensures.accepted c.undo_by.ensures.stores.wrote
 
 pub returns-clause-wrote : goal.returns-clause-wrote
-returns-clause-wrote g c = recovery_stores _ _ _ _ c.in_ok-sup.sup c.in_ok-sup.ensures.accepted c.undo_by.ensures.wrote
+returns-clause-wrote g c = recovery_stores _ _ _ _ c.in_ok-sup.sup c.in_ok-sup.ensures.accepted c.undo_by.ensures.stores.wrote

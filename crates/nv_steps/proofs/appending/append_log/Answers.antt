@@ -28,27 +28,27 @@ returns-in-Ok-extend_log-clause-appended g c =
       index = settled.index;
       names = settled.names;
     })
-    (λ held h can. c.in-Ok-extend_log.ensures.shows c.args.sup.now held c.args.row.now.inode h can) c.in-Ok-extend_log.ensures.wrote.mixed
+    (λ held h can. c.in-Ok-extend_log.ensures.shows c.args.sup.now held c.args.row.now.inode h can) c.in-Ok-extend_log.ensures.kept.wrote.mixed
 
 pub returns-in-Ok-extend_log-clause-lists : goal.returns-in-Ok-extend_log-clause-lists
 returns-in-Ok-extend_log-clause-lists g c = taken_sup c.in-Ok.ensures.taken
 
 pub returns-in-Ok-extend_log-clause-keeps_fuse : goal.returns-in-Ok-extend_log-clause-keeps_fuse
 returns-in-Ok-extend_log-clause-keeps_fuse g c =
-    keeps_within (stores_within_region c.args.entries.now c.deref.result.now c.slot_address-slot.result c.requires.stands c.in-Ok.ensures.taken c.in-Ok.ensures.count c.requires.given c.deref.ensures.value c.slot_address-slot.ensures) c.extend_log.ensures.keeps_fuse
+    keeps_within (stores_within_region c.args.entries.now c.deref.result.now c.slot_address-slot.result c.requires.stands c.in-Ok.ensures.taken c.in-Ok.ensures.count c.requires.given c.deref.ensures.value c.slot_address-slot.ensures) c.extend_log.ensures.kept.keeps_fuse
 
 pub returns-clause-lists : goal.returns-clause-lists
 returns-clause-lists g c = taken_sup c.in-Ok.ensures.taken
 
 pub returns-clause-keeps_fuse : goal.returns-clause-keeps_fuse
 returns-clause-keeps_fuse g c =
-    keeps_within (stores_within_region c.args.entries.now c.deref.result.now c.slot_address-slot.result c.requires.stands c.in-Ok.ensures.taken c.in-Ok.ensures.count c.requires.given c.deref.ensures.value c.slot_address-slot.ensures) c.extend_log.ensures.keeps_fuse
+    keeps_within (stores_within_region c.args.entries.now c.deref.result.now c.slot_address-slot.result c.requires.stands c.in-Ok.ensures.taken c.in-Ok.ensures.count c.requires.given c.deref.ensures.value c.slot_address-slot.ensures) c.extend_log.ensures.kept.keeps_fuse
 
 pub returns-in-Ok-extend_log-clause-length : goal.returns-in-Ok-extend_log-clause-length
-returns-in-Ok-extend_log-clause-length g c = mixed_size c.extend_log.ensures.wrote.mixed
+returns-in-Ok-extend_log-clause-length g c = mixed_size c.extend_log.ensures.kept.wrote.mixed
 
 pub returns-clause-length : goal.returns-clause-length
-returns-clause-length g c = mixed_size c.extend_log.ensures.wrote.mixed
+returns-clause-length g c = mixed_size c.extend_log.ensures.kept.wrote.mixed
 
 pub slot_address-slot-requires-clause-layout : goal.slot_address-slot-requires-clause-layout
 slot_address-slot-requires-clause-layout g c = c.requires.stands.layout
@@ -129,7 +129,7 @@ pub returns-in-Ok-extend_log-clause-room : goal.returns-in-Ok-extend_log-clause-
 returns-in-Ok-extend_log-clause-room g c = c.in-Ok.ensures.given_back
 
 pub returns-in-Ok-extend_log-clause-settled : goal.returns-in-Ok-extend_log-clause-settled
-returns-in-Ok-extend_log-clause-settled g c = c.in-Ok-extend_log.ensures.settled
+returns-in-Ok-extend_log-clause-settled g c = c.in-Ok-extend_log.ensures.kept.settled
 
 pub returns-in-Ok-extend_log-clause-refused : goal.returns-in-Ok-extend_log-clause-refused
 returns-in-Ok-extend_log-clause-refused g c = tt
@@ -182,12 +182,12 @@ returns-in-Err-Memory-clause-any_stop g c held h shows some settled = still _ _ 
 pub returns-in-Ok-extend_log-clause-any_stop : goal.returns-in-Ok-extend_log-clause-any_stop
 returns-in-Ok-extend_log-clause-any_stop g c held h shows some settled =
     left_log c.args.entries.now c.in-Ok.fresh.items c.deref.result.now c.slot_address-slot.result c.deref.ensures.value c.slot_address-slot.ensures shows c.requires.stands.lists c.in-Ok.ensures.taken c.in-Ok.ensures.count c.requires.given some
-    _ _ _ c.extend_log.ensures.wrote settled (c.extend_log.ensures.any_stop c.args.sup.now held c.args.row.now.inode h)
+    _ _ _ c.extend_log.ensures.kept.wrote settled (λ can. (c.extend_log.ensures.moments c.args.sup.now held c.args.row.now.inode h can).any_stop)
 
 pub returns-clause-any_stop : goal.returns-clause-any_stop
 returns-clause-any_stop g c held h shows some settled =
     left_log c.args.entries.now c.in-Ok.fresh.items c.deref.result.now c.slot_address-slot.result c.deref.ensures.value c.slot_address-slot.ensures shows c.requires.stands.lists c.in-Ok.ensures.taken c.in-Ok.ensures.count c.requires.given some
-    _ _ _ c.extend_log.ensures.wrote settled (c.extend_log.ensures.any_stop c.args.sup.now held c.args.row.now.inode h)
+    _ _ _ c.extend_log.ensures.kept.wrote settled (λ can. (c.extend_log.ensures.moments c.args.sup.now held c.args.row.now.inode h can).any_stop)
 
 pub returns-in-Err-NoSpace-clause-wrote : goal.returns-in-Err-NoSpace-clause-wrote
 returns-in-Err-NoSpace-clause-wrote g c held h shows some at whole away = refl
@@ -196,7 +196,7 @@ pub returns-in-Err-Memory-clause-wrote : goal.returns-in-Err-Memory-clause-wrote
 returns-in-Err-Memory-clause-wrote g c held h shows some at whole away = refl
 
 pub returns-in-Ok-extend_log-clause-wrote : goal.returns-in-Ok-extend_log-clause-wrote
-returns-in-Ok-extend_log-clause-wrote g c held h shows some = log_stores c.args.entries.now c.in-Ok.fresh.items c.deref.result.now c.slot_address-slot.result c.deref.ensures.value c.slot_address-slot.ensures shows c.requires.stands.lists c.in-Ok.ensures.taken c.in-Ok.ensures.count c.requires.given some (g.P.Pmem.region c.extend_log.new.memory) c.extend_log.ensures.wrote.mixed
+returns-in-Ok-extend_log-clause-wrote g c held h shows some = log_stores c.args.entries.now c.in-Ok.fresh.items c.deref.result.now c.slot_address-slot.result c.deref.ensures.value c.slot_address-slot.ensures shows c.requires.stands.lists c.in-Ok.ensures.taken c.in-Ok.ensures.count c.requires.given some (g.P.Pmem.region c.extend_log.new.memory) c.extend_log.ensures.kept.wrote.mixed
 
 pub returns-clause-wrote : goal.returns-clause-wrote
-returns-clause-wrote g c held h shows some = log_stores c.args.entries.now c.in-Ok.fresh.items c.deref.result.now c.slot_address-slot.result c.deref.ensures.value c.slot_address-slot.ensures shows c.requires.stands.lists c.in-Ok.ensures.taken c.in-Ok.ensures.count c.requires.given some (g.P.Pmem.region c.extend_log.new.memory) c.extend_log.ensures.wrote.mixed
+returns-clause-wrote g c held h shows some = log_stores c.args.entries.now c.in-Ok.fresh.items c.deref.result.now c.slot_address-slot.result c.deref.ensures.value c.slot_address-slot.ensures shows c.requires.stands.lists c.in-Ok.ensures.taken c.in-Ok.ensures.count c.requires.given some (g.P.Pmem.region c.extend_log.new.memory) c.extend_log.ensures.kept.wrote.mixed

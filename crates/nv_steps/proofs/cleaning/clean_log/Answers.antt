@@ -19,10 +19,10 @@ returns-in-None-clause-log g c held h shows dead = (
 )
 
 pub returns-in_default-unlink_page-clause-keeps_fuse : goal.returns-in_default-unlink_page-clause-keeps_fuse
-returns-in_default-unlink_page-clause-keeps_fuse g c = keeps_within (λ limit long. made.within_region _ c.slot_address-slot.result limit c.requires.stands c.requires.inside c.deref-3.ensures c.slot_address-slot.ensures long) c.unlink_page.ensures.keeps_fuse
+returns-in_default-unlink_page-clause-keeps_fuse g c = keeps_within (λ limit long. made.within_region _ c.slot_address-slot.result limit c.requires.stands c.requires.inside c.deref-3.ensures c.slot_address-slot.ensures long) c.unlink_page.ensures.kept.keeps_fuse
 
 pub returns-clause-keeps_fuse : goal.returns-clause-keeps_fuse
-returns-clause-keeps_fuse g c = keeps_within (λ limit long. made.within_region _ c.slot_address-slot.result limit c.requires.stands c.requires.inside c.deref-3.ensures c.slot_address-slot.ensures long) c.unlink_page.ensures.keeps_fuse
+returns-clause-keeps_fuse g c = keeps_within (λ limit long. made.within_region _ c.slot_address-slot.result limit c.requires.stands c.requires.inside c.deref-3.ensures c.slot_address-slot.ensures long) c.unlink_page.ensures.kept.keeps_fuse
 
 pub give_block-requires-clause-can : goal.give_block-requires-clause-can
 give_block-requires-clause-can g c =
@@ -102,10 +102,10 @@ pub returns-in_default-unlink_page-clause-wrote : goal.returns-in_default-unlink
 returns-in_default-unlink_page-clause-wrote g c held h o shows dead first =
     let there = subst (λ (p : Option ℕ). IsFirstDead c.args.sup.now h.kind c.args.row.now.inode h.created h.entries h.pages p) c.in-Some.is
     (made.first_held shows c.load-created.result c.slot_address-slot.result c.load-created.ensures c.slot_address-slot.ensures c.args.known c.in-Ok.found dead (c.in-Ok.ensures.first h.entries)) in
-    made.page_stores shows (g.P.Pmem.region c.unlink_page.new.memory) c.slot_address-slot.result c.in-Some.place _ c.deref-3.result.now o c.slot_address-slot.ensures c.requires.stands.whole c.deref-3.ensures there first c.unlink_page.ensures.wrote.mixed
+    made.page_stores shows (g.P.Pmem.region c.unlink_page.new.memory) c.slot_address-slot.result c.in-Some.place _ c.deref-3.result.now o c.slot_address-slot.ensures c.requires.stands.whole c.deref-3.ensures there first c.unlink_page.ensures.kept.wrote.mixed
 
 pub returns-clause-wrote : goal.returns-clause-wrote
 returns-clause-wrote g c held h o shows dead first =
     let there = subst (λ (p : Option ℕ). IsFirstDead c.args.sup.now h.kind c.args.row.now.inode h.created h.entries h.pages p) c.in-Some.is
     (made.first_held shows c.load-created.result c.slot_address-slot.result c.load-created.ensures c.slot_address-slot.ensures c.args.known c.in-Ok.found dead (c.in-Ok.ensures.first h.entries)) in
-    made.page_stores shows (g.P.Pmem.region c.unlink_page.new.memory) c.slot_address-slot.result c.in-Some.place _ c.deref-3.result.now o c.slot_address-slot.ensures c.requires.stands.whole c.deref-3.ensures there first c.unlink_page.ensures.wrote.mixed
+    made.page_stores shows (g.P.Pmem.region c.unlink_page.new.memory) c.slot_address-slot.result c.in-Some.place _ c.deref-3.result.now o c.slot_address-slot.ensures c.requires.stands.whole c.deref-3.ensures there first c.unlink_page.ensures.kept.wrote.mixed

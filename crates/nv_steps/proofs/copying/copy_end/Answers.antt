@@ -14,14 +14,14 @@ use Rattle.nv_steps.proofs.Stores.{data_stores, data_then_log}
 use Rattle.nv_steps.proofs.copying.copy_end.Goals as goal
 
 pub returns-clause-copies : goal.returns-clause-copies
-returns-clause-copies g c = copies_end c.args.from c.args.to c.args.bytes c.extend_log.result c.in_ok-copy_page.ensures.stored c.in_ok-copy_page.ensures.wrote.mixed c.extend_log.ensures.shows c.extend_log.ensures.wrote.mixed
+returns-clause-copies g c = copies_end c.args.from c.args.to c.args.bytes c.extend_log.result c.in_ok-copy_page.ensures.stored c.in_ok-copy_page.ensures.wrote.mixed c.extend_log.ensures.shows c.extend_log.ensures.kept.wrote.mixed
 
 pub returns-clause-keeps_fuse : goal.returns-clause-keeps_fuse
 returns-clause-keeps_fuse g c = keeps_more (λ limit past. ((λ j below. (let inside = c.requires.can.inside j below in omega (arith, past, inside))), omega (arith, past, c.requires.inside)))
-    (keeps_within (λ limit past. omega (arith, past, c.requires.to)) c.copy_page.ensures.keeps_fuse) c.extend_log.ensures.keeps_fuse
+    (keeps_within (λ limit past. omega (arith, past, c.requires.to)) c.copy_page.ensures.keeps_fuse) c.extend_log.ensures.kept.keeps_fuse
 
 pub returns-clause-length : goal.returns-clause-length
-returns-clause-length g c = mixed_size c.extend_log.ensures.wrote.mixed ∙ mixed_size c.copy_page.ensures.wrote.mixed
+returns-clause-length g c = mixed_size c.extend_log.ensures.kept.wrote.mixed ∙ mixed_size c.copy_page.ensures.wrote.mixed
 
 pub copy_page-requires-clause-from : goal.copy_page-requires-clause-from
 copy_page-requires-clause-from g c = c.requires.from
@@ -57,10 +57,10 @@ pub returns-clause-end : goal.returns-clause-end
 returns-clause-end g c = c.extend_log.ensures.end
 
 pub returns-clause-settled : goal.returns-clause-settled
-returns-clause-settled g c = c.extend_log.ensures.settled
+returns-clause-settled g c = c.extend_log.ensures.kept.settled
 
 pub returns-clause-stopped : goal.returns-clause-stopped
-returns-clause-stopped g c = c.extend_log.ensures.stopped
+returns-clause-stopped g c = c.extend_log.ensures.kept.stopped
 
 pub returns-in_err-copy_page-clause-end : goal.returns-in_err-copy_page-clause-end
 returns-in_err-copy_page-clause-end g c = IfOk-from_err c.from_residual.result _ c.from_residual.ensures.0
@@ -92,4 +92,4 @@ pub returns-in_err-copy_page-clause-wrote : goal.returns-in_err-copy_page-clause
 returns-in_err-copy_page-clause-wrote g c s held i h can free = data_stores s held (one_log s i) (λ b. b ≡ c.args.to) (λ b is. subst (IsUnowned (fixed_layout s) held) (sym is) free) c.copy_page.ensures.wrote.mixed
 
 pub returns-clause-wrote : goal.returns-clause-wrote
-returns-clause-wrote g c s held i h can free = data_then_log (λ b. b ≡ c.args.to) can (λ b is. subst (IsUnowned (fixed_layout s) held) (sym is) free) c.copy_page.ensures.wrote.mixed c.extend_log.ensures.wrote.mixed
+returns-clause-wrote g c s held i h can free = data_then_log (λ b. b ≡ c.args.to) can (λ b is. subst (IsUnowned (fixed_layout s) held) (sym is) free) c.copy_page.ensures.wrote.mixed c.extend_log.ensures.kept.wrote.mixed

@@ -26,11 +26,11 @@ prepare_logs-requires-clause-cpu g c =
 
 pub extend_two-requires-clause-first : goal.extend_two-requires-clause-first
 extend_two-requires-clause-first g c =
-    first_commits c.in_ok-blocks.ensures.ready c.in_ok-blocks.ensures.other_ready c.requires.stands c.requires.other_stands c.in_ok-blocks.ensures.taken c.in_ok-blocks.ensures.count c.requires.apart c.requires.given.0 c.requires.more_given.0 c.requires.given.1 c.requires.more_given.1 c.blocks_for-count.ensures c.deref.ensures.value c.split_at.ensures.front c.split_at.ensures.back c.extension-one.result c.extension-two.result c.extension-one.ensures.slot c.extension-one.ensures.tail c.extension-one.ensures.entries c.extension-one.ensures.fresh c.extension-two.ensures.slot c.extension-two.ensures.tail c.extension-two.ensures.entries c.extension-two.ensures.fresh
+    first_commits c.in_ok-blocks.ensures.ready c.in_ok-blocks.ensures.other_ready c.requires.stands c.requires.other_stands c.in_ok-blocks.ensures.taken c.in_ok-blocks.ensures.count c.requires.apart c.requires.given.given c.requires.more_given.given c.requires.given.some c.requires.more_given.some c.blocks_for-count.ensures c.deref.ensures.value c.split_at.ensures.front c.split_at.ensures.back c.extension-one.result c.extension-two.result c.extension-one.ensures.slot c.extension-one.ensures.tail c.extension-one.ensures.entries c.extension-one.ensures.fresh c.extension-two.ensures.slot c.extension-two.ensures.tail c.extension-two.ensures.entries c.extension-two.ensures.fresh
 
 pub extend_two-requires-clause-second : goal.extend_two-requires-clause-second
 extend_two-requires-clause-second g c =
-    second_commits c.in_ok-blocks.ensures.ready c.in_ok-blocks.ensures.other_ready c.requires.stands c.requires.other_stands c.in_ok-blocks.ensures.taken c.in_ok-blocks.ensures.count c.requires.apart c.requires.given.0 c.requires.more_given.0 c.requires.given.1 c.requires.more_given.1 c.blocks_for-count.ensures c.deref.ensures.value c.split_at.ensures.front c.split_at.ensures.back c.extension-one.result c.extension-two.result c.extension-one.ensures.slot c.extension-one.ensures.tail c.extension-one.ensures.entries c.extension-one.ensures.fresh c.extension-two.ensures.slot c.extension-two.ensures.tail c.extension-two.ensures.entries c.extension-two.ensures.fresh
+    second_commits c.in_ok-blocks.ensures.ready c.in_ok-blocks.ensures.other_ready c.requires.stands c.requires.other_stands c.in_ok-blocks.ensures.taken c.in_ok-blocks.ensures.count c.requires.apart c.requires.given.given c.requires.more_given.given c.requires.given.some c.requires.more_given.some c.blocks_for-count.ensures c.deref.ensures.value c.split_at.ensures.front c.split_at.ensures.back c.extension-one.result c.extension-two.result c.extension-one.ensures.slot c.extension-one.ensures.tail c.extension-one.ensures.entries c.extension-one.ensures.fresh c.extension-two.ensures.slot c.extension-two.ensures.tail c.extension-two.ensures.entries c.extension-two.ensures.fresh
 
 pub returns-in_default-clause-lists : goal.returns-in_default-clause-lists
 returns-in_default-clause-lists g c = taken_sup c.in_ok-blocks.ensures.taken
@@ -40,25 +40,31 @@ returns-clause-lists g c = taken_sup c.in_ok-blocks.ensures.taken
 
 pub returns-in_default-clause-keeps_fuse : goal.returns-in_default-clause-keeps_fuse
 returns-in_default-clause-keeps_fuse g c =
-    keeps_within (both_within c.in_ok-blocks.ensures.ready c.in_ok-blocks.ensures.other_ready c.requires.stands c.requires.other_stands c.in_ok-blocks.ensures.taken c.in_ok-blocks.ensures.count c.requires.apart c.requires.given.0 c.requires.more_given.0 c.requires.given.1 c.requires.more_given.1 c.blocks_for-count.ensures c.deref.ensures.value c.split_at.ensures.front c.split_at.ensures.back c.extension-one.result c.extension-two.result c.extension-one.ensures.slot c.extension-one.ensures.tail c.extension-one.ensures.entries c.extension-one.ensures.fresh c.extension-two.ensures.slot c.extension-two.ensures.tail c.extension-two.ensures.entries c.extension-two.ensures.fresh) c.extend_two.ensures.keeps_fuse
+    keeps_within (both_within c.in_ok-blocks.ensures.ready c.in_ok-blocks.ensures.other_ready c.requires.stands c.requires.other_stands c.in_ok-blocks.ensures.taken c.in_ok-blocks.ensures.count c.requires.apart c.requires.given.given c.requires.more_given.given c.requires.given.some c.requires.more_given.some c.blocks_for-count.ensures c.deref.ensures.value c.split_at.ensures.front c.split_at.ensures.back c.extension-one.result c.extension-two.result c.extension-one.ensures.slot c.extension-one.ensures.tail c.extension-one.ensures.entries c.extension-one.ensures.fresh c.extension-two.ensures.slot c.extension-two.ensures.tail c.extension-two.ensures.entries c.extension-two.ensures.fresh) c.extend_two.ensures.kept.keeps_fuse
 
 pub returns-clause-keeps_fuse : goal.returns-clause-keeps_fuse
 returns-clause-keeps_fuse g c =
-    keeps_within (both_within c.in_ok-blocks.ensures.ready c.in_ok-blocks.ensures.other_ready c.requires.stands c.requires.other_stands c.in_ok-blocks.ensures.taken c.in_ok-blocks.ensures.count c.requires.apart c.requires.given.0 c.requires.more_given.0 c.requires.given.1 c.requires.more_given.1 c.blocks_for-count.ensures c.deref.ensures.value c.split_at.ensures.front c.split_at.ensures.back c.extension-one.result c.extension-two.result c.extension-one.ensures.slot c.extension-one.ensures.tail c.extension-one.ensures.entries c.extension-one.ensures.fresh c.extension-two.ensures.slot c.extension-two.ensures.tail c.extension-two.ensures.entries c.extension-two.ensures.fresh) c.extend_two.ensures.keeps_fuse
+    keeps_within (both_within c.in_ok-blocks.ensures.ready c.in_ok-blocks.ensures.other_ready c.requires.stands c.requires.other_stands c.in_ok-blocks.ensures.taken c.in_ok-blocks.ensures.count c.requires.apart c.requires.given.given c.requires.more_given.given c.requires.given.some c.requires.more_given.some c.blocks_for-count.ensures c.deref.ensures.value c.split_at.ensures.front c.split_at.ensures.back c.extension-one.result c.extension-two.result c.extension-one.ensures.slot c.extension-one.ensures.tail c.extension-one.ensures.entries c.extension-one.ensures.fresh c.extension-two.ensures.slot c.extension-two.ensures.tail c.extension-two.ensures.entries c.extension-two.ensures.fresh) c.extend_two.ensures.kept.keeps_fuse
 
 pub settle_log-requires : goal.settle_log-requires
 settle_log-requires g c =
-    first_room c.in_ok-blocks.ensures.ready c.in_ok-blocks.ensures.other_ready c.requires.stands c.requires.other_stands c.in_ok-blocks.ensures.taken c.in_ok-blocks.ensures.count c.requires.apart c.requires.given.0 c.requires.more_given.0 c.requires.given.1 c.requires.more_given.1 c.blocks_for-count.ensures c.deref.ensures.value c.split_at.ensures.front c.split_at.ensures.back
+    first_room c.in_ok-blocks.ensures.ready c.in_ok-blocks.ensures.other_ready c.requires.stands c.requires.other_stands c.in_ok-blocks.ensures.taken c.in_ok-blocks.ensures.count c.requires.apart c.requires.given.given c.requires.more_given.given c.requires.given.some c.requires.more_given.some c.blocks_for-count.ensures c.deref.ensures.value c.split_at.ensures.front c.split_at.ensures.back
 
 pub settle_log-requires-2 : goal.settle_log-requires-2
 settle_log-requires-2 g c =
-    second_room c.in_ok-blocks.ensures.ready c.in_ok-blocks.ensures.other_ready c.requires.stands c.requires.other_stands c.in_ok-blocks.ensures.taken c.in_ok-blocks.ensures.count c.requires.apart c.requires.given.0 c.requires.more_given.0 c.requires.given.1 c.requires.more_given.1 c.blocks_for-count.ensures c.deref.ensures.value c.split_at.ensures.front c.split_at.ensures.back
+    second_room c.in_ok-blocks.ensures.ready c.in_ok-blocks.ensures.other_ready c.requires.stands c.requires.other_stands c.in_ok-blocks.ensures.taken c.in_ok-blocks.ensures.count c.requires.apart c.requires.given.given c.requires.more_given.given c.requires.given.some c.requires.more_given.some c.blocks_for-count.ensures c.deref.ensures.value c.split_at.ensures.front c.split_at.ensures.back
 
 pub returns-clause-appended : goal.returns-clause-appended
 returns-clause-appended g c =
     let ends = c.in-Ok.ensures.ends in
-    appends_logs c.in_ok-blocks.ensures.ready c.in_ok-blocks.ensures.other_ready c.requires.stands c.requires.other_stands c.in_ok-blocks.ensures.taken c.in_ok-blocks.ensures.count c.requires.apart c.requires.given.0 c.requires.more_given.0 c.requires.given.1 c.requires.more_given.1 c.blocks_for-count.ensures c.deref.ensures.value c.split_at.ensures.front c.split_at.ensures.back c.extension-one.result c.extension-two.result c.extension-one.ensures.slot c.extension-one.ensures.tail c.extension-one.ensures.entries c.extension-one.ensures.fresh c.extension-two.ensures.slot c.extension-two.ensures.tail c.extension-two.ensures.entries c.extension-two.ensures.fresh ends.0 ends.1 c.settle_log.ensures c.settle_log-2.ensures
-    (λ held a b h k can. c.in-Ok.ensures.shows c.args.sup.now held a b h k can) c.extend_two.ensures.wrote.mixed
+    appends_logs c.in_ok-blocks.ensures.ready c.in_ok-blocks.ensures.other_ready c.requires.stands c.requires.other_stands c.in_ok-blocks.ensures.taken c.in_ok-blocks.ensures.count c.requires.apart c.requires.given.given c.requires.more_given.given c.requires.given.some c.requires.more_given.some c.blocks_for-count.ensures c.deref.ensures.value c.split_at.ensures.front c.split_at.ensures.back c.extension-one.result c.extension-two.result c.extension-one.ensures.slot c.extension-one.ensures.tail c.extension-one.ensures.entries c.extension-one.ensures.fresh c.extension-two.ensures.slot c.extension-two.ensures.tail c.extension-two.ensures.entries c.extension-two.ensures.fresh ends.0 ends.1 c.settle_log.ensures c.settle_log-2.ensures
+    (λ held a b h k can. c.in-Ok.ensures.shows c.args.sup.now held a b h k can) c.extend_two.ensures.kept.wrote.mixed
+
+pub returns-clause-first_room : goal.returns-clause-first_room
+returns-clause-first_room g c =
+    let ready = c.in_ok-blocks.ensures.ready in
+    let grown = c.settle_log.ensures in
+    subst (λ (names : Names). c.args.first.now.names ≤ names.room) (sym grown.names) ready.names_room
 
 pub returns-clause-room : goal.returns-clause-room
 returns-clause-room g c =
@@ -66,11 +72,11 @@ returns-clause-room g c =
     let grown = c.settle_log-2.ensures in
     subst (λ (names : Names). c.args.second.now.names ≤ names.room) (sym grown.names) ready.names_room
 
-pub prepare_logs-requires-clause-one : goal.prepare_logs-requires-clause-one
-prepare_logs-requires-clause-one g c = c.requires.given.1
+pub prepare_logs-requires-clause-few : goal.prepare_logs-requires-clause-few
+prepare_logs-requires-clause-few g c = c.requires.given.few
 
-pub prepare_logs-requires-clause-other_one : goal.prepare_logs-requires-clause-other_one
-prepare_logs-requires-clause-other_one g c = c.requires.more_given.1
+pub prepare_logs-requires-clause-more_few : goal.prepare_logs-requires-clause-more_few
+prepare_logs-requires-clause-more_few g c = c.requires.more_given.few
 
 pub returns-in_err-blocks-clause-refused : goal.returns-in_err-blocks-clause-refused
 returns-in_err-blocks-clause-refused g c =
@@ -103,6 +109,9 @@ returns-in_err-blocks-clause-length g c = refl
 pub returns-in_default-clause-appended : goal.returns-in_default-clause-appended
 returns-in_default-clause-appended g c = tt
 
+pub returns-in_default-clause-first_room : goal.returns-in_default-clause-first_room
+returns-in_default-clause-first_room g c = tt
+
 pub returns-in_default-clause-room : goal.returns-in_default-clause-room
 returns-in_default-clause-room g c = tt
 
@@ -125,13 +134,13 @@ pub returns-in_default-clause-other_inode : goal.returns-in_default-clause-other
 returns-in_default-clause-other_inode g c = c.in_ok-blocks.ensures.other.inode
 
 pub returns-in_default-clause-length : goal.returns-in_default-clause-length
-returns-in_default-clause-length g c = mixed_size c.extend_two.ensures.wrote.mixed
+returns-in_default-clause-length g c = mixed_size c.extend_two.ensures.kept.wrote.mixed
 
 pub returns-clause-enough : goal.returns-clause-enough
 returns-clause-enough g c = c.in_ok-blocks.ensures.enough
 
 pub returns-clause-settled : goal.returns-clause-settled
-returns-clause-settled g c = c.in-Ok.ensures.settled
+returns-clause-settled g c = c.in-Ok.ensures.kept.settled
 
 pub returns-clause-refused : goal.returns-clause-refused
 returns-clause-refused g c = tt
@@ -149,10 +158,13 @@ pub returns-clause-other_inode : goal.returns-clause-other_inode
 returns-clause-other_inode g c = c.settle_log-2.ensures.inode ∙ c.in_ok-blocks.ensures.other.inode
 
 pub returns-clause-length : goal.returns-clause-length
-returns-clause-length g c = mixed_size c.extend_two.ensures.wrote.mixed
+returns-clause-length g c = mixed_size c.extend_two.ensures.kept.wrote.mixed
 
 pub returns-in_err-blocks-clause-appended : goal.returns-in_err-blocks-clause-appended
 returns-in_err-blocks-clause-appended g c = IfOk-from_err c.from_residual.result _ c.from_residual.ensures.0
+
+pub returns-in_err-blocks-clause-first_room : goal.returns-in_err-blocks-clause-first_room
+returns-in_err-blocks-clause-first_room g c = IfOk-from_err c.from_residual.result _ c.from_residual.ensures.0
 
 pub returns-in_err-blocks-clause-room : goal.returns-in_err-blocks-clause-room
 returns-in_err-blocks-clause-room g c = IfOk-from_err c.from_residual.result _ c.from_residual.ensures.0
@@ -171,32 +183,32 @@ returns-in_err-blocks-clause-any_stop g c held h k here there settled = still _ 
 
 pub returns-in_default-clause-any_stop : goal.returns-in_default-clause-any_stop
 returns-in_default-clause-any_stop g c held h k here there settled =
-    left_logs c.in_ok-blocks.ensures.ready c.in_ok-blocks.ensures.other_ready c.requires.stands c.requires.other_stands c.in_ok-blocks.ensures.taken c.in_ok-blocks.ensures.count c.requires.apart c.requires.given.0 c.requires.more_given.0 c.requires.given.1 c.requires.more_given.1 c.blocks_for-count.ensures c.deref.ensures.value c.split_at.ensures.front c.split_at.ensures.back c.extension-one.result c.extension-two.result c.extension-one.ensures.slot c.extension-one.ensures.tail c.extension-one.ensures.entries c.extension-one.ensures.fresh c.extension-two.ensures.slot c.extension-two.ensures.tail c.extension-two.ensures.entries c.extension-two.ensures.fresh
-    here there _ _ _ c.extend_two.ensures.wrote settled (λ a b f e can pending. c.extend_two.ensures.any_stop c.args.sup.now held a b f e can pending)
+    left_logs c.in_ok-blocks.ensures.ready c.in_ok-blocks.ensures.other_ready c.requires.stands c.requires.other_stands c.in_ok-blocks.ensures.taken c.in_ok-blocks.ensures.count c.requires.apart c.requires.given.given c.requires.more_given.given c.requires.given.some c.requires.more_given.some c.blocks_for-count.ensures c.deref.ensures.value c.split_at.ensures.front c.split_at.ensures.back c.extension-one.result c.extension-two.result c.extension-one.ensures.slot c.extension-one.ensures.tail c.extension-one.ensures.entries c.extension-one.ensures.fresh c.extension-two.ensures.slot c.extension-two.ensures.tail c.extension-two.ensures.entries c.extension-two.ensures.fresh
+    here there _ _ _ c.extend_two.ensures.kept.wrote settled (λ a b f e can pending. (c.extend_two.ensures.moments c.args.sup.now held a b f e can).any_stop pending)
 
 pub returns-clause-any_stop : goal.returns-clause-any_stop
 returns-clause-any_stop g c held h k here there settled =
-    left_logs c.in_ok-blocks.ensures.ready c.in_ok-blocks.ensures.other_ready c.requires.stands c.requires.other_stands c.in_ok-blocks.ensures.taken c.in_ok-blocks.ensures.count c.requires.apart c.requires.given.0 c.requires.more_given.0 c.requires.given.1 c.requires.more_given.1 c.blocks_for-count.ensures c.deref.ensures.value c.split_at.ensures.front c.split_at.ensures.back c.extension-one.result c.extension-two.result c.extension-one.ensures.slot c.extension-one.ensures.tail c.extension-one.ensures.entries c.extension-one.ensures.fresh c.extension-two.ensures.slot c.extension-two.ensures.tail c.extension-two.ensures.entries c.extension-two.ensures.fresh
-    here there _ _ _ c.extend_two.ensures.wrote settled (λ a b f e can pending. c.extend_two.ensures.any_stop c.args.sup.now held a b f e can pending)
+    left_logs c.in_ok-blocks.ensures.ready c.in_ok-blocks.ensures.other_ready c.requires.stands c.requires.other_stands c.in_ok-blocks.ensures.taken c.in_ok-blocks.ensures.count c.requires.apart c.requires.given.given c.requires.more_given.given c.requires.given.some c.requires.more_given.some c.blocks_for-count.ensures c.deref.ensures.value c.split_at.ensures.front c.split_at.ensures.back c.extension-one.result c.extension-two.result c.extension-one.ensures.slot c.extension-one.ensures.tail c.extension-one.ensures.entries c.extension-one.ensures.fresh c.extension-two.ensures.slot c.extension-two.ensures.tail c.extension-two.ensures.entries c.extension-two.ensures.fresh
+    here there _ _ _ c.extend_two.ensures.kept.wrote settled (λ a b f e can pending. (c.extend_two.ensures.moments c.args.sup.now held a b f e can).any_stop pending)
 
 pub returns-in_err-blocks-clause-in_order : goal.returns-in_err-blocks-clause-in_order
 returns-in_err-blocks-clause-in_order g c held h k here there = inl refl
 
 pub returns-in_default-clause-in_order : goal.returns-in_default-clause-in_order
 returns-in_default-clause-in_order g c held h k here there =
-    logs_in_order c.in_ok-blocks.ensures.ready c.in_ok-blocks.ensures.other_ready c.requires.stands c.requires.other_stands c.in_ok-blocks.ensures.taken c.in_ok-blocks.ensures.count c.requires.apart c.requires.given.0 c.requires.more_given.0 c.requires.given.1 c.requires.more_given.1 c.blocks_for-count.ensures c.deref.ensures.value c.split_at.ensures.front c.split_at.ensures.back c.extension-one.result c.extension-two.result c.extension-one.ensures.slot c.extension-one.ensures.tail c.extension-one.ensures.entries c.extension-one.ensures.fresh c.extension-two.ensures.slot c.extension-two.ensures.tail c.extension-two.ensures.entries c.extension-two.ensures.fresh here there (λ a b f e can. c.extend_two.ensures.in_order c.args.sup.now held a b f e can)
+    logs_in_order c.in_ok-blocks.ensures.ready c.in_ok-blocks.ensures.other_ready c.requires.stands c.requires.other_stands c.in_ok-blocks.ensures.taken c.in_ok-blocks.ensures.count c.requires.apart c.requires.given.given c.requires.more_given.given c.requires.given.some c.requires.more_given.some c.blocks_for-count.ensures c.deref.ensures.value c.split_at.ensures.front c.split_at.ensures.back c.extension-one.result c.extension-two.result c.extension-one.ensures.slot c.extension-one.ensures.tail c.extension-one.ensures.entries c.extension-one.ensures.fresh c.extension-two.ensures.slot c.extension-two.ensures.tail c.extension-two.ensures.entries c.extension-two.ensures.fresh here there (λ a b f e can. c.extend_two.ensures.in_order c.args.sup.now held a b f e can)
 
 pub returns-clause-in_order : goal.returns-clause-in_order
 returns-clause-in_order g c held h k here there =
-    logs_in_order c.in_ok-blocks.ensures.ready c.in_ok-blocks.ensures.other_ready c.requires.stands c.requires.other_stands c.in_ok-blocks.ensures.taken c.in_ok-blocks.ensures.count c.requires.apart c.requires.given.0 c.requires.more_given.0 c.requires.given.1 c.requires.more_given.1 c.blocks_for-count.ensures c.deref.ensures.value c.split_at.ensures.front c.split_at.ensures.back c.extension-one.result c.extension-two.result c.extension-one.ensures.slot c.extension-one.ensures.tail c.extension-one.ensures.entries c.extension-one.ensures.fresh c.extension-two.ensures.slot c.extension-two.ensures.tail c.extension-two.ensures.entries c.extension-two.ensures.fresh here there (λ a b f e can. c.extend_two.ensures.in_order c.args.sup.now held a b f e can)
+    logs_in_order c.in_ok-blocks.ensures.ready c.in_ok-blocks.ensures.other_ready c.requires.stands c.requires.other_stands c.in_ok-blocks.ensures.taken c.in_ok-blocks.ensures.count c.requires.apart c.requires.given.given c.requires.more_given.given c.requires.given.some c.requires.more_given.some c.blocks_for-count.ensures c.deref.ensures.value c.split_at.ensures.front c.split_at.ensures.back c.extension-one.result c.extension-two.result c.extension-one.ensures.slot c.extension-one.ensures.tail c.extension-one.ensures.entries c.extension-one.ensures.fresh c.extension-two.ensures.slot c.extension-two.ensures.tail c.extension-two.ensures.entries c.extension-two.ensures.fresh here there (λ a b f e can. c.extend_two.ensures.in_order c.args.sup.now held a b f e can)
 
 pub returns-in_err-blocks-clause-wrote : goal.returns-in_err-blocks-clause-wrote
 returns-in_err-blocks-clause-wrote g c held h k here there = stores_nothing c.args.sup.now held (two_logs c.args.sup.now c.args.cpu c.args.row.now.inode c.args.other.now.inode) (g.P.Pmem.region c.args.memory.now)
 
 pub returns-in_default-clause-wrote : goal.returns-in_default-clause-wrote
 returns-in_default-clause-wrote g c held h k here there =
-    logs_store c.in_ok-blocks.ensures.ready c.in_ok-blocks.ensures.other_ready c.requires.stands c.requires.other_stands c.in_ok-blocks.ensures.taken c.in_ok-blocks.ensures.count c.requires.apart c.requires.given.0 c.requires.more_given.0 c.requires.given.1 c.requires.more_given.1 c.blocks_for-count.ensures c.deref.ensures.value c.split_at.ensures.front c.split_at.ensures.back c.extension-one.result c.extension-two.result c.extension-one.ensures.slot c.extension-one.ensures.tail c.extension-one.ensures.entries c.extension-one.ensures.fresh c.extension-two.ensures.slot c.extension-two.ensures.tail c.extension-two.ensures.entries c.extension-two.ensures.fresh here there c.extend_two.ensures.wrote.mixed
+    logs_store c.in_ok-blocks.ensures.ready c.in_ok-blocks.ensures.other_ready c.requires.stands c.requires.other_stands c.in_ok-blocks.ensures.taken c.in_ok-blocks.ensures.count c.requires.apart c.requires.given.given c.requires.more_given.given c.requires.given.some c.requires.more_given.some c.blocks_for-count.ensures c.deref.ensures.value c.split_at.ensures.front c.split_at.ensures.back c.extension-one.result c.extension-two.result c.extension-one.ensures.slot c.extension-one.ensures.tail c.extension-one.ensures.entries c.extension-one.ensures.fresh c.extension-two.ensures.slot c.extension-two.ensures.tail c.extension-two.ensures.entries c.extension-two.ensures.fresh here there c.extend_two.ensures.kept.wrote.mixed
 
 pub returns-clause-wrote : goal.returns-clause-wrote
 returns-clause-wrote g c held h k here there =
-    logs_store c.in_ok-blocks.ensures.ready c.in_ok-blocks.ensures.other_ready c.requires.stands c.requires.other_stands c.in_ok-blocks.ensures.taken c.in_ok-blocks.ensures.count c.requires.apart c.requires.given.0 c.requires.more_given.0 c.requires.given.1 c.requires.more_given.1 c.blocks_for-count.ensures c.deref.ensures.value c.split_at.ensures.front c.split_at.ensures.back c.extension-one.result c.extension-two.result c.extension-one.ensures.slot c.extension-one.ensures.tail c.extension-one.ensures.entries c.extension-one.ensures.fresh c.extension-two.ensures.slot c.extension-two.ensures.tail c.extension-two.ensures.entries c.extension-two.ensures.fresh here there c.extend_two.ensures.wrote.mixed
+    logs_store c.in_ok-blocks.ensures.ready c.in_ok-blocks.ensures.other_ready c.requires.stands c.requires.other_stands c.in_ok-blocks.ensures.taken c.in_ok-blocks.ensures.count c.requires.apart c.requires.given.given c.requires.more_given.given c.requires.given.some c.requires.more_given.some c.blocks_for-count.ensures c.deref.ensures.value c.split_at.ensures.front c.split_at.ensures.back c.extension-one.result c.extension-two.result c.extension-one.ensures.slot c.extension-one.ensures.tail c.extension-one.ensures.entries c.extension-one.ensures.fresh c.extension-two.ensures.slot c.extension-two.ensures.tail c.extension-two.ensures.entries c.extension-two.ensures.fresh here there c.extend_two.ensures.kept.wrote.mixed

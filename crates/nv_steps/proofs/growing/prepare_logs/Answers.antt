@@ -1,14 +1,14 @@
 use Rattle.std.proofs.Common.{ℕ, ◌+◌, ◌%◌, ◌≤◌, ◌∙◌, arith, subst, ◌<◌, inl, inr, refl}
 use Rattle.nv_alloc.specs.Taking.{all_blocks}
-use Rattle.nv_steps.proofs.AppendedLogs.{needed_one}
+use Rattle.nv_steps.proofs.AppendedLogs.{needed_few}
 use Rattle.nv_steps.proofs.Refusals.{memory_goes_on, no_space, no_space_goes_on}
 use Rattle.nv_steps.proofs.growing.prepare_logs.Goals as goal
 
 pub overflow_add-both : goal.overflow_add-both
 overflow_add-both c =
-    let one = needed_one (c.args.row.now.tail % 4096) c.args.first.now.entries.now c.requires.one in
-    let other = needed_one (c.args.other.now.tail % 4096) c.args.second.now.entries.now c.requires.other_one in
-    omega (arith, one, other, c.blocks_for-count.ensures, c.blocks_for-more.ensures)
+    let one = needed_few (c.args.row.now.tail % 4096) c.args.first.now.entries.now in
+    let other = needed_few (c.args.other.now.tail % 4096) c.args.second.now.entries.now in
+    omega (arith, one, other, c.requires.few, c.requires.more_few, c.blocks_for-count.ensures, c.blocks_for-more.ensures)
 
 pub returns-in-Ok-take_blocks-clause-ready : goal.returns-in-Ok-take_blocks-clause-ready
 returns-in-Ok-take_blocks-clause-ready c =
@@ -42,6 +42,9 @@ returns-in-Ok-take_blocks-clause-enough c = subst (λ (m : ℕ). m ≤ all_block
 pub returns-in-Ok-take_blocks-clause-refused : goal.returns-in-Ok-take_blocks-clause-refused
 returns-in-Ok-take_blocks-clause-refused c = tt
 
+pub returns-in-Ok-take_blocks-clause-room : goal.returns-in-Ok-take_blocks-clause-room
+returns-in-Ok-take_blocks-clause-room c = c.in-Ok-take_blocks.ensures.room
+
 pub returns-in-Ok-take_blocks-clause-goes_on : goal.returns-in-Ok-take_blocks-clause-goes_on
 returns-in-Ok-take_blocks-clause-goes_on c = tt
 
@@ -71,6 +74,9 @@ returns-in-Err-NoSpace-clause-ready c = tt
 
 pub returns-in-Err-NoSpace-clause-other_ready : goal.returns-in-Err-NoSpace-clause-other_ready
 returns-in-Err-NoSpace-clause-other_ready c = tt
+
+pub returns-in-Err-NoSpace-clause-room : goal.returns-in-Err-NoSpace-clause-room
+returns-in-Err-NoSpace-clause-room c = tt
 
 pub returns-in-Err-NoSpace-clause-goes_on : goal.returns-in-Err-NoSpace-clause-goes_on
 returns-in-Err-NoSpace-clause-goes_on c = no_space_goes_on
@@ -102,6 +108,9 @@ returns-in-Err-Memory-clause-ready c = tt
 pub returns-in-Err-Memory-clause-other_ready : goal.returns-in-Err-Memory-clause-other_ready
 returns-in-Err-Memory-clause-other_ready c = tt
 
+pub returns-in-Err-Memory-clause-room : goal.returns-in-Err-Memory-clause-room
+returns-in-Err-Memory-clause-room c = tt
+
 pub returns-in-Err-Memory-clause-goes_on : goal.returns-in-Err-Memory-clause-goes_on
 returns-in-Err-Memory-clause-goes_on c = memory_goes_on
 
@@ -131,6 +140,9 @@ returns-in_default-clause-ready c = tt
 
 pub returns-in_default-clause-other_ready : goal.returns-in_default-clause-other_ready
 returns-in_default-clause-other_ready c = tt
+
+pub returns-in_default-clause-room : goal.returns-in_default-clause-room
+returns-in_default-clause-room c = tt
 
 pub returns-in_default-clause-goes_on : goal.returns-in_default-clause-goes_on
 returns-in_default-clause-goes_on c = memory_goes_on
@@ -162,6 +174,9 @@ returns-in_default-make_room-clause-ready c = tt
 pub returns-in_default-make_room-clause-other_ready : goal.returns-in_default-make_room-clause-other_ready
 returns-in_default-make_room-clause-other_ready c = tt
 
+pub returns-in_default-make_room-clause-room : goal.returns-in_default-make_room-clause-room
+returns-in_default-make_room-clause-room c = tt
+
 pub returns-in_default-make_room-clause-goes_on : goal.returns-in_default-make_room-clause-goes_on
 returns-in_default-make_room-clause-goes_on c = memory_goes_on
 
@@ -191,6 +206,9 @@ returns-then-not-are_enough-clause-ready c = tt
 
 pub returns-then-not-are_enough-clause-other_ready : goal.returns-then-not-are_enough-clause-other_ready
 returns-then-not-are_enough-clause-other_ready c = tt
+
+pub returns-then-not-are_enough-clause-room : goal.returns-then-not-are_enough-clause-room
+returns-then-not-are_enough-clause-room c = tt
 
 pub returns-then-not-are_enough-clause-goes_on : goal.returns-then-not-are_enough-clause-goes_on
 returns-then-not-are_enough-clause-goes_on c = no_space_goes_on

@@ -34,7 +34,7 @@ returns-in_err-fresh-clause-refused g c =
 pub returns-in_err-fresh-clause-unchanged : goal.returns-in_err-fresh-clause-unchanged
 returns-in_err-fresh-clause-unchanged g c =
     let w = err_from_is_err_and c.from_residual.result c.from_residual.ensures.1 in
-    refused_by c.from_residual.result c.in_err-fresh.field-0.0 w.0 (λ (e : Refusal). (e ≡ Stopped → ⊥) → LeavesStep c.args.memory.now c.args.memory.now c.args.free.now c.prepare_cut.new.free c.args.row.now c.prepare_cut.new.directory) w.1 w.2
+    refused_by c.from_residual.result c.in_err-fresh.field-0.0 w.0 (λ (e : Refusal). (e ≡ Stopped → ⊥) → LeavesStep c.args.memory.now c.args.memory.now c.args.free.now c.prepare_cut.new.free c.args.row.now c.prepare_cut.new.row) w.1 w.2
     (λ _. record { memory = refl; free = c.in_err-fresh.ensures.unchanged; row = c.in_err-fresh.ensures.row })
 
 pub returns-in_err-fresh-clause-stopped : goal.returns-in_err-fresh-clause-stopped
@@ -66,15 +66,15 @@ slot_address-requires-2-clause-inode g c = number_below c.args.sup.now c.args.go
 pub remove_inode-requires-clause-empty : goal.remove_inode-requires-clause-empty
 remove_inode-requires-clause-empty g c = c.requires.can.journal_empty
 
-pub remove_inode-requires-clause-whole : goal.remove_inode-requires-clause-whole
-remove_inode-requires-clause-whole g c =
-    let count : length c.in_ok-fresh.fresh.items ≡ needed (c.args.row.now.tail % 4096) c.args.entries.now = c.in_ok-fresh.ensures.count in
-    subst (λ (a : ℕ). a % 8 ≡ 0) (sym c.slot_address-2.ensures) (slot_whole c.requires.stands c.requires.can c.in_ok-fresh.ensures.taken c.args.entries.now c.requires.given c.requires.some count c.in_ok-fresh.ensures.row)
-
-pub remove_inode-requires-clause-behind : goal.remove_inode-requires-clause-behind
-remove_inode-requires-clause-behind g c =
-    let count : length c.in_ok-fresh.fresh.items ≡ needed (c.args.row.now.tail % 4096) c.args.entries.now = c.in_ok-fresh.ensures.count in
-    subst (λ (a : ℕ). journal c.args.cpu + 4096 ≤ a) (sym c.slot_address-2.ensures) (slot_behind c.requires.stands c.requires.can c.in_ok-fresh.ensures.taken c.args.entries.now c.requires.given c.requires.some count c.in_ok-fresh.ensures.row)
+pub remove_inode-requires-clause-slot : goal.remove_inode-requires-clause-slot
+remove_inode-requires-clause-slot g c = record {
+  whole = (let count : length c.in_ok-fresh.fresh.items ≡ needed (c.args.row.now.tail % 4096) c.args.entries.now = c.in_ok-fresh.ensures.count in
+      subst (λ (a : ℕ). a % 8 ≡ 0) (sym c.slot_address-2.ensures) (slot_whole c.requires.stands c.requires.can c.in_ok-fresh.ensures.taken c.args.entries.now c.requires.given c.requires.some count c.in_ok-fresh.ensures.row));
+  inside = (let count : length c.in_ok-fresh.fresh.items ≡ needed (c.args.row.now.tail % 4096) c.args.entries.now = c.in_ok-fresh.ensures.count in
+      subst (λ (a : ℕ). a + 8 ≤ size (g.P.Pmem.region c.args.memory.now)) (sym c.slot_address-2.ensures) (slot_inside c.requires.stands c.requires.can c.in_ok-fresh.ensures.taken c.args.entries.now c.requires.given c.requires.some count c.in_ok-fresh.ensures.row));
+  behind = (let count : length c.in_ok-fresh.fresh.items ≡ needed (c.args.row.now.tail % 4096) c.args.entries.now = c.in_ok-fresh.ensures.count in
+      subst (λ (a : ℕ). journal c.args.cpu + 4096 ≤ a) (sym c.slot_address-2.ensures) (slot_behind c.requires.stands c.requires.can c.in_ok-fresh.ensures.taken c.args.entries.now c.requires.given c.requires.some count c.in_ok-fresh.ensures.row));
+}
 
 pub returns-in_default-clause-appended : goal.returns-in_default-clause-appended
 returns-in_default-clause-appended g c = tt
@@ -101,11 +101,11 @@ pub returns-in_default-clause-lists : goal.returns-in_default-clause-lists
 returns-in_default-clause-lists g c = taken_sup c.in_ok-fresh.ensures.taken
 
 pub returns-in_default-clause-length : goal.returns-in_default-clause-length
-returns-in_default-clause-length g c = mixed_size c.remove_inode.ensures.wrote.mixed
+returns-in_default-clause-length g c = mixed_size c.remove_inode.ensures.kept.wrote.mixed
 
 pub settle_less-requires : goal.settle_less-requires
 settle_less-requires g c =
-    subst (λ (bs : List ℕ). HasRoomFor c.prepare_cut.new.directory.pages (length bs)) (sym c.deref-2.ensures.value) c.in_ok-fresh.ensures.pages_room
+    subst (λ (bs : List ℕ). HasRoomFor c.prepare_cut.new.row.pages (length bs)) (sym c.deref-2.ensures.value) c.in_ok-fresh.ensures.pages_room
 
 pub returns-clause-enough : goal.returns-clause-enough
 returns-clause-enough g c = c.in_ok-fresh.ensures.enough
@@ -114,7 +114,7 @@ pub returns-clause-room : goal.returns-clause-room
 returns-clause-room g c = c.in_ok-fresh.ensures.room
 
 pub returns-clause-settled : goal.returns-clause-settled
-returns-clause-settled g c = c.in-Ok.ensures.settled
+returns-clause-settled g c = c.in-Ok.ensures.kept.settled
 
 pub returns-clause-refused : goal.returns-clause-refused
 returns-clause-refused g c = tt
@@ -132,36 +132,31 @@ pub returns-clause-lists : goal.returns-clause-lists
 returns-clause-lists g c = taken_sup c.in_ok-fresh.ensures.taken
 
 pub returns-clause-length : goal.returns-clause-length
-returns-clause-length g c = mixed_size c.remove_inode.ensures.wrote.mixed
+returns-clause-length g c = mixed_size c.remove_inode.ensures.kept.wrote.mixed
 
 pub remove_inode-requires-clause-directory : goal.remove_inode-requires-clause-directory
 remove_inode-requires-clause-directory g c =
     let count : length c.in_ok-fresh.fresh.items ≡ needed (c.args.row.now.tail % 4096) c.args.entries.now = c.in_ok-fresh.ensures.count in
     commits c.requires.stands c.requires.can c.in_ok-fresh.ensures.taken c.args.entries.now c.requires.given c.requires.some count c.in_ok-fresh.ensures.row _ c.slot_address.ensures refl refl c.deref.ensures.value
 
-pub remove_inode-requires-clause-inside : goal.remove_inode-requires-clause-inside
-remove_inode-requires-clause-inside g c =
-    let count : length c.in_ok-fresh.fresh.items ≡ needed (c.args.row.now.tail % 4096) c.args.entries.now = c.in_ok-fresh.ensures.count in
-    subst (λ (a : ℕ). a + 8 ≤ size (g.P.Pmem.region c.args.memory.now)) (sym c.slot_address-2.ensures) (slot_inside c.requires.stands c.requires.can c.in_ok-fresh.ensures.taken c.args.entries.now c.requires.given c.requires.some count c.in_ok-fresh.ensures.row)
-
 pub returns-in_default-clause-keeps_fuse : goal.returns-in_default-clause-keeps_fuse
 returns-in_default-clause-keeps_fuse g c =
     let count : length c.in_ok-fresh.fresh.items ≡ needed (c.args.row.now.tail % 4096) c.args.entries.now = c.in_ok-fresh.ensures.count in
-    keeps_within (less_within c.requires.stands c.requires.can c.in_ok-fresh.ensures.taken c.args.entries.now c.requires.given c.requires.some count c.in_ok-fresh.ensures.row c.slot_address-2.result c.slot_address.result c.prepare_cut.new.directory.tail _
-    c.slot_address-2.ensures c.slot_address.ensures refl c.deref.ensures.value) c.remove_inode.ensures.keeps_fuse
+    keeps_within (less_within c.requires.stands c.requires.can c.in_ok-fresh.ensures.taken c.args.entries.now c.requires.given c.requires.some count c.in_ok-fresh.ensures.row c.slot_address-2.result c.slot_address.result c.prepare_cut.new.row.tail _
+    c.slot_address-2.ensures c.slot_address.ensures refl c.deref.ensures.value) c.remove_inode.ensures.kept.keeps_fuse
 
 pub returns-clause-keeps_fuse : goal.returns-clause-keeps_fuse
 returns-clause-keeps_fuse g c =
     let count : length c.in_ok-fresh.fresh.items ≡ needed (c.args.row.now.tail % 4096) c.args.entries.now = c.in_ok-fresh.ensures.count in
-    keeps_within (less_within c.requires.stands c.requires.can c.in_ok-fresh.ensures.taken c.args.entries.now c.requires.given c.requires.some count c.in_ok-fresh.ensures.row c.slot_address-2.result c.slot_address.result c.prepare_cut.new.directory.tail _
-    c.slot_address-2.ensures c.slot_address.ensures refl c.deref.ensures.value) c.remove_inode.ensures.keeps_fuse
+    keeps_within (less_within c.requires.stands c.requires.can c.in_ok-fresh.ensures.taken c.args.entries.now c.requires.given c.requires.some count c.in_ok-fresh.ensures.row c.slot_address-2.result c.slot_address.result c.prepare_cut.new.row.tail _
+    c.slot_address-2.ensures c.slot_address.ensures refl c.deref.ensures.value) c.remove_inode.ensures.kept.keeps_fuse
 
 pub returns-clause-appended : goal.returns-clause-appended
 returns-clause-appended g c =
     let count : length c.in_ok-fresh.fresh.items ≡ needed (c.args.row.now.tail % 4096) c.args.entries.now = c.in_ok-fresh.ensures.count in
     appends_less c.requires.stands c.requires.can c.in_ok-fresh.ensures.taken c.args.entries.now c.requires.given c.requires.some count c.in_ok-fresh.ensures.row _ c.slot_address.ensures refl refl c.deref.ensures.value
     c.slot_address-2.result c.in-Ok.end _ c.slot_address-2.ensures c.requires.differ c.deref-2.ensures.value c.in-Ok.ensures.end c.settle_less.ensures.row c.in_ok-fresh.ensures.once c.settle_less.ensures.once
-    (λ held h can. c.in-Ok.ensures.shows c.args.sup.now held c.prepare_cut.new.directory.inode c.args.gone h can) c.remove_inode.ensures.wrote.mixed
+    (λ held h can. c.in-Ok.ensures.shows c.args.sup.now held c.prepare_cut.new.row.inode c.args.gone h can) c.remove_inode.ensures.kept.wrote.mixed
 
 pub returns-in_err-fresh-clause-appended : goal.returns-in_err-fresh-clause-appended
 returns-in_err-fresh-clause-appended g c = IfOk-from_err c.from_residual.result _ c.from_residual.ensures.0
@@ -186,15 +181,15 @@ pub returns-in_default-clause-any_stop : goal.returns-in_default-clause-any_stop
 returns-in_default-clause-any_stop g c held h shows settled =
     let count : length c.in_ok-fresh.fresh.items ≡ needed (c.args.row.now.tail % 4096) c.args.entries.now = c.in_ok-fresh.ensures.count in
     left_less c.requires.stands c.requires.can c.in_ok-fresh.ensures.taken c.args.entries.now c.requires.given c.requires.some count c.in_ok-fresh.ensures.row _ c.slot_address.ensures refl refl c.deref.ensures.value
-    c.slot_address-2.result c.slot_address-2.ensures c.requires.differ shows c.in_ok-fresh.ensures.once _ _ _ c.remove_inode.ensures.wrote settled
-    (λ can pending. c.remove_inode.ensures.any_stop c.args.sup.now held c.prepare_cut.new.directory.inode c.args.gone h can pending)
+    c.slot_address-2.result c.slot_address-2.ensures c.requires.differ shows c.in_ok-fresh.ensures.once _ _ _ c.remove_inode.ensures.kept.wrote settled
+    (λ can pending. (c.remove_inode.ensures.moments c.args.sup.now held c.prepare_cut.new.row.inode c.args.gone h can).any_stop pending)
 
 pub returns-clause-any_stop : goal.returns-clause-any_stop
 returns-clause-any_stop g c held h shows settled =
     let count : length c.in_ok-fresh.fresh.items ≡ needed (c.args.row.now.tail % 4096) c.args.entries.now = c.in_ok-fresh.ensures.count in
     left_less c.requires.stands c.requires.can c.in_ok-fresh.ensures.taken c.args.entries.now c.requires.given c.requires.some count c.in_ok-fresh.ensures.row _ c.slot_address.ensures refl refl c.deref.ensures.value
-    c.slot_address-2.result c.slot_address-2.ensures c.requires.differ shows c.in_ok-fresh.ensures.once _ _ _ c.remove_inode.ensures.wrote settled
-    (λ can pending. c.remove_inode.ensures.any_stop c.args.sup.now held c.prepare_cut.new.directory.inode c.args.gone h can pending)
+    c.slot_address-2.result c.slot_address-2.ensures c.requires.differ shows c.in_ok-fresh.ensures.once _ _ _ c.remove_inode.ensures.kept.wrote settled
+    (λ can pending. (c.remove_inode.ensures.moments c.args.sup.now held c.prepare_cut.new.row.inode c.args.gone h can).any_stop pending)
 
 pub returns-in_err-fresh-clause-in_order : goal.returns-in_err-fresh-clause-in_order
 returns-in_err-fresh-clause-in_order g c held h shows = inl refl
@@ -203,13 +198,13 @@ pub returns-in_default-clause-in_order : goal.returns-in_default-clause-in_order
 returns-in_default-clause-in_order g c held h shows =
     let count : length c.in_ok-fresh.fresh.items ≡ needed (c.args.row.now.tail % 4096) c.args.entries.now = c.in_ok-fresh.ensures.count in
     (less_told c.requires.stands c.requires.can c.in_ok-fresh.ensures.taken c.args.entries.now c.requires.given c.requires.some count c.in_ok-fresh.ensures.row _ c.slot_address.ensures refl refl c.deref.ensures.value
-    (g.P.Pmem.region c.remove_inode.new.memory) c.slot_address-2.result c.slot_address-2.ensures c.requires.differ shows (c.remove_inode.ensures.in_order c.args.sup.now held c.prepare_cut.new.directory.inode c.args.gone h) c.remove_inode.ensures.wrote.mixed).0
+    (g.P.Pmem.region c.remove_inode.new.memory) c.slot_address-2.result c.slot_address-2.ensures c.requires.differ shows (c.remove_inode.ensures.in_order c.args.sup.now held c.prepare_cut.new.row.inode c.args.gone h) c.remove_inode.ensures.kept.wrote.mixed).0
 
 pub returns-clause-in_order : goal.returns-clause-in_order
 returns-clause-in_order g c held h shows =
     let count : length c.in_ok-fresh.fresh.items ≡ needed (c.args.row.now.tail % 4096) c.args.entries.now = c.in_ok-fresh.ensures.count in
     (less_told c.requires.stands c.requires.can c.in_ok-fresh.ensures.taken c.args.entries.now c.requires.given c.requires.some count c.in_ok-fresh.ensures.row _ c.slot_address.ensures refl refl c.deref.ensures.value
-    (g.P.Pmem.region c.remove_inode.new.memory) c.slot_address-2.result c.slot_address-2.ensures c.requires.differ shows (c.remove_inode.ensures.in_order c.args.sup.now held c.prepare_cut.new.directory.inode c.args.gone h) c.remove_inode.ensures.wrote.mixed).0
+    (g.P.Pmem.region c.remove_inode.new.memory) c.slot_address-2.result c.slot_address-2.ensures c.requires.differ shows (c.remove_inode.ensures.in_order c.args.sup.now held c.prepare_cut.new.row.inode c.args.gone h) c.remove_inode.ensures.kept.wrote.mixed).0
 
 pub returns-in_err-fresh-clause-wrote : goal.returns-in_err-fresh-clause-wrote
 returns-in_err-fresh-clause-wrote g c held h shows = stores_nothing c.args.sup.now held (one_less c.args.sup.now c.args.cpu c.args.row.now.inode c.args.gone) (g.P.Pmem.region c.args.memory.now)
@@ -218,13 +213,13 @@ pub returns-in_default-clause-wrote : goal.returns-in_default-clause-wrote
 returns-in_default-clause-wrote g c held h shows =
     let count : length c.in_ok-fresh.fresh.items ≡ needed (c.args.row.now.tail % 4096) c.args.entries.now = c.in_ok-fresh.ensures.count in
     (less_told c.requires.stands c.requires.can c.in_ok-fresh.ensures.taken c.args.entries.now c.requires.given c.requires.some count c.in_ok-fresh.ensures.row _ c.slot_address.ensures refl refl c.deref.ensures.value
-    (g.P.Pmem.region c.remove_inode.new.memory) c.slot_address-2.result c.slot_address-2.ensures c.requires.differ shows (c.remove_inode.ensures.in_order c.args.sup.now held c.prepare_cut.new.directory.inode c.args.gone h) c.remove_inode.ensures.wrote.mixed).1
+    (g.P.Pmem.region c.remove_inode.new.memory) c.slot_address-2.result c.slot_address-2.ensures c.requires.differ shows (c.remove_inode.ensures.in_order c.args.sup.now held c.prepare_cut.new.row.inode c.args.gone h) c.remove_inode.ensures.kept.wrote.mixed).1
 
 pub returns-clause-wrote : goal.returns-clause-wrote
 returns-clause-wrote g c held h shows =
     let count : length c.in_ok-fresh.fresh.items ≡ needed (c.args.row.now.tail % 4096) c.args.entries.now = c.in_ok-fresh.ensures.count in
     (less_told c.requires.stands c.requires.can c.in_ok-fresh.ensures.taken c.args.entries.now c.requires.given c.requires.some count c.in_ok-fresh.ensures.row _ c.slot_address.ensures refl refl c.deref.ensures.value
-    (g.P.Pmem.region c.remove_inode.new.memory) c.slot_address-2.result c.slot_address-2.ensures c.requires.differ shows (c.remove_inode.ensures.in_order c.args.sup.now held c.prepare_cut.new.directory.inode c.args.gone h) c.remove_inode.ensures.wrote.mixed).1
+    (g.P.Pmem.region c.remove_inode.new.memory) c.slot_address-2.result c.slot_address-2.ensures c.requires.differ shows (c.remove_inode.ensures.in_order c.args.sup.now held c.prepare_cut.new.row.inode c.args.gone h) c.remove_inode.ensures.kept.wrote.mixed).1
 
 pub returns-in_err-fresh-clause-names_room : goal.returns-in_err-fresh-clause-names_room
 returns-in_err-fresh-clause-names_room g c = c.prepare_cut.ensures.names_room

@@ -113,13 +113,13 @@ pub returns-in_default-clause-keeps_fuse : goal.returns-in_default-clause-keeps_
 returns-in_default-clause-keeps_fuse g c =
     let count : length c.in_ok-blocks.blocks.items ≡ 1 + needed (c.args.directory.now.tail % 4096) (name_entries Add c.args.new.now.inode c.args.new.now.name.now c.args.new.now.time) = c.in_ok-blocks.ensures.count ∙ ap (λ (e : Entry). 1 + needed (c.args.directory.now.tail % 4096) (e ∷ [])) c.name_entry.ensures in
     keeps_within (makes_within c.requires.stands c.requires.can c.in_ok-blocks.ensures.taken c.args.new.now.name.now c.args.new.now.time count c.in_ok-blocks.ensures.row c.index.result.now c.slot_address.result c.slot_address-2.result c.prepare_name.new.directory.tail _
-    (first_is c.in_ok-blocks.blocks.items _ c.index.result.now count c.index.ensures) c.slot_address.ensures c.slot_address-2.ensures refl (all_others c.deref.result.now (length c.deref.result.now) refl ∙ ap (drop 1) c.deref.ensures.value)) c.make_inode.ensures.keeps_fuse
+    (first_is c.in_ok-blocks.blocks.items _ c.index.result.now count c.index.ensures) c.slot_address.ensures c.slot_address-2.ensures refl (all_others c.deref.result.now (length c.deref.result.now) refl ∙ ap (drop 1) c.deref.ensures.value)) c.make_inode.ensures.kept.keeps_fuse
 
 pub returns-clause-keeps_fuse : goal.returns-clause-keeps_fuse
 returns-clause-keeps_fuse g c =
     let count : length c.in_ok-blocks.blocks.items ≡ 1 + needed (c.args.directory.now.tail % 4096) (name_entries Add c.args.new.now.inode c.args.new.now.name.now c.args.new.now.time) = c.in_ok-blocks.ensures.count ∙ ap (λ (e : Entry). 1 + needed (c.args.directory.now.tail % 4096) (e ∷ [])) c.name_entry.ensures in
     keeps_within (makes_within c.requires.stands c.requires.can c.in_ok-blocks.ensures.taken c.args.new.now.name.now c.args.new.now.time count c.in_ok-blocks.ensures.row c.index.result.now c.slot_address.result c.slot_address-2.result c.prepare_name.new.directory.tail _
-    (first_is c.in_ok-blocks.blocks.items _ c.index.result.now count c.index.ensures) c.slot_address.ensures c.slot_address-2.ensures refl (all_others c.deref.result.now (length c.deref.result.now) refl ∙ ap (drop 1) c.deref.ensures.value)) c.make_inode.ensures.keeps_fuse
+    (first_is c.in_ok-blocks.blocks.items _ c.index.result.now count c.index.ensures) c.slot_address.ensures c.slot_address-2.ensures refl (all_others c.deref.result.now (length c.deref.result.now) refl ∙ ap (drop 1) c.deref.ensures.value)) c.make_inode.ensures.kept.keeps_fuse
 
 pub returns-clause-made : goal.returns-clause-made
 returns-clause-made g c =
@@ -132,13 +132,13 @@ returns-clause-made g c =
     (place_is c.in-Ok.end c.length.result (drop 1 c.in_ok-blocks.blocks.items) c.args.directory.now.tail c.args.new.now.inode c.args.new.now.name.now c.args.new.now.time
     (ends.1 ∙ (λ t. end_of (blocks t) 0 (same.tail t) (c.name_entry.ensures t ∷ []))) (c.length.ensures.value ∙ ap entry_length c.name_entry.ensures))
     c.in_ok-blocks.ensures.once c.settle_name.ensures.once (first_is c.in_ok-blocks.blocks.items _ c.index.result.now count c.index.ensures) c.new_row.ensures
-    (λ held h can. c.in-Ok.ensures.shows c.args.sup.now held c.args.new.now.inode c.prepare_name.new.directory.inode h can) c.make_inode.ensures.wrote.mixed
+    (λ held h can. c.in-Ok.ensures.shows c.args.sup.now held c.args.new.now.inode c.prepare_name.new.directory.inode h can) c.make_inode.ensures.kept.wrote.mixed
 
 pub returns-in_default-clause-length : goal.returns-in_default-clause-length
-returns-in_default-clause-length g c = mixed_size c.make_inode.ensures.wrote.mixed
+returns-in_default-clause-length g c = mixed_size c.make_inode.ensures.kept.wrote.mixed
 
 pub returns-clause-length : goal.returns-clause-length
-returns-clause-length g c = mixed_size c.make_inode.ensures.wrote.mixed
+returns-clause-length g c = mixed_size c.make_inode.ensures.kept.wrote.mixed
 
 pub slice_bounds-settle_name-count : goal.slice_bounds-settle_name-count
 slice_bounds-settle_name-count g c = subst (λ (xs : List ℕ). 1 ≤ length xs) (sym c.deref-2.ensures.value) (has_one c.in_ok-blocks.blocks.items _ c.in_ok-blocks.ensures.count)
@@ -159,7 +159,7 @@ pub returns-clause-enough : goal.returns-clause-enough
 returns-clause-enough g c = subst (λ (x : Entry). 1 + needed (c.args.directory.now.tail % 4096) (x ∷ []) ≤ all_blocks c.args.free.now.pools) c.name_entry.ensures c.in_ok-blocks.ensures.enough
 
 pub returns-clause-settled : goal.returns-clause-settled
-returns-clause-settled g c = c.in-Ok.ensures.settled
+returns-clause-settled g c = c.in-Ok.ensures.kept.settled
 
 pub returns-clause-refused : goal.returns-clause-refused
 returns-clause-refused g c = tt
@@ -197,16 +197,16 @@ returns-in_default-clause-any_stop g c held h shows out absent settled =
     let count : length c.in_ok-blocks.blocks.items ≡ 1 + needed (c.args.directory.now.tail % 4096) (name_entries Add c.args.new.now.inode c.args.new.now.name.now c.args.new.now.time) = c.in_ok-blocks.ensures.count ∙ ap (λ (e : Entry). 1 + needed (c.args.directory.now.tail % 4096) (e ∷ [])) c.name_entry.ensures in
     let blocks = all_others c.deref.result.now (length c.deref.result.now) refl ∙ ap (drop 1) c.deref.ensures.value in
     left_named c.requires.stands c.requires.can c.in_ok-blocks.ensures.taken c.args.new.now.name.now c.args.new.now.time count c.in_ok-blocks.ensures.row _ c.slot_address-2.ensures refl (ap (λ (e : Entry). e ∷ []) c.name_entry.ensures) blocks c.args.new.now.kind c.args.new.now.mode _ c.slot_address.ensures refl refl
-    (first_is c.in_ok-blocks.blocks.items _ c.index.result.now count c.index.ensures) c.first_attributes.ensures shows out c.in_ok-blocks.ensures.once absent _ _ _ c.make_inode.ensures.wrote settled
-    (c.make_inode.ensures.any_stop c.args.sup.now held c.args.new.now.inode c.prepare_name.new.directory.inode h)
+    (first_is c.in_ok-blocks.blocks.items _ c.index.result.now count c.index.ensures) c.first_attributes.ensures shows out c.in_ok-blocks.ensures.once absent _ _ _ c.make_inode.ensures.kept.wrote settled
+    (λ can. (c.make_inode.ensures.moments c.args.sup.now held c.args.new.now.inode c.prepare_name.new.directory.inode h can).any_stop)
 
 pub returns-clause-any_stop : goal.returns-clause-any_stop
 returns-clause-any_stop g c held h shows out absent settled =
     let count : length c.in_ok-blocks.blocks.items ≡ 1 + needed (c.args.directory.now.tail % 4096) (name_entries Add c.args.new.now.inode c.args.new.now.name.now c.args.new.now.time) = c.in_ok-blocks.ensures.count ∙ ap (λ (e : Entry). 1 + needed (c.args.directory.now.tail % 4096) (e ∷ [])) c.name_entry.ensures in
     let blocks = all_others c.deref.result.now (length c.deref.result.now) refl ∙ ap (drop 1) c.deref.ensures.value in
     left_named c.requires.stands c.requires.can c.in_ok-blocks.ensures.taken c.args.new.now.name.now c.args.new.now.time count c.in_ok-blocks.ensures.row _ c.slot_address-2.ensures refl (ap (λ (e : Entry). e ∷ []) c.name_entry.ensures) blocks c.args.new.now.kind c.args.new.now.mode _ c.slot_address.ensures refl refl
-    (first_is c.in_ok-blocks.blocks.items _ c.index.result.now count c.index.ensures) c.first_attributes.ensures shows out c.in_ok-blocks.ensures.once absent _ _ _ c.make_inode.ensures.wrote settled
-    (c.make_inode.ensures.any_stop c.args.sup.now held c.args.new.now.inode c.prepare_name.new.directory.inode h)
+    (first_is c.in_ok-blocks.blocks.items _ c.index.result.now count c.index.ensures) c.first_attributes.ensures shows out c.in_ok-blocks.ensures.once absent _ _ _ c.make_inode.ensures.kept.wrote settled
+    (λ can. (c.make_inode.ensures.moments c.args.sup.now held c.args.new.now.inode c.prepare_name.new.directory.inode h can).any_stop)
 
 pub returns-in_err-blocks-clause-in_order : goal.returns-in_err-blocks-clause-in_order
 returns-in_err-blocks-clause-in_order g c held h shows out = inl refl
@@ -216,14 +216,14 @@ returns-in_default-clause-in_order g c held h shows out =
     let count : length c.in_ok-blocks.blocks.items ≡ 1 + needed (c.args.directory.now.tail % 4096) (name_entries Add c.args.new.now.inode c.args.new.now.name.now c.args.new.now.time) = c.in_ok-blocks.ensures.count ∙ ap (λ (e : Entry). 1 + needed (c.args.directory.now.tail % 4096) (e ∷ [])) c.name_entry.ensures in
     let blocks = all_others c.deref.result.now (length c.deref.result.now) refl ∙ ap (drop 1) c.deref.ensures.value in
     (named_told c.requires.stands c.requires.can c.in_ok-blocks.ensures.taken c.args.new.now.name.now c.args.new.now.time count c.in_ok-blocks.ensures.row _ c.slot_address-2.ensures refl (ap (λ (e : Entry). e ∷ []) c.name_entry.ensures) blocks c.args.new.now.kind c.args.new.now.mode _ c.slot_address.ensures refl refl
-    (first_is c.in_ok-blocks.blocks.items _ c.index.result.now count c.index.ensures) c.first_attributes.ensures (g.P.Pmem.region c.make_inode.new.memory) shows out (c.make_inode.ensures.in_order c.args.sup.now held c.args.new.now.inode c.prepare_name.new.directory.inode h) c.make_inode.ensures.wrote.mixed).0
+    (first_is c.in_ok-blocks.blocks.items _ c.index.result.now count c.index.ensures) c.first_attributes.ensures (g.P.Pmem.region c.make_inode.new.memory) shows out (c.make_inode.ensures.in_order c.args.sup.now held c.args.new.now.inode c.prepare_name.new.directory.inode h) c.make_inode.ensures.kept.wrote.mixed).0
 
 pub returns-clause-in_order : goal.returns-clause-in_order
 returns-clause-in_order g c held h shows out =
     let count : length c.in_ok-blocks.blocks.items ≡ 1 + needed (c.args.directory.now.tail % 4096) (name_entries Add c.args.new.now.inode c.args.new.now.name.now c.args.new.now.time) = c.in_ok-blocks.ensures.count ∙ ap (λ (e : Entry). 1 + needed (c.args.directory.now.tail % 4096) (e ∷ [])) c.name_entry.ensures in
     let blocks = all_others c.deref.result.now (length c.deref.result.now) refl ∙ ap (drop 1) c.deref.ensures.value in
     (named_told c.requires.stands c.requires.can c.in_ok-blocks.ensures.taken c.args.new.now.name.now c.args.new.now.time count c.in_ok-blocks.ensures.row _ c.slot_address-2.ensures refl (ap (λ (e : Entry). e ∷ []) c.name_entry.ensures) blocks c.args.new.now.kind c.args.new.now.mode _ c.slot_address.ensures refl refl
-    (first_is c.in_ok-blocks.blocks.items _ c.index.result.now count c.index.ensures) c.first_attributes.ensures (g.P.Pmem.region c.make_inode.new.memory) shows out (c.make_inode.ensures.in_order c.args.sup.now held c.args.new.now.inode c.prepare_name.new.directory.inode h) c.make_inode.ensures.wrote.mixed).0
+    (first_is c.in_ok-blocks.blocks.items _ c.index.result.now count c.index.ensures) c.first_attributes.ensures (g.P.Pmem.region c.make_inode.new.memory) shows out (c.make_inode.ensures.in_order c.args.sup.now held c.args.new.now.inode c.prepare_name.new.directory.inode h) c.make_inode.ensures.kept.wrote.mixed).0
 
 pub returns-in_err-blocks-clause-wrote : goal.returns-in_err-blocks-clause-wrote
 returns-in_err-blocks-clause-wrote g c held h shows out = stores_nothing c.args.sup.now held (one_more c.args.sup.now c.args.cpu c.args.new.now.inode c.args.directory.now.inode) (g.P.Pmem.region c.args.memory.now)
@@ -233,11 +233,11 @@ returns-in_default-clause-wrote g c held h shows out =
     let count : length c.in_ok-blocks.blocks.items ≡ 1 + needed (c.args.directory.now.tail % 4096) (name_entries Add c.args.new.now.inode c.args.new.now.name.now c.args.new.now.time) = c.in_ok-blocks.ensures.count ∙ ap (λ (e : Entry). 1 + needed (c.args.directory.now.tail % 4096) (e ∷ [])) c.name_entry.ensures in
     let blocks = all_others c.deref.result.now (length c.deref.result.now) refl ∙ ap (drop 1) c.deref.ensures.value in
     (named_told c.requires.stands c.requires.can c.in_ok-blocks.ensures.taken c.args.new.now.name.now c.args.new.now.time count c.in_ok-blocks.ensures.row _ c.slot_address-2.ensures refl (ap (λ (e : Entry). e ∷ []) c.name_entry.ensures) blocks c.args.new.now.kind c.args.new.now.mode _ c.slot_address.ensures refl refl
-    (first_is c.in_ok-blocks.blocks.items _ c.index.result.now count c.index.ensures) c.first_attributes.ensures (g.P.Pmem.region c.make_inode.new.memory) shows out (c.make_inode.ensures.in_order c.args.sup.now held c.args.new.now.inode c.prepare_name.new.directory.inode h) c.make_inode.ensures.wrote.mixed).1
+    (first_is c.in_ok-blocks.blocks.items _ c.index.result.now count c.index.ensures) c.first_attributes.ensures (g.P.Pmem.region c.make_inode.new.memory) shows out (c.make_inode.ensures.in_order c.args.sup.now held c.args.new.now.inode c.prepare_name.new.directory.inode h) c.make_inode.ensures.kept.wrote.mixed).1
 
 pub returns-clause-wrote : goal.returns-clause-wrote
 returns-clause-wrote g c held h shows out =
     let count : length c.in_ok-blocks.blocks.items ≡ 1 + needed (c.args.directory.now.tail % 4096) (name_entries Add c.args.new.now.inode c.args.new.now.name.now c.args.new.now.time) = c.in_ok-blocks.ensures.count ∙ ap (λ (e : Entry). 1 + needed (c.args.directory.now.tail % 4096) (e ∷ [])) c.name_entry.ensures in
     let blocks = all_others c.deref.result.now (length c.deref.result.now) refl ∙ ap (drop 1) c.deref.ensures.value in
     (named_told c.requires.stands c.requires.can c.in_ok-blocks.ensures.taken c.args.new.now.name.now c.args.new.now.time count c.in_ok-blocks.ensures.row _ c.slot_address-2.ensures refl (ap (λ (e : Entry). e ∷ []) c.name_entry.ensures) blocks c.args.new.now.kind c.args.new.now.mode _ c.slot_address.ensures refl refl
-    (first_is c.in_ok-blocks.blocks.items _ c.index.result.now count c.index.ensures) c.first_attributes.ensures (g.P.Pmem.region c.make_inode.new.memory) shows out (c.make_inode.ensures.in_order c.args.sup.now held c.args.new.now.inode c.prepare_name.new.directory.inode h) c.make_inode.ensures.wrote.mixed).1
+    (first_is c.in_ok-blocks.blocks.items _ c.index.result.now count c.index.ensures) c.first_attributes.ensures (g.P.Pmem.region c.make_inode.new.memory) shows out (c.make_inode.ensures.in_order c.args.sup.now held c.args.new.now.inode c.prepare_name.new.directory.inode h) c.make_inode.ensures.kept.wrote.mixed).1

@@ -1,126 +1,50 @@
-use Rattle.std.proofs.Common.{◌≡◌, ◌+◌, ◌%◌, ◌<◌, ◌≤◌, ◌∙◌, ◌∷◌, [], ℕ, ap, inl, inr, length, refl, subst, sym, IsTrue, List}
+use Rattle.std.proofs.Common.{◌≡◌, ◌∙◌, ◌∷◌, [], ◌≤◌, ◌%◌, refl, subst, sym, IsTrue}
 use Rattle.std.proofs.lemmas.Result.{err_from_is_err_and, IfOk-from_err}
-use Rattle.smallvec.specs.SmallVec.{HasRoomFor}
-use Rattle.nv_region.specs.Region.{size}
-use Rattle.nv_region.proofs.Fuses.{keeps_within}
-use Rattle.nv_super.specs.declared.superblock.Super.{Super}
-use Rattle.nv_super.specs.Layout.{inode_limit}
-use Rattle.nv_journal.specs.Undo.{journal}
+use Rattle.nv_super.specs.Layout.{fixed_layout, slot_address}
 use Rattle.nv_alloc.specs.Taking.{all_blocks}
 use Rattle.nv_entry.specs.declared.entry.Entry.{Entry}
 use Rattle.nv_entry.specs.declared.entry.Operation.TheVariants.{Remove}
-use Rattle.nv_logpage.specs.Append.{needed}
-use Rattle.nv_held.proofs.BytesKept.{mixed_size}
+use Rattle.nv_logpage.specs.Append.{AreGiven, needed}
 use Rattle.nv_tree.specs.declared.refusal.Refusal.{Refusal}
 use Rattle.nv_tree.specs.declared.refusal.Refusal.TheVariants.{Stopped}
 use Rattle.nv_tree.proofs.Replies.{refused_by}
+use Rattle.nv_commit.specs.Stopped.{LeavesEither}
+use Rattle.nv_steps.specs.InOrder.{TailIsFirst}
 use Rattle.nv_steps.specs.NameEntries.{name_entries}
 use Rattle.nv_steps.specs.Steps.{LeavesStep, RefusesStep}
-use Rattle.nv_commit.proofs.Left.{still}
-use Rattle.nv_steps.specs.Stopped.{Cut}
-use Rattle.nv_steps.proofs.CutNames.{cut_told, commits, cuts_name, cuts_within, left_cut, slot_behind, slot_inside, slot_whole}
-use Rattle.nv_steps.proofs.NumbersOwed.{number_below}
-use Rattle.nv_steps.proofs.TakenBlocks.{taken_sup}
+use Rattle.nv_steps.specs.Takes.{AppendedLess, AppendsLess}
+use Rattle.nv_steps.proofs.CutNames.{cuts_name, left_cut}
 use Rattle.nv_steps.proofs.removing.cut_name.Goals as goal
-use Rattle.nv_steps.specs.Stores.{one_less}
-use Rattle.nv_steps.proofs.Stores.{stores_nothing}
 
 pub name_entry-requires : goal.name_entry-requires
 name_entry-requires g c = record { some = c.requires.name.some; fits = c.requires.name.short }
 
-pub prepare_cut-requires : goal.prepare_cut-requires
-prepare_cut-requires g c = record { cpu = subst (λ (s : Super). c.args.cpu < s.cpus) (sym c.requires.stands.lists) c.requires.can.cpu_below }
+pub append_less-requires-clause-stands : goal.append_less-requires-clause-stands
+append_less-requires-clause-stands g c = c.requires.stands
 
-pub returns-in_err-fresh-clause-refused : goal.returns-in_err-fresh-clause-refused
-returns-in_err-fresh-clause-refused g c =
-    let w = err_from_is_err_and c.from_residual.result c.from_residual.ensures.1 in
-    refused_by c.from_residual.result c.in_err-fresh.field-0.0 w.0 (λ (e : Refusal). RefusesStep e (needed (c.args.directory.now.tail % 4096) (name_entries Remove c.args.gone.now.inode c.args.gone.now.name.now c.args.gone.now.time)) c.args.free.now) w.1 w.2
-    (subst (λ (x : Entry). RefusesStep c.in_err-fresh.field-0.0 (needed (c.args.directory.now.tail % 4096) (x ∷ [])) c.args.free.now) c.name_entry.ensures c.in_err-fresh.ensures.refused)
+pub append_less-requires-clause-can : goal.append_less-requires-clause-can
+append_less-requires-clause-can g c = c.requires.can
 
-pub returns-in_err-fresh-clause-unchanged : goal.returns-in_err-fresh-clause-unchanged
-returns-in_err-fresh-clause-unchanged g c =
-    let w = err_from_is_err_and c.from_residual.result c.from_residual.ensures.1 in
-    refused_by c.from_residual.result c.in_err-fresh.field-0.0 w.0 (λ (e : Refusal). (e ≡ Stopped → ⊥) → LeavesStep c.args.memory.now c.args.memory.now c.args.free.now c.prepare_cut.new.free c.args.directory.now c.prepare_cut.new.directory) w.1 w.2
-    (λ _. record { memory = refl; free = c.in_err-fresh.ensures.unchanged; row = c.in_err-fresh.ensures.row })
+pub append_less-requires-clause-differ : goal.append_less-requires-clause-differ
+append_less-requires-clause-differ g c = c.requires.differ
 
-pub returns-in_err-fresh-clause-stopped : goal.returns-in_err-fresh-clause-stopped
-returns-in_err-fresh-clause-stopped g c =
-    let w = err_from_is_err_and c.from_residual.result c.from_residual.ensures.1 in
-    refused_by c.from_residual.result c.in_err-fresh.field-0.0 w.0 (λ (e : Refusal). e ≡ Stopped → IsTrue (g.P.Pmem.fuse c.args.memory.now).has_burnt) w.1 w.2 (λ is. absurd (c.in_err-fresh.ensures.goes_on is))
+pub append_less-requires-clause-given : goal.append_less-requires-clause-given
+append_less-requires-clause-given g c = subst (λ (x : Entry). AreGiven (x ∷ [])) (sym c.name_entry.ensures) (refl, tt)
 
-pub returns-in_err-fresh-clause-inode : goal.returns-in_err-fresh-clause-inode
-returns-in_err-fresh-clause-inode g c = c.in_err-fresh.ensures.row.inode
-
-pub returns-in_err-fresh-clause-lists : goal.returns-in_err-fresh-clause-lists
-returns-in_err-fresh-clause-lists g c = c.in_err-fresh.ensures.unchanged.sup
-
-pub returns-in_err-fresh-clause-length : goal.returns-in_err-fresh-clause-length
-returns-in_err-fresh-clause-length g c = refl
-
-pub slot_address-requires-clause-layout : goal.slot_address-requires-clause-layout
-slot_address-requires-clause-layout g c = c.requires.stands.layout
-
-pub slot_address-requires-clause-inode : goal.slot_address-requires-clause-inode
-slot_address-requires-clause-inode g c = subst (λ (i : ℕ). i < inode_limit c.args.sup.now) (sym c.in_ok-fresh.ensures.row.inode) c.requires.stands.number
-
-pub slot_address-requires-2-clause-layout : goal.slot_address-requires-2-clause-layout
-slot_address-requires-2-clause-layout g c = c.requires.stands.layout
-
-pub slot_address-requires-2-clause-inode : goal.slot_address-requires-2-clause-inode
-slot_address-requires-2-clause-inode g c = number_below c.args.sup.now c.args.gone.now.inode c.requires.can.number
-
-pub remove_inode-requires-clause-empty : goal.remove_inode-requires-clause-empty
-remove_inode-requires-clause-empty g c = c.requires.can.journal_empty
-
-pub remove_inode-requires-clause-whole : goal.remove_inode-requires-clause-whole
-remove_inode-requires-clause-whole g c =
-    let count : length c.in_ok-fresh.fresh.items ≡ needed (c.args.directory.now.tail % 4096) (name_entries Remove c.args.gone.now.inode c.args.gone.now.name.now c.args.gone.now.time) = c.in_ok-fresh.ensures.count ∙ ap (λ (e : Entry). needed (c.args.directory.now.tail % 4096) (e ∷ [])) c.name_entry.ensures in
-    subst (λ (a : ℕ). a % 8 ≡ 0) (sym c.slot_address-2.ensures) (slot_whole c.requires.stands c.requires.can c.in_ok-fresh.ensures.taken c.args.gone.now.name.now c.args.gone.now.time count c.in_ok-fresh.ensures.row)
-
-pub remove_inode-requires-clause-behind : goal.remove_inode-requires-clause-behind
-remove_inode-requires-clause-behind g c =
-    let count : length c.in_ok-fresh.fresh.items ≡ needed (c.args.directory.now.tail % 4096) (name_entries Remove c.args.gone.now.inode c.args.gone.now.name.now c.args.gone.now.time) = c.in_ok-fresh.ensures.count ∙ ap (λ (e : Entry). needed (c.args.directory.now.tail % 4096) (e ∷ [])) c.name_entry.ensures in
-    subst (λ (a : ℕ). journal c.args.cpu + 4096 ≤ a) (sym c.slot_address-2.ensures) (slot_behind c.requires.stands c.requires.can c.in_ok-fresh.ensures.taken c.args.gone.now.name.now c.args.gone.now.time count c.in_ok-fresh.ensures.row)
-
-pub returns-in_default-clause-cut : goal.returns-in_default-clause-cut
-returns-in_default-clause-cut g c = tt
-
-pub returns-in_default-clause-room : goal.returns-in_default-clause-room
-returns-in_default-clause-room g c = tt
-
-pub returns-in_default-clause-enough : goal.returns-in_default-clause-enough
-returns-in_default-clause-enough g c = tt
-
-pub returns-in_default-clause-settled : goal.returns-in_default-clause-settled
-returns-in_default-clause-settled g c = tt
-
-pub returns-in_default-clause-refused : goal.returns-in_default-clause-refused
-returns-in_default-clause-refused g c = inr (inl refl)
-
-pub returns-in_default-clause-unchanged : goal.returns-in_default-clause-unchanged
-returns-in_default-clause-unchanged g c = λ goes_on. absurd (goes_on refl)
-
-pub returns-in_default-clause-inode : goal.returns-in_default-clause-inode
-returns-in_default-clause-inode g c = c.in_ok-fresh.ensures.row.inode
-
-pub returns-in_default-clause-lists : goal.returns-in_default-clause-lists
-returns-in_default-clause-lists g c = taken_sup c.in_ok-fresh.ensures.taken
-
-pub returns-in_default-clause-length : goal.returns-in_default-clause-length
-returns-in_default-clause-length g c = mixed_size c.remove_inode.ensures.wrote.mixed
-
-pub settle_cut-requires : goal.settle_cut-requires
-settle_cut-requires g c =
-    subst (λ (bs : List ℕ). HasRoomFor c.prepare_cut.new.directory.pages (length bs)) (sym c.deref-2.ensures.value) c.in_ok-fresh.ensures.pages_room
-
-pub returns-clause-enough : goal.returns-clause-enough
-returns-clause-enough g c = subst (λ (x : Entry). needed (c.args.directory.now.tail % 4096) (x ∷ []) ≤ all_blocks c.args.free.now.pools) c.name_entry.ensures c.in_ok-fresh.ensures.enough
+pub returns-clause-cut : goal.returns-clause-cut
+returns-clause-cut g c =
+    cuts_name c.args.gone.now.inode c.args.gone.now.name.now c.args.gone.now.time (subst (λ (x : Entry). AppendsLess (g.P.Pmem.region c.args.memory.now) (g.P.Pmem.region c.append_less.new.memory) c.args.sup.now c.args.free.now c.append_less.new.free c.args.cpu c.args.directory.now c.append_less.new.row c.args.gone.now.inode (x ∷ [])) c.name_entry.ensures c.in_ok-append_less.ensures.appended)
+    c.remove_name.ensures.row c.remove_name.ensures.once
 
 pub returns-clause-room : goal.returns-clause-room
-returns-clause-room g c = c.in_ok-fresh.ensures.room
+returns-clause-room g c = c.in_ok-append_less.ensures.room
+
+pub returns-clause-enough : goal.returns-clause-enough
+returns-clause-enough g c =
+    subst (λ (x : Entry). needed (c.args.directory.now.tail % 4096) (x ∷ []) ≤ all_blocks c.args.free.now.pools) c.name_entry.ensures c.in_ok-append_less.ensures.enough
 
 pub returns-clause-settled : goal.returns-clause-settled
-returns-clause-settled g c = c.in-Ok.ensures.settled
+returns-clause-settled g c = c.in_ok-append_less.ensures.settled
 
 pub returns-clause-refused : goal.returns-clause-refused
 returns-clause-refused g c = tt
@@ -132,102 +56,77 @@ pub returns-clause-stopped : goal.returns-clause-stopped
 returns-clause-stopped g c = tt
 
 pub returns-clause-inode : goal.returns-clause-inode
-returns-clause-inode g c = c.settle_cut.ensures.row.inode ∙ c.in_ok-fresh.ensures.row.inode
+returns-clause-inode g c = c.remove_name.ensures.row.rest.inode ∙ c.in_ok-append_less.ensures.inode
+
+pub returns-in_err-append_less-clause-cut : goal.returns-in_err-append_less-clause-cut
+returns-in_err-append_less-clause-cut g c = IfOk-from_err c.from_residual.result _ c.from_residual.ensures.0
+
+pub returns-in_err-append_less-clause-room : goal.returns-in_err-append_less-clause-room
+returns-in_err-append_less-clause-room g c = IfOk-from_err c.from_residual.result _ c.from_residual.ensures.0
+
+pub returns-in_err-append_less-clause-enough : goal.returns-in_err-append_less-clause-enough
+returns-in_err-append_less-clause-enough g c = IfOk-from_err c.from_residual.result _ c.from_residual.ensures.0
+
+pub returns-in_err-append_less-clause-settled : goal.returns-in_err-append_less-clause-settled
+returns-in_err-append_less-clause-settled g c = IfOk-from_err c.from_residual.result _ c.from_residual.ensures.0
+
+pub returns-in_err-append_less-clause-refused : goal.returns-in_err-append_less-clause-refused
+returns-in_err-append_less-clause-refused g c =
+    let w = err_from_is_err_and c.from_residual.result c.from_residual.ensures.1 in
+    refused_by c.from_residual.result c.in_err-append_less.field-0.0 w.0 (λ (e : Refusal). RefusesStep e (needed (c.args.directory.now.tail % 4096) (name_entries Remove c.args.gone.now.inode c.args.gone.now.name.now c.args.gone.now.time)) c.args.free.now) w.1 w.2
+    (subst (λ (x : Entry). RefusesStep c.in_err-append_less.field-0.0 (needed (c.args.directory.now.tail % 4096) (x ∷ [])) c.args.free.now) c.name_entry.ensures c.in_err-append_less.ensures.refused)
+
+pub returns-in_err-append_less-clause-unchanged : goal.returns-in_err-append_less-clause-unchanged
+returns-in_err-append_less-clause-unchanged g c =
+    let w = err_from_is_err_and c.from_residual.result c.from_residual.ensures.1 in
+    refused_by c.from_residual.result c.in_err-append_less.field-0.0 w.0 (λ (e : Refusal). (e ≡ Stopped → ⊥) → LeavesStep c.args.memory.now c.append_less.new.memory c.args.free.now c.append_less.new.free c.args.directory.now c.append_less.new.row) w.1 w.2 c.in_err-append_less.ensures.unchanged
+
+pub returns-in_err-append_less-clause-stopped : goal.returns-in_err-append_less-clause-stopped
+returns-in_err-append_less-clause-stopped g c =
+    let w = err_from_is_err_and c.from_residual.result c.from_residual.ensures.1 in
+    refused_by c.from_residual.result c.in_err-append_less.field-0.0 w.0 (λ (e : Refusal). e ≡ Stopped → IsTrue (g.P.Pmem.fuse c.append_less.new.memory).has_burnt) w.1 w.2 c.in_err-append_less.ensures.stopped
+
+pub returns-in_err-append_less-clause-inode : goal.returns-in_err-append_less-clause-inode
+returns-in_err-append_less-clause-inode g c = c.in_err-append_less.ensures.inode
+
+pub returns-in_err-append_less-clause-lists : goal.returns-in_err-append_less-clause-lists
+returns-in_err-append_less-clause-lists g c = c.in_err-append_less.ensures.lists
+
+pub returns-in_err-append_less-clause-length : goal.returns-in_err-append_less-clause-length
+returns-in_err-append_less-clause-length g c = c.in_err-append_less.ensures.length
+
+pub returns-in_err-append_less-clause-keeps_fuse : goal.returns-in_err-append_less-clause-keeps_fuse
+returns-in_err-append_less-clause-keeps_fuse g c = c.in_err-append_less.ensures.keeps_fuse
+
+pub returns-in_err-append_less-clause-wrote : goal.returns-in_err-append_less-clause-wrote
+returns-in_err-append_less-clause-wrote g c held h shows = c.append_less.ensures.wrote held h shows
+
+pub returns-in_err-append_less-clause-in_order : goal.returns-in_err-append_less-clause-in_order
+returns-in_err-append_less-clause-in_order g c held h shows =
+    subst (λ (x : Entry). TailIsFirst (g.P.Pmem.region c.args.memory.now) (g.P.Pmem.region c.append_less.new.memory) c.args.sup.now c.args.free.now.pools c.args.cpu c.args.directory.now.inode c.args.directory.now.tail (x ∷ []) (slot_address c.args.sup.now c.args.gone.now.inode)) c.name_entry.ensures (c.append_less.ensures.in_order held h shows)
+
+pub returns-in_err-append_less-clause-any_stop : goal.returns-in_err-append_less-clause-any_stop
+returns-in_err-append_less-clause-any_stop g c held h shows settled left may =
+    left_cut c.args.directory.now c.args.gone.now.inode c.args.gone.now.name.now c.args.gone.now.time left
+    (subst (λ (x : Entry). LeavesEither (g.P.Pmem.region c.args.memory.now) (fixed_layout c.args.sup.now) held (AppendedLess (g.P.Pmem.region c.args.memory.now) c.args.sup.now c.args.free.now c.args.cpu c.args.directory.now c.args.gone.now.inode (x ∷ [])) left) c.name_entry.ensures (c.append_less.ensures.any_stop held h shows settled left may))
 
 pub returns-clause-lists : goal.returns-clause-lists
-returns-clause-lists g c = taken_sup c.in_ok-fresh.ensures.taken
+returns-clause-lists g c = c.in_ok-append_less.ensures.lists
 
 pub returns-clause-length : goal.returns-clause-length
-returns-clause-length g c = mixed_size c.remove_inode.ensures.wrote.mixed
-
-pub remove_inode-requires-clause-directory : goal.remove_inode-requires-clause-directory
-remove_inode-requires-clause-directory g c =
-    let count : length c.in_ok-fresh.fresh.items ≡ needed (c.args.directory.now.tail % 4096) (name_entries Remove c.args.gone.now.inode c.args.gone.now.name.now c.args.gone.now.time) = c.in_ok-fresh.ensures.count ∙ ap (λ (e : Entry). needed (c.args.directory.now.tail % 4096) (e ∷ [])) c.name_entry.ensures in
-    commits c.requires.stands c.requires.can c.in_ok-fresh.ensures.taken c.args.gone.now.name.now c.args.gone.now.time count c.in_ok-fresh.ensures.row _ c.slot_address.ensures refl (ap (λ (e : Entry). e ∷ []) c.name_entry.ensures) c.deref.ensures.value
-
-pub remove_inode-requires-clause-inside : goal.remove_inode-requires-clause-inside
-remove_inode-requires-clause-inside g c =
-    let count : length c.in_ok-fresh.fresh.items ≡ needed (c.args.directory.now.tail % 4096) (name_entries Remove c.args.gone.now.inode c.args.gone.now.name.now c.args.gone.now.time) = c.in_ok-fresh.ensures.count ∙ ap (λ (e : Entry). needed (c.args.directory.now.tail % 4096) (e ∷ [])) c.name_entry.ensures in
-    subst (λ (a : ℕ). a + 8 ≤ size (g.P.Pmem.region c.args.memory.now)) (sym c.slot_address-2.ensures) (slot_inside c.requires.stands c.requires.can c.in_ok-fresh.ensures.taken c.args.gone.now.name.now c.args.gone.now.time count c.in_ok-fresh.ensures.row)
-
-pub returns-in_default-clause-keeps_fuse : goal.returns-in_default-clause-keeps_fuse
-returns-in_default-clause-keeps_fuse g c =
-    let count : length c.in_ok-fresh.fresh.items ≡ needed (c.args.directory.now.tail % 4096) (name_entries Remove c.args.gone.now.inode c.args.gone.now.name.now c.args.gone.now.time) = c.in_ok-fresh.ensures.count ∙ ap (λ (e : Entry). needed (c.args.directory.now.tail % 4096) (e ∷ [])) c.name_entry.ensures in
-    keeps_within (cuts_within c.requires.stands c.requires.can c.in_ok-fresh.ensures.taken c.args.gone.now.name.now c.args.gone.now.time count c.in_ok-fresh.ensures.row c.slot_address-2.result c.slot_address.result c.prepare_cut.new.directory.tail _
-    c.slot_address-2.ensures c.slot_address.ensures refl c.deref.ensures.value) c.remove_inode.ensures.keeps_fuse
+returns-clause-length g c = c.in_ok-append_less.ensures.length
 
 pub returns-clause-keeps_fuse : goal.returns-clause-keeps_fuse
-returns-clause-keeps_fuse g c =
-    let count : length c.in_ok-fresh.fresh.items ≡ needed (c.args.directory.now.tail % 4096) (name_entries Remove c.args.gone.now.inode c.args.gone.now.name.now c.args.gone.now.time) = c.in_ok-fresh.ensures.count ∙ ap (λ (e : Entry). needed (c.args.directory.now.tail % 4096) (e ∷ [])) c.name_entry.ensures in
-    keeps_within (cuts_within c.requires.stands c.requires.can c.in_ok-fresh.ensures.taken c.args.gone.now.name.now c.args.gone.now.time count c.in_ok-fresh.ensures.row c.slot_address-2.result c.slot_address.result c.prepare_cut.new.directory.tail _
-    c.slot_address-2.ensures c.slot_address.ensures refl c.deref.ensures.value) c.remove_inode.ensures.keeps_fuse
+returns-clause-keeps_fuse g c = c.in_ok-append_less.ensures.keeps_fuse
 
-pub returns-clause-cut : goal.returns-clause-cut
-returns-clause-cut g c =
-    let count : length c.in_ok-fresh.fresh.items ≡ needed (c.args.directory.now.tail % 4096) (name_entries Remove c.args.gone.now.inode c.args.gone.now.name.now c.args.gone.now.time) = c.in_ok-fresh.ensures.count ∙ ap (λ (e : Entry). needed (c.args.directory.now.tail % 4096) (e ∷ [])) c.name_entry.ensures in
-    cuts_name c.requires.stands c.requires.can c.in_ok-fresh.ensures.taken c.args.gone.now.name.now c.args.gone.now.time count c.in_ok-fresh.ensures.row _ c.slot_address.ensures refl (ap (λ (e : Entry). e ∷ []) c.name_entry.ensures) c.deref.ensures.value
-    c.slot_address-2.result c.in-Ok.end _ c.slot_address-2.ensures c.requires.differ c.deref-2.ensures.value c.in-Ok.ensures.end c.settle_cut.ensures.row c.in_ok-fresh.ensures.once c.settle_cut.ensures.once
-    (λ held h can. c.in-Ok.ensures.shows c.args.sup.now held c.prepare_cut.new.directory.inode c.args.gone.now.inode h can) c.remove_inode.ensures.wrote.mixed
-
-pub returns-in_err-fresh-clause-cut : goal.returns-in_err-fresh-clause-cut
-returns-in_err-fresh-clause-cut g c = IfOk-from_err c.from_residual.result _ c.from_residual.ensures.0
-
-pub returns-in_err-fresh-clause-room : goal.returns-in_err-fresh-clause-room
-returns-in_err-fresh-clause-room g c = IfOk-from_err c.from_residual.result _ c.from_residual.ensures.0
-
-pub returns-in_err-fresh-clause-enough : goal.returns-in_err-fresh-clause-enough
-returns-in_err-fresh-clause-enough g c = IfOk-from_err c.from_residual.result _ c.from_residual.ensures.0
-
-pub returns-in_err-fresh-clause-settled : goal.returns-in_err-fresh-clause-settled
-returns-in_err-fresh-clause-settled g c = IfOk-from_err c.from_residual.result _ c.from_residual.ensures.0
-
-pub returns-in_err-fresh-clause-keeps_fuse : goal.returns-in_err-fresh-clause-keeps_fuse
-returns-in_err-fresh-clause-keeps_fuse g c = record { burnt = λ was. was; steady = λ was. was; stays_open = λ limit past was. was }
-
-pub returns-in_err-fresh-clause-any_stop : goal.returns-in_err-fresh-clause-any_stop
-returns-in_err-fresh-clause-any_stop g c held h shows settled =
-    still _ _ c.args.sup.now held (Cut (g.P.Pmem.region c.args.memory.now) c.args.sup.now c.args.free.now c.args.cpu c.args.directory.now c.args.gone.now.inode c.args.gone.now.time c.args.gone.now.name.now) shows.sound settled
-
-pub returns-in_default-clause-any_stop : goal.returns-in_default-clause-any_stop
-returns-in_default-clause-any_stop g c held h shows settled =
-    let count : length c.in_ok-fresh.fresh.items ≡ needed (c.args.directory.now.tail % 4096) (name_entries Remove c.args.gone.now.inode c.args.gone.now.name.now c.args.gone.now.time) = c.in_ok-fresh.ensures.count ∙ ap (λ (e : Entry). needed (c.args.directory.now.tail % 4096) (e ∷ [])) c.name_entry.ensures in
-    left_cut c.requires.stands c.requires.can c.in_ok-fresh.ensures.taken c.args.gone.now.name.now c.args.gone.now.time count c.in_ok-fresh.ensures.row _ c.slot_address.ensures refl (ap (λ (e : Entry). e ∷ []) c.name_entry.ensures) c.deref.ensures.value
-    c.slot_address-2.result c.slot_address-2.ensures c.requires.differ shows c.in_ok-fresh.ensures.once _ _ _ c.remove_inode.ensures.wrote settled
-    (λ can pending. c.remove_inode.ensures.any_stop c.args.sup.now held c.prepare_cut.new.directory.inode c.args.gone.now.inode h can pending)
-
-pub returns-clause-any_stop : goal.returns-clause-any_stop
-returns-clause-any_stop g c held h shows settled =
-    let count : length c.in_ok-fresh.fresh.items ≡ needed (c.args.directory.now.tail % 4096) (name_entries Remove c.args.gone.now.inode c.args.gone.now.name.now c.args.gone.now.time) = c.in_ok-fresh.ensures.count ∙ ap (λ (e : Entry). needed (c.args.directory.now.tail % 4096) (e ∷ [])) c.name_entry.ensures in
-    left_cut c.requires.stands c.requires.can c.in_ok-fresh.ensures.taken c.args.gone.now.name.now c.args.gone.now.time count c.in_ok-fresh.ensures.row _ c.slot_address.ensures refl (ap (λ (e : Entry). e ∷ []) c.name_entry.ensures) c.deref.ensures.value
-    c.slot_address-2.result c.slot_address-2.ensures c.requires.differ shows c.in_ok-fresh.ensures.once _ _ _ c.remove_inode.ensures.wrote settled
-    (λ can pending. c.remove_inode.ensures.any_stop c.args.sup.now held c.prepare_cut.new.directory.inode c.args.gone.now.inode h can pending)
-
-pub returns-in_err-fresh-clause-in_order : goal.returns-in_err-fresh-clause-in_order
-returns-in_err-fresh-clause-in_order g c held h shows = inl refl
-
-pub returns-in_default-clause-in_order : goal.returns-in_default-clause-in_order
-returns-in_default-clause-in_order g c held h shows =
-    let count : length c.in_ok-fresh.fresh.items ≡ needed (c.args.directory.now.tail % 4096) (name_entries Remove c.args.gone.now.inode c.args.gone.now.name.now c.args.gone.now.time) = c.in_ok-fresh.ensures.count ∙ ap (λ (e : Entry). needed (c.args.directory.now.tail % 4096) (e ∷ [])) c.name_entry.ensures in
-    (cut_told c.requires.stands c.requires.can c.in_ok-fresh.ensures.taken c.args.gone.now.name.now c.args.gone.now.time count c.in_ok-fresh.ensures.row _ c.slot_address.ensures refl (ap (λ (e : Entry). e ∷ []) c.name_entry.ensures) c.deref.ensures.value
-    (g.P.Pmem.region c.remove_inode.new.memory) c.slot_address-2.result c.slot_address-2.ensures c.requires.differ shows (c.remove_inode.ensures.in_order c.args.sup.now held c.prepare_cut.new.directory.inode c.args.gone.now.inode h) c.remove_inode.ensures.wrote.mixed).0
+pub returns-clause-wrote : goal.returns-clause-wrote
+returns-clause-wrote g c held h shows = c.append_less.ensures.wrote held h shows
 
 pub returns-clause-in_order : goal.returns-clause-in_order
 returns-clause-in_order g c held h shows =
-    let count : length c.in_ok-fresh.fresh.items ≡ needed (c.args.directory.now.tail % 4096) (name_entries Remove c.args.gone.now.inode c.args.gone.now.name.now c.args.gone.now.time) = c.in_ok-fresh.ensures.count ∙ ap (λ (e : Entry). needed (c.args.directory.now.tail % 4096) (e ∷ [])) c.name_entry.ensures in
-    (cut_told c.requires.stands c.requires.can c.in_ok-fresh.ensures.taken c.args.gone.now.name.now c.args.gone.now.time count c.in_ok-fresh.ensures.row _ c.slot_address.ensures refl (ap (λ (e : Entry). e ∷ []) c.name_entry.ensures) c.deref.ensures.value
-    (g.P.Pmem.region c.remove_inode.new.memory) c.slot_address-2.result c.slot_address-2.ensures c.requires.differ shows (c.remove_inode.ensures.in_order c.args.sup.now held c.prepare_cut.new.directory.inode c.args.gone.now.inode h) c.remove_inode.ensures.wrote.mixed).0
+    subst (λ (x : Entry). TailIsFirst (g.P.Pmem.region c.args.memory.now) (g.P.Pmem.region c.append_less.new.memory) c.args.sup.now c.args.free.now.pools c.args.cpu c.args.directory.now.inode c.args.directory.now.tail (x ∷ []) (slot_address c.args.sup.now c.args.gone.now.inode)) c.name_entry.ensures (c.append_less.ensures.in_order held h shows)
 
-pub returns-in_err-fresh-clause-wrote : goal.returns-in_err-fresh-clause-wrote
-returns-in_err-fresh-clause-wrote g c held h shows = stores_nothing c.args.sup.now held (one_less c.args.sup.now c.args.cpu c.args.directory.now.inode c.args.gone.now.inode) (g.P.Pmem.region c.args.memory.now)
-
-pub returns-in_default-clause-wrote : goal.returns-in_default-clause-wrote
-returns-in_default-clause-wrote g c held h shows =
-    let count : length c.in_ok-fresh.fresh.items ≡ needed (c.args.directory.now.tail % 4096) (name_entries Remove c.args.gone.now.inode c.args.gone.now.name.now c.args.gone.now.time) = c.in_ok-fresh.ensures.count ∙ ap (λ (e : Entry). needed (c.args.directory.now.tail % 4096) (e ∷ [])) c.name_entry.ensures in
-    (cut_told c.requires.stands c.requires.can c.in_ok-fresh.ensures.taken c.args.gone.now.name.now c.args.gone.now.time count c.in_ok-fresh.ensures.row _ c.slot_address.ensures refl (ap (λ (e : Entry). e ∷ []) c.name_entry.ensures) c.deref.ensures.value
-    (g.P.Pmem.region c.remove_inode.new.memory) c.slot_address-2.result c.slot_address-2.ensures c.requires.differ shows (c.remove_inode.ensures.in_order c.args.sup.now held c.prepare_cut.new.directory.inode c.args.gone.now.inode h) c.remove_inode.ensures.wrote.mixed).1
-
-pub returns-clause-wrote : goal.returns-clause-wrote
-returns-clause-wrote g c held h shows =
-    let count : length c.in_ok-fresh.fresh.items ≡ needed (c.args.directory.now.tail % 4096) (name_entries Remove c.args.gone.now.inode c.args.gone.now.name.now c.args.gone.now.time) = c.in_ok-fresh.ensures.count ∙ ap (λ (e : Entry). needed (c.args.directory.now.tail % 4096) (e ∷ [])) c.name_entry.ensures in
-    (cut_told c.requires.stands c.requires.can c.in_ok-fresh.ensures.taken c.args.gone.now.name.now c.args.gone.now.time count c.in_ok-fresh.ensures.row _ c.slot_address.ensures refl (ap (λ (e : Entry). e ∷ []) c.name_entry.ensures) c.deref.ensures.value
-    (g.P.Pmem.region c.remove_inode.new.memory) c.slot_address-2.result c.slot_address-2.ensures c.requires.differ shows (c.remove_inode.ensures.in_order c.args.sup.now held c.prepare_cut.new.directory.inode c.args.gone.now.inode h) c.remove_inode.ensures.wrote.mixed).1
+pub returns-clause-any_stop : goal.returns-clause-any_stop
+returns-clause-any_stop g c held h shows settled left may =
+    left_cut c.args.directory.now c.args.gone.now.inode c.args.gone.now.name.now c.args.gone.now.time left
+    (subst (λ (x : Entry). LeavesEither (g.P.Pmem.region c.args.memory.now) (fixed_layout c.args.sup.now) held (AppendedLess (g.P.Pmem.region c.args.memory.now) c.args.sup.now c.args.free.now c.args.cpu c.args.directory.now c.args.gone.now.inode (x ∷ [])) left) c.name_entry.ensures (c.append_less.ensures.any_stop held h shows settled left may))

@@ -1,15 +1,15 @@
-use Rattle.std.proofs.Common.{◌∙◌, ◌+◌, ◌%◌, ◌∷◌, [], ap, subst, ◌≡◌, ◌≤◌, length, sym, refl, IsTrue}
+use Rattle.std.proofs.Common.{◌∙◌, ◌+◌, ◌%◌, ◌∷◌, [], ap, subst, ◌≡◌, ◌≤◌, sym, refl, IsTrue}
 use Rattle.nv_super.specs.Layout.{fixed_layout}
 use Rattle.std.proofs.lemmas.Result.{err_from_is_err_and, IfOk-from_err}
 use Rattle.nv_entry.specs.declared.entry.Entry.{Entry}
 use Rattle.nv_entry.specs.declared.entry.Operation.TheVariants.{Add, Remove}
 use Rattle.nv_entry.specs.Spelling.{entry_length}
-use Rattle.nv_logpage.specs.Append.{AreGiven, needed}
+use Rattle.nv_logpage.specs.Append.{needed}
 use Rattle.nv_alloc.specs.Taking.{all_blocks}
 use Rattle.nv_held.specs.nv_outcome.Same.{SameRow}
 use Rattle.nv_tree.specs.declared.refusal.Refusal.TheVariants.{Stopped}
 use Rattle.nv_tree.specs.declared.refusal.Refusal.{Refusal}
-use Rattle.nv_steps.specs.MoreNames.{AppendsLogs}
+use Rattle.nv_steps.specs.MoreNames.{AppendsLogs, AreFew}
 use Rattle.nv_steps.specs.NameEntries.{name_entries}
 use Rattle.nv_commit.specs.Stopped.{LeavesEither}
 use Rattle.nv_steps.specs.Stopped.{AppendedBoth}
@@ -17,6 +17,7 @@ use Rattle.nv_steps.specs.InOrder.{TailIsFirst, tail_address}
 use Rattle.nv_steps.specs.Steps.{LeavesStep, RefusesStep}
 use Rattle.nv_tree.proofs.Replies.{refused_by}
 use Rattle.nv_steps.proofs.MovedAt.{left_over, moves_both}
+use Rattle.nv_steps.proofs.AppendedLogs.{few_one}
 use Rattle.nv_steps.proofs.renaming.move_both.Goals as goal
 
 pub returns-in_err-append_logs-clause-refused : goal.returns-in_err-append_logs-clause-refused
@@ -43,10 +44,10 @@ pub append_logs-requires-clause-other_stands : goal.append_logs-requires-clause-
 append_logs-requires-clause-other_stands g c = c.requires.to_stands
 
 pub append_logs-requires-clause-given : goal.append_logs-requires-clause-given
-append_logs-requires-clause-given g c = subst (λ (x : Entry). AreGiven (x ∷ []) × (length (x ∷ []) ≡ 1)) (sym c.name_entry.ensures) ((refl, tt), refl)
+append_logs-requires-clause-given g c = subst (λ (x : Entry). AreFew (x ∷ [])) (sym c.name_entry.ensures) (few_one _ refl)
 
 pub append_logs-requires-clause-more_given : goal.append_logs-requires-clause-more_given
-append_logs-requires-clause-more_given g c = subst (λ (x : Entry). AreGiven (x ∷ []) × (length (x ∷ []) ≡ 1)) (sym c.name_entry-2.ensures) ((refl, tt), refl)
+append_logs-requires-clause-more_given g c = subst (λ (x : Entry). AreFew (x ∷ [])) (sym c.name_entry-2.ensures) (few_one _ refl)
 
 pub returns-in_err-append_logs-clause-unchanged : goal.returns-in_err-append_logs-clause-unchanged
 returns-in_err-append_logs-clause-unchanged g c =

@@ -20,10 +20,10 @@ pub returns-clause-commits : goal.returns-clause-commits
 returns-clause-commits g c s inode =
     let bytes : ℕ → ℕ = byte_after c.args.change.now.offset (data_bytes c.args.change.now.content) c.args.change.now.size (file_byte (g.P.Pmem.region c.args.memory.now) c.args.index.now) in
     commits (g.P.Pmem.region c.args.memory.now) (g.P.Pmem.region c.store_data.new.memory) (g.P.Pmem.region c.extend_log.new.memory) s inode c.args.slot c.args.tail bytes c.args.log.now.entries.items c.args.log.now.fresh.items c.deref.result.now c.deref-2.result.now c.deref-3.result.now
-    c.deref.ensures.value c.deref-2.ensures.value c.deref-3.ensures.value c.extend_log.result c.store_data.ensures.wrote.mixed c.in_ok-store_data.ensures.stored c.extend_log.ensures.wrote.mixed (λ held h can. c.extend_log.ensures.shows s held inode h can)
+    c.deref.ensures.value c.deref-2.ensures.value c.deref-3.ensures.value c.extend_log.result c.store_data.ensures.wrote.mixed c.in_ok-store_data.ensures.stored c.extend_log.ensures.kept.wrote.mixed (λ held h can. c.extend_log.ensures.shows s held inode h can)
 
 pub returns-clause-length : goal.returns-clause-length
-returns-clause-length g c = mixed_size c.extend_log.ensures.wrote.mixed ∙ mixed_size c.store_data.ensures.wrote.mixed
+returns-clause-length g c = mixed_size c.extend_log.ensures.kept.wrote.mixed ∙ mixed_size c.store_data.ensures.wrote.mixed
 
 pub returns-in_err-store_data-clause-any_stop : goal.returns-in_err-store_data-clause-any_stop
 returns-in_err-store_data-clause-any_stop g c s held inode h can free settled =
@@ -44,4 +44,4 @@ pub returns-clause-wrote : goal.returns-clause-wrote
 returns-clause-wrote g c s held inode h can free =
     data_then_log (HasBlock (entry_blocks c.deref.result.now))
     (subst (λ (es : List Entry). CanExtend (g.P.Pmem.region c.args.memory.now) s held inode h c.args.slot c.args.tail es c.deref-3.result.now) (sym c.deref-2.ensures.value) (subst (λ (bs : List ℕ). CanExtend (g.P.Pmem.region c.args.memory.now) s held inode h c.args.slot c.args.tail c.args.log.now.entries.items bs) (sym c.deref-3.ensures.value) can))
-    (λ b w. free b (subst (λ (es : List Entry). HasBlock (entry_blocks es) b) c.deref.ensures.value w)) c.store_data.ensures.wrote.mixed c.extend_log.ensures.wrote.mixed
+    (λ b w. free b (subst (λ (es : List Entry). HasBlock (entry_blocks es) b) c.deref.ensures.value w)) c.store_data.ensures.wrote.mixed c.extend_log.ensures.kept.wrote.mixed

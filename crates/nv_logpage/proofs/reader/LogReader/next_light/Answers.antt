@@ -7,8 +7,8 @@ use Rattle.nv_logpage.specs.Progress.{Progress}
 use Rattle.nv_logpage.proofs.ReadOn.{behind_fits, behind_less, behind_moves, behind_reading, end_less, end_moves, finds_so, goes_so, leads_so, page_below, page_fresh, page_less, page_moves, page_reading, refused_reading, same_log}
 use Rattle.nv_logpage.proofs.reader.LogReader.next_light.Goals as goal
 
-pub look-found-requires-clause-areas : goal.look-found-requires-clause-areas
-look-found-requires-clause-areas g c = c.self.invariant.areas
+pub look-found-requires-clause-region : goal.look-found-requires-clause-region
+look-found-requires-clause-region g c = record { areas = c.self.invariant.areas; blocks = subst (λ (r : Progress). HasBlocks (g.P.Pmem.region c.args.memory.now) r.sup.blocks) (sym c.self.view_is) c.requires; all_blocks = c.self.invariant.blocks }
 
 pub look-found-requires-clause-aligned : goal.look-found-requires-clause-aligned
 look-found-requires-clause-aligned g c = c.self.invariant.place.aligned
@@ -18,12 +18,6 @@ look-found-requires-clause-inside g c = c.self.invariant.place.inside
 
 pub look-found-requires-clause-offset : goal.look-found-requires-clause-offset
 look-found-requires-clause-offset g c = c.self.invariant.place.offset
-
-pub look-found-requires-clause-all_blocks : goal.look-found-requires-clause-all_blocks
-look-found-requires-clause-all_blocks g c = c.self.invariant.blocks
-
-pub look-found-requires-clause-blocks : goal.look-found-requires-clause-blocks
-look-found-requires-clause-blocks g c = subst (λ (r : Progress). HasBlocks (g.P.Pmem.region c.args.memory.now) r.sup.blocks) (sym c.self.view_is) c.requires
 
 pub overflow_add-self : goal.overflow_add-self
 overflow_add-self g c = behind_fits (g.P.Pmem.region c.args.memory.now) c.self.inside c.args.self.now c.look-found.result c.self.invariant c.self.view_is c.in-Entry.placed c.length.result c.in-Entry.is (c.length.ensures (g.P.Pmem.region c.args.memory.now)) c.look-found.ensures.onward

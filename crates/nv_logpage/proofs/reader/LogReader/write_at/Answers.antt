@@ -13,12 +13,12 @@ none_then (Some e) h f = tt
 
 pub returns-then-end-at-clause-none : goal.returns-then-end-at-clause-none
 returns-then-end-at-clause-none g c e found =
-    let ends = subst (λ (n : ℕ). c.args.at + 40 ≤ n) (sym c.requires.end) (write_ends (g.P.Pmem.region c.args.memory.now) c.args.self.now.sup c.args.self.now.tail c.args.self.now.pages c.args.at e found) in
+    let ends = subst (λ (n : ℕ). c.args.at + 40 ≤ n) (sym c.requires.place.end_is) (write_ends (g.P.Pmem.region c.args.memory.now) c.args.self.now.sup c.args.self.now.tail c.args.self.now.pages c.args.at e found) in
     absurd (omega (arith, ends, c.if-end-at.true))
 
 pub returns-clause-finds : goal.returns-clause-finds
 returns-clause-finds g c =
-    let fits = subst (λ (n : ℕ). c.args.at + 40 ≤ n) c.requires.end c.if-end-at.false in
+    let fits = subst (λ (n : ℕ). c.args.at + 40 ≤ n) c.requires.place.end_is c.if-end-at.false in
     IfSome_then c.read_write.result c.read_write.ensures.found (λ e h. write_found (g.P.Pmem.region c.args.memory.now) c.args.self.now.sup c.args.self.now.tail c.args.self.now.pages c.args.at e fits h.0)
 
 pub returns-clause-none : goal.returns-clause-none

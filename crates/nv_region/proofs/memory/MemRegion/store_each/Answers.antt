@@ -12,14 +12,14 @@ store-requires-clause-within c = omega (arith, c.requires.within, c.loop-k-test.
 pub loop-k-preserved : goal.loop-k-preserved
 loop-k-preserved c = record {
   first = one_more _ _ _ _ _ _ _ _ _ c.loop-k.invariant.first c.in_ok-store.ensures.stored c.in_ok-store.ensures.may_keep;
-  after = after_one _ _ _ _ _ _ c.loop-k.invariant.after c.store.ensures.after;
+  after = after_one _ _ _ _ _ _ c.loop-k.invariant.after c.store.ensures.passes.after;
   quiet = λ some. sym c.store.ensures.stopped ∙ ap is_err c.in_ok-store.was;
   keeps_fuse = keeps_more (λ limit end. omega (arith, end, c.loop-k-test.true)) c.loop-k.invariant.keeps_fuse c.store.ensures.keeps_fuse;
 }
 
 pub returns-in_err-store-clause-after : goal.returns-in_err-store-clause-after
 returns-in_err-store-clause-after c =
-    let now = after_one _ _ _ _ _ _ c.loop-k.invariant.after c.store.ensures.after in
+    let now = after_one _ _ _ _ _ _ c.loop-k.invariant.after c.store.ensures.passes.after in
     now ∙ stays_burnt c.args.self.now c.args.at c.args.words.now (c.loop-k.k + 1) (length c.args.words.now) (omega (arith, c.loop-k-test.true)) (ap (λ (m : RegionState). m.burnt) (sym now) ∙ sym c.store.ensures.stopped ∙ ap is_err c.in_err-store.was)
 
 pub returns-in_err-store-clause-refused : goal.returns-in_err-store-clause-refused

@@ -4,7 +4,7 @@ use Rattle.nv_super.specs.declared.superblock.Super.{Super}
 use Rattle.nv_alloc.specs.Taking.{all_blocks}
 use Rattle.nv_logpage.specs.Append.{needed}
 use Rattle.nv_steps.proofs.Refusals.{memory_goes_on, no_space, no_space_goes_on, not_refused}
-use Rattle.nv_steps.proofs.removing.prepare_cut.Goals as goal
+use Rattle.nv_steps.proofs.lessening.prepare_cut.Goals as goal
 
 pub prepare_log-requires : goal.prepare_log-requires
 prepare_log-requires c = record { cpu = subst (λ (s : Super). c.args.cpu < s.cpus) (sym c.reserve.ensures.same.sup) c.requires.cpu }
@@ -22,7 +22,7 @@ pub returns-in-Ok-clause-room : goal.returns-in-Ok-clause-room
 returns-in-Ok-clause-room c = let kept = not_refused c.reserve.result c.is_err.result c.is_err.ensures.value c.if-is_err.false c.reserve.ensures.room in omega (arith, kept, c.in-Ok.ensures.given_back)
 
 pub returns-in-Ok-clause-enough : goal.returns-in-Ok-clause-enough
-returns-in-Ok-clause-enough c = subst (λ (pools : List (List Run)). needed (c.args.directory.now.tail % 4096) c.args.entries.now ≤ all_blocks pools) c.reserve.ensures.same.pools c.in-Ok.ensures.enough
+returns-in-Ok-clause-enough c = subst (λ (pools : List (List Run)). needed (c.args.row.now.tail % 4096) c.args.entries.now ≤ all_blocks pools) c.reserve.ensures.same.pools c.in-Ok.ensures.enough
 
 pub returns-in-Ok-clause-once : goal.returns-in-Ok-clause-once
 returns-in-Ok-clause-once c = c.len-names.ensures.each_once
@@ -61,7 +61,7 @@ pub returns-in-Err-NoSpace-clause-row : goal.returns-in-Err-NoSpace-clause-row
 returns-in-Err-NoSpace-clause-row c = record { inode = refl; kind = refl; numbers = refl; head = refl; tail = refl; pages = c.in-Err-NoSpace.ensures.pages; index = λ p. refl; names = λ q. refl }
 
 pub returns-in-Err-NoSpace-clause-refused : goal.returns-in-Err-NoSpace-clause-refused
-returns-in-Err-NoSpace-clause-refused c = inr (inr (refl, subst (λ (pools : List (List Run)). all_blocks pools < needed (c.args.directory.now.tail % 4096) c.args.entries.now) c.reserve.ensures.same.pools (no_space _ _ _ c.in-Err-NoSpace.ensures.err c.in-Err-NoSpace.field-0-is)))
+returns-in-Err-NoSpace-clause-refused c = inr (inr (refl, subst (λ (pools : List (List Run)). all_blocks pools < needed (c.args.row.now.tail % 4096) c.args.entries.now) c.reserve.ensures.same.pools (no_space _ _ _ c.in-Err-NoSpace.ensures.err c.in-Err-NoSpace.field-0-is)))
 
 pub returns-in-Err-NoSpace-clause-goes_on : goal.returns-in-Err-NoSpace-clause-goes_on
 returns-in-Err-NoSpace-clause-goes_on c = no_space_goes_on

@@ -1,0 +1,46 @@
+-- A name that an inode gets from another of its directory: what it makes of all rows, and how many blocks it takes.
+use Rattle.std.specs.Prelude.{◌≡◌, ◌⊎◌, ℕ, ◌+◌, ◌-◌, ◌%◌, nat_lt, not, Bool, true, false, ◌&&◌, if◌then◌else◌, List, remove, set, slice_get, Some}
+use Rattle.nv_region.specs.Region.{Region}
+use Rattle.nv_super.specs.declared.superblock.Super.{Super}
+use Rattle.nv_alloc.specs.FreeValue.{FreeLists}
+use Rattle.nv_logpage.specs.Append.{needed}
+use Rattle.nv_scan.specs.declared.piece.Row.{Row}
+use Rattle.nv_tree.specs.Tree.{is_directory}
+use Rattle.nv_steps.specs.LessNames.{GivesRow}
+use Rattle.nv_steps.specs.Lessens.{Lessened, LessensAt}
+use Rattle.nv_steps.specs.NameEntries.{links_entries}
+use Rattle.nv_steps.specs.Takes.{TakesWithin, TookWithin, take_entries}
+
+-- a file with more links than one, which stays without one of its names
+abbrev pub keeps_others : Row → Bool
+keeps_others row = not (is_directory row.kind) && nat_lt 1 row.numbers.links
+
+-- Inode i got the name of another in the directory whose row is at one place, and that one went, whose row was at another. That row
+-- was taken out, and its blocks were given back.
+pub record TakesAt (R S : Region) (s : Super) (free after : FreeLists) (cpu : ℕ) (rows news : List Row) (place target i : ℕ) (name other : List ℕ) (time : ℕ) : Type 0 where
+  pub row : Row
+  pub gone : Row
+  pub now : Row
+  pub mid : FreeLists
+  pub at : slice_get rows place ≡ Some row
+  pub gone_at : slice_get rows target ≡ Some gone
+  pub step : TakesWithin R S s free mid cpu row now i gone.inode name other time
+  pub given : GivesRow mid gone after
+  pub put : news ≡ remove (set rows place now) target
+
+-- the row at this place is of an inode that stays, or of one that goes
+abbrev pub AllStay : Bool → List Row → ℕ → Type 0
+AllStay stays rows target = (there : Row) → slice_get rows target ≡ Some there → keeps_others there ≡ stays
+
+-- where the file has other names, it counts a link less; else it goes
+abbrev pub ReplacesHere : Region → Region → Super → FreeLists → FreeLists → ℕ → List Row → List Row → ℕ → ℕ → ℕ → List ℕ → List ℕ → ℕ → Type 0
+ReplacesHere R S s free after cpu rows news place target i name other time = (AllStay true rows target × LessensAt R S s free after cpu rows news place target i name other time)
+    ⊎ (AllStay false rows target × TakesAt R S s free after cpu rows news place target i name other time)
+
+-- how many blocks it takes
+abbrev pub replace_here_blocks : Row → Row → ℕ → List ℕ → List ℕ → ℕ → ℕ
+replace_here_blocks row there i name other time = needed (row.tail % 4096) (take_entries i there.inode name other time) + (if keeps_others there then needed (there.tail % 4096) (links_entries (there.numbers.links - 1) time) else 0)
+
+-- what a stop leaves of it
+abbrev pub ReplacedHere : Region → Super → FreeLists → ℕ → Row → Row → ℕ → List ℕ → List ℕ → ℕ → Region → Type 0
+ReplacedHere R s free cpu row there i name other time S = ((keeps_others there ≡ true) × Lessened R s free cpu row there i name other time S) ⊎ ((keeps_others there ≡ false) × TookWithin R s free cpu row i there.inode name other time S)

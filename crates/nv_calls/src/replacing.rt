@@ -1,0 +1,239 @@
+//! `replace`, within one directory: another name for an inode, which it gets from an inode that goes or loses a link.
+
+ghost use Rattle.std.specs.Prelude.{◌≡◌, ◌≢◌, ◌+◌, ◌-◌, ◌%◌, ◌<◌, ◌≤◌, Option, IsTrue, IfErr, OnOk, true, false};
+ghost use Rattle.nv_super.specs.Layout.{fixed_layout, slot_address};
+ghost use Rattle.nv_region.specs.Region.{size};
+ghost use Rattle.nv_region.specs.Stops.{LeavesOnly, NothingPending};
+ghost use Rattle.nv_region.specs.Fuses.{KeepsFuse};
+ghost use Rattle.nv_alloc.specs.Taking.{all_blocks};
+ghost use Rattle.nv_logpage.specs.Append.{needed};
+ghost use Rattle.nv_names.specs.Names.{IsName};
+ghost use Rattle.nv_scan.specs.declared.piece.Row.{Row as RowValue};
+ghost use Rattle.nv_rows.specs.Rows.{IsInUse, place_in, row_of};
+ghost use Rattle.nv_held.specs.Held.{Held, Store};
+ghost use Rattle.nv_commit.specs.Stopped.{LeavesEither};
+ghost use Rattle.nv_tree.specs.declared.refusal.Refusal.{Refusal as RefusalValue};
+ghost use Rattle.nv_steps.specs.Grown.{StandsRight};
+ghost use Rattle.nv_steps.specs.LessNames.{OwnsBlocks};
+ghost use Rattle.nv_steps.specs.Lessens.{Lessened, LessensAt};
+ghost use Rattle.nv_steps.specs.NameEntries.{links_entries};
+ghost use Rattle.nv_steps.specs.NewNames.{CanName};
+ghost use Rattle.nv_steps.specs.Steps.{RefusesStep, ShowsRow};
+ghost use Rattle.nv_steps.specs.InOrder.{TailIsFirst, tail_address};
+ghost use Rattle.nv_steps.specs.Stores.{StoresIn, one_less, two_logs};
+ghost use Rattle.nv_steps.specs.Takes.{TookWithin, take_entries};
+ghost use Rattle.nv_calls.specs.AtPlaces.{LeavesRows};
+ghost use Rattle.nv_calls.specs.ReplaceCalls.{ReplacedHere, ReplacesHere, TakesAt, keeps_others, replace_here_blocks};
+
+use crate::removing::most_blocks;
+use crate::renaming::other_name;
+use nv_alloc::Allocators;
+use nv_paths::Move;
+use nv_region::Pmem;
+use nv_rows::Rows;
+use nv_scan::Row;
+use nv_steps::{Displaced, give_row, lessen_within, take_within};
+use nv_super::{Kind, Super};
+use nv_tree::Refusal;
+use std::alloc::Global;
+
+/// Gives an inode the name of another of its directory, which goes: its row, and the blocks of its log and its pages, which are
+/// given back.
+///
+/// `NoSpace` where all pools together have too few blocks, `Memory` where a growth was refused; both change nothing.
+/// `Stopped` where the fuse has burnt.
+fn take_at<P: Pmem>(
+    alloc: Global,
+    memory: &mut P,
+    sup: &Super,
+    free: &mut Allocators,
+    cpu: u64,
+    rows: &mut Rows,
+    moved: &Move<'_>,
+    there: u64,
+    time: u64,
+) -> Result<(), Refusal>
+    requires directory { IsInUse rows.old.items moved.now.directory }
+    requires there { IsInUse rows.old.items there }
+    requires stands { (row : RowValue) → row_of rows.old.items moved.now.directory ≡ Option.Some row → StandsRight (P.region memory.old) sup.now free.old row }
+    requires can { (row gone : RowValue) → row_of rows.old.items moved.now.directory ≡ Option.Some row → row_of rows.old.items there ≡ Option.Some gone
+        → CanName (P.region memory.old) sup.now cpu gone.inode row × (row.inode ≢ gone.inode) }
+    requires owns { (gone : RowValue) → row_of rows.old.items there ≡ Option.Some gone → OwnsBlocks free.old gone }
+    requires name { IsName moved.now.from.name.now }
+    requires other { IsName moved.now.name.now }
+    ensures taken { OnOk result (TakesAt (P.region memory.old) (P.region memory.new) sup.now free.old free.new cpu rows.old.items rows.new.items (place_in rows.old.items moved.now.directory) (place_in rows.old.items there) moved.now.from.target moved.now.from.name.now moved.now.name.now time) }
+    ensures enough { (row gone : RowValue) → row_of rows.old.items moved.now.directory ≡ Option.Some row → row_of rows.old.items there ≡ Option.Some gone
+        → OnOk result (needed (row.tail % 4096) (take_entries moved.now.from.target gone.inode moved.now.from.name.now moved.now.name.now time) ≤ all_blocks free.old.pools) }
+    ensures settled { OnOk result (NothingPending (P.region memory.new) (P.may_hold memory.new)) }
+    ensures refused { (row gone : RowValue) → row_of rows.old.items moved.now.directory ≡ Option.Some row → row_of rows.old.items there ≡ Option.Some gone
+        → IfErr result (λ e. RefusesStep e (needed (row.tail % 4096) (take_entries moved.now.from.target gone.inode moved.now.from.name.now moved.now.name.now time)) free.old) }
+    ensures unchanged { IfErr result (λ e. (e ≡ RefusalValue.Stopped → ⊥) → LeavesRows memory.old memory.new free.old free.new rows.old.items rows.new.items) }
+    ensures stopped { IfErr result (λ e. e ≡ RefusalValue.Stopped → IsTrue (P.fuse memory.new).has_burnt) }
+    ensures limit { rows.new.sup ≡ rows.old.sup }
+    ensures lists { free.new.sup ≡ free.old.sup }
+    ensures length { size (P.region memory.new) ≡ size (P.region memory.old) }
+    ensures keeps_fuse { KeepsFuse (λ limit. size (P.region memory.old) ≤ limit) (P.fuse memory.old) (P.fuse memory.new) }
+    // Every word outside these places is as it was.
+    ensures wrote { (row gone : RowValue) (held : Store) (h : Held) → row_of rows.old.items moved.now.directory ≡ Option.Some row → row_of rows.old.items there ≡ Option.Some gone
+        → ShowsRow (P.region memory.old) sup.now held h row free.old
+        → StoresIn sup.now held (one_less sup.now cpu row.inode gone.inode) (P.region memory.old) (P.region memory.new) }
+    // The directory's tail is stored first.
+    ensures in_order { (row gone : RowValue) (held : Store) (h : Held) → row_of rows.old.items moved.now.directory ≡ Option.Some row → row_of rows.old.items there ≡ Option.Some gone
+        → ShowsRow (P.region memory.old) sup.now held h row free.old
+        → TailIsFirst (P.region memory.old) (P.region memory.new) sup.now free.old.pools cpu row.inode row.tail (take_entries moved.now.from.target gone.inode moved.now.from.name.now moved.now.name.now time) (slot_address sup.now gone.inode) }
+    // Whatever a stop leaves: recovery finds what is held, or it with the name given and without the inode, without faults.
+    ensures any_stop { (row gone : RowValue) (held : Store) (h : Held) → row_of rows.old.items moved.now.directory ≡ Option.Some row → row_of rows.old.items there ≡ Option.Some gone
+        → ShowsRow (P.region memory.old) sup.now held h row free.old → NothingPending (P.region memory.old) (P.may_hold memory.old)
+        → LeavesOnly (P.region memory.new) (P.may_hold memory.new) (LeavesEither (P.region memory.old) (fixed_layout sup.now) held (TookWithin (P.region memory.old) sup.now free.old cpu row moved.now.from.target gone.inode moved.now.from.name.now moved.now.name.now time)) }
+{
+    let gone = Displaced {
+        inode: there,
+        blocks: most_blocks(rows.row(there)),
+    };
+    let mut directory = rows.lend(alloc, moved.directory);
+    let other = other_name(moved, time);
+    let taken = take_within(alloc, memory, sup, free, cpu, &mut directory, &other, gone);
+    rows.give_back(directory);
+    taken?;
+    give_row(free, &rows.take(there));
+    Ok(())
+}
+
+/// Gives an inode the name of a file of its directory that has others: the directory's log says so, and the file's log says one
+/// link less.
+///
+/// `NoSpace` where all pools together have too few blocks, `Memory` where a growth was refused; both change nothing.
+/// `Stopped` where the fuse has burnt.
+fn lessen_at<P: Pmem>(
+    alloc: Global,
+    memory: &mut P,
+    sup: &Super,
+    free: &mut Allocators,
+    cpu: u64,
+    rows: &mut Rows,
+    moved: &Move<'_>,
+    there: u64,
+    time: u64,
+) -> Result<(), Refusal>
+    requires directory { IsInUse rows.old.items moved.now.directory }
+    requires there { IsInUse rows.old.items there }
+    requires apart { moved.now.directory ≢ there }
+    requires more { (file : RowValue) → row_of rows.old.items there ≡ Option.Some file → 1 < file.numbers.links }
+    requires stands { (row : RowValue) → row_of rows.old.items moved.now.directory ≡ Option.Some row
+        → StandsRight (P.region memory.old) sup.now free.old row × CanName (P.region memory.old) sup.now cpu row.inode row }
+    requires file_stands { (file : RowValue) → row_of rows.old.items there ≡ Option.Some file
+        → StandsRight (P.region memory.old) sup.now free.old file × CanName (P.region memory.old) sup.now cpu file.inode file }
+    requires name { IsName moved.now.from.name.now }
+    requires other { IsName moved.now.name.now }
+    ensures lessened { OnOk result (LessensAt (P.region memory.old) (P.region memory.new) sup.now free.old free.new cpu rows.old.items rows.new.items (place_in rows.old.items moved.now.directory) (place_in rows.old.items there) moved.now.from.target moved.now.from.name.now moved.now.name.now time) }
+    ensures enough { (row file : RowValue) → row_of rows.old.items moved.now.directory ≡ Option.Some row → row_of rows.old.items there ≡ Option.Some file
+        → OnOk result (needed (row.tail % 4096) (take_entries moved.now.from.target file.inode moved.now.from.name.now moved.now.name.now time) + needed (file.tail % 4096) (links_entries (file.numbers.links - 1) time) ≤ all_blocks free.old.pools) }
+    ensures settled { OnOk result (NothingPending (P.region memory.new) (P.may_hold memory.new)) }
+    ensures refused { (row file : RowValue) → row_of rows.old.items moved.now.directory ≡ Option.Some row → row_of rows.old.items there ≡ Option.Some file
+        → IfErr result (λ e. RefusesStep e (needed (row.tail % 4096) (take_entries moved.now.from.target file.inode moved.now.from.name.now moved.now.name.now time) + needed (file.tail % 4096) (links_entries (file.numbers.links - 1) time)) free.old) }
+    ensures unchanged { IfErr result (λ e. (e ≡ RefusalValue.Stopped → ⊥) → LeavesRows memory.old memory.new free.old free.new rows.old.items rows.new.items) }
+    ensures stopped { IfErr result (λ e. e ≡ RefusalValue.Stopped → IsTrue (P.fuse memory.new).has_burnt) }
+    ensures limit { rows.new.sup ≡ rows.old.sup }
+    ensures lists { free.new.sup ≡ free.old.sup }
+    ensures length { size (P.region memory.new) ≡ size (P.region memory.old) }
+    ensures keeps_fuse { KeepsFuse (λ limit. size (P.region memory.old) ≤ limit) (P.fuse memory.old) (P.fuse memory.new) }
+    // Every word outside these places is as it was.
+    ensures wrote { (row file : RowValue) (held : Store) (h f : Held) → row_of rows.old.items moved.now.directory ≡ Option.Some row → row_of rows.old.items there ≡ Option.Some file
+        → ShowsRow (P.region memory.old) sup.now held h row free.old → ShowsRow (P.region memory.old) sup.now held f file free.old
+        → StoresIn sup.now held (two_logs sup.now cpu row.inode file.inode) (P.region memory.old) (P.region memory.new) }
+    // The directory's tail is stored first.
+    ensures in_order { (row file : RowValue) (held : Store) (h f : Held) → row_of rows.old.items moved.now.directory ≡ Option.Some row → row_of rows.old.items there ≡ Option.Some file
+        → ShowsRow (P.region memory.old) sup.now held h row free.old → ShowsRow (P.region memory.old) sup.now held f file free.old
+        → TailIsFirst (P.region memory.old) (P.region memory.new) sup.now free.old.pools cpu row.inode row.tail (take_entries moved.now.from.target file.inode moved.now.from.name.now moved.now.name.now time) (tail_address sup.now file.inode) }
+    // Whatever a stop leaves: recovery finds what is held, or it with the name given and a link less, without faults.
+    ensures any_stop { (row file : RowValue) (held : Store) (h f : Held) → row_of rows.old.items moved.now.directory ≡ Option.Some row → row_of rows.old.items there ≡ Option.Some file
+        → ShowsRow (P.region memory.old) sup.now held h row free.old → ShowsRow (P.region memory.old) sup.now held f file free.old → NothingPending (P.region memory.old) (P.may_hold memory.old)
+        → LeavesOnly (P.region memory.new) (P.may_hold memory.new) (LeavesEither (P.region memory.old) (fixed_layout sup.now) held (Lessened (P.region memory.old) sup.now free.old cpu row file moved.now.from.target moved.now.from.name.now moved.now.name.now time)) }
+{
+    let mut directory = rows.lend(alloc, moved.directory);
+    let mut file = rows.lend(alloc, there);
+    let other = other_name(moved, time);
+    let done = lessen_within(
+        alloc,
+        memory,
+        sup,
+        free,
+        cpu,
+        &mut directory,
+        &mut file,
+        &other,
+    );
+    rows.give_back(file);
+    rows.give_back(directory);
+    done
+}
+
+/// Whether an inode stays without one of its names: a file with more links than one.
+fn stays_without(row: &Row) -> bool
+    ensures { result ≡ keeps_others row.now }
+{
+    row.kind != Kind::Directory && row.numbers.links > 1
+}
+
+/// Gives an inode the name of another of its directory, which loses a link where it has more, and else goes. It is refused as
+/// `lessen_at` and `take_at` are.
+fn replace_within<P: Pmem>(
+    alloc: Global,
+    memory: &mut P,
+    sup: &Super,
+    free: &mut Allocators,
+    cpu: u64,
+    rows: &mut Rows,
+    moved: &Move<'_>,
+    there: u64,
+    time: u64,
+) -> Result<(), Refusal>
+    requires directory { IsInUse rows.old.items moved.now.directory }
+    requires there { IsInUse rows.old.items there }
+    requires apart { moved.now.directory ≢ there }
+    requires stands { (row : RowValue) → row_of rows.old.items moved.now.directory ≡ Option.Some row
+        → StandsRight (P.region memory.old) sup.now free.old row × CanName (P.region memory.old) sup.now cpu row.inode row }
+    requires there_stands { (file : RowValue) → row_of rows.old.items there ≡ Option.Some file
+        → StandsRight (P.region memory.old) sup.now free.old file × CanName (P.region memory.old) sup.now cpu file.inode file }
+    requires can { (row file : RowValue) → row_of rows.old.items moved.now.directory ≡ Option.Some row → row_of rows.old.items there ≡ Option.Some file
+        → CanName (P.region memory.old) sup.now cpu file.inode row × (row.inode ≢ file.inode) }
+    requires owns { (file : RowValue) → row_of rows.old.items there ≡ Option.Some file → OwnsBlocks free.old file }
+    requires name { IsName moved.now.from.name.now }
+    requires other { IsName moved.now.name.now }
+    ensures replaced { OnOk result (ReplacesHere (P.region memory.old) (P.region memory.new) sup.now free.old free.new cpu rows.old.items rows.new.items (place_in rows.old.items moved.now.directory) (place_in rows.old.items there) moved.now.from.target moved.now.from.name.now moved.now.name.now time) }
+    ensures enough { (row file : RowValue) → row_of rows.old.items moved.now.directory ≡ Option.Some row → row_of rows.old.items there ≡ Option.Some file
+        → OnOk result (replace_here_blocks row file moved.now.from.target moved.now.from.name.now moved.now.name.now time ≤ all_blocks free.old.pools) }
+    ensures settled { OnOk result (NothingPending (P.region memory.new) (P.may_hold memory.new)) }
+    ensures refused { (row file : RowValue) → row_of rows.old.items moved.now.directory ≡ Option.Some row → row_of rows.old.items there ≡ Option.Some file
+        → IfErr result (λ e. RefusesStep e (replace_here_blocks row file moved.now.from.target moved.now.from.name.now moved.now.name.now time) free.old) }
+    ensures unchanged { IfErr result (λ e. (e ≡ RefusalValue.Stopped → ⊥) → LeavesRows memory.old memory.new free.old free.new rows.old.items rows.new.items) }
+    ensures stopped { IfErr result (λ e. e ≡ RefusalValue.Stopped → IsTrue (P.fuse memory.new).has_burnt) }
+    ensures limit { rows.new.sup ≡ rows.old.sup }
+    ensures lists { free.new.sup ≡ free.old.sup }
+    ensures length { size (P.region memory.new) ≡ size (P.region memory.old) }
+    ensures keeps_fuse { KeepsFuse (λ limit. size (P.region memory.old) ≤ limit) (P.fuse memory.old) (P.fuse memory.new) }
+    // Every word outside these places is as it was.
+    ensures wrote { (row file : RowValue) (held : Store) (h f : Held) → row_of rows.old.items moved.now.directory ≡ Option.Some row → row_of rows.old.items there ≡ Option.Some file
+        → ShowsRow (P.region memory.old) sup.now held h row free.old → ShowsRow (P.region memory.old) sup.now held f file free.old → keeps_others file ≡ true
+        → StoresIn sup.now held (two_logs sup.now cpu row.inode file.inode) (P.region memory.old) (P.region memory.new) }
+    ensures last_wrote { (row file : RowValue) (held : Store) (h f : Held) → row_of rows.old.items moved.now.directory ≡ Option.Some row → row_of rows.old.items there ≡ Option.Some file
+        → ShowsRow (P.region memory.old) sup.now held h row free.old → ShowsRow (P.region memory.old) sup.now held f file free.old → keeps_others file ≡ false
+        → StoresIn sup.now held (one_less sup.now cpu row.inode file.inode) (P.region memory.old) (P.region memory.new) }
+    // The directory's tail is stored first.
+    ensures in_order { (row file : RowValue) (held : Store) (h f : Held) → row_of rows.old.items moved.now.directory ≡ Option.Some row → row_of rows.old.items there ≡ Option.Some file
+        → ShowsRow (P.region memory.old) sup.now held h row free.old → ShowsRow (P.region memory.old) sup.now held f file free.old → keeps_others file ≡ true
+        → TailIsFirst (P.region memory.old) (P.region memory.new) sup.now free.old.pools cpu row.inode row.tail (take_entries moved.now.from.target file.inode moved.now.from.name.now moved.now.name.now time) (tail_address sup.now file.inode) }
+    ensures last_in_order { (row file : RowValue) (held : Store) (h f : Held) → row_of rows.old.items moved.now.directory ≡ Option.Some row → row_of rows.old.items there ≡ Option.Some file
+        → ShowsRow (P.region memory.old) sup.now held h row free.old → ShowsRow (P.region memory.old) sup.now held f file free.old → keeps_others file ≡ false
+        → TailIsFirst (P.region memory.old) (P.region memory.new) sup.now free.old.pools cpu row.inode row.tail (take_entries moved.now.from.target file.inode moved.now.from.name.now moved.now.name.now time) (slot_address sup.now file.inode) }
+    // Whatever a stop leaves: recovery finds what is held, or it with the name given, without faults.
+    ensures any_stop { (row file : RowValue) (held : Store) (h f : Held) → row_of rows.old.items moved.now.directory ≡ Option.Some row → row_of rows.old.items there ≡ Option.Some file
+        → ShowsRow (P.region memory.old) sup.now held h row free.old → ShowsRow (P.region memory.old) sup.now held f file free.old → NothingPending (P.region memory.old) (P.may_hold memory.old)
+        → LeavesOnly (P.region memory.new) (P.may_hold memory.new) (LeavesEither (P.region memory.old) (fixed_layout sup.now) held (ReplacedHere (P.region memory.old) sup.now free.old cpu row file moved.now.from.target moved.now.from.name.now moved.now.name.now time)) }
+{
+    if stays_without(rows.row(there)) {
+        lessen_at(alloc, memory, sup, free, cpu, rows, moved, there, time)
+    } else {
+        take_at(alloc, memory, sup, free, cpu, rows, moved, there, time)
+    }
+}

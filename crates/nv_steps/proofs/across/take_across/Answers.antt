@@ -1,0 +1,182 @@
+use Rattle.std.proofs.Common.{◌∙◌, ◌+◌, ◌%◌, ◌∷◌, [], ap, subst, ◌≡◌, ◌≤◌, sym, refl, IsTrue, List, arith}
+use Rattle.nv_super.specs.Layout.{fixed_layout, slot_address}
+use Rattle.std.proofs.lemmas.Result.{err_from_is_err_and, IfOk-from_err}
+use Rattle.nv_entry.specs.declared.entry.Entry.{Entry}
+use Rattle.nv_entry.specs.declared.entry.Operation.TheVariants.{Remove}
+use Rattle.nv_entry.specs.Spelling.{entry_length}
+use Rattle.nv_logpage.specs.Append.{needed}
+use Rattle.nv_alloc.specs.Taking.{all_blocks}
+use Rattle.nv_held.specs.nv_outcome.Same.{SameRow}
+use Rattle.nv_tree.specs.declared.refusal.Refusal.TheVariants.{Stopped}
+use Rattle.nv_tree.specs.declared.refusal.Refusal.{Refusal}
+use Rattle.nv_tree.proofs.Replies.{refused_by}
+use Rattle.nv_commit.specs.Stopped.{LeavesEither}
+use Rattle.nv_steps.specs.Across.{AppendedLogsLess, AppendsLogsLess, handed_entries}
+use Rattle.nv_steps.specs.InOrder.{TailIsFirst, TailIsNext, tail_address}
+use Rattle.nv_steps.specs.MoreNames.{AreFew}
+use Rattle.nv_steps.specs.NameEntries.{name_entries}
+use Rattle.nv_steps.specs.Steps.{LeavesStep, RefusesStep}
+use Rattle.nv_steps.proofs.AppendedLogs.{few_one}
+use Rattle.nv_steps.proofs.TookAcross.{both_as, few_two, left_across, takes_across}
+use Rattle.nv_steps.proofs.across.take_across.Goals as goal
+
+pub append_logs_less-requires-clause-apart : goal.append_logs_less-requires-clause-apart
+append_logs_less-requires-clause-apart g c = c.requires.apart
+
+pub append_logs_less-requires-clause-stands : goal.append_logs_less-requires-clause-stands
+append_logs_less-requires-clause-stands g c = c.requires.stands
+
+pub append_logs_less-requires-clause-other_stands : goal.append_logs_less-requires-clause-other_stands
+append_logs_less-requires-clause-other_stands g c = c.requires.to_stands
+
+pub append_logs_less-requires-clause-given : goal.append_logs_less-requires-clause-given
+append_logs_less-requires-clause-given g c = subst (λ (x : Entry). AreFew (x ∷ [])) (sym c.name_entry.ensures) (few_one _ refl)
+
+pub append_logs_less-requires-clause-more_given : goal.append_logs_less-requires-clause-more_given
+append_logs_less-requires-clause-more_given g c =
+    let two : c.name_entry-2.result ∷ c.name_entry-3.result ∷ [] ≡ handed_entries c.args.moved.now.inode c.args.gone.inode c.args.moved.now.other.now c.args.moved.now.time = (λ t. c.name_entry-2.ensures t ∷ c.name_entry-3.ensures t ∷ []) in
+    subst AreFew (sym two) (few_two _ _ refl refl)
+
+pub append_logs_less-requires-clause-number : goal.append_logs_less-requires-clause-number
+append_logs_less-requires-clause-number g c = c.requires.number
+
+pub append_logs_less-requires-clause-differ : goal.append_logs_less-requires-clause-differ
+append_logs_less-requires-clause-differ g c = c.requires.differ
+
+pub append_logs_less-requires-clause-other_differs : goal.append_logs_less-requires-clause-other_differs
+append_logs_less-requires-clause-other_differs g c = c.requires.to_differs
+
+pub name_entry-requires : goal.name_entry-requires
+name_entry-requires g c = record { some = c.requires.name.some; fits = c.requires.name.short }
+
+pub name_entry-requires-2 : goal.name_entry-requires-2
+name_entry-requires-2 g c = record { some = c.requires.other.some; fits = c.requires.other.short }
+
+pub name_entry-requires-3 : goal.name_entry-requires-3
+name_entry-requires-3 g c = record { some = c.requires.other.some; fits = c.requires.other.short }
+
+pub returns-clause-taken : goal.returns-clause-taken
+returns-clause-taken g c =
+    let one : c.name_entry.result ∷ [] ≡ name_entries Remove c.args.moved.now.inode c.args.moved.now.name.now c.args.moved.now.time = (λ t. c.name_entry.ensures t ∷ []) in
+    let two : c.name_entry-2.result ∷ c.name_entry-3.result ∷ [] ≡ handed_entries c.args.moved.now.inode c.args.gone.inode c.args.moved.now.other.now c.args.moved.now.time = (λ t. c.name_entry-2.ensures t ∷ c.name_entry-3.ensures t ∷ []) in
+    takes_across c.args.moved.now.inode c.args.gone.inode c.args.moved.now.name.now c.args.moved.now.other.now c.args.moved.now.time c.length.result
+    (both_as (λ (es fs : List Entry). AppendsLogsLess (g.P.Pmem.region c.args.memory.now) (g.P.Pmem.region c.append_logs_less.new.memory) c.args.sup.now c.args.free.now c.append_logs_less.new.free c.args.cpu c.args.from.now c.append_logs_less.new.row es c.args.to.now c.append_logs_less.new.other fs c.args.gone.inode) one two c.in_ok-append_logs_less.ensures.appended)
+    (c.length.ensures.value ∙ ap entry_length c.name_entry-3.ensures) c.remove_name.ensures.row c.remove_name.ensures.once c.remove_name-2.ensures.row c.remove_name-2.ensures.once c.add_name.ensures.row c.add_name.ensures.once
+
+pub returns-clause-room : goal.returns-clause-room
+returns-clause-room g c = c.in_ok-append_logs_less.ensures.blocks_room
+
+pub returns-clause-enough : goal.returns-clause-enough
+returns-clause-enough g c =
+    let one : c.name_entry.result ∷ [] ≡ name_entries Remove c.args.moved.now.inode c.args.moved.now.name.now c.args.moved.now.time = (λ t. c.name_entry.ensures t ∷ []) in
+    let two : c.name_entry-2.result ∷ c.name_entry-3.result ∷ [] ≡ handed_entries c.args.moved.now.inode c.args.gone.inode c.args.moved.now.other.now c.args.moved.now.time = (λ t. c.name_entry-2.ensures t ∷ c.name_entry-3.ensures t ∷ []) in
+    both_as (λ (es fs : List Entry). needed (c.args.from.now.tail % 4096) es + needed (c.args.to.now.tail % 4096) fs ≤ all_blocks c.args.free.now.pools) one two c.in_ok-append_logs_less.ensures.enough
+
+pub returns-clause-settled : goal.returns-clause-settled
+returns-clause-settled g c = c.in_ok-append_logs_less.ensures.settled
+
+pub returns-clause-refused : goal.returns-clause-refused
+returns-clause-refused g c = tt
+
+pub returns-clause-unchanged : goal.returns-clause-unchanged
+returns-clause-unchanged g c = tt
+
+pub returns-clause-stopped : goal.returns-clause-stopped
+returns-clause-stopped g c = tt
+
+pub returns-clause-inode : goal.returns-clause-inode
+returns-clause-inode g c = c.remove_name.ensures.row.rest.inode ∙ c.in_ok-append_logs_less.ensures.inode
+
+pub returns-clause-to_inode : goal.returns-clause-to_inode
+returns-clause-to_inode g c = c.add_name.ensures.row.rest.inode ∙ c.remove_name-2.ensures.row.rest.inode ∙ c.in_ok-append_logs_less.ensures.other_inode
+
+pub returns-clause-lists : goal.returns-clause-lists
+returns-clause-lists g c = c.in_ok-append_logs_less.ensures.lists
+
+pub returns-in_err-append_logs_less-clause-lists : goal.returns-in_err-append_logs_less-clause-lists
+returns-in_err-append_logs_less-clause-lists g c = c.in_err-append_logs_less.ensures.lists
+
+pub returns-clause-length : goal.returns-clause-length
+returns-clause-length g c = c.in_ok-append_logs_less.ensures.length
+
+pub returns-in_err-append_logs_less-clause-length : goal.returns-in_err-append_logs_less-clause-length
+returns-in_err-append_logs_less-clause-length g c = c.in_err-append_logs_less.ensures.length
+
+pub returns-clause-keeps_fuse : goal.returns-clause-keeps_fuse
+returns-clause-keeps_fuse g c = c.in_ok-append_logs_less.ensures.keeps_fuse
+
+pub returns-in_err-append_logs_less-clause-keeps_fuse : goal.returns-in_err-append_logs_less-clause-keeps_fuse
+returns-in_err-append_logs_less-clause-keeps_fuse g c = c.in_err-append_logs_less.ensures.keeps_fuse
+
+pub returns-in_err-append_logs_less-clause-inode : goal.returns-in_err-append_logs_less-clause-inode
+returns-in_err-append_logs_less-clause-inode g c = c.in_err-append_logs_less.ensures.inode
+
+pub returns-in_err-append_logs_less-clause-to_inode : goal.returns-in_err-append_logs_less-clause-to_inode
+returns-in_err-append_logs_less-clause-to_inode g c = c.in_err-append_logs_less.ensures.other_inode
+
+pub returns-in_err-append_logs_less-clause-taken : goal.returns-in_err-append_logs_less-clause-taken
+returns-in_err-append_logs_less-clause-taken g c = IfOk-from_err c.from_residual.result _ c.from_residual.ensures.0
+
+pub returns-in_err-append_logs_less-clause-room : goal.returns-in_err-append_logs_less-clause-room
+returns-in_err-append_logs_less-clause-room g c = IfOk-from_err c.from_residual.result _ c.from_residual.ensures.0
+
+pub returns-in_err-append_logs_less-clause-enough : goal.returns-in_err-append_logs_less-clause-enough
+returns-in_err-append_logs_less-clause-enough g c = IfOk-from_err c.from_residual.result _ c.from_residual.ensures.0
+
+pub returns-in_err-append_logs_less-clause-settled : goal.returns-in_err-append_logs_less-clause-settled
+returns-in_err-append_logs_less-clause-settled g c = IfOk-from_err c.from_residual.result _ c.from_residual.ensures.0
+
+pub returns-in_err-append_logs_less-clause-refused : goal.returns-in_err-append_logs_less-clause-refused
+returns-in_err-append_logs_less-clause-refused g c =
+    let w = err_from_is_err_and c.from_residual.result c.from_residual.ensures.1 in
+    let one : c.name_entry.result ∷ [] ≡ name_entries Remove c.args.moved.now.inode c.args.moved.now.name.now c.args.moved.now.time = (λ t. c.name_entry.ensures t ∷ []) in
+    let two : c.name_entry-2.result ∷ c.name_entry-3.result ∷ [] ≡ handed_entries c.args.moved.now.inode c.args.gone.inode c.args.moved.now.other.now c.args.moved.now.time = (λ t. c.name_entry-2.ensures t ∷ c.name_entry-3.ensures t ∷ []) in
+    refused_by c.from_residual.result c.in_err-append_logs_less.field-0.0 w.0 (λ (e : Refusal). RefusesStep e (needed (c.args.from.now.tail % 4096) (name_entries Remove c.args.moved.now.inode c.args.moved.now.name.now c.args.moved.now.time) + needed (c.args.to.now.tail % 4096) (handed_entries c.args.moved.now.inode c.args.gone.inode c.args.moved.now.other.now c.args.moved.now.time)) c.args.free.now) w.1 w.2
+    (both_as (λ (es fs : List Entry). RefusesStep c.in_err-append_logs_less.field-0.0 (needed (c.args.from.now.tail % 4096) es + needed (c.args.to.now.tail % 4096) fs) c.args.free.now) one two c.in_err-append_logs_less.ensures.refused)
+
+pub returns-in_err-append_logs_less-clause-unchanged : goal.returns-in_err-append_logs_less-clause-unchanged
+returns-in_err-append_logs_less-clause-unchanged g c =
+    let w = err_from_is_err_and c.from_residual.result c.from_residual.ensures.1 in
+    refused_by c.from_residual.result c.in_err-append_logs_less.field-0.0 w.0 (λ (e : Refusal). (e ≡ Stopped → ⊥) → LeavesStep c.args.memory.now c.append_logs_less.new.memory c.args.free.now c.append_logs_less.new.free c.args.from.now c.append_logs_less.new.row × SameRow c.args.to.now c.append_logs_less.new.other) w.1 w.2 c.in_err-append_logs_less.ensures.unchanged
+
+pub returns-in_err-append_logs_less-clause-stopped : goal.returns-in_err-append_logs_less-clause-stopped
+returns-in_err-append_logs_less-clause-stopped g c =
+    let w = err_from_is_err_and c.from_residual.result c.from_residual.ensures.1 in
+    refused_by c.from_residual.result c.in_err-append_logs_less.field-0.0 w.0 (λ (e : Refusal). e ≡ Stopped → IsTrue (g.P.Pmem.fuse c.append_logs_less.new.memory).has_burnt) w.1 w.2 c.in_err-append_logs_less.ensures.stopped
+
+pub returns-clause-wrote : goal.returns-clause-wrote
+returns-clause-wrote g c held h k here there = c.append_logs_less.ensures.wrote held h k here there
+
+pub returns-clause-in_order : goal.returns-clause-in_order
+returns-clause-in_order g c held h k here there =
+    let one : c.name_entry.result ∷ [] ≡ name_entries Remove c.args.moved.now.inode c.args.moved.now.name.now c.args.moved.now.time = (λ t. c.name_entry.ensures t ∷ []) in
+    let two : c.name_entry-2.result ∷ c.name_entry-3.result ∷ [] ≡ handed_entries c.args.moved.now.inode c.args.gone.inode c.args.moved.now.other.now c.args.moved.now.time = (λ t. c.name_entry-2.ensures t ∷ c.name_entry-3.ensures t ∷ []) in
+    both_as (λ (es fs : List Entry). TailIsFirst (g.P.Pmem.region c.args.memory.now) (g.P.Pmem.region c.append_logs_less.new.memory) c.args.sup.now c.args.free.now.pools c.args.cpu c.args.from.now.inode c.args.from.now.tail es (tail_address c.args.sup.now c.args.to.now.inode)
+    × TailIsNext (g.P.Pmem.region c.args.memory.now) (g.P.Pmem.region c.append_logs_less.new.memory) c.args.sup.now c.args.free.now.pools c.args.cpu (needed (c.args.from.now.tail % 4096) es) c.args.to.now.inode c.args.to.now.tail fs (slot_address c.args.sup.now c.args.gone.inode)) one two (c.append_logs_less.ensures.in_order held h k here there)
+
+pub returns-clause-any_stop : goal.returns-clause-any_stop
+returns-clause-any_stop g c held h k here there settled left may =
+    let one : c.name_entry.result ∷ [] ≡ name_entries Remove c.args.moved.now.inode c.args.moved.now.name.now c.args.moved.now.time = (λ t. c.name_entry.ensures t ∷ []) in
+    let two : c.name_entry-2.result ∷ c.name_entry-3.result ∷ [] ≡ handed_entries c.args.moved.now.inode c.args.gone.inode c.args.moved.now.other.now c.args.moved.now.time = (λ t. c.name_entry-2.ensures t ∷ c.name_entry-3.ensures t ∷ []) in
+    left_across c.args.from.now c.args.to.now c.args.moved.now.inode c.args.gone.inode c.args.moved.now.name.now c.args.moved.now.other.now c.args.moved.now.time left
+    (both_as (λ (es fs : List Entry). LeavesEither (g.P.Pmem.region c.args.memory.now) (fixed_layout c.args.sup.now) held (AppendedLogsLess (g.P.Pmem.region c.args.memory.now) c.args.sup.now c.args.free.now c.args.cpu c.args.from.now es c.args.to.now fs c.args.gone.inode) left) one two (c.append_logs_less.ensures.any_stop held h k here there settled left may))
+
+pub returns-in_err-append_logs_less-clause-wrote : goal.returns-in_err-append_logs_less-clause-wrote
+returns-in_err-append_logs_less-clause-wrote g c held h k here there = c.append_logs_less.ensures.wrote held h k here there
+
+pub returns-in_err-append_logs_less-clause-in_order : goal.returns-in_err-append_logs_less-clause-in_order
+returns-in_err-append_logs_less-clause-in_order g c held h k here there =
+    let one : c.name_entry.result ∷ [] ≡ name_entries Remove c.args.moved.now.inode c.args.moved.now.name.now c.args.moved.now.time = (λ t. c.name_entry.ensures t ∷ []) in
+    let two : c.name_entry-2.result ∷ c.name_entry-3.result ∷ [] ≡ handed_entries c.args.moved.now.inode c.args.gone.inode c.args.moved.now.other.now c.args.moved.now.time = (λ t. c.name_entry-2.ensures t ∷ c.name_entry-3.ensures t ∷ []) in
+    both_as (λ (es fs : List Entry). TailIsFirst (g.P.Pmem.region c.args.memory.now) (g.P.Pmem.region c.append_logs_less.new.memory) c.args.sup.now c.args.free.now.pools c.args.cpu c.args.from.now.inode c.args.from.now.tail es (tail_address c.args.sup.now c.args.to.now.inode)
+    × TailIsNext (g.P.Pmem.region c.args.memory.now) (g.P.Pmem.region c.append_logs_less.new.memory) c.args.sup.now c.args.free.now.pools c.args.cpu (needed (c.args.from.now.tail % 4096) es) c.args.to.now.inode c.args.to.now.tail fs (slot_address c.args.sup.now c.args.gone.inode)) one two (c.append_logs_less.ensures.in_order held h k here there)
+
+pub returns-in_err-append_logs_less-clause-any_stop : goal.returns-in_err-append_logs_less-clause-any_stop
+returns-in_err-append_logs_less-clause-any_stop g c held h k here there settled left may =
+    let one : c.name_entry.result ∷ [] ≡ name_entries Remove c.args.moved.now.inode c.args.moved.now.name.now c.args.moved.now.time = (λ t. c.name_entry.ensures t ∷ []) in
+    let two : c.name_entry-2.result ∷ c.name_entry-3.result ∷ [] ≡ handed_entries c.args.moved.now.inode c.args.gone.inode c.args.moved.now.other.now c.args.moved.now.time = (λ t. c.name_entry-2.ensures t ∷ c.name_entry-3.ensures t ∷ []) in
+    left_across c.args.from.now c.args.to.now c.args.moved.now.inode c.args.gone.inode c.args.moved.now.name.now c.args.moved.now.other.now c.args.moved.now.time left
+    (both_as (λ (es fs : List Entry). LeavesEither (g.P.Pmem.region c.args.memory.now) (fixed_layout c.args.sup.now) held (AppendedLogsLess (g.P.Pmem.region c.args.memory.now) c.args.sup.now c.args.free.now c.args.cpu c.args.from.now es c.args.to.now fs c.args.gone.inode) left) one two (c.append_logs_less.ensures.any_stop held h k here there settled left may))
+
+pub add_name-requires-clause-room : goal.add_name-requires-clause-room
+add_name-requires-clause-room g c = omega (arith, c.in_ok-append_logs_less.ensures.room, c.remove_name-2.ensures.room)

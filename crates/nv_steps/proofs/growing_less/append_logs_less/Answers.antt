@@ -1,0 +1,235 @@
+use Rattle.std.proofs.Common.{◌∙◌, ◌+◌, ◌<◌, ◌≤◌, subst, sym, ◌≡◌, ◌%◌, refl, inl, inr, IsTrue}
+use Rattle.std.proofs.lemmas.Result.{err_from_is_err_and, IfOk-from_err}
+use Rattle.nv_region.proofs.Fuses.{keeps_within}
+use Rattle.nv_super.specs.declared.superblock.Super.{Super}
+use Rattle.nv_logpage.specs.Append.{needed}
+use Rattle.nv_names.specs.Names.{Names}
+use Rattle.nv_held.specs.nv_outcome.Same.{SameRow}
+use Rattle.nv_held.proofs.BytesKept.{mixed_size}
+use Rattle.nv_tree.specs.declared.refusal.Refusal.{Refusal}
+use Rattle.nv_tree.specs.declared.refusal.Refusal.TheVariants.{Stopped}
+use Rattle.nv_tree.proofs.Replies.{refused_by}
+use Rattle.nv_commit.proofs.Left.{still}
+use Rattle.nv_steps.specs.Across.{AppendedLogsLess}
+use Rattle.nv_steps.specs.Steps.{LeavesStep, RefusesStep}
+use Rattle.nv_steps.specs.Stores.{two_less}
+use Rattle.nv_steps.proofs.LogsLess.{appends_less, gone_behind, gone_inside, gone_whole, left_less, less_ordered, less_stored, less_within}
+use Rattle.nv_steps.proofs.NumbersOwed.{number_below}
+use Rattle.nv_steps.proofs.Owed.{commits, has_room, owes_two}
+use Rattle.nv_steps.proofs.Stores.{stores_nothing}
+use Rattle.nv_steps.proofs.TakenBlocks.{taken_sup}
+use Rattle.nv_steps.proofs.growing_less.append_logs_less.Goals as goal
+
+pub prepare_logs_less-requires-clause-cpu : goal.prepare_logs_less-requires-clause-cpu
+prepare_logs_less-requires-clause-cpu g c =
+    let stands = c.requires.stands.0 in
+    let can = c.requires.stands.1 in
+    subst (λ (s : Super). c.args.cpu < s.cpus) (sym stands.lists) can.cpu_below
+
+pub prepare_logs_less-requires-clause-few : goal.prepare_logs_less-requires-clause-few
+prepare_logs_less-requires-clause-few g c = c.requires.given.few
+
+pub prepare_logs_less-requires-clause-more_few : goal.prepare_logs_less-requires-clause-more_few
+prepare_logs_less-requires-clause-more_few g c = c.requires.more_given.few
+
+pub slot_address-slot-requires-clause-layout : goal.slot_address-slot-requires-clause-layout
+slot_address-slot-requires-clause-layout g c = let stands = c.requires.stands.0 in stands.layout
+
+pub slot_address-slot-requires-clause-inode : goal.slot_address-slot-requires-clause-inode
+slot_address-slot-requires-clause-inode g c = number_below c.args.sup.now c.args.gone.inode c.requires.number
+
+pub replace_inode-requires-clause-empty : goal.replace_inode-requires-clause-empty
+replace_inode-requires-clause-empty g c = let can = c.requires.stands.1 in can.journal_empty
+
+pub replace_inode-requires-clause-first : goal.replace_inode-requires-clause-first
+replace_inode-requires-clause-first g c =
+    let owed = (owes_two c.in_ok-blocks.ensures.ready c.in_ok-blocks.ensures.other_ready c.requires.stands c.requires.other_stands c.in_ok-blocks.ensures.taken c.in_ok-blocks.ensures.count c.requires.apart c.requires.given c.requires.more_given c.blocks_for-count.ensures c.deref.ensures.value c.split_at.ensures.front c.split_at.ensures.back c.extension-one.result c.extension-two.result c.extension-one.ensures.slot c.extension-one.ensures.tail c.extension-one.ensures.entries c.extension-one.ensures.fresh c.extension-two.ensures.slot c.extension-two.ensures.tail c.extension-two.ensures.entries c.extension-two.ensures.fresh) in
+    commits owed.one
+
+pub replace_inode-requires-clause-second : goal.replace_inode-requires-clause-second
+replace_inode-requires-clause-second g c =
+    let owed = (owes_two c.in_ok-blocks.ensures.ready c.in_ok-blocks.ensures.other_ready c.requires.stands c.requires.other_stands c.in_ok-blocks.ensures.taken c.in_ok-blocks.ensures.count c.requires.apart c.requires.given c.requires.more_given c.blocks_for-count.ensures c.deref.ensures.value c.split_at.ensures.front c.split_at.ensures.back c.extension-one.result c.extension-two.result c.extension-one.ensures.slot c.extension-one.ensures.tail c.extension-one.ensures.entries c.extension-one.ensures.fresh c.extension-two.ensures.slot c.extension-two.ensures.tail c.extension-two.ensures.entries c.extension-two.ensures.fresh) in
+    commits owed.two
+
+pub replace_inode-requires-clause-slot : goal.replace_inode-requires-clause-slot
+replace_inode-requires-clause-slot g c = record {
+  whole = (gone_whole (owes_two c.in_ok-blocks.ensures.ready c.in_ok-blocks.ensures.other_ready c.requires.stands c.requires.other_stands c.in_ok-blocks.ensures.taken c.in_ok-blocks.ensures.count c.requires.apart c.requires.given c.requires.more_given c.blocks_for-count.ensures c.deref.ensures.value c.split_at.ensures.front c.split_at.ensures.back c.extension-one.result c.extension-two.result c.extension-one.ensures.slot c.extension-one.ensures.tail c.extension-one.ensures.entries c.extension-one.ensures.fresh c.extension-two.ensures.slot c.extension-two.ensures.tail c.extension-two.ensures.entries c.extension-two.ensures.fresh) c.args.gone.inode c.slot_address-slot.result c.requires.number c.slot_address-slot.ensures);
+  inside = (gone_inside (owes_two c.in_ok-blocks.ensures.ready c.in_ok-blocks.ensures.other_ready c.requires.stands c.requires.other_stands c.in_ok-blocks.ensures.taken c.in_ok-blocks.ensures.count c.requires.apart c.requires.given c.requires.more_given c.blocks_for-count.ensures c.deref.ensures.value c.split_at.ensures.front c.split_at.ensures.back c.extension-one.result c.extension-two.result c.extension-one.ensures.slot c.extension-one.ensures.tail c.extension-one.ensures.entries c.extension-one.ensures.fresh c.extension-two.ensures.slot c.extension-two.ensures.tail c.extension-two.ensures.entries c.extension-two.ensures.fresh) c.args.gone.inode c.slot_address-slot.result c.requires.number c.slot_address-slot.ensures);
+  behind = (gone_behind (owes_two c.in_ok-blocks.ensures.ready c.in_ok-blocks.ensures.other_ready c.requires.stands c.requires.other_stands c.in_ok-blocks.ensures.taken c.in_ok-blocks.ensures.count c.requires.apart c.requires.given c.requires.more_given c.blocks_for-count.ensures c.deref.ensures.value c.split_at.ensures.front c.split_at.ensures.back c.extension-one.result c.extension-two.result c.extension-one.ensures.slot c.extension-one.ensures.tail c.extension-one.ensures.entries c.extension-one.ensures.fresh c.extension-two.ensures.slot c.extension-two.ensures.tail c.extension-two.ensures.entries c.extension-two.ensures.fresh) c.args.gone.inode c.slot_address-slot.result c.requires.number c.slot_address-slot.ensures);
+}
+
+pub settle_log-requires : goal.settle_log-requires
+settle_log-requires g c =
+    let owed = (owes_two c.in_ok-blocks.ensures.ready c.in_ok-blocks.ensures.other_ready c.requires.stands c.requires.other_stands c.in_ok-blocks.ensures.taken c.in_ok-blocks.ensures.count c.requires.apart c.requires.given c.requires.more_given c.blocks_for-count.ensures c.deref.ensures.value c.split_at.ensures.front c.split_at.ensures.back c.extension-one.result c.extension-two.result c.extension-one.ensures.slot c.extension-one.ensures.tail c.extension-one.ensures.entries c.extension-one.ensures.fresh c.extension-two.ensures.slot c.extension-two.ensures.tail c.extension-two.ensures.entries c.extension-two.ensures.fresh) in
+    has_room owed.one c.extension-one.ensures.fresh
+
+pub settle_log-requires-2 : goal.settle_log-requires-2
+settle_log-requires-2 g c =
+    let owed = (owes_two c.in_ok-blocks.ensures.ready c.in_ok-blocks.ensures.other_ready c.requires.stands c.requires.other_stands c.in_ok-blocks.ensures.taken c.in_ok-blocks.ensures.count c.requires.apart c.requires.given c.requires.more_given c.blocks_for-count.ensures c.deref.ensures.value c.split_at.ensures.front c.split_at.ensures.back c.extension-one.result c.extension-two.result c.extension-one.ensures.slot c.extension-one.ensures.tail c.extension-one.ensures.entries c.extension-one.ensures.fresh c.extension-two.ensures.slot c.extension-two.ensures.tail c.extension-two.ensures.entries c.extension-two.ensures.fresh) in
+    has_room owed.two c.extension-two.ensures.fresh
+
+pub returns-clause-appended : goal.returns-clause-appended
+returns-clause-appended g c =
+    let ends = c.in-Ok.ensures.ends in
+    appends_less (owes_two c.in_ok-blocks.ensures.ready c.in_ok-blocks.ensures.other_ready c.requires.stands c.requires.other_stands c.in_ok-blocks.ensures.taken c.in_ok-blocks.ensures.count c.requires.apart c.requires.given c.requires.more_given c.blocks_for-count.ensures c.deref.ensures.value c.split_at.ensures.front c.split_at.ensures.back c.extension-one.result c.extension-two.result c.extension-one.ensures.slot c.extension-one.ensures.tail c.extension-one.ensures.entries c.extension-one.ensures.fresh c.extension-two.ensures.slot c.extension-two.ensures.tail c.extension-two.ensures.entries c.extension-two.ensures.fresh) c.args.gone.inode c.slot_address-slot.result c.requires.number c.slot_address-slot.ensures c.requires.differ c.requires.other_differs
+    c.settle_log.ensures c.extension-one.ensures.fresh ends.0 c.settle_log-2.ensures c.extension-two.ensures.fresh ends.1 (λ held a b h k can. c.in-Ok.ensures.shows c.args.sup.now held a b c.args.gone.inode h k can) c.replace_inode.ensures.kept.wrote.mixed
+
+pub returns-clause-room : goal.returns-clause-room
+returns-clause-room g c =
+    let ready = c.in_ok-blocks.ensures.other_ready in
+    let grown = c.settle_log-2.ensures in
+    subst (λ (names : Names). c.args.second.now.names ≤ names.room) (sym grown.names) ready.names_room
+
+pub returns-clause-blocks_room : goal.returns-clause-blocks_room
+returns-clause-blocks_room g c = c.in_ok-blocks.ensures.room
+
+pub returns-clause-enough : goal.returns-clause-enough
+returns-clause-enough g c = c.in_ok-blocks.ensures.enough
+
+pub returns-clause-settled : goal.returns-clause-settled
+returns-clause-settled g c = c.in-Ok.ensures.kept.settled
+
+pub returns-clause-refused : goal.returns-clause-refused
+returns-clause-refused g c = tt
+
+pub returns-clause-unchanged : goal.returns-clause-unchanged
+returns-clause-unchanged g c = tt
+
+pub returns-clause-stopped : goal.returns-clause-stopped
+returns-clause-stopped g c = tt
+
+pub returns-clause-inode : goal.returns-clause-inode
+returns-clause-inode g c = c.settle_log.ensures.inode ∙ c.in_ok-blocks.ensures.row.inode
+
+pub returns-clause-other_inode : goal.returns-clause-other_inode
+returns-clause-other_inode g c = c.settle_log-2.ensures.inode ∙ c.in_ok-blocks.ensures.other.inode
+
+pub returns-in_default-clause-appended : goal.returns-in_default-clause-appended
+returns-in_default-clause-appended g c = tt
+
+pub returns-in_default-clause-room : goal.returns-in_default-clause-room
+returns-in_default-clause-room g c = tt
+
+pub returns-in_default-clause-blocks_room : goal.returns-in_default-clause-blocks_room
+returns-in_default-clause-blocks_room g c = tt
+
+pub returns-in_default-clause-enough : goal.returns-in_default-clause-enough
+returns-in_default-clause-enough g c = tt
+
+pub returns-in_default-clause-settled : goal.returns-in_default-clause-settled
+returns-in_default-clause-settled g c = tt
+
+pub returns-in_default-clause-refused : goal.returns-in_default-clause-refused
+returns-in_default-clause-refused g c = inr (inl refl)
+
+pub returns-in_default-clause-unchanged : goal.returns-in_default-clause-unchanged
+returns-in_default-clause-unchanged g c = λ goes_on. absurd (goes_on refl)
+
+pub returns-in_default-clause-inode : goal.returns-in_default-clause-inode
+returns-in_default-clause-inode g c = c.in_ok-blocks.ensures.row.inode
+
+pub returns-in_default-clause-other_inode : goal.returns-in_default-clause-other_inode
+returns-in_default-clause-other_inode g c = c.in_ok-blocks.ensures.other.inode
+
+pub returns-clause-lists : goal.returns-clause-lists
+returns-clause-lists g c = taken_sup c.in_ok-blocks.ensures.taken
+
+pub returns-clause-length : goal.returns-clause-length
+returns-clause-length g c = mixed_size c.replace_inode.ensures.kept.wrote.mixed
+
+pub returns-clause-keeps_fuse : goal.returns-clause-keeps_fuse
+returns-clause-keeps_fuse g c =
+    keeps_within (less_within (owes_two c.in_ok-blocks.ensures.ready c.in_ok-blocks.ensures.other_ready c.requires.stands c.requires.other_stands c.in_ok-blocks.ensures.taken c.in_ok-blocks.ensures.count c.requires.apart c.requires.given c.requires.more_given c.blocks_for-count.ensures c.deref.ensures.value c.split_at.ensures.front c.split_at.ensures.back c.extension-one.result c.extension-two.result c.extension-one.ensures.slot c.extension-one.ensures.tail c.extension-one.ensures.entries c.extension-one.ensures.fresh c.extension-two.ensures.slot c.extension-two.ensures.tail c.extension-two.ensures.entries c.extension-two.ensures.fresh) c.args.gone.inode c.slot_address-slot.result c.requires.number c.slot_address-slot.ensures) c.replace_inode.ensures.kept.keeps_fuse
+
+pub returns-clause-wrote : goal.returns-clause-wrote
+returns-clause-wrote g c held h k here there =
+    less_stored (owes_two c.in_ok-blocks.ensures.ready c.in_ok-blocks.ensures.other_ready c.requires.stands c.requires.other_stands c.in_ok-blocks.ensures.taken c.in_ok-blocks.ensures.count c.requires.apart c.requires.given c.requires.more_given c.blocks_for-count.ensures c.deref.ensures.value c.split_at.ensures.front c.split_at.ensures.back c.extension-one.result c.extension-two.result c.extension-one.ensures.slot c.extension-one.ensures.tail c.extension-one.ensures.entries c.extension-one.ensures.fresh c.extension-two.ensures.slot c.extension-two.ensures.tail c.extension-two.ensures.entries c.extension-two.ensures.fresh) c.args.gone.inode c.slot_address-slot.result c.requires.number c.slot_address-slot.ensures c.requires.differ c.requires.other_differs here there c.replace_inode.ensures.kept.wrote.mixed
+
+pub returns-clause-in_order : goal.returns-clause-in_order
+returns-clause-in_order g c held h k here there =
+    less_ordered (owes_two c.in_ok-blocks.ensures.ready c.in_ok-blocks.ensures.other_ready c.requires.stands c.requires.other_stands c.in_ok-blocks.ensures.taken c.in_ok-blocks.ensures.count c.requires.apart c.requires.given c.requires.more_given c.blocks_for-count.ensures c.deref.ensures.value c.split_at.ensures.front c.split_at.ensures.back c.extension-one.result c.extension-two.result c.extension-one.ensures.slot c.extension-one.ensures.tail c.extension-one.ensures.entries c.extension-one.ensures.fresh c.extension-two.ensures.slot c.extension-two.ensures.tail c.extension-two.ensures.entries c.extension-two.ensures.fresh) c.args.gone.inode c.slot_address-slot.result c.requires.number c.slot_address-slot.ensures c.requires.differ c.requires.other_differs here there
+    (λ a b f e can. c.replace_inode.ensures.in_order c.args.sup.now held a b c.args.gone.inode f e can)
+
+pub returns-clause-any_stop : goal.returns-clause-any_stop
+returns-clause-any_stop g c held h k here there settled =
+    left_less (owes_two c.in_ok-blocks.ensures.ready c.in_ok-blocks.ensures.other_ready c.requires.stands c.requires.other_stands c.in_ok-blocks.ensures.taken c.in_ok-blocks.ensures.count c.requires.apart c.requires.given c.requires.more_given c.blocks_for-count.ensures c.deref.ensures.value c.split_at.ensures.front c.split_at.ensures.back c.extension-one.result c.extension-two.result c.extension-one.ensures.slot c.extension-one.ensures.tail c.extension-one.ensures.entries c.extension-one.ensures.fresh c.extension-two.ensures.slot c.extension-two.ensures.tail c.extension-two.ensures.entries c.extension-two.ensures.fresh) c.args.gone.inode c.slot_address-slot.result c.requires.number c.slot_address-slot.ensures c.requires.differ c.requires.other_differs here there _ _ _ c.replace_inode.ensures.kept.wrote settled
+    (λ a b f e can pending. (c.replace_inode.ensures.moments c.args.sup.now held a b c.args.gone.inode f e can).any_stop pending)
+
+pub returns-in_default-clause-lists : goal.returns-in_default-clause-lists
+returns-in_default-clause-lists g c = taken_sup c.in_ok-blocks.ensures.taken
+
+pub returns-in_default-clause-length : goal.returns-in_default-clause-length
+returns-in_default-clause-length g c = mixed_size c.replace_inode.ensures.kept.wrote.mixed
+
+pub returns-in_default-clause-keeps_fuse : goal.returns-in_default-clause-keeps_fuse
+returns-in_default-clause-keeps_fuse g c =
+    keeps_within (less_within (owes_two c.in_ok-blocks.ensures.ready c.in_ok-blocks.ensures.other_ready c.requires.stands c.requires.other_stands c.in_ok-blocks.ensures.taken c.in_ok-blocks.ensures.count c.requires.apart c.requires.given c.requires.more_given c.blocks_for-count.ensures c.deref.ensures.value c.split_at.ensures.front c.split_at.ensures.back c.extension-one.result c.extension-two.result c.extension-one.ensures.slot c.extension-one.ensures.tail c.extension-one.ensures.entries c.extension-one.ensures.fresh c.extension-two.ensures.slot c.extension-two.ensures.tail c.extension-two.ensures.entries c.extension-two.ensures.fresh) c.args.gone.inode c.slot_address-slot.result c.requires.number c.slot_address-slot.ensures) c.replace_inode.ensures.kept.keeps_fuse
+
+pub returns-in_default-clause-wrote : goal.returns-in_default-clause-wrote
+returns-in_default-clause-wrote g c held h k here there =
+    less_stored (owes_two c.in_ok-blocks.ensures.ready c.in_ok-blocks.ensures.other_ready c.requires.stands c.requires.other_stands c.in_ok-blocks.ensures.taken c.in_ok-blocks.ensures.count c.requires.apart c.requires.given c.requires.more_given c.blocks_for-count.ensures c.deref.ensures.value c.split_at.ensures.front c.split_at.ensures.back c.extension-one.result c.extension-two.result c.extension-one.ensures.slot c.extension-one.ensures.tail c.extension-one.ensures.entries c.extension-one.ensures.fresh c.extension-two.ensures.slot c.extension-two.ensures.tail c.extension-two.ensures.entries c.extension-two.ensures.fresh) c.args.gone.inode c.slot_address-slot.result c.requires.number c.slot_address-slot.ensures c.requires.differ c.requires.other_differs here there c.replace_inode.ensures.kept.wrote.mixed
+
+pub returns-in_default-clause-in_order : goal.returns-in_default-clause-in_order
+returns-in_default-clause-in_order g c held h k here there =
+    less_ordered (owes_two c.in_ok-blocks.ensures.ready c.in_ok-blocks.ensures.other_ready c.requires.stands c.requires.other_stands c.in_ok-blocks.ensures.taken c.in_ok-blocks.ensures.count c.requires.apart c.requires.given c.requires.more_given c.blocks_for-count.ensures c.deref.ensures.value c.split_at.ensures.front c.split_at.ensures.back c.extension-one.result c.extension-two.result c.extension-one.ensures.slot c.extension-one.ensures.tail c.extension-one.ensures.entries c.extension-one.ensures.fresh c.extension-two.ensures.slot c.extension-two.ensures.tail c.extension-two.ensures.entries c.extension-two.ensures.fresh) c.args.gone.inode c.slot_address-slot.result c.requires.number c.slot_address-slot.ensures c.requires.differ c.requires.other_differs here there
+    (λ a b f e can. c.replace_inode.ensures.in_order c.args.sup.now held a b c.args.gone.inode f e can)
+
+pub returns-in_default-clause-any_stop : goal.returns-in_default-clause-any_stop
+returns-in_default-clause-any_stop g c held h k here there settled =
+    left_less (owes_two c.in_ok-blocks.ensures.ready c.in_ok-blocks.ensures.other_ready c.requires.stands c.requires.other_stands c.in_ok-blocks.ensures.taken c.in_ok-blocks.ensures.count c.requires.apart c.requires.given c.requires.more_given c.blocks_for-count.ensures c.deref.ensures.value c.split_at.ensures.front c.split_at.ensures.back c.extension-one.result c.extension-two.result c.extension-one.ensures.slot c.extension-one.ensures.tail c.extension-one.ensures.entries c.extension-one.ensures.fresh c.extension-two.ensures.slot c.extension-two.ensures.tail c.extension-two.ensures.entries c.extension-two.ensures.fresh) c.args.gone.inode c.slot_address-slot.result c.requires.number c.slot_address-slot.ensures c.requires.differ c.requires.other_differs here there _ _ _ c.replace_inode.ensures.kept.wrote settled
+    (λ a b f e can pending. (c.replace_inode.ensures.moments c.args.sup.now held a b c.args.gone.inode f e can).any_stop pending)
+
+pub returns-in_err-blocks-clause-appended : goal.returns-in_err-blocks-clause-appended
+returns-in_err-blocks-clause-appended g c = IfOk-from_err c.from_residual.result _ c.from_residual.ensures.0
+
+pub returns-in_err-blocks-clause-room : goal.returns-in_err-blocks-clause-room
+returns-in_err-blocks-clause-room g c = IfOk-from_err c.from_residual.result _ c.from_residual.ensures.0
+
+pub returns-in_err-blocks-clause-blocks_room : goal.returns-in_err-blocks-clause-blocks_room
+returns-in_err-blocks-clause-blocks_room g c = IfOk-from_err c.from_residual.result _ c.from_residual.ensures.0
+
+pub returns-in_err-blocks-clause-enough : goal.returns-in_err-blocks-clause-enough
+returns-in_err-blocks-clause-enough g c = IfOk-from_err c.from_residual.result _ c.from_residual.ensures.0
+
+pub returns-in_err-blocks-clause-settled : goal.returns-in_err-blocks-clause-settled
+returns-in_err-blocks-clause-settled g c = IfOk-from_err c.from_residual.result _ c.from_residual.ensures.0
+
+pub returns-in_err-blocks-clause-refused : goal.returns-in_err-blocks-clause-refused
+returns-in_err-blocks-clause-refused g c =
+    let w = err_from_is_err_and c.from_residual.result c.from_residual.ensures.1 in
+    refused_by c.from_residual.result c.in_err-blocks.field-0.0 w.0 (λ (e : Refusal). RefusesStep e (needed (c.args.row.now.tail % 4096) c.args.first.now.entries.now + needed (c.args.other.now.tail % 4096) c.args.second.now.entries.now) c.args.free.now) w.1 w.2 c.in_err-blocks.ensures.refused
+
+pub returns-in_err-blocks-clause-unchanged : goal.returns-in_err-blocks-clause-unchanged
+returns-in_err-blocks-clause-unchanged g c =
+    let w = err_from_is_err_and c.from_residual.result c.from_residual.ensures.1 in
+    refused_by c.from_residual.result c.in_err-blocks.field-0.0 w.0 (λ (e : Refusal). (e ≡ Stopped → ⊥) → LeavesStep c.args.memory.now c.args.memory.now c.args.free.now c.prepare_logs_less.new.free c.args.row.now c.prepare_logs_less.new.row × SameRow c.args.other.now c.prepare_logs_less.new.other) w.1 w.2
+    (λ _. (record { memory = refl; free = c.in_err-blocks.ensures.unchanged; row = c.in_err-blocks.ensures.row }, c.in_err-blocks.ensures.other))
+
+pub returns-in_err-blocks-clause-stopped : goal.returns-in_err-blocks-clause-stopped
+returns-in_err-blocks-clause-stopped g c =
+    let w = err_from_is_err_and c.from_residual.result c.from_residual.ensures.1 in
+    refused_by c.from_residual.result c.in_err-blocks.field-0.0 w.0 (λ (e : Refusal). e ≡ Stopped → IsTrue (g.P.Pmem.fuse c.args.memory.now).has_burnt) w.1 w.2 (λ is. absurd (c.in_err-blocks.ensures.goes_on is))
+
+pub returns-in_err-blocks-clause-inode : goal.returns-in_err-blocks-clause-inode
+returns-in_err-blocks-clause-inode g c = c.in_err-blocks.ensures.row.inode
+
+pub returns-in_err-blocks-clause-other_inode : goal.returns-in_err-blocks-clause-other_inode
+returns-in_err-blocks-clause-other_inode g c = c.in_err-blocks.ensures.other.inode
+
+pub returns-in_err-blocks-clause-lists : goal.returns-in_err-blocks-clause-lists
+returns-in_err-blocks-clause-lists g c = c.in_err-blocks.ensures.unchanged.sup
+
+pub returns-in_err-blocks-clause-length : goal.returns-in_err-blocks-clause-length
+returns-in_err-blocks-clause-length g c = refl
+
+pub returns-in_err-blocks-clause-keeps_fuse : goal.returns-in_err-blocks-clause-keeps_fuse
+returns-in_err-blocks-clause-keeps_fuse g c = record { burnt = λ was. was; steady = λ was. was; stays_open = λ limit past was. was }
+
+pub returns-in_err-blocks-clause-wrote : goal.returns-in_err-blocks-clause-wrote
+returns-in_err-blocks-clause-wrote g c held h k here there = stores_nothing c.args.sup.now held (two_less c.args.sup.now c.args.cpu c.args.row.now.inode c.args.other.now.inode c.args.gone.inode) (g.P.Pmem.region c.args.memory.now)
+
+pub returns-in_err-blocks-clause-in_order : goal.returns-in_err-blocks-clause-in_order
+returns-in_err-blocks-clause-in_order g c held h k here there = (inl refl, inl refl)
+
+pub returns-in_err-blocks-clause-any_stop : goal.returns-in_err-blocks-clause-any_stop
+returns-in_err-blocks-clause-any_stop g c held h k here there settled = still _ _ c.args.sup.now held (AppendedLogsLess (g.P.Pmem.region c.args.memory.now) c.args.sup.now c.args.free.now c.args.cpu c.args.row.now c.args.first.now.entries.now c.args.other.now c.args.second.now.entries.now c.args.gone.inode) here.sound settled

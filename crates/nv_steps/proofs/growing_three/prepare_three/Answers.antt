@@ -1,0 +1,253 @@
+use Rattle.std.proofs.Common.{ℕ, ◌+◌, ◌%◌, ◌≤◌, ◌∙◌, arith, subst, ◌<◌, inl, inr, refl}
+use Rattle.nv_alloc.specs.Taking.{all_blocks}
+use Rattle.nv_steps.proofs.AppendedLogs.{needed_few}
+use Rattle.nv_steps.proofs.Refusals.{memory_goes_on, no_space, no_space_goes_on}
+use Rattle.nv_steps.proofs.growing_three.prepare_three.Goals as goal
+
+pub overflow_add-all : goal.overflow_add-all
+overflow_add-all c =
+    let n0 = needed_few (c.args.row.now.tail % 4096) c.args.first.now.entries.now in
+    let n1 = needed_few (c.args.other.now.tail % 4096) c.args.second.now.entries.now in
+    let n2 = needed_few (c.args.last.now.tail % 4096) c.args.third.now.entries.now in
+    omega (arith, n0, n1, n2, c.requires.few, c.requires.more_few, c.requires.last_few, c.blocks_for-count.ensures, c.blocks_for-more.ensures, c.blocks_for-rest.ensures)
+
+pub overflow_add-all-2 : goal.overflow_add-all-2
+overflow_add-all-2 c =
+    let n0 = needed_few (c.args.row.now.tail % 4096) c.args.first.now.entries.now in
+    let n1 = needed_few (c.args.other.now.tail % 4096) c.args.second.now.entries.now in
+    let n2 = needed_few (c.args.last.now.tail % 4096) c.args.third.now.entries.now in
+    omega (arith, n0, n1, n2, c.requires.few, c.requires.more_few, c.requires.last_few, c.blocks_for-count.ensures, c.blocks_for-more.ensures, c.blocks_for-rest.ensures)
+
+pub returns-in-Ok-take_blocks-clause-ready : goal.returns-in-Ok-take_blocks-clause-ready
+returns-in-Ok-take_blocks-clause-ready c =
+    let room = c.in-Ok.ensures.pages in
+    record {
+      same = c.make_room.ensures.row;
+      once = c.in-Ok.ensures.once;
+      room = omega (arith, room, c.blocks_for-count.ensures);
+      names_room = c.in-Ok.ensures.names;
+    }
+
+pub returns-in-Ok-take_blocks-clause-other_ready : goal.returns-in-Ok-take_blocks-clause-other_ready
+returns-in-Ok-take_blocks-clause-other_ready c =
+    let room = c.in-Ok-make_room.ensures.pages in
+    record {
+      same = c.make_room-2.ensures.row;
+      once = c.in-Ok-make_room.ensures.once;
+      room = omega (arith, room, c.blocks_for-more.ensures);
+      names_room = c.in-Ok-make_room.ensures.names;
+    }
+
+pub returns-in-Ok-take_blocks-clause-last_ready : goal.returns-in-Ok-take_blocks-clause-last_ready
+returns-in-Ok-take_blocks-clause-last_ready c =
+    let room = c.in-Ok-make_room-2.ensures.pages in
+    record {
+      same = c.make_room-3.ensures.row;
+      once = c.in-Ok-make_room-2.ensures.once;
+      room = omega (arith, room, c.blocks_for-rest.ensures);
+      names_room = c.in-Ok-make_room-2.ensures.names;
+    }
+
+pub returns-in-Ok-take_blocks-clause-taken : goal.returns-in-Ok-take_blocks-clause-taken
+returns-in-Ok-take_blocks-clause-taken c = c.in-Ok-take_blocks.ensures.taken
+
+pub returns-in-Ok-take_blocks-clause-count : goal.returns-in-Ok-take_blocks-clause-count
+returns-in-Ok-take_blocks-clause-count c = c.in-Ok-take_blocks.ensures.count ∙ (λ t. c.blocks_for-count.ensures t + c.blocks_for-more.ensures t + c.blocks_for-rest.ensures t)
+
+pub returns-in-Ok-take_blocks-clause-enough : goal.returns-in-Ok-take_blocks-clause-enough
+returns-in-Ok-take_blocks-clause-enough c = subst (λ (m : ℕ). m ≤ all_blocks c.args.free.now.pools) (λ t. c.blocks_for-count.ensures t + c.blocks_for-more.ensures t + c.blocks_for-rest.ensures t) c.in-Ok-take_blocks.ensures.enough
+
+pub returns-in-Ok-take_blocks-clause-refused : goal.returns-in-Ok-take_blocks-clause-refused
+returns-in-Ok-take_blocks-clause-refused c = tt
+
+pub returns-in-Ok-take_blocks-clause-goes_on : goal.returns-in-Ok-take_blocks-clause-goes_on
+returns-in-Ok-take_blocks-clause-goes_on c = tt
+
+pub returns-in-Ok-take_blocks-clause-unchanged : goal.returns-in-Ok-take_blocks-clause-unchanged
+returns-in-Ok-take_blocks-clause-unchanged c = tt
+
+pub returns-in-Ok-take_blocks-clause-rows : goal.returns-in-Ok-take_blocks-clause-rows
+returns-in-Ok-take_blocks-clause-rows c = (c.make_room.ensures.row, c.make_room-2.ensures.row, c.make_room-3.ensures.row)
+
+pub take_blocks-requires : goal.take_blocks-requires
+take_blocks-requires c = record { cpu = c.requires.cpu }
+
+pub returns-in-Err-NoSpace-clause-taken : goal.returns-in-Err-NoSpace-clause-taken
+returns-in-Err-NoSpace-clause-taken c = tt
+
+pub returns-in-Err-NoSpace-clause-count : goal.returns-in-Err-NoSpace-clause-count
+returns-in-Err-NoSpace-clause-count c = tt
+
+pub returns-in-Err-NoSpace-clause-enough : goal.returns-in-Err-NoSpace-clause-enough
+returns-in-Err-NoSpace-clause-enough c = tt
+
+pub returns-in-Err-NoSpace-clause-ready : goal.returns-in-Err-NoSpace-clause-ready
+returns-in-Err-NoSpace-clause-ready c = tt
+
+pub returns-in-Err-NoSpace-clause-other_ready : goal.returns-in-Err-NoSpace-clause-other_ready
+returns-in-Err-NoSpace-clause-other_ready c = tt
+
+pub returns-in-Err-NoSpace-clause-last_ready : goal.returns-in-Err-NoSpace-clause-last_ready
+returns-in-Err-NoSpace-clause-last_ready c = tt
+
+pub returns-in-Err-NoSpace-clause-goes_on : goal.returns-in-Err-NoSpace-clause-goes_on
+returns-in-Err-NoSpace-clause-goes_on c = no_space_goes_on
+
+pub returns-in-Err-NoSpace-clause-refused : goal.returns-in-Err-NoSpace-clause-refused
+returns-in-Err-NoSpace-clause-refused c = inr (inr (refl, subst (λ (m : ℕ). all_blocks c.args.free.now.pools < m) (λ t. c.blocks_for-count.ensures t + c.blocks_for-more.ensures t + c.blocks_for-rest.ensures t) (no_space _ _ _ c.in-Err-NoSpace.ensures.err c.in-Err-NoSpace.field-0-is)))
+
+pub returns-in-Err-NoSpace-clause-unchanged : goal.returns-in-Err-NoSpace-clause-unchanged
+returns-in-Err-NoSpace-clause-unchanged c = c.in-Err-NoSpace.ensures.unchanged
+
+pub returns-in-Err-NoSpace-clause-rows : goal.returns-in-Err-NoSpace-clause-rows
+returns-in-Err-NoSpace-clause-rows c = (c.make_room.ensures.row, c.make_room-2.ensures.row, c.make_room-3.ensures.row)
+
+pub returns-in-Err-Memory-clause-taken : goal.returns-in-Err-Memory-clause-taken
+returns-in-Err-Memory-clause-taken c = tt
+
+pub returns-in-Err-Memory-clause-count : goal.returns-in-Err-Memory-clause-count
+returns-in-Err-Memory-clause-count c = tt
+
+pub returns-in-Err-Memory-clause-enough : goal.returns-in-Err-Memory-clause-enough
+returns-in-Err-Memory-clause-enough c = tt
+
+pub returns-in-Err-Memory-clause-ready : goal.returns-in-Err-Memory-clause-ready
+returns-in-Err-Memory-clause-ready c = tt
+
+pub returns-in-Err-Memory-clause-other_ready : goal.returns-in-Err-Memory-clause-other_ready
+returns-in-Err-Memory-clause-other_ready c = tt
+
+pub returns-in-Err-Memory-clause-last_ready : goal.returns-in-Err-Memory-clause-last_ready
+returns-in-Err-Memory-clause-last_ready c = tt
+
+pub returns-in-Err-Memory-clause-goes_on : goal.returns-in-Err-Memory-clause-goes_on
+returns-in-Err-Memory-clause-goes_on c = memory_goes_on
+
+pub returns-in-Err-Memory-clause-refused : goal.returns-in-Err-Memory-clause-refused
+returns-in-Err-Memory-clause-refused c = inl refl
+
+pub returns-in-Err-Memory-clause-unchanged : goal.returns-in-Err-Memory-clause-unchanged
+returns-in-Err-Memory-clause-unchanged c = c.in-Err-Memory.ensures.unchanged
+
+pub returns-in-Err-Memory-clause-rows : goal.returns-in-Err-Memory-clause-rows
+returns-in-Err-Memory-clause-rows c = (c.make_room.ensures.row, c.make_room-2.ensures.row, c.make_room-3.ensures.row)
+
+pub returns-in_default-clause-taken : goal.returns-in_default-clause-taken
+returns-in_default-clause-taken c = tt
+
+pub returns-in_default-clause-count : goal.returns-in_default-clause-count
+returns-in_default-clause-count c = tt
+
+pub returns-in_default-clause-enough : goal.returns-in_default-clause-enough
+returns-in_default-clause-enough c = tt
+
+pub returns-in_default-clause-ready : goal.returns-in_default-clause-ready
+returns-in_default-clause-ready c = tt
+
+pub returns-in_default-clause-other_ready : goal.returns-in_default-clause-other_ready
+returns-in_default-clause-other_ready c = tt
+
+pub returns-in_default-clause-last_ready : goal.returns-in_default-clause-last_ready
+returns-in_default-clause-last_ready c = tt
+
+pub returns-in_default-clause-goes_on : goal.returns-in_default-clause-goes_on
+returns-in_default-clause-goes_on c = memory_goes_on
+
+pub returns-in_default-clause-refused : goal.returns-in_default-clause-refused
+returns-in_default-clause-refused c = inl refl
+
+pub returns-in_default-clause-unchanged : goal.returns-in_default-clause-unchanged
+returns-in_default-clause-unchanged c = record { sup = refl; pools = refl }
+
+pub returns-in_default-clause-rows : goal.returns-in_default-clause-rows
+returns-in_default-clause-rows c = (c.make_room.ensures.row, record { inode = refl; kind = refl; numbers = refl; head = refl; tail = refl; pages = refl; index = λ p. refl; names = λ q. refl }, record { inode = refl; kind = refl; numbers = refl; head = refl; tail = refl; pages = refl; index = λ p. refl; names = λ q. refl })
+
+pub returns-in_default-make_room-clause-taken : goal.returns-in_default-make_room-clause-taken
+returns-in_default-make_room-clause-taken c = tt
+
+pub returns-in_default-make_room-clause-count : goal.returns-in_default-make_room-clause-count
+returns-in_default-make_room-clause-count c = tt
+
+pub returns-in_default-make_room-clause-enough : goal.returns-in_default-make_room-clause-enough
+returns-in_default-make_room-clause-enough c = tt
+
+pub returns-in_default-make_room-clause-ready : goal.returns-in_default-make_room-clause-ready
+returns-in_default-make_room-clause-ready c = tt
+
+pub returns-in_default-make_room-clause-other_ready : goal.returns-in_default-make_room-clause-other_ready
+returns-in_default-make_room-clause-other_ready c = tt
+
+pub returns-in_default-make_room-clause-last_ready : goal.returns-in_default-make_room-clause-last_ready
+returns-in_default-make_room-clause-last_ready c = tt
+
+pub returns-in_default-make_room-clause-goes_on : goal.returns-in_default-make_room-clause-goes_on
+returns-in_default-make_room-clause-goes_on c = memory_goes_on
+
+pub returns-in_default-make_room-clause-refused : goal.returns-in_default-make_room-clause-refused
+returns-in_default-make_room-clause-refused c = inl refl
+
+pub returns-in_default-make_room-clause-unchanged : goal.returns-in_default-make_room-clause-unchanged
+returns-in_default-make_room-clause-unchanged c = record { sup = refl; pools = refl }
+
+pub returns-in_default-make_room-clause-rows : goal.returns-in_default-make_room-clause-rows
+returns-in_default-make_room-clause-rows c = (c.make_room.ensures.row, c.make_room-2.ensures.row, record { inode = refl; kind = refl; numbers = refl; head = refl; tail = refl; pages = refl; index = λ p. refl; names = λ q. refl })
+
+pub returns-in_default-make_room-2-clause-taken : goal.returns-in_default-make_room-2-clause-taken
+returns-in_default-make_room-2-clause-taken c = tt
+
+pub returns-in_default-make_room-2-clause-count : goal.returns-in_default-make_room-2-clause-count
+returns-in_default-make_room-2-clause-count c = tt
+
+pub returns-in_default-make_room-2-clause-enough : goal.returns-in_default-make_room-2-clause-enough
+returns-in_default-make_room-2-clause-enough c = tt
+
+pub returns-in_default-make_room-2-clause-ready : goal.returns-in_default-make_room-2-clause-ready
+returns-in_default-make_room-2-clause-ready c = tt
+
+pub returns-in_default-make_room-2-clause-other_ready : goal.returns-in_default-make_room-2-clause-other_ready
+returns-in_default-make_room-2-clause-other_ready c = tt
+
+pub returns-in_default-make_room-2-clause-last_ready : goal.returns-in_default-make_room-2-clause-last_ready
+returns-in_default-make_room-2-clause-last_ready c = tt
+
+pub returns-in_default-make_room-2-clause-goes_on : goal.returns-in_default-make_room-2-clause-goes_on
+returns-in_default-make_room-2-clause-goes_on c = memory_goes_on
+
+pub returns-in_default-make_room-2-clause-refused : goal.returns-in_default-make_room-2-clause-refused
+returns-in_default-make_room-2-clause-refused c = inl refl
+
+pub returns-in_default-make_room-2-clause-unchanged : goal.returns-in_default-make_room-2-clause-unchanged
+returns-in_default-make_room-2-clause-unchanged c = record { sup = refl; pools = refl }
+
+pub returns-in_default-make_room-2-clause-rows : goal.returns-in_default-make_room-2-clause-rows
+returns-in_default-make_room-2-clause-rows c = (c.make_room.ensures.row, c.make_room-2.ensures.row, c.make_room-3.ensures.row)
+
+pub returns-then-not-are_enough-clause-taken : goal.returns-then-not-are_enough-clause-taken
+returns-then-not-are_enough-clause-taken c = tt
+
+pub returns-then-not-are_enough-clause-count : goal.returns-then-not-are_enough-clause-count
+returns-then-not-are_enough-clause-count c = tt
+
+pub returns-then-not-are_enough-clause-enough : goal.returns-then-not-are_enough-clause-enough
+returns-then-not-are_enough-clause-enough c = tt
+
+pub returns-then-not-are_enough-clause-ready : goal.returns-then-not-are_enough-clause-ready
+returns-then-not-are_enough-clause-ready c = tt
+
+pub returns-then-not-are_enough-clause-other_ready : goal.returns-then-not-are_enough-clause-other_ready
+returns-then-not-are_enough-clause-other_ready c = tt
+
+pub returns-then-not-are_enough-clause-last_ready : goal.returns-then-not-are_enough-clause-last_ready
+returns-then-not-are_enough-clause-last_ready c = tt
+
+pub returns-then-not-are_enough-clause-goes_on : goal.returns-then-not-are_enough-clause-goes_on
+returns-then-not-are_enough-clause-goes_on c = no_space_goes_on
+
+pub returns-then-not-are_enough-clause-refused : goal.returns-then-not-are_enough-clause-refused
+returns-then-not-are_enough-clause-refused c = inr (inr (refl, subst (λ (m : ℕ). all_blocks c.args.free.now.pools < m) (λ t. c.blocks_for-count.ensures t + c.blocks_for-more.ensures t + c.blocks_for-rest.ensures t) (c.are_enough.ensures.no c.if-not-are_enough.true)))
+
+pub returns-then-not-are_enough-clause-unchanged : goal.returns-then-not-are_enough-clause-unchanged
+returns-then-not-are_enough-clause-unchanged c = record { sup = refl; pools = refl }
+
+pub returns-then-not-are_enough-clause-rows : goal.returns-then-not-are_enough-clause-rows
+returns-then-not-are_enough-clause-rows c = (record { inode = refl; kind = refl; numbers = refl; head = refl; tail = refl; pages = refl; index = λ p. refl; names = λ q. refl }, record { inode = refl; kind = refl; numbers = refl; head = refl; tail = refl; pages = refl; index = λ p. refl; names = λ q. refl }, record { inode = refl; kind = refl; numbers = refl; head = refl; tail = refl; pages = refl; index = λ p. refl; names = λ q. refl })

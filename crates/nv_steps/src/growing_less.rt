@@ -1,0 +1,132 @@
+//! Two logs that grow while another inode goes, and the rows that stand for them: all growths first, then the commit, then the
+//! rows.
+
+ghost use Rattle.std.specs.Prelude.{◌≡◌, ◌≢◌, ◌+◌, ◌%◌, ◌<◌, ◌≤◌, length, IsTrue, IfOk, IfErr, OnOk, OnErr};
+ghost use Rattle.nv_region.specs.Region.{size};
+ghost use Rattle.nv_region.specs.Stops.{LeavesOnly, NothingPending};
+ghost use Rattle.nv_region.specs.Fuses.{KeepsFuse};
+ghost use Rattle.nv_super.specs.Layout.{fixed_layout, is_number, slot_address};
+ghost use Rattle.nv_alloc.specs.Taking.{all_blocks};
+ghost use Rattle.nv_logpage.specs.Append.{needed};
+ghost use Rattle.nv_held.specs.nv_outcome.Same.{SameRow};
+ghost use Rattle.nv_held.specs.Held.{Held, Store};
+ghost use Rattle.nv_commit.specs.Stopped.{LeavesEither};
+ghost use Rattle.nv_tree.specs.declared.refusal.Refusal.{Refusal as RefusalValue};
+ghost use Rattle.nv_steps.specs.Across.{AppendedLogsLess, AppendsLogsLess};
+ghost use Rattle.nv_steps.specs.Grown.{StandsRight};
+ghost use Rattle.nv_steps.specs.MoreNames.{AreFew, ReadiesRow};
+ghost use Rattle.nv_steps.specs.NewNames.{CanName};
+ghost use Rattle.nv_steps.specs.Steps.{LeavesStep, RefusesStep, ShowsRow};
+ghost use Rattle.nv_steps.specs.InOrder.{TailIsFirst, TailIsNext, tail_address};
+ghost use Rattle.nv_steps.specs.Taken.{SamePools, TakesEach};
+ghost use Rattle.nv_steps.specs.Stores.{StoresIn, two_less};
+
+use crate::growing::{Growth, blocks_for, extension, prepare_logs};
+use crate::settling::settle_log;
+use crate::taking::Displaced;
+use nv_alloc::Allocators;
+use nv_commit::replace_inode;
+use nv_region::Pmem;
+use nv_scan::Row;
+use nv_super::Super;
+use nv_tree::Refusal;
+use std::alloc::Global;
+
+/// Writes entries behind the logs of two rows, over blocks that it takes, the first log's first, and with them another inode goes.
+/// Both rows get the new tails and the new pages. There is room for the names, and for the blocks of that inode.
+///
+/// `NoSpace` where all pools together have too few blocks, `Memory` where a growth was refused; both change nothing.
+/// `Stopped` where the fuse has burnt.
+pub(crate) fn append_logs_less<P: Pmem>(
+    alloc: Global,
+    memory: &mut P,
+    sup: &Super,
+    free: &mut Allocators,
+    cpu: u64,
+    row: &mut Row,
+    first: &Growth<'_>,
+    other: &mut Row,
+    second: &Growth<'_>,
+    gone: Displaced,
+) -> Result<(), Refusal>
+    requires apart { row.old.inode ≢ other.old.inode }
+    requires stands { StandsRight (P.region memory.old) sup.now free.old row.old × CanName (P.region memory.old) sup.now cpu row.old.inode row.old }
+    requires other_stands { StandsRight (P.region memory.old) sup.now free.old other.old × CanName (P.region memory.old) sup.now cpu other.old.inode other.old }
+    requires given { AreFew first.now.entries.now }
+    requires more_given { AreFew second.now.entries.now }
+    requires number { IsTrue (is_number sup.now gone.inode) }
+    requires differ { row.old.inode ≢ gone.inode }
+    requires other_differs { other.old.inode ≢ gone.inode }
+    ensures appended { OnOk result (AppendsLogsLess (P.region memory.old) (P.region memory.new) sup.now free.old free.new cpu row.old row.new first.now.entries.now other.old other.new second.now.entries.now gone.inode) }
+    ensures room { OnOk result (second.now.names ≤ other.new.names.room) }
+    ensures blocks_room { OnOk result (gone.blocks ≤ free.new.room) }
+    ensures enough { OnOk result (needed (row.old.tail % 4096) first.now.entries.now + needed (other.old.tail % 4096) second.now.entries.now ≤ all_blocks free.old.pools) }
+    ensures settled { OnOk result (NothingPending (P.region memory.new) (P.may_hold memory.new)) }
+    ensures refused { IfErr result (λ e. RefusesStep e (needed (row.old.tail % 4096) first.now.entries.now + needed (other.old.tail % 4096) second.now.entries.now) free.old) }
+    ensures unchanged { IfErr result (λ e. (e ≡ RefusalValue.Stopped → ⊥) → LeavesStep memory.old memory.new free.old free.new row.old row.new × SameRow other.old other.new) }
+    ensures stopped { IfErr result (λ e. e ≡ RefusalValue.Stopped → IsTrue (P.fuse memory.new).has_burnt) }
+    ensures inode { row.new.inode ≡ row.old.inode }
+    ensures other_inode { other.new.inode ≡ other.old.inode }
+    ensures lists { free.new.sup ≡ free.old.sup }
+    ensures length { size (P.region memory.new) ≡ size (P.region memory.old) }
+    ensures keeps_fuse { KeepsFuse (λ limit. size (P.region memory.old) ≤ limit) (P.fuse memory.old) (P.fuse memory.new) }
+    // Every word outside these places is as it was.
+    ensures wrote { (held : Store) (h g : Held) → ShowsRow (P.region memory.old) sup.now held h row.old free.old → ShowsRow (P.region memory.old) sup.now held g other.old free.old
+        → StoresIn sup.now held (two_less sup.now cpu row.old.inode other.old.inode gone.inode) (P.region memory.old) (P.region memory.new) }
+    // The tails are stored in their order, and then the valid word.
+    ensures in_order { (held : Store) (h g : Held) → ShowsRow (P.region memory.old) sup.now held h row.old free.old → ShowsRow (P.region memory.old) sup.now held g other.old free.old
+        → TailIsFirst (P.region memory.old) (P.region memory.new) sup.now free.old.pools cpu row.old.inode row.old.tail first.now.entries.now (tail_address sup.now other.old.inode)
+        × TailIsNext (P.region memory.old) (P.region memory.new) sup.now free.old.pools cpu (needed (row.old.tail % 4096) first.now.entries.now) other.old.inode other.old.tail second.now.entries.now (slot_address sup.now gone.inode) }
+    // Whatever a stop leaves: recovery finds what is held, or it with both logs grown and without the inode, without faults.
+    ensures any_stop { (held : Store) (h g : Held) → ShowsRow (P.region memory.old) sup.now held h row.old free.old → ShowsRow (P.region memory.old) sup.now held g other.old free.old
+        → NothingPending (P.region memory.old) (P.may_hold memory.old)
+        → LeavesOnly (P.region memory.new) (P.may_hold memory.new) (LeavesEither (P.region memory.old) (fixed_layout sup.now) held (AppendedLogsLess (P.region memory.old) sup.now free.old cpu row.old first.now.entries.now other.old second.now.entries.now gone.inode)) }
+{
+    let blocks = prepare_logs_less(alloc, free, cpu, row, first, other, second, gone.blocks)?;
+    let count = blocks_for(row, first) as usize;
+    let (fresh, more) = blocks.split_at(count);
+    let one = extension(sup, row, first.entries, fresh);
+    let two = extension(sup, other, second.entries, more);
+    let slot = sup.slot_address(gone.inode);
+    let Ok((end, last)) = replace_inode(memory, cpu, &one, &two, slot) else {
+        return Err(Refusal::Stopped);
+    };
+    settle_log(row, fresh, end);
+    settle_log(other, more, last);
+    Ok(())
+}
+
+/// Takes the blocks that both logs need, each by itself, and makes room for them in both rows, and in the free lists for so many
+/// blocks that come.
+///
+/// `NoSpace` where all pools together have fewer blocks, `Memory` where a growth was refused. Both leave the free lists.
+fn prepare_logs_less(
+    alloc: Global,
+    free: &mut Allocators,
+    cpu: u64,
+    row: &mut Row,
+    first: &Growth<'_>,
+    other: &mut Row,
+    second: &Growth<'_>,
+    coming: usize,
+) -> Result<Vec<u64>, Refusal>
+    requires cpu { cpu < free.old.sup.cpus }
+    requires few { length first.now.entries.now < 4096 }
+    requires more_few { length second.now.entries.now < 4096 }
+    ensures taken { IfOk result (λ blocks. TakesEach free.old cpu blocks.items free.new) }
+    ensures count { IfOk result (λ blocks. length blocks.items ≡ needed (row.old.tail % 4096) first.now.entries.now + needed (other.old.tail % 4096) second.now.entries.now) }
+    ensures enough { OnOk result (needed (row.old.tail % 4096) first.now.entries.now + needed (other.old.tail % 4096) second.now.entries.now ≤ all_blocks free.old.pools) }
+    ensures room { OnOk result (coming ≤ free.new.room) }
+    ensures refused { IfErr result (λ e. RefusesStep e (needed (row.old.tail % 4096) first.now.entries.now + needed (other.old.tail % 4096) second.now.entries.now) free.old) }
+    ensures goes_on { IfErr result (λ e. e ≡ RefusalValue.Stopped → ⊥) }
+    ensures unchanged { OnErr result (SamePools free.old free.new) }
+    ensures row { SameRow row.old row.new }
+    ensures other { SameRow other.old other.new }
+    ensures ready { OnOk result (ReadiesRow row.old row.new first.now.entries.now first.now.names) }
+    ensures other_ready { OnOk result (ReadiesRow other.old other.new second.now.entries.now second.now.names) }
+{
+    if free.reserve(coming).is_err() {
+        return Err(Refusal::Memory);
+    }
+    prepare_logs(alloc, free, cpu, row, first, other, second)
+}

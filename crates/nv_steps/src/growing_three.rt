@@ -1,0 +1,149 @@
+//! Three logs that grow together, and the rows that stand for them: all growths first, then the commit, then the rows.
+
+ghost use Rattle.std.specs.Prelude.{◌≡◌, ◌≢◌, ◌+◌, ◌%◌, ◌<◌, ◌≤◌, length, IsTrue, IfOk, IfErr, OnOk, OnErr};
+ghost use Rattle.nv_region.specs.Region.{size};
+ghost use Rattle.nv_region.specs.Stops.{LeavesOnly, NothingPending};
+ghost use Rattle.nv_region.specs.Fuses.{KeepsFuse};
+ghost use Rattle.nv_super.specs.Layout.{fixed_layout};
+ghost use Rattle.nv_alloc.specs.Taking.{all_blocks};
+ghost use Rattle.nv_logpage.specs.Append.{needed};
+ghost use Rattle.nv_held.specs.nv_outcome.Same.{SameRow};
+ghost use Rattle.nv_held.specs.Held.{Held, Store};
+ghost use Rattle.nv_commit.specs.Stopped.{LeavesEither};
+ghost use Rattle.nv_tree.specs.declared.refusal.Refusal.{Refusal as RefusalValue};
+ghost use Rattle.nv_steps.specs.Across.{AppendedThreeLogs, AppendsThreeLogs};
+ghost use Rattle.nv_steps.specs.Grown.{StandsRight};
+ghost use Rattle.nv_steps.specs.MoreNames.{AreFew, ReadiesRow};
+ghost use Rattle.nv_steps.specs.NewNames.{CanName};
+ghost use Rattle.nv_steps.specs.Steps.{LeavesStep, RefusesStep, ShowsRow};
+ghost use Rattle.nv_steps.specs.InOrder.{TailIsFirst, TailIsNext, tail_address};
+ghost use Rattle.nv_steps.specs.Taken.{SamePools, TakesEach};
+ghost use Rattle.nv_steps.specs.Stores.{StoresIn, three_logs};
+
+use crate::blocks::{are_enough, take_blocks};
+use crate::growing::{Growth, blocks_for, extension, make_room};
+use crate::settling::settle_log;
+use nv_alloc::{AllocRefusal, Allocators};
+use nv_commit::extend_three;
+use nv_region::Pmem;
+use nv_scan::Row;
+use nv_super::Super;
+use nv_tree::Refusal;
+use std::alloc::Global;
+
+/// Writes entries behind the logs of three rows, over blocks that it takes, log after log. All rows get the new tails and the new
+/// pages, and there is room for the names.
+///
+/// `NoSpace` where all pools together have too few blocks, `Memory` where a growth was refused; both change nothing.
+/// `Stopped` where the fuse has burnt.
+pub(crate) fn append_three_logs<P: Pmem>(
+    alloc: Global,
+    memory: &mut P,
+    sup: &Super,
+    free: &mut Allocators,
+    cpu: u64,
+    row: &mut Row,
+    first: &Growth<'_>,
+    other: &mut Row,
+    second: &Growth<'_>,
+    last: &mut Row,
+    third: &Growth<'_>,
+) -> Result<(), Refusal>
+    requires apart { (row.old.inode ≢ other.old.inode) × (row.old.inode ≢ last.old.inode) × (other.old.inode ≢ last.old.inode) }
+    requires stands { StandsRight (P.region memory.old) sup.now free.old row.old × CanName (P.region memory.old) sup.now cpu row.old.inode row.old }
+    requires other_stands { StandsRight (P.region memory.old) sup.now free.old other.old × CanName (P.region memory.old) sup.now cpu other.old.inode other.old }
+    requires last_stands { StandsRight (P.region memory.old) sup.now free.old last.old × CanName (P.region memory.old) sup.now cpu last.old.inode last.old }
+    requires given { AreFew first.now.entries.now }
+    requires more_given { AreFew second.now.entries.now }
+    requires last_given { AreFew third.now.entries.now }
+    ensures appended { OnOk result (AppendsThreeLogs (P.region memory.old) (P.region memory.new) sup.now free.old free.new cpu row.old row.new first.now.entries.now other.old other.new second.now.entries.now last.old last.new third.now.entries.now) }
+    ensures room { OnOk result (second.now.names ≤ other.new.names.room) }
+    ensures enough { OnOk result (needed (row.old.tail % 4096) first.now.entries.now + needed (other.old.tail % 4096) second.now.entries.now + needed (last.old.tail % 4096) third.now.entries.now ≤ all_blocks free.old.pools) }
+    ensures settled { OnOk result (NothingPending (P.region memory.new) (P.may_hold memory.new)) }
+    ensures refused { IfErr result (λ e. RefusesStep e (needed (row.old.tail % 4096) first.now.entries.now + needed (other.old.tail % 4096) second.now.entries.now + needed (last.old.tail % 4096) third.now.entries.now) free.old) }
+    ensures unchanged { IfErr result (λ e. (e ≡ RefusalValue.Stopped → ⊥) → LeavesStep memory.old memory.new free.old free.new row.old row.new × SameRow other.old other.new × SameRow last.old last.new) }
+    ensures stopped { IfErr result (λ e. e ≡ RefusalValue.Stopped → IsTrue (P.fuse memory.new).has_burnt) }
+    ensures inodes { (row.new.inode ≡ row.old.inode) × (other.new.inode ≡ other.old.inode) × (last.new.inode ≡ last.old.inode) }
+    ensures lists { free.new.sup ≡ free.old.sup }
+    ensures length { size (P.region memory.new) ≡ size (P.region memory.old) }
+    ensures keeps_fuse { KeepsFuse (λ limit. size (P.region memory.old) ≤ limit) (P.fuse memory.old) (P.fuse memory.new) }
+    // Every word outside these places is as it was.
+    ensures wrote { (held : Store) (h g f : Held) → ShowsRow (P.region memory.old) sup.now held h row.old free.old → ShowsRow (P.region memory.old) sup.now held g other.old free.old → ShowsRow (P.region memory.old) sup.now held f last.old free.old
+        → StoresIn sup.now held (three_logs sup.now cpu row.old.inode other.old.inode last.old.inode) (P.region memory.old) (P.region memory.new) }
+    // The tails are stored in their order.
+    ensures in_order { (held : Store) (h g f : Held) → ShowsRow (P.region memory.old) sup.now held h row.old free.old → ShowsRow (P.region memory.old) sup.now held g other.old free.old → ShowsRow (P.region memory.old) sup.now held f last.old free.old
+        → TailIsFirst (P.region memory.old) (P.region memory.new) sup.now free.old.pools cpu row.old.inode row.old.tail first.now.entries.now (tail_address sup.now other.old.inode)
+        × TailIsNext (P.region memory.old) (P.region memory.new) sup.now free.old.pools cpu (needed (row.old.tail % 4096) first.now.entries.now) other.old.inode other.old.tail second.now.entries.now (tail_address sup.now last.old.inode) }
+    // Whatever a stop leaves: recovery finds what is held, or it with all logs grown, without faults.
+    ensures any_stop { (held : Store) (h g f : Held) → ShowsRow (P.region memory.old) sup.now held h row.old free.old → ShowsRow (P.region memory.old) sup.now held g other.old free.old → ShowsRow (P.region memory.old) sup.now held f last.old free.old
+        → NothingPending (P.region memory.old) (P.may_hold memory.old)
+        → LeavesOnly (P.region memory.new) (P.may_hold memory.new) (LeavesEither (P.region memory.old) (fixed_layout sup.now) held (AppendedThreeLogs (P.region memory.old) sup.now free.old cpu row.old first.now.entries.now other.old second.now.entries.now last.old third.now.entries.now)) }
+{
+    let blocks = prepare_three(alloc, free, cpu, row, first, other, second, last, third)?;
+    let count = blocks_for(row, first) as usize;
+    let (fresh, later) = blocks.split_at(count);
+    let next = blocks_for(other, second) as usize;
+    let (more, rest) = later.split_at(next);
+    let one = extension(sup, row, first.entries, fresh);
+    let two = extension(sup, other, second.entries, more);
+    let three = extension(sup, last, third.entries, rest);
+    let Ok(ends) = extend_three(memory, cpu, &one, &two, &three) else {
+        return Err(Refusal::Stopped);
+    };
+    settle_log(row, fresh, ends.0);
+    settle_log(other, more, ends.1);
+    settle_log(last, rest, ends.2);
+    Ok(())
+}
+
+/// Takes the blocks that all three logs need, each by itself, and makes room for them in the rows.
+///
+/// `NoSpace` where all pools together have fewer blocks, `Memory` where a growth was refused. Both leave the free lists.
+fn prepare_three(
+    alloc: Global,
+    free: &mut Allocators,
+    cpu: u64,
+    row: &mut Row,
+    first: &Growth<'_>,
+    other: &mut Row,
+    second: &Growth<'_>,
+    last: &mut Row,
+    third: &Growth<'_>,
+) -> Result<Vec<u64>, Refusal>
+    requires cpu { cpu < free.old.sup.cpus }
+    requires few { length first.now.entries.now < 4096 }
+    requires more_few { length second.now.entries.now < 4096 }
+    requires last_few { length third.now.entries.now < 4096 }
+    ensures taken { IfOk result (λ blocks. TakesEach free.old cpu blocks.items free.new) }
+    ensures count { IfOk result (λ blocks. length blocks.items ≡ needed (row.old.tail % 4096) first.now.entries.now + needed (other.old.tail % 4096) second.now.entries.now + needed (last.old.tail % 4096) third.now.entries.now) }
+    ensures enough { OnOk result (needed (row.old.tail % 4096) first.now.entries.now + needed (other.old.tail % 4096) second.now.entries.now + needed (last.old.tail % 4096) third.now.entries.now ≤ all_blocks free.old.pools) }
+    ensures refused { IfErr result (λ e. RefusesStep e (needed (row.old.tail % 4096) first.now.entries.now + needed (other.old.tail % 4096) second.now.entries.now + needed (last.old.tail % 4096) third.now.entries.now) free.old) }
+    ensures goes_on { IfErr result (λ e. e ≡ RefusalValue.Stopped → ⊥) }
+    ensures unchanged { OnErr result (SamePools free.old free.new) }
+    ensures rows { SameRow row.old row.new × SameRow other.old other.new × SameRow last.old last.new }
+    ensures ready { OnOk result (ReadiesRow row.old row.new first.now.entries.now first.now.names) }
+    ensures other_ready { OnOk result (ReadiesRow other.old other.new second.now.entries.now second.now.names) }
+    ensures last_ready { OnOk result (ReadiesRow last.old last.new third.now.entries.now third.now.names) }
+{
+    let count = blocks_for(row, first);
+    let more = blocks_for(other, second);
+    let rest = blocks_for(last, third);
+    let all = count + more + rest;
+    if !are_enough(free, all) {
+        return Err(Refusal::NoSpace);
+    }
+    let Ok(()) = make_room(row, count as usize, first.names) else {
+        return Err(Refusal::Memory);
+    };
+    let Ok(()) = make_room(other, more as usize, second.names) else {
+        return Err(Refusal::Memory);
+    };
+    let Ok(()) = make_room(last, rest as usize, third.names) else {
+        return Err(Refusal::Memory);
+    };
+    match take_blocks(alloc, free, cpu, all) {
+        Ok(blocks) => Ok(blocks),
+        Err(AllocRefusal::NoSpace) => Err(Refusal::NoSpace),
+        Err(AllocRefusal::Memory) => Err(Refusal::Memory),
+    }
+}
