@@ -46,6 +46,8 @@ expect "100 bytes" 2 "refused S1" "it has 100 bytes; $lengths" "$program" check 
 expect "100 bytes, 64 workers" 2 "refused S1" "it has 100 bytes; $lengths" "$program" check "$folder/short" --workers 64
 magic="that of a region is 3544417913829478222, the text NOVAPM01"
 expect "a file of zeros as long as the longest region" 2 "refused S2" "its first word is 0; $magic" "$program" check "$folder/longest"
+expect "in 64 MiB a file of zeros as long" 2 "refused S2" "its first word is 0; $magic" \
+    bash -c 'ulimit -v 65536; exec "$1" check "$2"' bash "$program" "$folder/longest"
 expect "a file longer than a region can be" 2 "refused S1" "it has 1073741825 bytes; $lengths" "$program" check "$folder/longer"
 expect "a path of more than 600 bytes" 2 "refused S1" "it has 100 bytes; $lengths" "$program" check "$folder/${long_way}short"
 expect "a pipe that is longer than a region can be" 2 "refused S1" "it has more than 1073741824 bytes; $lengths" \

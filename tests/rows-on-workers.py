@@ -6,7 +6,8 @@ usage: tests/rows-on-workers.py PROGRAM FOLDER WORKERS..
 FOLDER has, also in folders below it, files NAME.script, NAME.expected and NAME.status. Each `recover N` of a script, N
 from 1 to 64, becomes `recover W`, for each W of WORKERS. A script with a command that the program doesn't know yet is
 left out, as is one without a recovery. Behind the script every word of the region is peeked, whatever its length, so
-that the regions are compared byte by byte; of what that run prints a hash is kept.
+that the regions are compared byte by byte; of what that run prints a hash is kept. The region that a script leaves is
+checked as a file, of which the metadata alone are read, and from a pipe, which is read whole: both say the same.
 """
 
 import hashlib
@@ -56,6 +57,24 @@ def run_and_peek(program, script, blocks):
     return digest, done.returncode
 
 
+def both_ways(program, path, workers):
+    """The number of workers for which a check of the region that a script leaves differs by the way of reading, or None."""
+    with tempfile.TemporaryDirectory() as room:
+        image = Path(room) / "image"
+        with open(path, "rb") as script:
+            subprocess.run([program, "run", "--save", image], stdin=script, capture_output=True, timeout=120)
+        if not image.exists():
+            return None
+        for count in workers:
+            found = []
+            for place, given in ((image, b""), ("/dev/stdin", image.read_bytes())):
+                done = subprocess.run([program, "check", place, "--workers", count], input=given, capture_output=True, timeout=120)
+                found.append((done.stdout, done.returncode))
+            if found[0] != found[1]:
+                return count
+    return None
+
+
 def check(program, path, workers):
     """The first difference, or None."""
     script = path.read_bytes().decode("latin-1")
@@ -71,7 +90,8 @@ def check(program, path, workers):
         if words not in (None, peeked):
             return f"{path}: the region differs on {count} workers"
         words = peeked
-    return None
+    differs = both_ways(program, path, workers)
+    return f"{path}: a pipe differs from its file on {differs} workers" if differs else None
 
 
 def main():

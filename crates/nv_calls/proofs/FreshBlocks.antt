@@ -19,6 +19,7 @@ use Rattle.nv_scan.specs.declared.piece.Row.{Row}
 use Rattle.nv_scan.specs.Owners.{by_page}
 use Rattle.nv_journal.specs.Undo.{undone}
 use Rattle.nv_held.specs.nv_outcome.Outcome.{IsFree, AreFreeLists}
+use Rattle.nv_held.proofs.nv_outcome.Fixed.{fixed_outcome}
 use Rattle.nv_held.proofs.nv_outcome.SuperOf.{blocks_of_super}
 use Rattle.nv_bytes.specs.Storing.{AreFresh}
 use Rattle.nv_calls.specs.Mount.{IsKept}
@@ -36,12 +37,14 @@ pub taken_are_fresh : (R : Region) (s : Super) (rows : List Row) (free : FreeLis
 taken_are_fresh R s rows free faults read_only stopped kept runs_on row c n runs after leave = record {
   inside = λ b has. ∥∥₁_elim (kept.shown runs_on) (hlevel (props, ℕ_set)) (λ w.
       let f = leave.free b has in
-      let below = (free_in (undone s R) s free.pools f.0 b w.1.free f.1).below in
+      let fixed = fixed_outcome R _ w.1 in
+      let below = (free_in (undone s R) s free.pools f.0 b fixed.free f.1).below in
       let blocks = blocks_of_super R s w.1.sup in
       omega (arith, below, blocks));
   once = leave.disjoint;
   apart = λ p b at has. ∥∥₁_elim (kept.shown runs_on) (hlevel (props, ℕ_set)) (λ w.
       let f = leave.free b has in
-      let r = w.1.rows.each row c in
-      (free_in (undone s R) s free.pools f.0 b w.1.free f.1).unowned (owners.Data row.inode p) (by_page r.2.inode (sym (r.2.index p) ∙ at)));
+      let fixed = fixed_outcome R _ w.1 in
+      let r = fixed.rows.each row c in
+      (free_in (undone s R) s free.pools f.0 b fixed.free f.1).unowned (owners.Data row.inode p) (by_page r.2.inode (sym (r.2.index p) ∙ at)));
 }

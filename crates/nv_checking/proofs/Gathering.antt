@@ -1,5 +1,5 @@
 -- What recovering the metadata of a region finds, by the answer of the recovery; and that it is found of the region.
-use Rattle.std.proofs.Common.{◌≡◌, ◌∙◌, [], Some, refl, subst}
+use Rattle.std.proofs.Common.{◌≡◌, ◌∙◌, [], Some, subst}
 use Rattle.nv_region.specs.Region.{Region}
 use Rattle.nv_super.specs.declared.superblock.Super.{Super}
 use Rattle.nv_super.specs.Layout.{IsLayout}

@@ -1,6 +1,7 @@
 //! Checking a region that is given as bytes: it is recovered over them, and its report is written.
 //!
-//! A recovery stores words in front of the data blocks alone. So only these are copied, and the rest is read where it stands.
+//! A recovery stores words in front of the data blocks alone, and only where it rolls journals back. So the bytes are copied
+//! up to the last of these words, and else not at all.
 
 ghost use Rattle.std.specs.Prelude.{◌≡◌, false, IfOk, IfErr, OnOk, string_bytes};
 ghost use Rattle.nv_region.specs.Region.{region_of};

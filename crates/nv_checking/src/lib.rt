@@ -30,7 +30,7 @@ pub use files::{check_file, explain_file, map_file};
 pub use gathered::{BlocksError, check_blocks, check_gathered};
 pub use gathered_image::{GatheredImage, recover_gathered};
 pub use imaging::{Image, recover_image};
-pub use laws::one_check;
+pub use laws::{any_workers, one_check};
 pub use mapping::{Mapped, map_blocks, map_cells, map_gathered, write_map};
 pub use nv_metadata::{Blocks, Gathered, gather};
 pub use output::Output;

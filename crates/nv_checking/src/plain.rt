@@ -2,12 +2,15 @@
 
 ghost use Rattle.std.specs.Prelude.{◌≡◌, ℕ, List, Some, IfOk, IfErr, IfSome};
 ghost use Rattle.nv_region.specs.Region.{region_of};
+ghost use Rattle.nv_super.specs.Super.{IsRefused};
 ghost use Rattle.nv_images.specs.Images.{IsUnread};
+ghost use Rattle.nv_images.specs.Superblocks.{said_of, known_content};
 ghost use Rattle.nv_metadata.specs.Gathered.{AreGathered, IsOpen};
 
-use nv_images::{Failure, ImageFile, Reason};
+use nv_images::{Failure, ImageFile, Reason, Unaccepted, why_file_refused};
 use nv_metadata::{Blocks, GatherError, Gathered, gather_on};
 use nv_stream::{Opened, ScriptError, Stamp};
+use nv_super::SuperFault;
 use std::alloc::Global;
 use std::fs::OpenFile;
 use std::io;
@@ -16,6 +19,9 @@ use std::thread::Threads;
 
 /// How many threads read the pages of logs where nobody says how many.
 pub const READERS: u64 = 4;
+
+// The bytes of the first block.
+const FIRST_BLOCK: usize = 4096;
 
 /// Gathers the metadata of the image in an open file, where it is a plain file and the superblock is accepted. Any other file has
 /// to be read whole: of it nothing is answered, and it is read from its first byte on as before. So many threads read the pages
@@ -32,10 +38,48 @@ pub fn gather_plain<'a, H: Threads + Sync, F: Blocks + OpenFile + Sync + Drop>(
     ensures gathered { (image : List ℕ) → F.bytes file.now.opened.file ≡ Some image → IfOk result (λ found. IfSome found (AreGathered (region_of image))) }
     ensures error { IfErr result (IsUnread file.now.path) }
 {
+    match gather_or_refuse(rt, alloc, file, threads)? {
+        Some(Gathered::Refused(_)) => Ok(None),
+        found => Ok(found),
+    }
+}
+
+/// `gather_plain`, which tells too for what the superblock in a plain file is refused. A file that tells no length has to be read
+/// whole, and so has any that is not a plain one.
+///
+/// Errors: those of `gather_plain`.
+pub(crate) fn gather_or_refuse<'a, H: Threads + Sync, F: Blocks + OpenFile + Sync + Drop>(
+    rt: &H,
+    alloc: Global,
+    file: &ImageFile<'a, F>,
+    threads: u64,
+) -> Result<Option<Gathered>, Failure<'a>>
+    ensures open { IfOk result (λ found. IfSome found IsOpen) }
+    ensures gathered { (image : List ℕ) → F.bytes file.now.opened.file ≡ Some image → IfOk result (λ found. IfSome found (AreGathered (region_of image))) }
+    ensures error { IfErr result (IsUnread file.now.path) }
+{
     match gather_unchanged(rt, alloc, &file.opened, threads) {
         Ok(found) => Ok(found),
         Err(GatherError::Read(error)) => Err(cannot_read(file.path, error)),
         Err(GatherError::Memory) => Err(Failure::Answer(ScriptError::Memory)),
+    }
+}
+
+/// Why the image in an open plain file isn't accepted, whose superblock has this fault first: by its length and its first block,
+/// which are read for that.
+///
+/// Errors: a file that can't be read, or that was changed meanwhile.
+pub(crate) fn why_plain_refused<'a, F: Blocks + OpenFile + Drop>(
+    file: &ImageFile<'a, F>,
+    fault: SuperFault,
+) -> Result<Unaccepted, Failure<'a>>
+    ensures words { (image : List ℕ) → F.bytes file.now.opened.file ≡ Some image → IsRefused (region_of image) fault → IfOk result (λ why. why.words ≡ said_of (region_of image) fault) }
+    ensures content { (image : List ℕ) → F.bytes file.now.opened.file ≡ Some image → IfOk result (λ why. why.content ≡ known_content image) }
+    ensures error { IfErr result (IsUnread file.now.path) }
+{
+    match why_unchanged(&file.opened, fault) {
+        Ok(why) => Ok(why),
+        Err(error) => Err(cannot_read(file.path, error)),
     }
 }
 
@@ -57,7 +101,24 @@ fn cannot_read<'a>(path: &'a str, error: Error) -> Failure<'a>
     Failure::CannotRead(path, Reason::System(error))
 }
 
-// The metadata of the image in a plain file whose superblock is accepted, unless the file was changed meanwhile.
+// Why the image in a plain file isn't accepted, unless the file was changed meanwhile.
+fn why_unchanged<F: Blocks + OpenFile + Drop>(
+    opened: &Opened<F>,
+    fault: SuperFault,
+) -> io::Result<Unaccepted>
+    ensures words { (image : List ℕ) → F.bytes opened.now.file ≡ Some image → IsRefused (region_of image) fault → IfOk result (λ why. why.words ≡ said_of (region_of image) fault) }
+    ensures content { (image : List ℕ) → F.bytes opened.now.file ≡ Some image → IfOk result (λ why. why.content ≡ known_content image) }
+{
+    let count = opened.file.len()?;
+    let mut block = [0; FIRST_BLOCK];
+    let first = &mut block[..FIRST_BLOCK.min(count as usize)];
+    opened.file.read(0, first)?;
+    keeps_stamp(opened)?;
+    Ok(why_file_refused(fault, count, first))
+}
+
+// The metadata of the image in a plain file that tells its length, or the fault of its superblock, unless the file was changed
+// meanwhile.
 fn gather_unchanged<H: Threads + Sync, F: Blocks + OpenFile + Sync + Drop>(
     rt: &H,
     alloc: Global,
@@ -67,13 +128,10 @@ fn gather_unchanged<H: Threads + Sync, F: Blocks + OpenFile + Sync + Drop>(
     ensures open { IfOk result (λ found. IfSome found IsOpen) }
     ensures gathered { (image : List ℕ) → F.bytes opened.now.file ≡ Some image → IfOk result (λ found. IfSome found (AreGathered (region_of image))) }
 {
-    if !opened.file.metadata()?.is_file() {
+    if !opened.file.metadata()?.is_file() || opened.stamp.length == 0 {
         return Ok(None);
     }
     let gathered = gather_on(rt, alloc, &opened.file, threads)?;
-    if let Gathered::Refused(_) = gathered {
-        return Ok(None);
-    }
     keeps_stamp(opened)?;
     Ok(Some(gathered))
 }

@@ -12,9 +12,10 @@ use crate::checking::{Checked, check_bytes, refused};
 use crate::files::tell_image_refused;
 use crate::gathered::check_metadata;
 use crate::output::Output;
-use crate::plain::gather_plain;
+use crate::plain::{gather_or_refuse, why_plain_refused};
 use nv_images::{
     Failure, Image, ImageFile, Shown, open_image, read_image, tell_explain, tell_failure,
+    tell_unaccepted,
 };
 use nv_metadata::{Blocks, Gathered};
 use nv_report::Last;
@@ -99,7 +100,14 @@ where
 {
     let name = format!(in rt.alloc(); "{}: ", Shown(path))?;
     let file = open_image(rt, path)?;
-    match gather_plain(rt, rt.alloc(), &file, u64::from(workers))? {
+    match gather_or_refuse(rt, rt.alloc(), &file, u64::from(workers))? {
+        Some(Gathered::Refused(fault)) => {
+            let why = why_plain_refused(&file, fault)?;
+            let gathered = Gathered::Refused(fault);
+            let status = check_gathered_named(rt, &name, gathered, workers, output)?;
+            tell_unaccepted(rt, Some(why));
+            Ok(status)
+        }
         Some(gathered) => Ok(check_gathered_named(rt, &name, gathered, workers, output)?),
         None => check_whole_named(rt, &name, file, workers, output),
     }

@@ -3,3 +3,4 @@ pub mod Lengths
 pub mod Squares
 pub mod OneWord
 pub mod Known
+pub mod Beginnings

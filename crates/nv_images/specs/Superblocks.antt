@@ -1,5 +1,5 @@
 -- What is said of an image whose superblock isn't accepted.
-use Rattle.std.specs.Prelude.{ℕ, ◌/◌, ◌==◌, ◌&&◌, Bool, nat_lt, if◌then◌else◌, List, [], ◌∷◌, ◌++◌, length, slice_index, Option, Some, None, codes, decimal}
+use Rattle.std.specs.Prelude.{◌≡◌, ◌≤◌, ℕ, ◌/◌, ◌==◌, ◌&&◌, Bool, nat_lt, if◌then◌else◌, List, [], ◌∷◌, ◌++◌, length, slice_index, take, min, Option, Some, None, codes, decimal}
 use Rattle.std.specs.List.{starts_with}
 use Rattle.nv_region.specs.Region.{Region, word, size}
 use Rattle.nv_super.specs.declared.superblock.SuperFault.{SuperFault}
@@ -53,3 +53,9 @@ abbrev pub content_text : Content → List ℕ
 content_text Gzip = codes "by its first bytes it is compressed by gzip"
 content_text Xfs = codes "by its first bytes it is an image of XFS"
 content_text Ext = codes "by its first bytes it is an image of ext2, ext3 or ext4"
+
+-- a file of so many bytes begins with these: at least with those that its content is recognized by, or with all
+pub record Begins (file : List ℕ) (count : ℕ) (first : List ℕ) : Type 0 where
+  pub as_long : length file ≡ count
+  pub front : first ≡ take (length first) file
+  pub enough : min count 1088 ≤ length first

@@ -1,21 +1,22 @@
 //! The bytes of the image in a file.
 
-ghost use Rattle.std.specs.Prelude.{◌≡◌, ◌≤◌, OnOk, OnErr, IfOk, IfErr, IfSome, IsNone, Some, codes, length};
+ghost use Rattle.std.specs.Prelude.{◌≡◌, ◌≤◌, OnOk, OnErr, IfOk, IfErr, IfSome, IsNone, Some, ℕ, List, codes, length};
 ghost use Rattle.nv_region.specs.Region.{region_of, bytes_of, size};
 ghost use Rattle.nv_super.specs.Super.{IsRefused};
 ghost use Rattle.nv_super.specs.declared.superblock.SuperFault.{SuperFault};
-ghost use Rattle.nv_images.specs.Superblocks.{said_of, known_content};
+ghost use Rattle.nv_images.specs.Superblocks.{said_of, known_content, Begins};
 ghost use Rattle.std.specs.Io.KnownBytes.{Appends};
 ghost use Rattle.nv_stream.specs.Streams.{AppendsFront};
 ghost use Rattle.nv_images.specs.Images.{IsRegionLength, KeepsLongest, IsUnread, length_of, HoldsBytes, StartsSettled, KeepsLongestRegion};
 
 use crate::failure::Failure;
-use crate::superblock::{BadSuper, Content, bad_super, known_content};
+use crate::superblock::{BadSuper, Content, bad_first, bad_super, known_content};
 use nv_region::{ImageRegion, MemRegion, Pmem, RegionBytes, RegionRefusal};
 use nv_report::{BadLength, LONGEST_REGION, is_region_length};
 use nv_stream::{
     Contents, Opened, ScriptError, Unread, contents_of, copy_whole, open_at, write_text,
 };
+use nv_super::SuperFault;
 use std::alloc::{AllocError, Global};
 use std::io::{Read, Write};
 use std::rt::Files;
@@ -216,6 +217,21 @@ pub fn why_region_refused(
         words,
         content,
     }))
+}
+
+/// `why_refused` of the image in a file of so many bytes, of which no more is at hand than its first ones: at least those by which
+/// its content is recognized, or all. It is refused for this fault.
+pub fn why_file_refused(fault: SuperFault, count: u64, first: &[u8]) -> Unaccepted
+    ensures length { IfSome result.length (λ told. (told ≡ BadLength.Bytes count) × (¬ IsRegionLength count)) }
+    ensures words { (file : List ℕ) → Begins file count first.now → IsRefused (region_of file) fault → result.words ≡ said_of (region_of file) fault }
+    ensures content { (file : List ℕ) → Begins file count first.now → result.content ≡ known_content file }
+    ensures none { IsNone result.length → IsRegionLength count }
+{
+    Unaccepted {
+        length: told_length(count),
+        words: bad_first(fault, count, first),
+        content: known_content(first),
+    }
 }
 
 /// Says on standard error for what the image of these bytes was refused, where an answer of this status may be that.

@@ -22,8 +22,8 @@ pub use explaining::explain;
 pub use failure::{Failure, exit_of};
 pub use image::{
     Image, ImageFile, Loaded, Unaccepted, image_at, load_image, open_image, read_image,
-    refuse_length, region_at, tell_length, tell_refused, tell_unaccepted, why_refused,
-    why_region_refused,
+    refuse_length, region_at, tell_length, tell_refused, tell_unaccepted, why_file_refused,
+    why_refused, why_region_refused,
 };
 pub use nv_stream::{Lock, Stamp};
 pub use reason::Reason;

@@ -1,11 +1,14 @@
 //! What is said of an image whose superblock isn't accepted: the words that were found, and those that are taken.
 
-ghost use Rattle.std.specs.Prelude.{◌≡◌, ◌⊎◌, IfSome, IsNone, Some};
+ghost use Rattle.std.specs.Prelude.{◌≡◌, ◌≤◌, ◌⊎◌, ◌+◌, ℕ, List, IfSome, IsNone, Some, drop, length};
+ghost use Rattle.byteorder.specs.Endian.{little_number};
+ghost use Rattle.nv_region.specs.Region.{region_of};
 ghost use Rattle.nv_super.specs.Super.{Applies, IsRefused};
 ghost use Rattle.nv_super.specs.declared.superblock.SuperFault.{SuperFault};
 ghost use Rattle.nv_super.specs.declared.superblock.SuperFault.TheVariants.{Length};
-ghost use Rattle.nv_images.specs.Superblocks.{said_of, bad_super_text, is_gzip, is_xfs, is_ext, known_content, content_text};
+ghost use Rattle.nv_images.specs.Superblocks.{said_of, bad_super_text, is_gzip, is_xfs, is_ext, known_content, content_text, Begins};
 
+use byteorder::{ByteOrder, LittleEndian};
 use nv_region::Pmem;
 use nv_super::{BLOCK_SIZE, SuperFault, read_super};
 use std::fmt;
@@ -48,6 +51,40 @@ pub(crate) fn bad_super<P: Pmem>(memory: &P) -> Option<BadSuper>
         }),
         Err(SuperFault::State) => Some(BadSuper::State(memory.load(40))),
     }
+}
+
+/// What isn't accepted of the superblock of a file of so many bytes, which begins with these, where this fault is the first that
+/// applies; but for the file's length.
+pub(crate) fn bad_first(fault: SuperFault, count: u64, first: &[u8]) -> Option<BadSuper>
+    ensures { (file : List ℕ) → Begins file count first.now → IsRefused (region_of file) fault → result ≡ said_of (region_of file) fault }
+{
+    match fault {
+        SuperFault::Length => None,
+        SuperFault::Magic => Some(BadSuper::Magic(word_in(first, 0))),
+        SuperFault::Version => Some(BadSuper::Version(word_in(first, 8))),
+        SuperFault::Cpus => Some(BadSuper::Cpus(word_in(first, 16))),
+        SuperFault::Blocks => Some(BadSuper::Blocks {
+            told: word_in(first, 24),
+            held: count / BLOCK_SIZE,
+        }),
+        SuperFault::Tables => Some(BadSuper::Tables {
+            tables: word_in(first, 32),
+            cpus: word_in(first, 16),
+            blocks: word_in(first, 24),
+        }),
+        SuperFault::State => Some(BadSuper::State(word_in(first, 40))),
+    }
+}
+
+// The word of the eight bytes at an address, or 0 where they aren't there.
+fn word_in(bytes: &[u8], at: usize) -> u64
+    requires { at ≤ 40 }
+    ensures { at + 8 ≤ length bytes.now → result ≡ little_number 8 (drop at bytes.now) }
+{
+    if bytes.len() < at + 8 {
+        return 0;
+    }
+    LittleEndian::read_u64(&bytes[at..])
 }
 
 impl fmt::Display for BadSuper {

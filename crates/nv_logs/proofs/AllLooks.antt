@@ -10,6 +10,7 @@ use Rattle.nv_super.proofs.Rising.{Contains-head, Contains-tail}
 use Rattle.nv_scan.specs.Inode.{Log}
 use Rattle.nv_scan.specs.Rows.{IsRow}
 use Rattle.nv_scan.specs.declared.piece.Row.{Row}
+use Rattle.nv_outcome.proofs.Fixed.{fixed_outcome}
 use Rattle.nv_outcome.specs.nv_journal.Undo.{undone}
 use Rattle.nv_outcome.specs.Answer.{outcome_of}
 use Rattle.nv_outcome.specs.declared.recovered.Recovered.{Recovered}
@@ -84,7 +85,7 @@ module _ {E : Type 0} (R : Region) where
       let same = same_inodes s R S are.0 (has_metadata s R S are.0 are.1) in
       let inodes = subst (λ (x : Super). SameInodes (fixed_layout x) (undone x R) (undone x S)) (sym sup) same in
       let here : AreLogTexts (undone r.sup S) r.sup r.rows.items (string_bytes look.text) = subst (λ (Q : Region). AreLogTexts Q r.sup r.rows.items (string_bytes look.text)) found.1 told in
-      inr (outcome_of r, outcome, same_texts r.sup (undone r.sup R) (undone r.sup S) inodes r.rows.items found.0.rows.each (string_bytes look.text) here, status, faults)
+      inr (outcome_of r, outcome, same_texts r.sup (undone r.sup R) (undone r.sup S) inodes r.rows.items (fixed_outcome S (outcome_of r) found.0).rows.each (string_bytes look.text) here, status, faults)
   found_answer (gatherings.Metadata s memory) are m r found (Err e) told status faults = tt
   found_answer (gatherings.Refused fault) are m r found result told status faults = absurd found
 

@@ -8,6 +8,7 @@ use Rattle.nv_outcome.specs.nv_journal.Undo.{undone}
 use Rattle.nv_outcome.specs.Answer.{outcome_of}
 use Rattle.nv_outcome.specs.Outcome.{AreRows}
 use Rattle.nv_outcome.specs.declared.recovered.Recovered.{Recovered}
+use Rattle.nv_outcome.proofs.Fixed.{fixed_outcome}
 use Rattle.nv_block.specs.Hex.{block_bytes}
 use Rattle.nv_text.specs.Refusals.{refusal_name}
 use Rattle.nv_text.specs.declared.refusals.Refusal as texts
@@ -28,7 +29,7 @@ refused_block bytes b hex refusal text answered is said = inl ((is.0, is.1, subs
 pub found_block : {E : Type 0} (bytes : List ℕ) (memory : ImageState) (r : Recovered) → IsRecovered (region_of bytes) (images.Recovered memory r) → (b : ℕ) (hex : Bool) (result : Result Look E)
     → ((R : Region) → AreRows R (fixed_layout r.sup) r.rows.items → IfOk result (λ look. TellsBlock R r.sup bytes b hex (string_bytes look.text) look.answered.status))
     → IfOk result (λ look. look.answered.faults ≡ length r.faults.items) → IfOk result (λ look. IsBlockLook bytes b hex (string_bytes look.text) look.answered)
-found_block bytes memory r is b hex (Ok look) told faults = inr (outcome_of r, is.0, told (undone r.sup (region_of bytes)) is.0.rows, faults)
+found_block bytes memory r is b hex (Ok look) told faults = inr (outcome_of r, is.0, told (undone r.sup (region_of bytes)) (fixed_outcome (region_of bytes) (outcome_of r) is.0).rows, faults)
 found_block bytes memory r is b hex (Err e) told faults = tt
 
 -- a block has few bytes

@@ -7,6 +7,7 @@ use Rattle.nv_region.proofs.Fronted.{short_rest}
 use Rattle.nv_super.specs.declared.superblock.Super.{Super}
 use Rattle.nv_super.specs.Layout.{HasAreas, fixed_layout}
 use Rattle.nv_scan.specs.declared.piece.Row.{Row}
+use Rattle.nv_outcome.proofs.Fixed.{fixed_outcome}
 use Rattle.nv_outcome.specs.nv_journal.Undo.{undone}
 use Rattle.nv_outcome.specs.Answer.{outcome_of}
 use Rattle.nv_outcome.specs.declared.recovered.Recovered.{Recovered}
@@ -93,7 +94,7 @@ module _ (R : Region) (inode : Inode) (text : List ℕ) (answered : Answered) wh
       whole_told : SameInodes (fixed_layout r.sup) (undone r.sup R) (undone r.sup memory.memory.region) → TellsLog (tree_of (undone r.sup R) r.rows.items) (undone r.sup memory.memory.region) r.sup r.rows.items inode text answered.status
           → TellsLog (tree_of (undone r.sup R) r.rows.items) (undone r.sup R) r.sup r.rows.items inode text answered.status
       whole_told inodes (inl (row, asked, shown, status)) =
-          let of = found.0.rows.each row (asked_there (tree_of (undone r.sup R) r.rows.items) r.rows.items inode row asked) in
+          let of = (fixed_outcome memory.memory.region (outcome_of r) found.0).rows.each row (asked_there (tree_of (undone r.sup R) r.rows.items) r.rows.items inode row asked) in
           inl (row, asked, same_text r.sup (undone r.sup R) (undone r.sup memory.memory.region) inodes of.0 of.1 row of.2 text shown, status)
       whole_told inodes (inr refused) = inr refused
   found_look (gatherings.Refused fault) are m r found told faults = absurd found

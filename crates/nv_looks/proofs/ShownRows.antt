@@ -4,6 +4,7 @@ use Rattle.std.specs.List.{Contains}
 use Rattle.std.specs.Option.{option_map}
 use Rattle.nv_region.specs.Region.{Region}
 use Rattle.nv_report.specs.nv_outcome.Outcome.{Outcome, IsOutcome}
+use Rattle.nv_report.proofs.nv_outcome.Fixed.{fixed_outcome}
 use Rattle.nv_report.proofs.nv_outcome.SuperOf.{layout_of_super}
 use Rattle.nv_report.proofs.nv_outcome.Tickets.{slot_number}
 use Rattle.nv_metadata.specs.Memory.{MetadataState}
@@ -28,7 +29,7 @@ use Rattle.nv_looks.specs.Catting.{AreShownAs}
 
 pub low_rows : (S : Region) (o : Outcome) → IsOutcome S o → AreLowRows o.rows
 low_rows S o is row c =
-    let r = is.rows.each row c in
+    let r = (fixed_outcome S o is).rows.each row c in
     let layout = layout_of_super S o.sup is.sup in
     let low = (slot_number o.sup row.inode r.0 layout (slot_in_use r.2.inode)).1 in
     let few = few_inodes o.sup layout.areas in

@@ -1,7 +1,7 @@
 -- The words of a front that was copied, and of the bytes behind it.
-use Rattle.std.proofs.Common.{◌⊎◌, inl, inr, ◌≡◌, ◌+◌, ◌*◌, ◌/◌, ◌%◌, ◌<◌, ◌≤◌, ℕ, List, [], ◌∷◌, ◌++◌, length, get_or, set, take, drop, sym, ap, ◌∙◌, arith, append_assoc, length-append, length-drop, length-set, get_or-set_same, get_or-set_other, add-one, append-nil, Result, Ok, Err, OnOk, OnErr, Bool, true, false, not, ◌&&◌, nat_le}
+use Rattle.std.proofs.Common.{◌⊎◌, inl, inr, ◌≡◌, ◌+◌, ◌*◌, ◌/◌, ◌%◌, ◌<◌, ◌≤◌, ℕ, List, [], ◌∷◌, ◌++◌, length, get_or, set, take, drop, sym, ap, ◌∙◌, arith, append_assoc, length-append, length-drop, length-set, get_or-set_same, get_or-set_other, add-one, append-nil, max, Bool, true, false, not, ◌&&◌, nat_le}
 use Rattle.std.proofs.Math.Seq.{take-suc}
-use Rattle.std.proofs.lemmas.Bool.{cases_eq}
+use Rattle.std.proofs.lemmas.Bool.{cases_eq, cases_lt}
 use Rattle.std.proofs.lemmas.Bool.Decides.{nat_tests}
 use Rattle.std.proofs.lemmas.List.{places, get_or_append_left, take-append-drop, drop-append-le, length-take, drop_all, set-append_left}
 use Rattle.byteorder.specs.Endian.{little_number}
@@ -64,6 +64,10 @@ nothing_added front words = sym (ap (λ (l : List ℕ). front ++ l) (drop_taken 
     drop_taken : (n : ℕ) (words : List ℕ) → drop n (take n words) ≡ []
     drop_taken n words = drop_all n (take n words) (omega (arith, length-take n words))
 
+-- so many are there already
+pub none_added : (front : List ℕ) (count : ℕ) (words : List ℕ) → count ≤ length front → front ++ drop (length front) (take count words) ≡ front
+none_added front count words there = ap (λ (l : List ℕ). front ++ l) (drop_all (length front) (take count words) (omega (arith, length-take count words, there))) ∙ append-nil front
+
 -- one word more is copied
 pub word_added : (front words copied : List ℕ) (k x : ℕ) → length front ≤ k → k < length words → x ≡ get_or words k 0 → copied ≡ front ++ drop (length front) (take k words) → copied ++ x ∷ [] ≡ front ++ drop (length front) (take (k + 1) words)
 word_added front words copied k x behind within is so_far =
@@ -89,11 +93,26 @@ same_fronted front count R more within =
     ap (λ (l : List ℕ). (front ++ taken) ++ l) behind ∙ append_assoc front taken (drop count R.words) ∙ ap (λ (l : List ℕ). front ++ l) seam in
     λ k. record { words = words k; rest = R.rest }
 
--- and also where no memory was left for them
-pub fronted_either : {T E : Type 0} (result : Result T E) (front new : List ℕ) (count : ℕ) (R : Region) → OnOk result (new ≡ front ++ drop (length front) (take count R.words)) → OnErr result (new ≡ front) → length front ≤ count → count ≤ length R.words
-    → with_front new R ≡ with_front front R
-fronted_either (Ok done) front new count R copied refused more within = ap (λ (l : List ℕ). with_front l R) copied ∙ same_fronted front count R more within
-fronted_either (Err refusal) front new count R copied refused more within = ap (λ (l : List ℕ). with_front l R) refused
+-- and also where so many are there already
+pub still_fronted : (front : List ℕ) (count : ℕ) (R : Region) → count ≤ length R.words → with_front (front ++ drop (length front) (take count R.words)) R ≡ with_front front R
+still_fronted front count R within = elim (cases_lt (length front) count) [
+  | inl more ↦ same_fronted front count R (omega (arith, more)) within
+  | inr there ↦ ap (λ (l : List ℕ). with_front l R) (none_added front count R.words there)
+]
+
+-- So many words are copied of those that take stores: as many as were there before, or so many as are asked for.
+pub reached : (front new bytes : List ℕ) (count limit : ℕ) → new ≡ front ++ drop (length front) (take count (words_of bytes)) → count ≤ limit → 8 * limit ≤ length bytes → length new ≡ max (length front) count
+reached front new bytes count limit copied few within = ap length copied ∙ elim (cases_lt (length front) count) [
+  | inl more ↦ length_added front (words_of bytes) count (omega (arith, more)) (omega (arith, count_of_words bytes)) ∙ omega (arith, more)
+  | inr there ↦ ap length (none_added front count (words_of bytes) there) ∙ omega (arith, there)
+]
+
+-- a copy ends with so many words, or with those that are there
+pub copied_to : (n k count : ℕ) (words : List ℕ) → n ≤ k → count ≤ k → k ≤ max n count → drop n (take k words) ≡ drop n (take count words)
+copied_to n k count words from past most = elim (cases_eq k count) [
+  | inl same ↦ ap (λ (m : ℕ). drop n (take m words)) same
+  | inr other ↦ drop_all n (take k words) (omega (arith, length-take k words, from, past, most, other)) ∙ sym (drop_all n (take count words) (omega (arith, length-take count words, from, past, most, other)))
+]
 
 pub opens : (limit front : ℕ) (burnt : Bool) → limit ≤ front → burnt ≡ false → (nat_le limit front && not burnt) ≡ true
 opens limit front burnt low fresh = grind (arith, nat_tests)

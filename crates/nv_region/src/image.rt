@@ -1,10 +1,10 @@
 //! A region over bytes that are borrowed, of which only the front can take stores.
 //!
-//! Its words are read from the bytes where they stand. Before the first store the words of the front are copied
-//! (`open_front`); from then on loads and stores of the front go to the copy, and take no memory. A store behind
-//! the front is refused as if a fuse had burnt.
+//! Its words are read from the bytes where they stand. Before the first store there has to be room for the words of the
+//! front (`open_front`); a store takes no memory then. Words are copied there as far as stores come, and not before: what
+//! no store comes to is read from the bytes. A store behind the front is refused as if a fuse had burnt.
 
-ghost use Rattle.std.specs.Prelude.{◌≡◌, ◌≤◌, ◌<◌, ◌+◌, ◌*◌, ◌%◌, ◌^◌, ◌||◌, ◌↔◌, ℕ, false, nat_le, IsTrue, IfOk, OnOk, OnErr, IsErrOf, is_err, max, min, length, take, drop, ◌++◌, refl};
+ghost use Rattle.std.specs.Prelude.{◌≡◌, ◌≤◌, ◌<◌, ◌+◌, ◌*◌, ◌%◌, ◌^◌, ◌||◌, ◌↔◌, ℕ, false, nat_le, IsTrue, IfOk, OnOk, OnErr, IsErrOf, is_err, max, min, length, take, drop, ◌++◌, refl, vec_capacity};
 ghost use Rattle.std.proofs.lemmas.Bool.{false≢true};
 ghost use Rattle.byteorder.specs.Endian.{little_number};
 ghost use Rattle.nv_region.specs.Region.{size, word, put, region_of, bytes_of, words_of};
@@ -25,7 +25,10 @@ const WORDS_IN_BLOCK: u64 = 512;
 #[derive(Drop)]
 pub struct ImageRegion<'a> {
     bytes: &'a [u8],
+    // The words of the front up to the last that was stored.
     front: Vec<u64>,
+    // How many words take stores: there is room for them in `front`.
+    limit: usize,
     burnt: bool,
 }
 
@@ -36,7 +39,7 @@ impl<'a> Model for ImageRegion<'a> {
 
     ghost Value = { ImageState };
 
-    ghost view = { λ m. record { region = with_front m.front.items (region_of m.bytes.now); front = 8 * length m.front.items; burnt = m.burnt } };
+    ghost view = { λ m. record { region = with_front m.front.items (region_of m.bytes.now); front = 8 * m.limit; burnt = m.burnt } };
 
     ghost use Rattle.nv_region.specs.Fronts.{HasFront};
 
@@ -64,13 +67,14 @@ impl<'a> ImageRegion<'a> {
         Ok(ImageRegion {
             bytes,
             front: Vec::new(alloc),
+            limit: 0,
             burnt: false,
         })
     }
 
-    /// Copies the words of the first so many blocks of 4096 bytes, or all where there are fewer: from then on
-    /// stores within them are taken, unless one was refused before. What was open before stays open, and no word
-    /// changes.
+    /// Makes room for the words of the first so many blocks of 4096 bytes, or for all where there are fewer: from then
+    /// on stores within them are taken, unless one was refused before. What was open before stays open, and no word
+    /// changes. Room that no store comes to isn't touched.
     ///
     /// Errors: `AllocError` where a growth was refused, which leaves all as it was.
     pub fn open_front(&mut self, blocks: u64) -> Result<(), AllocError>
@@ -82,26 +86,25 @@ impl<'a> ImageRegion<'a> {
     {
         let words = self.bytes.len() / 8;
         let wanted = blocks.saturating_mul(WORDS_IN_BLOCK).min(words as u64) as usize;
-        if wanted <= self.front.len() {
+        if wanted <= self.limit {
             return Ok(());
         }
-        read_front(&mut self.front, self.bytes, wanted)
+        self.front.reserve_exact(wanted - self.front.len())?;
+        self.limit = wanted;
+        Ok(())
     }
 }
 
-// Adds words of the bytes until there are so many. Refused, it adds none.
-fn read_front(front: &mut Vec<u64>, bytes: &[u8], count: usize) -> Result<(), AllocError>
-    requires more { length front.old.items ≤ count }
+// Adds words of the bytes until there are so many. There is room for them.
+fn read_front(front: &mut Vec<u64>, bytes: &[u8], count: usize)
     requires within { 8 * count ≤ length bytes.now }
-    ensures words { OnOk result (front.new.items ≡ front.old.items ++ drop (length front.old.items) (take count (words_of bytes.now))) }
-    ensures refused { OnErr result (front.new.items ≡ front.old.items) }
+    requires room { count ≤ vec_capacity front.old }
+    ensures words { front.new.items ≡ front.old.items ++ drop (length front.old.items) (take count (words_of bytes.now)) }
+    ensures room { vec_capacity front.old ≤ vec_capacity front.new }
 {
-    let first = front.len();
-    front.reserve_exact(count - first)?;
-    for number in first..count {
+    for number in front.len()..count {
         front.push_reserved(word_at(bytes, 8 * number));
     }
-    Ok(())
 }
 
 // The little-endian word of the eight bytes at an address.
@@ -152,10 +155,11 @@ impl Pmem for ImageRegion<'_> {
         ensures in_front { StoresInFront self.old at self.new }
     {
         let number = (at / 8) as usize;
-        if self.burnt || number >= self.front.len() {
+        if self.burnt || number >= self.limit {
             self.burnt = true;
             return Err(Stopped);
         }
+        read_front(&mut self.front, self.bytes, number + 1);
         self.front[number] = value;
         Ok(())
     }

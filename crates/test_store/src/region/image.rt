@@ -14,11 +14,25 @@ const SECOND: u64 = 0x5756_5554_5352_5150;
 
 const STORED: [Word; 3] = [(0, 0x0706_0504_0302_0100), (BLOCK - 8, 7), (BLOCK, SECOND)];
 
+// A store to the last word of a front of two blocks, and then one to the second word.
+const LATER_FIRST: [Answered; 2] = [
+    (Step::Store(2 * BLOCK - 8, 7), Ok(())),
+    (Step::Store(8, 9), Ok(())),
+];
+
+// The words around them stay.
+const AROUND: [Word; 4] = [
+    (0, 0x0706_0504_0302_0100),
+    (8, 9),
+    (BLOCK, SECOND),
+    (2 * BLOCK - 8, 7),
+];
+
 /// The bytes of a region, the blocks of its front, steps, and words that they leave.
 type Row<'a> = (u64, u64, &'a [Answered], &'a [Word]);
 
 // A store behind the front is refused, and so is what follows it.
-const ROWS: [Row<'static>; 6] = [
+const ROWS: [Row<'static>; 7] = [
     (
         16 * BLOCK,
         1,
@@ -35,6 +49,7 @@ const ROWS: [Row<'static>; 6] = [
         ],
         &[(BLOCK, SECOND)],
     ),
+    (16 * BLOCK, 2, &LATER_FIRST, &AROUND),
     (0, 2, &[], &[]),
     (7, 2, &[], &[]),
     (100, 2, &[], &[]),
