@@ -11,7 +11,7 @@ _nova() {
             check) words="--workers --summary --only-faults --json --explain --journal --help" ;;
             mkfs) words="--blocks --cpus --tables --size --force --help" ;;
             clean) words="--help" ;;
-            ls) words="--long --help" ;;
+            ls) words="--long --recursive --help" ;;
             stat) words="--help" ;;
             cat) words="--help" ;;
             du) words="--help" ;;

@@ -1,12 +1,13 @@
 #!/usr/bin/env python3
-"""Compares what `nova log`, `nova block`, `nova ls --long` and `nova du` print with texts that are written here by hand.
+"""Compares what `nova log`, `nova block`, `nova ls --long`, `nova ls --recursive` and `nova du` print with texts that are written here
+by hand.
 
 usage: tests/logs.py [PROGRAM]
 
 The images are written byte by byte, so that each entry stands at a known place: a file that is overwritten, cut and linked, a
 directory whose names go and come back, logs of two and three pages, entries that don't count, and a log for each fault that ends
 its reading. A log is asked for by path and by number, of a plain file and through a pipe, and all logs at once. Of such images
-blocks are shown, the names of the root with their attributes, and counts of blocks. The last line counts the cases, and the status
+blocks are shown, the names of the root with their attributes, those of all directories below one, and counts of blocks. The last line counts the cases, and the status
 is 1 where one was wrong. The format is told in docs/LAYOUT.md.
 """
 
@@ -331,6 +332,50 @@ unused b\\x20c 9
 """
 
 
+# Of the image `tree` the names below the root, below `d`, and below the same by its number. `up` is the root again.
+BELOW_ROOT = """\
+/:
+a 2
+d 3
+gone 9
+
+/d:
+b 2
+e 4
+up 1
+
+/d/e:
+"""
+
+BELOW_D = """\
+{0}:
+b 2
+e 4
+up 1
+
+{0}/e:
+
+{0}/up:
+a 2
+d 3
+gone 9
+"""
+
+LONG_BELOW_ROOT = """\
+/:
+file 420 2 0 0 12288 3 a 2
+dir 493 1 0 0 0 0 d 3
+unused gone 9
+
+/d:
+file 420 2 0 0 12288 3 b 2
+dir 493 1 0 0 0 0 e 4
+dir 493 1 0 0 0 0 up 1
+
+/d/e:
+"""
+
+
 # ---- what is tried
 
 
@@ -400,6 +445,50 @@ def try_counts(counts, path):
     counts.refused("blocks of nothing", "NotFound", run(path, "/gone", command="du"))
 
 
+def spaced():
+    """The root has the directory `a b`, and that has `a-`, `a` and `A`, of which the first two are directories with one name each."""
+    image = Image()
+    image.log(1, DIRECTORY, [(3, [attributes(493, 0, 0), add(b"a b", 3, 0)])])
+    image.log(2, FILE, [(4, [attributes(420, 0, 0)])])
+    image.log(3, DIRECTORY, [(5, [attributes(493, 0, 0), add(b"a-", 4, 0), add(b"a", 5, 0), add(b"A", 2, 0)])])
+    image.log(4, DIRECTORY, [(6, [attributes(493, 0, 0), add(b"x", 2, 0)])])
+    return image.log(5, DIRECTORY, [(7, [attributes(493, 0, 0), add(b"y", 2, 0)])])
+
+
+SPACED = """\
+/:
+a\\x20b 3
+
+/a\\x20b:
+A 2
+a 5
+a- 4
+
+/a\\x20b/a:
+y 2
+
+/a\\x20b/a-:
+x 2
+"""
+
+
+def try_folders(counts, path):
+    path.write_bytes(tree().bytes)
+    for words in (("-R", path), ("--recursive", path, "/"), (path, "1", "-R")):
+        top = "#1" if "1" in words else ""
+        text = BELOW_ROOT.replace("/:", f"{top or '/'}:", 1).replace("\n/d", f"\n{top}/d")
+        counts.same(f"names below the root, {words[1:]}", (0, text), run(*words, command="ls")[:2])
+    for which, shown in (("/d", "/d"), ("3", "#3"), ("<3>", "#3")):
+        counts.same(f"names below {which}", (0, BELOW_D.format(shown)), run("-R", path, which, command="ls")[:2])
+    counts.same("names below an empty directory", (0, "/d/e:\n"), run("-R", path, "/d/e", command="ls")[:2])
+    counts.same("names below the root with attributes", (0, LONG_BELOW_ROOT), run("-R", "-l", path, command="ls")[:2])
+    counts.same("names below the root through a pipe", (0, BELOW_ROOT), run("-R", "-", image=bytes(tree().bytes), command="ls")[:2])
+    counts.refused("names below a file", "NotDirectory", run("-R", path, "/a", command="ls"))
+    counts.refused("names below nothing", "NotFound", run("-R", path, "/gone", command="ls"))
+    path.write_bytes(spaced().bytes)
+    counts.same("names with spaces, and the order of directories", (0, SPACED), run("-R", path, command="ls")[:2])
+
+
 def main():
     counts = Counts()
     with tempfile.TemporaryDirectory() as folder:
@@ -422,11 +511,13 @@ def main():
         counts.refused("no superblock, and a block", "S2", run(path, "3", command="block"))
         counts.refused("no superblock, and blocks", "S2", run(path, command="du"))
         counts.refused("no superblock, and names", "S2", run("-l", path, command="ls"))
+        counts.refused("no superblock, and names below", "S2", run("-R", path, command="ls"))
         counts.same("no inode and not all", 2, run(path)[0])
         counts.same("an inode and all", 2, run("--all", path, "1")[0])
         try_all_logs(counts, path)
         try_blocks(counts, path)
         try_names(counts, path)
+        try_folders(counts, path)
         try_counts(counts, path)
     print(f"{counts.passed} passed, {counts.failed} failed")
     return 1 if counts.failed else 0

@@ -1,4 +1,5 @@
-//! Showing what rows of the image in a file tell: names with the numbers of their inodes, `ls --long`, and counts of blocks, `du`.
+//! Showing what rows of the image in a file tell: names with the numbers of their inodes, `ls --long`, those of all directories below,
+//! `ls --recursive`, and counts of blocks, `du`.
 
 ghost use Rattle.nv_metadata.specs.Gathered.{IsOpen};
 
@@ -9,7 +10,10 @@ use nv_images::{
     Failure, Image, ImageFile, open_image, read_image, refuse_length, tell_faults, tell_length,
     tell_refused,
 };
-use nv_logs::{Inode, list_long_gathered, list_long_image, usage_gathered, usage_image};
+use nv_logs::{
+    Inode, folders_gathered, folders_image, list_long_gathered, list_long_image, usage_gathered,
+    usage_image,
+};
 use nv_stream::ScriptError;
 use std::io;
 use std::io::{Read, Write};
@@ -21,6 +25,8 @@ use std::thread::Threads;
 pub(crate) enum Told {
     /// The names of a directory, each behind the numbers of its inode.
     Names,
+    /// The names of a directory and of all directories below it, each behind the numbers of its inode if `long` says so.
+    Folders { long: bool },
     /// How many blocks it takes, with all below it.
     Blocks,
 }
@@ -63,6 +69,9 @@ fn tell_metadata<H: AllocGlobal + Print, E: Write>(
     let out = &mut io::writer(rt);
     match what {
         Told::Names => list_long_gathered(rt.alloc(), gathered, inode, out, errors),
+        Told::Folders { long } => {
+            folders_gathered(rt.alloc(), gathered, inode, long, out, errors)
+        }
         Told::Blocks => usage_gathered(rt.alloc(), gathered, inode, out, errors),
     }
 }
@@ -101,6 +110,7 @@ fn tell_bytes<H: AllocGlobal + Print, E: Write>(
     let out = &mut io::writer(rt);
     match what {
         Told::Names => list_long_image(rt.alloc(), bytes, inode, out, errors),
+        Told::Folders { long } => folders_image(rt.alloc(), bytes, inode, long, out, errors),
         Told::Blocks => usage_image(rt.alloc(), bytes, inode, out, errors),
     }
 }

@@ -1,4 +1,4 @@
-//! Showing what of an image isn't what one inode holds: `log --all`, `block` and `du`.
+//! Showing what of an image isn't what one inode holds: `log --all`, `block`, `du` and `ls --recursive`.
 
 use crate::blocks::show_block;
 use crate::listing::{Told, tell};
@@ -23,5 +23,8 @@ where
         View::Logs { image } => show_log(rt, errors, image, None),
         View::Block { image, block, hex } => show_block(rt, errors, image, block, hex),
         View::Usage { image, which } => tell(rt, errors, image, which, Told::Blocks),
+        View::Folders { image, which, long } => {
+            tell(rt, errors, image, which, Told::Folders { long })
+        }
     }
 }

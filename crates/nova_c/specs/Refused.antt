@@ -1,7 +1,8 @@
 -- Why each call on a mount is refused: the first refusal that applies.
 use Rattle.std.specs.Prelude.{ℕ, Option}
 use Rattle.nv_region.specs.Region.{Region}
-use Rattle.nv_tree.specs.Refusals.{Path, first_refusal, clean_tests, create_tests, link_tests, list_tests, read_tests, rename_tests, rmdir_tests, set_attr_tests, set_size_tests, stat_tests, unlink_tests, write_tests}
+use Rattle.nv_tree.specs.Refusals.{Path, first_refusal, clean_tests, create_tests, link_tests, list_tests, read_tests, rename_tests, rmdir_tests, set_attr_tests, set_size_tests, stat_tests}
+use Rattle.nv_tree.specs.Refusals.{unlink_tests, write_tests}
 use Rattle.nv_tree.specs.declared.refusal.Refusal.{Refusal}
 use Rattle.nv_calls.specs.Mount.{Mount}
 use Rattle.nv_calls.specs.World.{world_of}

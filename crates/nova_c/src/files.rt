@@ -47,7 +47,8 @@ pub extern "C" fn nova_write(
     ensures runs { IsRunning fs.old → IsRunning fs.new × (result ≢ 15) }
     ensures keeps { IsOpen fs.old → IsOpen fs.new × KeepsMount fs.old.mount fs.new.mount }
     ensures any_stop { IsRunning fs.old → fs.old.mount.read_only ≡ false → (names : List (List ℕ)) → IsPath path.now names
-        → LeavesOnly fs.new.mount.memory (as_it_reads fs.new.mount.memory) (LeavesCall (makes_bytes offset bytes.now time) (LogsBytes cpu offset (length bytes.now) time) fs.old.mount.memory fs.old.mount names) }
+        → LeavesOnly fs.new.mount.memory (as_it_reads fs.new.mount.memory) (LeavesCall (makes_bytes offset bytes.now time)
+        (LogsBytes cpu offset (length bytes.now) time) fs.old.mount.memory fs.old.mount names) }
     ensures closed { IsClosed fs.old → TellsClosed fs.new result }
 {
     match fs.take(alloc) {
@@ -129,7 +130,8 @@ pub extern "C" fn nova_set_attr(
     ensures runs { IsRunning fs.old → IsRunning fs.new × (result ≢ 15) }
     ensures keeps { IsOpen fs.old → IsOpen fs.new × KeepsMount fs.old.mount fs.new.mount }
     ensures any_stop { IsRunning fs.old → fs.old.mount.read_only ≡ false → (names : List (List ℕ)) → IsPath path.now names
-        → LeavesOnly fs.new.mount.memory (as_it_reads fs.new.mount.memory) (LeavesCall (makes_attributes mode owner group time) (logs_attributes cpu mode owner group time) fs.old.mount.memory fs.old.mount names) }
+        → LeavesOnly fs.new.mount.memory (as_it_reads fs.new.mount.memory) (LeavesCall (makes_attributes mode owner group time)
+        (logs_attributes cpu mode owner group time) fs.old.mount.memory fs.old.mount names) }
     ensures closed { IsClosed fs.old → TellsClosed fs.new result }
 {
     match fs.take(alloc) {

@@ -84,7 +84,8 @@ pub extern "C" fn nova_mkdir(
     ensures runs { IsRunning fs.old → IsRunning fs.new × (result ≢ 15) }
     ensures keeps { IsOpen fs.old → IsOpen fs.new × KeepsMount fs.old.mount fs.new.mount }
     ensures any_stop { IsRunning fs.old → fs.old.mount.read_only ≡ false → (names : List (List ℕ)) → IsPath path.now names
-        → LeavesOnly fs.new.mount.memory (as_it_reads fs.new.mount.memory) (LeavesCall (makes_inode Directory cpu mode time) (logs_inode Directory cpu mode time) fs.old.mount.memory fs.old.mount names) }
+        → LeavesOnly fs.new.mount.memory (as_it_reads fs.new.mount.memory) (LeavesCall (makes_inode Directory cpu mode time)
+        (logs_inode Directory cpu mode time) fs.old.mount.memory fs.old.mount names) }
     ensures closed { IsClosed fs.old → TellsClosed fs.new result }
 {
     match fs.take(alloc) {
@@ -127,7 +128,8 @@ pub extern "C" fn nova_link(
     ensures runs { IsRunning fs.old → IsRunning fs.new × (result ≢ 15) }
     ensures keeps { IsOpen fs.old → IsOpen fs.new × KeepsMount fs.old.mount fs.new.mount }
     ensures any_stop { IsRunning fs.old → fs.old.mount.read_only ≡ false → (names others : List (List ℕ)) → IsPath path.now names → IsPath other.now others
-        → LeavesOnly fs.new.mount.memory (as_it_reads fs.new.mount.memory) (LeavesCall (makes_link time (Option.Some others)) (logs_link cpu time (Option.Some others)) fs.old.mount.memory fs.old.mount names) }
+        → LeavesOnly fs.new.mount.memory (as_it_reads fs.new.mount.memory) (LeavesCall (makes_link time (Option.Some others))
+        (logs_link cpu time (Option.Some others)) fs.old.mount.memory fs.old.mount names) }
     ensures closed { IsClosed fs.old → TellsClosed fs.new result }
 {
     match fs.take(alloc) {
@@ -245,7 +247,8 @@ pub extern "C" fn nova_rename(
     ensures runs { IsRunning fs.old → IsRunning fs.new × (result ≢ 15) }
     ensures keeps { IsOpen fs.old → IsOpen fs.new × KeepsMount fs.old.mount fs.new.mount }
     ensures any_stop { IsRunning fs.old → fs.old.mount.read_only ≡ false → (names others : List (List ℕ)) → IsPath path.now names → IsPath other.now others
-        → LeavesOnly fs.new.mount.memory (as_it_reads fs.new.mount.memory) (LeavesCall (makes_rename time (Option.Some others)) (logs_rename cpu time (Option.Some others)) fs.old.mount.memory fs.old.mount names) }
+        → LeavesOnly fs.new.mount.memory (as_it_reads fs.new.mount.memory) (LeavesCall (makes_rename time (Option.Some others))
+        (logs_rename cpu time (Option.Some others)) fs.old.mount.memory fs.old.mount names) }
     ensures closed { IsClosed fs.old → TellsClosed fs.new result }
 {
     match fs.take(alloc) {

@@ -81,9 +81,10 @@ path_app name = command name (needed_rule (codes "image") ∷ needed_rule (codes
 abbrev pub tar_app : App
 tar_app = command (codes "tar") (needed_rule (codes "image") ∷ place_rule (codes "path") ∷ flag_rule (codes "lost-found") ∷ [])
 
--- `ls`: an image's file, a directory, and whether the numbers of each inode stand before its name
+-- `ls`: an image's file, a directory, whether the numbers of each inode stand before its name, and whether all directories below are
+-- listed
 abbrev pub ls_app : App
-ls_app = command (codes "ls") (needed_rule (codes "image") ∷ place_rule (codes "path") ∷ letter_rule 108 (codes "long") ∷ [])
+ls_app = command (codes "ls") (needed_rule (codes "image") ∷ place_rule (codes "path") ∷ letter_rule 108 (codes "long") ∷ letter_rule 82 (codes "recursive") ∷ [])
 
 -- `log`: an image's file, and an inode or all
 abbrev pub log_app : App
@@ -111,7 +112,8 @@ with_commands program apps = fold (λ app sub. with_subcommand app sub.top) prog
 
 -- the commands that read an image, or write one
 abbrev pub image_apps : List App
-image_apps = mkfs_app ∷ may_path_app (codes "clean") ∷ ls_app ∷ path_app (codes "stat") ∷ path_app (codes "cat") ∷ may_path_app (codes "du") ∷ tar_app ∷ log_app ∷ block_app ∷ explain_app ∷ map_app ∷ []
+image_apps = mkfs_app ∷ may_path_app (codes "clean") ∷ ls_app ∷ path_app (codes "stat") ∷ path_app (codes "cat") ∷ may_path_app (codes
+    "du") ∷ tar_app ∷ log_app ∷ block_app ∷ explain_app ∷ map_app ∷ []
 
 -- a command that changes an image: its file, these arguments, a CPU and a time
 abbrev pub change_app : Text → List Rule → App

@@ -16,7 +16,7 @@ use Rattle.nv_args.specs.declared.todo.Todo.TheVariants.{Version, Run, Shell, Ch
 use Rattle.nv_args.specs.declared.todo.Which.{Which}
 use Rattle.nv_args.specs.declared.todo.Which.TheVariants.{Path, Number}
 use Rattle.nv_args.specs.declared.views.View.{View as ViewValue}
-use Rattle.nv_args.specs.declared.views.View.TheVariants.{Logs, Block, Usage}
+use Rattle.nv_args.specs.declared.views.View.TheVariants.{Logs, Block, Usage, Folders}
 use Rattle.nv_args.specs.UsageValue.{UsageTold}
 
 -- the written text is a decimal number below 2^64, which may have a plus sign and leading zeros
@@ -156,6 +156,7 @@ abbrev pub view_command : ViewValue → Text
 view_command (Logs image) = codes "log"
 view_command (Block image block hex) = codes "block"
 view_command (Usage image which) = codes "du"
+view_command (Folders image which long) = codes "ls"
 
 -- the name of the command that is to be done
 abbrev pub command_of : Todo → Text
@@ -195,6 +196,8 @@ HasView values (Block image block hex) = (first_of (codes "image") values ≡ So
 -- the root, where none is written
 HasView values (Usage image which) = (first_of (codes "image") values ≡ Some image.now)
     × Names (unwrap_or (first_of (codes "path") values) (codes "/")) which
+HasView values (Folders image which long) = (first_of (codes "image") values ≡ Some image.now)
+    × Names (unwrap_or (first_of (codes "path") values) (codes "/")) which × (IsTrue long ↔ IsGiven (codes "long") values) × IsGiven (codes "recursive") values
 
 -- what is to be done has the values that are written for a command's arguments
 abbrev pub HasValues : List Row → Todo → Type 0
@@ -215,6 +218,7 @@ HasValues values (Recover image dry_run) = (first_of (codes "image") values ≡ 
 -- the root, where none is written
 HasValues values (Ls image which long) = (first_of (codes "image") values ≡ Some image.now)
     × Names (unwrap_or (first_of (codes "path") values) (codes "/")) which × (IsTrue long ↔ IsGiven (codes "long") values)
+    × (¬ IsGiven (codes "recursive") values)
 HasValues values (Stat image which) = (first_of (codes "image") values ≡ Some image.now) × IsNamed (first_of (codes "path") values) which
 HasValues values (Cat image which) = (first_of (codes "image") values ≡ Some image.now) × IsNamed (first_of (codes "path") values) which
 HasValues values (Tar image which lost) = (first_of (codes "image") values ≡ Some image.now)

@@ -222,6 +222,11 @@ const COMMANDS: [CommandForm<'static>; 14] = [
                 name: "long",
                 help: "Print the attributes of each inode before its name",
             },
+            Argument {
+                written: Written::LetterFlag('R'),
+                name: "recursive",
+                help: "List each directory below it too, with its path",
+            },
         ],
     },
     CommandForm {

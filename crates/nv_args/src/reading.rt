@@ -4,14 +4,15 @@ ghost use Rattle.std.specs.Prelude.{◌≡◌, ◌≢◌, ◌⊎◌, ◌↔◌, 
 ghost use Rattle.clap.specs.Walk.{first_of, all_of, rows_of};
 ghost use Rattle.clap.specs.Simple.{subcommand_rows_of};
 ghost use Rattle.clap.specs.Matches.{found_of};
-ghost use Rattle.nv_args.specs.Words.{AreNumbers, AreWorkers, AskVersion, Asks, CommandSays, IsBetween, IsGiven, IsNumber, IsOutput, IsVersion, MayBeNumber, Names, Says, SizeOf, SpellsNumber, WordsSay, WantsMemory};
+ghost use Rattle.nv_args.specs.Words.{AreNumbers, AreWorkers, AskVersion, Asks, CommandSays, IsBetween, IsGiven, IsNumber, IsOutput, IsVersion, MayBeNumber, Names, Says, SizeOf, SpellsNumber};
+ghost use Rattle.nv_args.specs.Words.{WordsSay, WantsMemory};
 
 use crate::changing::{change_of, recover_of};
 use crate::command_line::nova;
 use crate::sizes::size_of;
 use crate::todo::{CheckOutput, Todo, Which};
 use crate::usage::{Cause, Usage};
-use crate::views::{block_of, du_of, log_of};
+use crate::views::{block_of, du_of, log_of, ls_of};
 use clap::ArgMatches;
 use std::alloc::{AllocError, Global};
 
@@ -253,16 +254,6 @@ fn clean_of<'a>(values: &ArgMatches<'a>) -> Option<Todo<'a>>
     let image = text_of(values, "image")?;
     let path = text_of(values, "path");
     Some(Todo::Clean { image, path })
-}
-
-fn ls_of<'a>(values: &ArgMatches<'a>) -> Option<Todo<'a>>
-    ensures some { IfSome result (λ todo. Asks (codes "ls") (rows_of (found_of values.now)) todo) }
-    ensures none { IsNone result → (todo : Todo) → ¬ Asks (codes "ls") (rows_of (found_of values.now)) todo }
-{
-    let image = text_of(values, "image")?;
-    let which = which_of(text_of(values, "path").unwrap_or("/"));
-    let long = is_given(values, "long");
-    Some(Todo::Ls { image, which, long })
 }
 
 fn stat_of<'a>(values: &ArgMatches<'a>) -> Option<Todo<'a>>

@@ -27,6 +27,27 @@ pub enum View<'a> {
         image: &'a str,
         which: Which<'a>,
     },
+    /// The names of a directory and of all directories that it leads to by names, with the numbers of each inode if `long` says so.
+    Folders {
+        image: &'a str,
+        which: Which<'a>,
+        long: bool,
+    },
+}
+
+/// What `ls` asks for: the names of one directory, or of all below it too.
+pub(crate) fn ls_of<'a>(values: &ArgMatches<'a>) -> Option<Todo<'a>>
+    ensures some { IfSome result (λ todo. Asks (codes "ls") (rows_of (found_of values.now)) todo) }
+    ensures none { IsNone result → (todo : Todo) → ¬ Asks (codes "ls") (rows_of (found_of values.now)) todo }
+{
+    let image = text_of(values, "image")?;
+    let which = which_of(text_of(values, "path").unwrap_or("/"));
+    let long = is_given(values, "long");
+    if is_given(values, "recursive") {
+        Some(Todo::View(View::Folders { image, which, long }))
+    } else {
+        Some(Todo::Ls { image, which, long })
+    }
 }
 
 /// What `log` asks for: the log of one inode, or of all.

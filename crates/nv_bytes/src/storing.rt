@@ -38,7 +38,8 @@ pub fn store_pages<P: Pmem>(
     requires fresh { AreFresh (P.region memory.old) index.now runs.now }
     requires pages { first + blocks_in runs.now ≤ 2 ^ 32 }
     requires small { change.now.offset + length (data_bytes change.now.content) ≤ 2 ^ 62 }
-    ensures stored { OnOk result (HoldPages (P.region memory.new) (byte_after change.now.offset (data_bytes change.now.content) change.now.size (file_byte (P.region memory.old) index.now)) first runs.now) }
+    ensures stored { OnOk result (HoldPages (P.region memory.new) (byte_after change.now.offset (data_bytes change.now.content) change.now.size (file_byte (P.region memory.old) index.now)) first
+        runs.now) }
     ensures wrote { StoresOnly (InBlocks (HasBlock runs.now)) (P.region memory.old) (P.region memory.new) (P.may_hold memory.old) (P.may_hold memory.new) }
     ensures stopped { (P.fuse memory.old).has_burnt ≡ false → is_err result ≡ (P.fuse memory.new).has_burnt }
     ensures keeps_fuse { KeepsFuse (λ limit. size (P.region memory.old) ≤ limit) (P.fuse memory.old) (P.fuse memory.new) }

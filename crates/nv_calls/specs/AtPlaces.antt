@@ -78,4 +78,5 @@ ReleasesAt R S s free cpu rows news place target name time =
 
 -- how many blocks it takes
 abbrev pub release_blocks : Row → Row → List ℕ → ℕ → ℕ
-release_blocks row file name time = needed (row.tail % 4096) (name_entries Remove file.inode name time) + (if nat_lt 1 file.numbers.links then needed (file.tail % 4096) (links_entries (file.numbers.links - 1) time) else 0)
+release_blocks row file name time = needed (row.tail % 4096) (name_entries Remove file.inode name time)
+    + (if nat_lt 1 file.numbers.links then needed (file.tail % 4096) (links_entries (file.numbers.links - 1) time) else 0)

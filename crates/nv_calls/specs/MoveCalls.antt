@@ -29,7 +29,8 @@ end_together (Err r) (Err o) = false
 abbrev pub rename_blocks : List Row → Tree → Path → Path → ℕ
 rename_blocks rows t None q = 0
 rename_blocks rows t (Some names) None = 0
-rename_blocks rows t (Some names) (Some others) = if end_together (walk t 1 names) (walk t 1 others) then row_blocks (ended_row rows (walk t 1 names)) (move_entries 0 (last_name names) (last_name others) 0) else name_blocks rows t (Some names) + name_blocks rows t (Some others)
+rename_blocks rows t (Some names) (Some others) = if end_together (walk t 1 names) (walk t 1 others)
+    then row_blocks (ended_row rows (walk t 1 names)) (move_entries 0 (last_name names) (last_name others) 0) else name_blocks rows t (Some names) + name_blocks rows t (Some others)
 
 -- ---- rows
 
@@ -39,7 +40,8 @@ pub record MovesAcross (R S : Region) (s : Super) (free after : FreeLists) (cpu 
   pub to : Row
   pub moved : Row
   pub moved_at : slice_get rows target ≡ Some moved
-  pub step : GrowsTwo R S s free after cpu rows news place from (name_entries Remove moved.inode name time) end to (name_entries Add moved.inode other time) (λ fresh now. LosesName from name moved.inode time fresh now) (λ more now. GetsName to other moved.inode time more now)
+  pub step : GrowsTwo R S s free after cpu rows news place from (name_entries Remove moved.inode name time) end to (name_entries Add moved.inode other time) (λ fresh now. LosesName from name
+      moved.inode time fresh now) (λ more now. GetsName to other moved.inode time more now)
 
 -- The inode got another name in place of the old one, in the directory whose row is at this place.
 pub record MovesHere (R S : Region) (s : Super) (free after : FreeLists) (cpu : ℕ) (rows news : List Row) (place target : ℕ) (name other : List ℕ) (time : ℕ) : Type 0 where
@@ -58,4 +60,5 @@ MovesAt R S s free after cpu rows news place target end name other time = ((plac
 
 -- how many blocks are needed by a directory's row, and another's, for an inode's other name
 abbrev pub move_blocks : ℕ → ℕ → Row → Row → ℕ → List ℕ → List ℕ → ℕ → ℕ
-move_blocks place end from to i name other time = if nat_eq place end then needed (from.tail % 4096) (move_entries i name other time) else needed (from.tail % 4096) (name_entries Remove i name time) + needed (to.tail % 4096) (name_entries Add i other time)
+move_blocks place end from to i name other time = if nat_eq place end then needed (from.tail % 4096) (move_entries i name other time) else needed (from.tail % 4096) (name_entries Remove i name time)
+    + needed (to.tail % 4096) (name_entries Add i other time)

@@ -39,8 +39,10 @@ ReplacesHere R S s free after cpu rows news place target i name other time = (Al
 
 -- how many blocks it takes
 abbrev pub replace_here_blocks : Row → Row → ℕ → List ℕ → List ℕ → ℕ → ℕ
-replace_here_blocks row there i name other time = needed (row.tail % 4096) (take_entries i there.inode name other time) + (if keeps_others there then needed (there.tail % 4096) (links_entries (there.numbers.links - 1) time) else 0)
+replace_here_blocks row there i name other time = needed (row.tail % 4096) (take_entries i there.inode name other time)
+    + (if keeps_others there then needed (there.tail % 4096) (links_entries (there.numbers.links - 1) time) else 0)
 
 -- what a stop leaves of it
 abbrev pub ReplacedHere : Region → Super → FreeLists → ℕ → Row → Row → ℕ → List ℕ → List ℕ → ℕ → Region → Type 0
-ReplacedHere R s free cpu row there i name other time S = ((keeps_others there ≡ true) × Lessened R s free cpu row there i name other time S) ⊎ ((keeps_others there ≡ false) × TookWithin R s free cpu row i there.inode name other time S)
+ReplacedHere R s free cpu row there i name other time S = ((keeps_others there ≡ true) × Lessened R s free cpu row there i name other time S)
+    ⊎ ((keeps_others there ≡ false) × TookWithin R s free cpu row i there.inode name other time S)

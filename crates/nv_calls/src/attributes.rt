@@ -81,7 +81,8 @@ impl<P: Pmem + Drop> Fs<P> {
             → ShowsSound (P.region self.old.memory) self.old.sup held → StoresIn self.old.sup held (one_log self.old.sup i) (P.region self.old.memory) (P.region self.new.memory) }
         // Whatever a stop leaves, at any exit: recovery finds what was mounted, or what the call makes, without faults.
         ensures any_stop { (names : List (List ℕ)) → IsPath path.now names → self.old.stopped ≡ false → self.old.read_only ≡ false
-            → LeavesOnly (P.region self.new.memory) (P.may_hold self.new.memory) (LeavesCall (makes_attributes mode owner group time) (logs_attributes cpu mode owner group time) (P.region self.old.memory) self.old names) }
+            → LeavesOnly (P.region self.new.memory) (P.may_hold self.new.memory) (LeavesCall (makes_attributes mode owner group time) (logs_attributes cpu mode owner group time)
+            (P.region self.old.memory) self.old names) }
     {
         self.writable(cpu.0)?;
         let inode = row_at(&self.rows, path)?.inode;

@@ -112,7 +112,8 @@ impl<P: Pmem + Drop> Fs<P> {
             → StoresIn self.old.sup held (one_page_less self.old.sup inode h.pages o) (P.region self.old.memory) (P.region self.new.memory) }
         // Whatever a stop leaves, at any exit: recovery finds what was mounted, or it without the page, without faults.
         ensures any_stop { self.old.stopped ≡ false → self.old.read_only ≡ false
-            → LeavesOnly (P.region self.new.memory) (P.may_hold self.new.memory) (StopLeaves (P.region self.old.memory) self.old.sup self.old.rows self.old.free.pools (shown P.region self.old) (LosesPage (P.region self.old.memory) self.old.sup inode)) }
+            → LeavesOnly (P.region self.new.memory) (P.may_hold self.new.memory) (StopLeaves (P.region self.old.memory) self.old.sup self.old.rows self.old.free.pools (shown P.region self.old)
+            (LosesPage (P.region self.old.memory) self.old.sup inode)) }
     {
         self.clean_page(inode, None)
     }
@@ -152,7 +153,8 @@ impl<P: Pmem + Drop> Fs<P> {
             → StoresIn self.old.sup held (one_page_less self.old.sup inode h.pages o) (P.region self.old.memory) (P.region self.new.memory) }
         // Whatever a stop leaves, at any exit: recovery finds what was mounted, or it without the page, without faults.
         ensures any_stop { self.old.stopped ≡ false → self.old.read_only ≡ false
-            → LeavesOnly (P.region self.new.memory) (P.may_hold self.new.memory) (StopLeaves (P.region self.old.memory) self.old.sup self.old.rows self.old.free.pools (shown P.region self.old) (LosesPage (P.region self.old.memory) self.old.sup inode)) }
+            → LeavesOnly (P.region self.new.memory) (P.may_hold self.new.memory) (StopLeaves (P.region self.old.memory) self.old.sup self.old.rows self.old.free.pools (shown P.region self.old)
+            (LosesPage (P.region self.old.memory) self.old.sup inode)) }
     {
         self.cleanable()?;
         self.in_use(inode)?;

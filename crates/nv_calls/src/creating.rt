@@ -73,7 +73,8 @@ fn create_at<P: Pmem>(
     requires stands { (row : RowValue) → row_of rows.old.items directory ≡ Option.Some row → StandsRight (P.region memory.old) sup.now free.old row }
     requires can { (row : RowValue) → row_of rows.old.items directory ≡ Option.Some row → CanName (P.region memory.old) sup.now cpu new.now.inode row }
     requires name { IsName new.now.name.now }
-    ensures created { OnOk result (CreatesAt (P.region memory.old) (P.region memory.new) sup.now free.old free.new cpu rows.old.items rows.new.items (place_in rows.old.items directory) new.now.kind new.now.mode new.now.time new.now.inode new.now.name.now) }
+    ensures created { OnOk result (CreatesAt (P.region memory.old) (P.region memory.new) sup.now free.old free.new cpu rows.old.items rows.new.items
+        (place_in rows.old.items directory) new.now.kind new.now.mode new.now.time new.now.inode new.now.name.now) }
     ensures enough { (row : RowValue) → row_of rows.old.items directory ≡ Option.Some row
         → OnOk result (1 + needed (row.tail % 4096) (name_entries OperationValue.Add new.now.inode new.now.name.now new.now.time) ≤ all_blocks free.old.pools) }
     ensures settled { OnOk result (NothingPending (P.region memory.new) (P.may_hold memory.new)) }
@@ -96,7 +97,8 @@ fn create_at<P: Pmem>(
     // Whatever a stop leaves: recovery finds what is held, or it with the new inode and its name, without faults.
     ensures any_stop { (row : RowValue) (held : Store) (h : Held) → row_of rows.old.items directory ≡ Option.Some row → ShowsRow (P.region memory.old) sup.now held h row free.old
         → held new.now.inode ≡ Option.None → name_at row.names new.now.name.now ≡ Option.None → NothingPending (P.region memory.old) (P.may_hold memory.old)
-        → LeavesOnly (P.region memory.new) (P.may_hold memory.new) (LeavesEither (P.region memory.old) (fixed_layout sup.now) held (Named (P.region memory.old) sup.now free.old cpu row new.now.kind new.now.mode new.now.time new.now.inode new.now.name.now)) }
+        → LeavesOnly (P.region memory.new) (P.may_hold memory.new) (LeavesEither (P.region memory.old) (fixed_layout sup.now) held
+        (Named (P.region memory.old) sup.now free.old cpu row new.now.kind new.now.mode new.now.time new.now.inode new.now.name.now)) }
 {
     let entries = [name_entry(Operation::Add, new.inode, new.name, new.time)];
     if free.free_blocks() < 1 + pages_needed(rows.row(directory).tail, &entries) {
@@ -163,7 +165,8 @@ impl<P: Pmem + Drop> Fs<P> {
             → ShowsValidFirst (P.region self.old.memory) (P.region self.new.memory) self.old.sup j d }
         // Whatever a stop leaves, at any exit: recovery finds what was mounted, or what the call makes, without faults.
         ensures any_stop { (names : List (List ℕ)) → IsPath path.now names → self.old.stopped ≡ false → self.old.read_only ≡ false
-            → LeavesOnly (P.region self.new.memory) (P.may_hold self.new.memory) (LeavesCall (makes_inode File cpu mode time) (logs_inode File cpu mode time) (P.region self.old.memory) self.old names) }
+            → LeavesOnly (P.region self.new.memory) (P.may_hold self.new.memory) (LeavesCall (makes_inode File cpu mode time) (logs_inode File cpu mode time)
+            (P.region self.old.memory) self.old names) }
     {
         self.make(cpu, path, Kind::File, mode, time)
     }
@@ -205,7 +208,8 @@ impl<P: Pmem + Drop> Fs<P> {
             → ShowsValidFirst (P.region self.old.memory) (P.region self.new.memory) self.old.sup j d }
         // Whatever a stop leaves, at any exit: recovery finds what was mounted, or what the call makes, without faults.
         ensures any_stop { (names : List (List ℕ)) → IsPath path.now names → self.old.stopped ≡ false → self.old.read_only ≡ false
-            → LeavesOnly (P.region self.new.memory) (P.may_hold self.new.memory) (LeavesCall (makes_inode Directory cpu mode time) (logs_inode Directory cpu mode time) (P.region self.old.memory) self.old names) }
+            → LeavesOnly (P.region self.new.memory) (P.may_hold self.new.memory) (LeavesCall (makes_inode Directory cpu mode time) (logs_inode Directory cpu mode time)
+            (P.region self.old.memory) self.old names) }
     {
         self.make(cpu, path, Kind::Directory, mode, time)
     }
@@ -254,7 +258,8 @@ impl<P: Pmem + Drop> Fs<P> {
             → ShowsValidFirst (P.region self.old.memory) (P.region self.new.memory) self.old.sup j d }
         // Whatever a stop leaves, at any exit: recovery finds what was mounted, or what the call makes, without faults.
         ensures any_stop { (names : List (List ℕ)) → IsPath path.now names → self.old.stopped ≡ false → self.old.read_only ≡ false
-            → LeavesOnly (P.region self.new.memory) (P.may_hold self.new.memory) (LeavesCall (makes_inode kind cpu mode time) (logs_inode kind cpu mode time) (P.region self.old.memory) self.old names) }
+            → LeavesOnly (P.region self.new.memory) (P.may_hold self.new.memory) (LeavesCall (makes_inode kind cpu mode time) (logs_inode kind cpu mode time)
+            (P.region self.old.memory) self.old names) }
     {
         self.writable(cpu.0)?;
         let spot = spot_for(&self.rows, cpu.0, path)?;

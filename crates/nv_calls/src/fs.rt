@@ -54,7 +54,8 @@ impl<P: Pmem + Drop> Model for Fs<P> {
 
     ghost view = { λ a. record { memory = a.memory; sup = a.sup; rows = a.rows.items; free = a.free; faults = a.faults.items; read_only = a.read_only; stopped = a.stopped } };
 
-    ghost invariant = { λ a. IsKept (P.region a.memory) a.sup a.rows.items a.free a.faults.items a.read_only a.stopped × (a.rows.sup ≡ a.sup) × (a.stopped ≡ false → NothingPending (P.region a.memory) (P.may_hold a.memory)) };
+    ghost invariant = { λ a. IsKept (P.region a.memory) a.sup a.rows.items a.free a.faults.items a.read_only a.stopped × (a.rows.sup ≡ a.sup)
+        × (a.stopped ≡ false → NothingPending (P.region a.memory) (P.may_hold a.memory)) };
 }
 
 impl<P: Pmem + Drop> Fs<P> {

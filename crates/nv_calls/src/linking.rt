@@ -73,12 +73,15 @@ fn link_at<P: Pmem>(
     requires directory_stands { (directory : RowValue) → row_of rows.old.items named.now.directory ≡ Option.Some directory
         → StandsRight (P.region memory.old) sup.now free.old directory × CanName (P.region memory.old) sup.now cpu directory.inode directory }
     requires name { IsName named.now.name.now }
-    ensures linked { OnOk result (LinksAt (P.region memory.old) (P.region memory.new) sup.now free.old free.new cpu rows.old.items rows.new.items (place_in rows.old.items named.now.target) (place_in rows.old.items named.now.directory) named.now.name.now time) }
+    ensures linked { OnOk result (LinksAt (P.region memory.old) (P.region memory.new) sup.now free.old free.new cpu rows.old.items rows.new.items (place_in rows.old.items named.now.target)
+        (place_in rows.old.items named.now.directory) named.now.name.now time) }
     ensures enough { (row directory : RowValue) → row_of rows.old.items named.now.target ≡ Option.Some row → row_of rows.old.items named.now.directory ≡ Option.Some directory
-        → OnOk result (needed (row.tail % 4096) (links_entries (row.numbers.links + 1) time) + needed (directory.tail % 4096) (name_entries Add row.inode named.now.name.now time) ≤ all_blocks free.old.pools) }
+        → OnOk result (needed (row.tail % 4096) (links_entries (row.numbers.links + 1) time)
+        + needed (directory.tail % 4096) (name_entries Add row.inode named.now.name.now time) ≤ all_blocks free.old.pools) }
     ensures settled { OnOk result (NothingPending (P.region memory.new) (P.may_hold memory.new)) }
     ensures refused { (row directory : RowValue) → row_of rows.old.items named.now.target ≡ Option.Some row → row_of rows.old.items named.now.directory ≡ Option.Some directory
-        → IfErr result (λ e. RefusesStep e (needed (row.tail % 4096) (links_entries (row.numbers.links + 1) time) + needed (directory.tail % 4096) (name_entries Add row.inode named.now.name.now time)) free.old) }
+        → IfErr result (λ e. RefusesStep e (needed (row.tail % 4096) (links_entries (row.numbers.links + 1) time) + needed (directory.tail % 4096) (name_entries Add row.inode named.now.name.now time))
+        free.old) }
     ensures unchanged { IfErr result (λ e. (e ≡ RefusalValue.Stopped → ⊥) → LeavesRows memory.old memory.new free.old free.new rows.old.items rows.new.items) }
     ensures stopped { IfErr result (λ e. e ≡ RefusalValue.Stopped → IsTrue (P.fuse memory.new).has_burnt) }
     ensures limit { rows.new.sup ≡ rows.old.sup }
@@ -100,7 +103,8 @@ fn link_at<P: Pmem>(
         → row_of rows.old.items named.now.directory ≡ Option.Some directory → ShowsRow (P.region memory.old) sup.now held f file free.old
         → ShowsRow (P.region memory.old) sup.now held h directory free.old
         → name_at directory.names named.now.name.now ≡ Option.None → NothingPending (P.region memory.old) (P.may_hold memory.old)
-        → LeavesOnly (P.region memory.new) (P.may_hold memory.new) (LeavesEither (P.region memory.old) (fixed_layout sup.now) held (Linked (P.region memory.old) sup.now free.old cpu file directory named.now.name.now time)) }
+        → LeavesOnly (P.region memory.new) (P.may_hold memory.new) (LeavesEither (P.region memory.old) (fixed_layout sup.now) held
+        (Linked (P.region memory.old) sup.now free.old cpu file directory named.now.name.now time)) }
 {
     let mut file = rows.lend(alloc, named.target);
     let mut directory = rows.lend(alloc, named.directory);
@@ -149,7 +153,8 @@ impl<P: Pmem + Drop> Fs<P> {
         ensures log { (names others : List (List ℕ)) (i d : ℕ) (node : Node) (held : Store) (f h : Held) → IsPath old.now names → IsPath new.now others
             → LeadsTo (shown P.region self.old) names i node → walk (shown P.region self.old) 1 others ≡ Result.Ok d
             → ShowsSound (P.region self.old.memory) self.old.sup held → held i ≡ Option.Some f → held d ≡ Option.Some h
-            → OnOk result (ShowsBothGrew (P.region self.new.memory) self.old.sup self.old.free.pools cpu held i f (links_entries (node.links + 1) time) d h (name_entries Add i (last_name others) time)) }
+            → OnOk result (ShowsBothGrew (P.region self.new.memory) self.old.sup self.old.free.pools cpu held i f (links_entries (node.links + 1) time) d h
+            (name_entries Add i (last_name others) time)) }
         ensures unchanged { IfErr result (λ e. (e ≡ RefusalValue.Stopped → ⊥) → SameMount self.old self.new) }
         ensures stopped { self.old.stopped ≡ false → (IsTrue self.new.stopped → (result ≡ Result.Err RefusalValue.Stopped) × IsTrue (P.fuse self.new.memory).has_burnt)
             × (result ≡ Result.Err RefusalValue.Stopped → IsTrue self.new.stopped) }
@@ -175,7 +180,8 @@ impl<P: Pmem + Drop> Fs<P> {
             → ShowsTailFirst (P.region self.old.memory) (P.region self.new.memory) self.old.sup self.old.free.pools cpu i f (links_entries (node.links + 1) time) (tail_address self.old.sup d) }
         // Whatever a stop leaves, at any exit: recovery finds what was mounted, or what the call makes, without faults.
         ensures any_stop { (names others : List (List ℕ)) → IsPath old.now names → IsPath new.now others → self.old.stopped ≡ false → self.old.read_only ≡ false
-            → LeavesOnly (P.region self.new.memory) (P.may_hold self.new.memory) (LeavesCall (makes_link time (Option.Some others)) (logs_link cpu time (Option.Some others)) (P.region self.old.memory) self.old names) }
+            → LeavesOnly (P.region self.new.memory) (P.may_hold self.new.memory) (LeavesCall (makes_link time (Option.Some others)) (logs_link cpu time (Option.Some others))
+            (P.region self.old.memory) self.old names) }
     {
         self.writable(cpu.0)?;
         let named = link_for(&self.rows, old, new)?;

@@ -57,7 +57,8 @@ pub(crate) fn remove_named<P: Pmem>(
         → CanName (P.region memory.old) sup.now cpu gone.inode row × (row.inode ≢ gone.inode) }
     requires owns { (gone : RowValue) → row_of rows.old.items named.now.target ≡ Option.Some gone → OwnsBlocks free.old gone }
     requires name { IsName named.now.name.now }
-    ensures removed { OnOk result (RemovesAt (P.region memory.old) (P.region memory.new) sup.now free.old free.new cpu rows.old.items rows.new.items (place_in rows.old.items named.now.directory) (place_in rows.old.items named.now.target) named.now.name.now time) }
+    ensures removed { OnOk result (RemovesAt (P.region memory.old) (P.region memory.new) sup.now free.old free.new cpu rows.old.items rows.new.items (place_in rows.old.items named.now.directory)
+        (place_in rows.old.items named.now.target) named.now.name.now time) }
     ensures enough { (row gone : RowValue) → row_of rows.old.items named.now.directory ≡ Option.Some row → row_of rows.old.items named.now.target ≡ Option.Some gone
         → OnOk result (needed (row.tail % 4096) (name_entries OperationValue.Remove gone.inode named.now.name.now time) ≤ all_blocks free.old.pools) }
     ensures settled { OnOk result (NothingPending (P.region memory.new) (P.may_hold memory.new)) }
@@ -76,11 +77,13 @@ pub(crate) fn remove_named<P: Pmem>(
     // The directory's tail is stored first.
     ensures in_order { (row gone : RowValue) (held : Store) (h : Held) → row_of rows.old.items named.now.directory ≡ Option.Some row
         → row_of rows.old.items named.now.target ≡ Option.Some gone → ShowsRow (P.region memory.old) sup.now held h row free.old
-        → TailIsFirst (P.region memory.old) (P.region memory.new) sup.now free.old.pools cpu row.inode row.tail (name_entries OperationValue.Remove gone.inode named.now.name.now time) (slot_address sup.now gone.inode) }
+        → TailIsFirst (P.region memory.old) (P.region memory.new) sup.now free.old.pools cpu row.inode row.tail (name_entries OperationValue.Remove gone.inode named.now.name.now time) (slot_address
+        sup.now gone.inode) }
     // Whatever a stop leaves: recovery finds what is held, or it without the name and the inode, without faults.
     ensures any_stop { (row gone : RowValue) (held : Store) (h : Held) → row_of rows.old.items named.now.directory ≡ Option.Some row
         → row_of rows.old.items named.now.target ≡ Option.Some gone → ShowsRow (P.region memory.old) sup.now held h row free.old → NothingPending (P.region memory.old) (P.may_hold memory.old)
-        → LeavesOnly (P.region memory.new) (P.may_hold memory.new) (LeavesEither (P.region memory.old) (fixed_layout sup.now) held (Cut (P.region memory.old) sup.now free.old cpu row gone.inode time named.now.name.now)) }
+        → LeavesOnly (P.region memory.new) (P.may_hold memory.new) (LeavesEither (P.region memory.old) (fixed_layout sup.now) held
+        (Cut (P.region memory.old) sup.now free.old cpu row gone.inode time named.now.name.now)) }
 {
     let gone = Gone {
         inode: named.target,

@@ -76,14 +76,17 @@ fn move_across<P: Pmem>(
         → StandsRight (P.region memory.old) sup.now free.old row × CanName (P.region memory.old) sup.now cpu row.inode row }
     requires name { IsName moved.now.from.name.now }
     requires other { IsName moved.now.name.now }
-    ensures moved { OnOk result (MovesAcross (P.region memory.old) (P.region memory.new) sup.now free.old free.new cpu rows.old.items rows.new.items (place_in rows.old.items moved.now.from.directory) (place_in rows.old.items moved.now.from.target) (place_in rows.old.items moved.now.directory) moved.now.from.name.now moved.now.name.now time) }
+    ensures moved { OnOk result (MovesAcross (P.region memory.old) (P.region memory.new) sup.now free.old free.new cpu rows.old.items rows.new.items (place_in rows.old.items moved.now.from.directory)
+        (place_in rows.old.items moved.now.from.target) (place_in rows.old.items moved.now.directory) moved.now.from.name.now moved.now.name.now time) }
     ensures enough { (from to inode : RowValue) → row_of rows.old.items moved.now.from.directory ≡ Option.Some from → row_of rows.old.items moved.now.directory ≡ Option.Some to
         → row_of rows.old.items moved.now.from.target ≡ Option.Some inode
-        → OnOk result (needed (from.tail % 4096) (name_entries Remove inode.inode moved.now.from.name.now time) + needed (to.tail % 4096) (name_entries Add inode.inode moved.now.name.now time) ≤ all_blocks free.old.pools) }
+        → OnOk result (needed (from.tail % 4096) (name_entries Remove inode.inode moved.now.from.name.now time)
+        + needed (to.tail % 4096) (name_entries Add inode.inode moved.now.name.now time) ≤ all_blocks free.old.pools) }
     ensures settled { OnOk result (NothingPending (P.region memory.new) (P.may_hold memory.new)) }
     ensures refused { (from to inode : RowValue) → row_of rows.old.items moved.now.from.directory ≡ Option.Some from → row_of rows.old.items moved.now.directory ≡ Option.Some to
         → row_of rows.old.items moved.now.from.target ≡ Option.Some inode
-        → IfErr result (λ e. RefusesStep e (needed (from.tail % 4096) (name_entries Remove inode.inode moved.now.from.name.now time) + needed (to.tail % 4096) (name_entries Add inode.inode moved.now.name.now time)) free.old) }
+        → IfErr result (λ e. RefusesStep e (needed (from.tail % 4096) (name_entries Remove inode.inode moved.now.from.name.now time)
+        + needed (to.tail % 4096) (name_entries Add inode.inode moved.now.name.now time)) free.old) }
     ensures unchanged { IfErr result (λ e. (e ≡ RefusalValue.Stopped → ⊥) → LeavesRows memory.old memory.new free.old free.new rows.old.items rows.new.items) }
     ensures stopped { IfErr result (λ e. e ≡ RefusalValue.Stopped → IsTrue (P.fuse memory.new).has_burnt) }
     ensures limit { rows.new.sup ≡ rows.old.sup }
@@ -99,13 +102,15 @@ fn move_across<P: Pmem>(
     ensures in_order { (from to inode : RowValue) (held : Store) (h k : Held) → row_of rows.old.items moved.now.from.directory ≡ Option.Some from
         → row_of rows.old.items moved.now.directory ≡ Option.Some to → row_of rows.old.items moved.now.from.target ≡ Option.Some inode
         → ShowsRow (P.region memory.old) sup.now held h from free.old → ShowsRow (P.region memory.old) sup.now held k to free.old
-        → TailIsFirst (P.region memory.old) (P.region memory.new) sup.now free.old.pools cpu from.inode from.tail (name_entries Remove inode.inode moved.now.from.name.now time) (tail_address sup.now to.inode) }
+        → TailIsFirst (P.region memory.old) (P.region memory.new) sup.now free.old.pools cpu from.inode from.tail (name_entries Remove inode.inode moved.now.from.name.now time) (tail_address sup.now
+        to.inode) }
     // Whatever a stop leaves: recovery finds what is held, or it with the other name, without faults.
     ensures any_stop { (from to inode : RowValue) (held : Store) (h k : Held) → row_of rows.old.items moved.now.from.directory ≡ Option.Some from
         → row_of rows.old.items moved.now.directory ≡ Option.Some to → row_of rows.old.items moved.now.from.target ≡ Option.Some inode
         → ShowsRow (P.region memory.old) sup.now held h from free.old → ShowsRow (P.region memory.old) sup.now held k to free.old → name_at to.names moved.now.name.now ≡ Option.None
         → NothingPending (P.region memory.old) (P.may_hold memory.old)
-        → LeavesOnly (P.region memory.new) (P.may_hold memory.new) (LeavesEither (P.region memory.old) (fixed_layout sup.now) held (MovedOver (P.region memory.old) sup.now free.old cpu from to inode.inode moved.now.from.name.now moved.now.name.now time)) }
+        → LeavesOnly (P.region memory.new) (P.may_hold memory.new) (LeavesEither (P.region memory.old) (fixed_layout sup.now) held
+        (MovedOver (P.region memory.old) sup.now free.old cpu from to inode.inode moved.now.from.name.now moved.now.name.now time)) }
 {
     let mut from = rows.lend(alloc, moved.from.directory);
     let mut to = rows.lend(alloc, moved.directory);
@@ -155,14 +160,17 @@ fn move_at<P: Pmem>(
         → StandsRight (P.region memory.old) sup.now free.old row × CanName (P.region memory.old) sup.now cpu row.inode row }
     requires name { IsName moved.now.from.name.now }
     requires other { IsName moved.now.name.now }
-    ensures moved { OnOk result (MovesAt (P.region memory.old) (P.region memory.new) sup.now free.old free.new cpu rows.old.items rows.new.items (place_in rows.old.items moved.now.from.directory) (place_in rows.old.items moved.now.from.target) (place_in rows.old.items moved.now.directory) moved.now.from.name.now moved.now.name.now time) }
+    ensures moved { OnOk result (MovesAt (P.region memory.old) (P.region memory.new) sup.now free.old free.new cpu rows.old.items rows.new.items (place_in rows.old.items moved.now.from.directory)
+        (place_in rows.old.items moved.now.from.target) (place_in rows.old.items moved.now.directory) moved.now.from.name.now moved.now.name.now time) }
     ensures enough { (from to inode : RowValue) → row_of rows.old.items moved.now.from.directory ≡ Option.Some from → row_of rows.old.items moved.now.directory ≡ Option.Some to
         → row_of rows.old.items moved.now.from.target ≡ Option.Some inode
-        → OnOk result (move_blocks (place_in rows.old.items moved.now.from.directory) (place_in rows.old.items moved.now.directory) from to inode.inode moved.now.from.name.now moved.now.name.now time ≤ all_blocks free.old.pools) }
+        → OnOk result (move_blocks (place_in rows.old.items moved.now.from.directory) (place_in rows.old.items moved.now.directory) from to inode.inode moved.now.from.name.now moved.now.name.now
+        time ≤ all_blocks free.old.pools) }
     ensures settled { OnOk result (NothingPending (P.region memory.new) (P.may_hold memory.new)) }
     ensures refused { (from to inode : RowValue) → row_of rows.old.items moved.now.from.directory ≡ Option.Some from → row_of rows.old.items moved.now.directory ≡ Option.Some to
         → row_of rows.old.items moved.now.from.target ≡ Option.Some inode
-        → IfErr result (λ e. RefusesStep e (move_blocks (place_in rows.old.items moved.now.from.directory) (place_in rows.old.items moved.now.directory) from to inode.inode moved.now.from.name.now moved.now.name.now time) free.old) }
+        → IfErr result (λ e. RefusesStep e (move_blocks (place_in rows.old.items moved.now.from.directory)
+        (place_in rows.old.items moved.now.directory) from to inode.inode moved.now.from.name.now moved.now.name.now time) free.old) }
     ensures unchanged { IfErr result (λ e. (e ≡ RefusalValue.Stopped → ⊥) → LeavesRows memory.old memory.new free.old free.new rows.old.items rows.new.items) }
     ensures stopped { IfErr result (λ e. e ≡ RefusalValue.Stopped → IsTrue (P.fuse memory.new).has_burnt) }
     ensures limit { rows.new.sup ≡ rows.old.sup }
@@ -184,13 +192,16 @@ fn move_at<P: Pmem>(
         → row_of rows.old.items moved.now.directory ≡ Option.Some to → row_of rows.old.items moved.now.from.target ≡ Option.Some inode
         → ShowsRow (P.region memory.old) sup.now held h from free.old → ShowsRow (P.region memory.old) sup.now held k to free.old
         → place_in rows.old.items moved.now.from.directory ≢ place_in rows.old.items moved.now.directory
-        → TailIsFirst (P.region memory.old) (P.region memory.new) sup.now free.old.pools cpu from.inode from.tail (name_entries Remove inode.inode moved.now.from.name.now time) (tail_address sup.now to.inode) }
+        → TailIsFirst (P.region memory.old) (P.region memory.new) sup.now free.old.pools cpu from.inode from.tail (name_entries Remove inode.inode moved.now.from.name.now time) (tail_address sup.now
+        to.inode) }
     // Whatever a stop leaves: recovery finds what is held, or it with the other name, without faults.
     ensures any_stop { (from to inode : RowValue) (held : Store) (h k : Held) → row_of rows.old.items moved.now.from.directory ≡ Option.Some from
         → row_of rows.old.items moved.now.directory ≡ Option.Some to → row_of rows.old.items moved.now.from.target ≡ Option.Some inode
         → ShowsRow (P.region memory.old) sup.now held h from free.old → ShowsRow (P.region memory.old) sup.now held k to free.old → name_at to.names moved.now.name.now ≡ Option.None
         → NothingPending (P.region memory.old) (P.may_hold memory.old)
-        → LeavesOnly (P.region memory.new) (P.may_hold memory.new) (LeavesEither (P.region memory.old) (fixed_layout sup.now) held (Renamed (P.region memory.old) sup.now free.old cpu (place_in rows.old.items moved.now.from.directory) (place_in rows.old.items moved.now.directory) from to inode.inode moved.now.from.name.now moved.now.name.now time)) }
+        → LeavesOnly (P.region memory.new) (P.may_hold memory.new) (LeavesEither (P.region memory.old) (fixed_layout sup.now) held
+        (Renamed (P.region memory.old) sup.now free.old cpu (place_in rows.old.items moved.now.from.directory)
+        (place_in rows.old.items moved.now.directory) from to inode.inode moved.now.from.name.now moved.now.name.now time)) }
 {
     if moved.from.directory != moved.directory {
         return move_across(alloc, memory, sup, free, cpu, rows, moved, time);
@@ -230,7 +241,8 @@ impl<P: Pmem + Drop> Fs<P> {
         ensures log { (names others : List (List ℕ)) (i d e : ℕ) (node : Node) (held : Store) (h k : Held) → IsPath old.now names → IsPath new.now others
             → LeadsTo (shown P.region self.old) names i node → walk (shown P.region self.old) 1 names ≡ Result.Ok d → walk (shown P.region self.old) 1 others ≡ Result.Ok e → d ≢ e
             → ShowsSound (P.region self.old.memory) self.old.sup held → held d ≡ Option.Some h → held e ≡ Option.Some k
-            → OnOk result (ShowsBothGrew (P.region self.new.memory) self.old.sup self.old.free.pools cpu held d h (name_entries Remove i (last_name names) time) e k (name_entries Add i (last_name others) time)) }
+            → OnOk result (ShowsBothGrew (P.region self.new.memory) self.old.sup self.old.free.pools cpu held d h (name_entries Remove i (last_name names) time) e k
+            (name_entries Add i (last_name others) time)) }
         // The log of the only directory has both entries. In both cases no other log has changed.
         ensures within { (names others : List (List ℕ)) (i d : ℕ) (node : Node) (held : Store) (h : Held) → IsPath old.now names → IsPath new.now others
             → LeadsTo (shown P.region self.old) names i node → walk (shown P.region self.old) 1 names ≡ Result.Ok d → walk (shown P.region self.old) 1 others ≡ Result.Ok d
@@ -262,10 +274,12 @@ impl<P: Pmem + Drop> Fs<P> {
         ensures in_order { (names others : List (List ℕ)) (i d e : ℕ) (node : Node) (held : Store) (h : Held) → IsPath old.now names → IsPath new.now others
             → LeadsTo (shown P.region self.old) names i node → walk (shown P.region self.old) 1 names ≡ Result.Ok d → walk (shown P.region self.old) 1 others ≡ Result.Ok e → d ≢ e
             → ShowsSound (P.region self.old.memory) self.old.sup held → held d ≡ Option.Some h
-            → ShowsTailFirst (P.region self.old.memory) (P.region self.new.memory) self.old.sup self.old.free.pools cpu d h (name_entries Remove i (last_name names) time) (tail_address self.old.sup e) }
+            → ShowsTailFirst (P.region self.old.memory) (P.region self.new.memory) self.old.sup self.old.free.pools cpu d h (name_entries Remove i
+            (last_name names) time) (tail_address self.old.sup e) }
         // Whatever a stop leaves, at any exit: recovery finds what was mounted, or what the call makes, without faults.
         ensures any_stop { (names others : List (List ℕ)) → IsPath old.now names → IsPath new.now others → self.old.stopped ≡ false → self.old.read_only ≡ false
-            → LeavesOnly (P.region self.new.memory) (P.may_hold self.new.memory) (LeavesCall (makes_rename time (Option.Some others)) (logs_rename cpu time (Option.Some others)) (P.region self.old.memory) self.old names) }
+            → LeavesOnly (P.region self.new.memory) (P.may_hold self.new.memory) (LeavesCall (makes_rename time (Option.Some others)) (logs_rename cpu time (Option.Some others))
+            (P.region self.old.memory) self.old names) }
     {
         self.writable(cpu.0)?;
         let moved = rename_for(&self.rows, old, new)?;

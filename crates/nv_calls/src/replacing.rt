@@ -61,7 +61,8 @@ fn take_at<P: Pmem>(
     requires owns { (gone : RowValue) → row_of rows.old.items there ≡ Option.Some gone → OwnsBlocks free.old gone }
     requires name { IsName moved.now.from.name.now }
     requires other { IsName moved.now.name.now }
-    ensures taken { OnOk result (TakesAt (P.region memory.old) (P.region memory.new) sup.now free.old free.new cpu rows.old.items rows.new.items (place_in rows.old.items moved.now.directory) (place_in rows.old.items there) moved.now.from.target moved.now.from.name.now moved.now.name.now time) }
+    ensures taken { OnOk result (TakesAt (P.region memory.old) (P.region memory.new) sup.now free.old free.new cpu rows.old.items rows.new.items (place_in rows.old.items moved.now.directory)
+        (place_in rows.old.items there) moved.now.from.target moved.now.from.name.now moved.now.name.now time) }
     ensures enough { (row gone : RowValue) → row_of rows.old.items moved.now.directory ≡ Option.Some row → row_of rows.old.items there ≡ Option.Some gone
         → OnOk result (needed (row.tail % 4096) (take_entries moved.now.from.target gone.inode moved.now.from.name.now moved.now.name.now time) ≤ all_blocks free.old.pools) }
     ensures settled { OnOk result (NothingPending (P.region memory.new) (P.may_hold memory.new)) }
@@ -80,11 +81,13 @@ fn take_at<P: Pmem>(
     // The directory's tail is stored first.
     ensures in_order { (row gone : RowValue) (held : Store) (h : Held) → row_of rows.old.items moved.now.directory ≡ Option.Some row → row_of rows.old.items there ≡ Option.Some gone
         → ShowsRow (P.region memory.old) sup.now held h row free.old
-        → TailIsFirst (P.region memory.old) (P.region memory.new) sup.now free.old.pools cpu row.inode row.tail (take_entries moved.now.from.target gone.inode moved.now.from.name.now moved.now.name.now time) (slot_address sup.now gone.inode) }
+        → TailIsFirst (P.region memory.old) (P.region memory.new) sup.now free.old.pools cpu row.inode row.tail (take_entries moved.now.from.target gone.inode moved.now.from.name.now
+        moved.now.name.now time) (slot_address sup.now gone.inode) }
     // Whatever a stop leaves: recovery finds what is held, or it with the name given and without the inode, without faults.
     ensures any_stop { (row gone : RowValue) (held : Store) (h : Held) → row_of rows.old.items moved.now.directory ≡ Option.Some row → row_of rows.old.items there ≡ Option.Some gone
         → ShowsRow (P.region memory.old) sup.now held h row free.old → NothingPending (P.region memory.old) (P.may_hold memory.old)
-        → LeavesOnly (P.region memory.new) (P.may_hold memory.new) (LeavesEither (P.region memory.old) (fixed_layout sup.now) held (TookWithin (P.region memory.old) sup.now free.old cpu row moved.now.from.target gone.inode moved.now.from.name.now moved.now.name.now time)) }
+        → LeavesOnly (P.region memory.new) (P.may_hold memory.new) (LeavesEither (P.region memory.old) (fixed_layout sup.now) held
+        (TookWithin (P.region memory.old) sup.now free.old cpu row moved.now.from.target gone.inode moved.now.from.name.now moved.now.name.now time)) }
 {
     let gone = Displaced {
         inode: there,
@@ -125,12 +128,15 @@ fn lessen_at<P: Pmem>(
         → StandsRight (P.region memory.old) sup.now free.old file × CanName (P.region memory.old) sup.now cpu file.inode file }
     requires name { IsName moved.now.from.name.now }
     requires other { IsName moved.now.name.now }
-    ensures lessened { OnOk result (LessensAt (P.region memory.old) (P.region memory.new) sup.now free.old free.new cpu rows.old.items rows.new.items (place_in rows.old.items moved.now.directory) (place_in rows.old.items there) moved.now.from.target moved.now.from.name.now moved.now.name.now time) }
+    ensures lessened { OnOk result (LessensAt (P.region memory.old) (P.region memory.new) sup.now free.old free.new cpu rows.old.items rows.new.items (place_in rows.old.items moved.now.directory)
+        (place_in rows.old.items there) moved.now.from.target moved.now.from.name.now moved.now.name.now time) }
     ensures enough { (row file : RowValue) → row_of rows.old.items moved.now.directory ≡ Option.Some row → row_of rows.old.items there ≡ Option.Some file
-        → OnOk result (needed (row.tail % 4096) (take_entries moved.now.from.target file.inode moved.now.from.name.now moved.now.name.now time) + needed (file.tail % 4096) (links_entries (file.numbers.links - 1) time) ≤ all_blocks free.old.pools) }
+        → OnOk result (needed (row.tail % 4096) (take_entries moved.now.from.target file.inode moved.now.from.name.now moved.now.name.now time)
+        + needed (file.tail % 4096) (links_entries (file.numbers.links - 1) time) ≤ all_blocks free.old.pools) }
     ensures settled { OnOk result (NothingPending (P.region memory.new) (P.may_hold memory.new)) }
     ensures refused { (row file : RowValue) → row_of rows.old.items moved.now.directory ≡ Option.Some row → row_of rows.old.items there ≡ Option.Some file
-        → IfErr result (λ e. RefusesStep e (needed (row.tail % 4096) (take_entries moved.now.from.target file.inode moved.now.from.name.now moved.now.name.now time) + needed (file.tail % 4096) (links_entries (file.numbers.links - 1) time)) free.old) }
+        → IfErr result (λ e. RefusesStep e (needed (row.tail % 4096) (take_entries moved.now.from.target file.inode moved.now.from.name.now moved.now.name.now time)
+        + needed (file.tail % 4096) (links_entries (file.numbers.links - 1) time)) free.old) }
     ensures unchanged { IfErr result (λ e. (e ≡ RefusalValue.Stopped → ⊥) → LeavesRows memory.old memory.new free.old free.new rows.old.items rows.new.items) }
     ensures stopped { IfErr result (λ e. e ≡ RefusalValue.Stopped → IsTrue (P.fuse memory.new).has_burnt) }
     ensures limit { rows.new.sup ≡ rows.old.sup }
@@ -144,11 +150,13 @@ fn lessen_at<P: Pmem>(
     // The directory's tail is stored first.
     ensures in_order { (row file : RowValue) (held : Store) (h f : Held) → row_of rows.old.items moved.now.directory ≡ Option.Some row → row_of rows.old.items there ≡ Option.Some file
         → ShowsRow (P.region memory.old) sup.now held h row free.old → ShowsRow (P.region memory.old) sup.now held f file free.old
-        → TailIsFirst (P.region memory.old) (P.region memory.new) sup.now free.old.pools cpu row.inode row.tail (take_entries moved.now.from.target file.inode moved.now.from.name.now moved.now.name.now time) (tail_address sup.now file.inode) }
+        → TailIsFirst (P.region memory.old) (P.region memory.new) sup.now free.old.pools cpu row.inode row.tail (take_entries moved.now.from.target file.inode moved.now.from.name.now
+        moved.now.name.now time) (tail_address sup.now file.inode) }
     // Whatever a stop leaves: recovery finds what is held, or it with the name given and a link less, without faults.
     ensures any_stop { (row file : RowValue) (held : Store) (h f : Held) → row_of rows.old.items moved.now.directory ≡ Option.Some row → row_of rows.old.items there ≡ Option.Some file
         → ShowsRow (P.region memory.old) sup.now held h row free.old → ShowsRow (P.region memory.old) sup.now held f file free.old → NothingPending (P.region memory.old) (P.may_hold memory.old)
-        → LeavesOnly (P.region memory.new) (P.may_hold memory.new) (LeavesEither (P.region memory.old) (fixed_layout sup.now) held (Lessened (P.region memory.old) sup.now free.old cpu row file moved.now.from.target moved.now.from.name.now moved.now.name.now time)) }
+        → LeavesOnly (P.region memory.new) (P.may_hold memory.new) (LeavesEither (P.region memory.old) (fixed_layout sup.now) held
+        (Lessened (P.region memory.old) sup.now free.old cpu row file moved.now.from.target moved.now.from.name.now moved.now.name.now time)) }
 {
     let mut directory = rows.lend(alloc, moved.directory);
     let mut file = rows.lend(alloc, there);
@@ -200,7 +208,8 @@ fn replace_within<P: Pmem>(
     requires owns { (file : RowValue) → row_of rows.old.items there ≡ Option.Some file → OwnsBlocks free.old file }
     requires name { IsName moved.now.from.name.now }
     requires other { IsName moved.now.name.now }
-    ensures replaced { OnOk result (ReplacesHere (P.region memory.old) (P.region memory.new) sup.now free.old free.new cpu rows.old.items rows.new.items (place_in rows.old.items moved.now.directory) (place_in rows.old.items there) moved.now.from.target moved.now.from.name.now moved.now.name.now time) }
+    ensures replaced { OnOk result (ReplacesHere (P.region memory.old) (P.region memory.new) sup.now free.old free.new cpu rows.old.items rows.new.items (place_in rows.old.items moved.now.directory)
+        (place_in rows.old.items there) moved.now.from.target moved.now.from.name.now moved.now.name.now time) }
     ensures enough { (row file : RowValue) → row_of rows.old.items moved.now.directory ≡ Option.Some row → row_of rows.old.items there ≡ Option.Some file
         → OnOk result (replace_here_blocks row file moved.now.from.target moved.now.from.name.now moved.now.name.now time ≤ all_blocks free.old.pools) }
     ensures settled { OnOk result (NothingPending (P.region memory.new) (P.may_hold memory.new)) }
@@ -222,14 +231,17 @@ fn replace_within<P: Pmem>(
     // The directory's tail is stored first.
     ensures in_order { (row file : RowValue) (held : Store) (h f : Held) → row_of rows.old.items moved.now.directory ≡ Option.Some row → row_of rows.old.items there ≡ Option.Some file
         → ShowsRow (P.region memory.old) sup.now held h row free.old → ShowsRow (P.region memory.old) sup.now held f file free.old → keeps_others file ≡ true
-        → TailIsFirst (P.region memory.old) (P.region memory.new) sup.now free.old.pools cpu row.inode row.tail (take_entries moved.now.from.target file.inode moved.now.from.name.now moved.now.name.now time) (tail_address sup.now file.inode) }
+        → TailIsFirst (P.region memory.old) (P.region memory.new) sup.now free.old.pools cpu row.inode row.tail (take_entries moved.now.from.target file.inode moved.now.from.name.now
+        moved.now.name.now time) (tail_address sup.now file.inode) }
     ensures last_in_order { (row file : RowValue) (held : Store) (h f : Held) → row_of rows.old.items moved.now.directory ≡ Option.Some row → row_of rows.old.items there ≡ Option.Some file
         → ShowsRow (P.region memory.old) sup.now held h row free.old → ShowsRow (P.region memory.old) sup.now held f file free.old → keeps_others file ≡ false
-        → TailIsFirst (P.region memory.old) (P.region memory.new) sup.now free.old.pools cpu row.inode row.tail (take_entries moved.now.from.target file.inode moved.now.from.name.now moved.now.name.now time) (slot_address sup.now file.inode) }
+        → TailIsFirst (P.region memory.old) (P.region memory.new) sup.now free.old.pools cpu row.inode row.tail (take_entries moved.now.from.target file.inode moved.now.from.name.now
+        moved.now.name.now time) (slot_address sup.now file.inode) }
     // Whatever a stop leaves: recovery finds what is held, or it with the name given, without faults.
     ensures any_stop { (row file : RowValue) (held : Store) (h f : Held) → row_of rows.old.items moved.now.directory ≡ Option.Some row → row_of rows.old.items there ≡ Option.Some file
         → ShowsRow (P.region memory.old) sup.now held h row free.old → ShowsRow (P.region memory.old) sup.now held f file free.old → NothingPending (P.region memory.old) (P.may_hold memory.old)
-        → LeavesOnly (P.region memory.new) (P.may_hold memory.new) (LeavesEither (P.region memory.old) (fixed_layout sup.now) held (ReplacedHere (P.region memory.old) sup.now free.old cpu row file moved.now.from.target moved.now.from.name.now moved.now.name.now time)) }
+        → LeavesOnly (P.region memory.new) (P.may_hold memory.new) (LeavesEither (P.region memory.old) (fixed_layout sup.now) held
+        (ReplacedHere (P.region memory.old) sup.now free.old cpu row file moved.now.from.target moved.now.from.name.now moved.now.name.now time)) }
 {
     if stays_without(rows.row(there)) {
         lessen_at(alloc, memory, sup, free, cpu, rows, moved, there, time)

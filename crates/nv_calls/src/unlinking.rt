@@ -79,12 +79,15 @@ fn unlink_at<P: Pmem>(
     requires file_stands { (file : RowValue) → row_of rows.old.items named.now.target ≡ Option.Some file
         → StandsRight (P.region memory.old) sup.now free.old file × CanName (P.region memory.old) sup.now cpu file.inode file }
     requires name { IsName named.now.name.now }
-    ensures unlinked { OnOk result (UnlinksAt (P.region memory.old) (P.region memory.new) sup.now free.old free.new cpu rows.old.items rows.new.items (place_in rows.old.items named.now.directory) (place_in rows.old.items named.now.target) named.now.name.now time) }
+    ensures unlinked { OnOk result (UnlinksAt (P.region memory.old) (P.region memory.new) sup.now free.old free.new cpu rows.old.items rows.new.items (place_in rows.old.items named.now.directory)
+        (place_in rows.old.items named.now.target) named.now.name.now time) }
     ensures enough { (row file : RowValue) → row_of rows.old.items named.now.directory ≡ Option.Some row → row_of rows.old.items named.now.target ≡ Option.Some file
-        → OnOk result (needed (row.tail % 4096) (name_entries Remove file.inode named.now.name.now time) + needed (file.tail % 4096) (links_entries (file.numbers.links - 1) time) ≤ all_blocks free.old.pools) }
+        → OnOk result (needed (row.tail % 4096) (name_entries Remove file.inode named.now.name.now time)
+        + needed (file.tail % 4096) (links_entries (file.numbers.links - 1) time) ≤ all_blocks free.old.pools) }
     ensures settled { OnOk result (NothingPending (P.region memory.new) (P.may_hold memory.new)) }
     ensures refused { (row file : RowValue) → row_of rows.old.items named.now.directory ≡ Option.Some row → row_of rows.old.items named.now.target ≡ Option.Some file
-        → IfErr result (λ e. RefusesStep e (needed (row.tail % 4096) (name_entries Remove file.inode named.now.name.now time) + needed (file.tail % 4096) (links_entries (file.numbers.links - 1) time)) free.old) }
+        → IfErr result (λ e. RefusesStep e (needed (row.tail % 4096) (name_entries Remove file.inode named.now.name.now time) + needed (file.tail % 4096) (links_entries (file.numbers.links - 1) time))
+        free.old) }
     ensures unchanged { IfErr result (λ e. (e ≡ RefusalValue.Stopped → ⊥) → LeavesRows memory.old memory.new free.old free.new rows.old.items rows.new.items) }
     ensures stopped { IfErr result (λ e. e ≡ RefusalValue.Stopped → IsTrue (P.fuse memory.new).has_burnt) }
     ensures limit { rows.new.sup ≡ rows.old.sup }
@@ -98,12 +101,14 @@ fn unlink_at<P: Pmem>(
     // The directory's tail is stored first.
     ensures in_order { (row file : RowValue) (held : Store) (h f : Held) → row_of rows.old.items named.now.directory ≡ Option.Some row
         → row_of rows.old.items named.now.target ≡ Option.Some file → ShowsRow (P.region memory.old) sup.now held h row free.old → ShowsRow (P.region memory.old) sup.now held f file free.old
-        → TailIsFirst (P.region memory.old) (P.region memory.new) sup.now free.old.pools cpu row.inode row.tail (name_entries Remove file.inode named.now.name.now time) (tail_address sup.now file.inode) }
+        → TailIsFirst (P.region memory.old) (P.region memory.new) sup.now free.old.pools cpu row.inode row.tail (name_entries Remove file.inode named.now.name.now time) (tail_address sup.now
+        file.inode) }
     // Whatever a stop leaves: recovery finds what is held, or it without the name and the link, without faults.
     ensures any_stop { (row file : RowValue) (held : Store) (h f : Held) → row_of rows.old.items named.now.directory ≡ Option.Some row
         → row_of rows.old.items named.now.target ≡ Option.Some file → ShowsRow (P.region memory.old) sup.now held h row free.old
         → ShowsRow (P.region memory.old) sup.now held f file free.old → NothingPending (P.region memory.old) (P.may_hold memory.old)
-        → LeavesOnly (P.region memory.new) (P.may_hold memory.new) (LeavesEither (P.region memory.old) (fixed_layout sup.now) held (Unlinked (P.region memory.old) sup.now free.old cpu row file named.now.name.now time)) }
+        → LeavesOnly (P.region memory.new) (P.may_hold memory.new) (LeavesEither (P.region memory.old) (fixed_layout sup.now) held
+        (Unlinked (P.region memory.old) sup.now free.old cpu row file named.now.name.now time)) }
 {
     let mut directory = rows.lend(alloc, named.directory);
     let mut file = rows.lend(alloc, named.target);
@@ -153,7 +158,8 @@ fn release_at<P: Pmem>(
         → CanName (P.region memory.old) sup.now cpu file.inode row × (row.inode ≢ file.inode) }
     requires owns { (file : RowValue) → row_of rows.old.items named.now.target ≡ Option.Some file → OwnsBlocks free.old file }
     requires name { IsName named.now.name.now }
-    ensures released { OnOk result (Releases (P.region memory.old) (P.region memory.new) sup.now free.old free.new cpu rows.old.items rows.new.items (place_in rows.old.items named.now.directory) (place_in rows.old.items named.now.target) named.now.name.now time) }
+    ensures released { OnOk result (Releases (P.region memory.old) (P.region memory.new) sup.now free.old free.new cpu rows.old.items rows.new.items (place_in rows.old.items named.now.directory)
+        (place_in rows.old.items named.now.target) named.now.name.now time) }
     ensures enough { (row file : RowValue) → row_of rows.old.items named.now.directory ≡ Option.Some row → row_of rows.old.items named.now.target ≡ Option.Some file
         → OnOk result (release_blocks row file named.now.name.now time ≤ all_blocks free.old.pools) }
     ensures settled { OnOk result (NothingPending (P.region memory.new) (P.may_hold memory.new)) }
@@ -178,16 +184,19 @@ fn release_at<P: Pmem>(
     ensures in_order { (row file : RowValue) (held : Store) (h f : Held) → row_of rows.old.items named.now.directory ≡ Option.Some row
         → row_of rows.old.items named.now.target ≡ Option.Some file → ShowsRow (P.region memory.old) sup.now held h row free.old
         → ShowsRow (P.region memory.old) sup.now held f file free.old → 1 < file.numbers.links
-        → TailIsFirst (P.region memory.old) (P.region memory.new) sup.now free.old.pools cpu row.inode row.tail (name_entries Remove file.inode named.now.name.now time) (tail_address sup.now file.inode) }
+        → TailIsFirst (P.region memory.old) (P.region memory.new) sup.now free.old.pools cpu row.inode row.tail (name_entries Remove file.inode named.now.name.now time) (tail_address sup.now
+        file.inode) }
     ensures last_in_order { (row file : RowValue) (held : Store) (h f : Held) → row_of rows.old.items named.now.directory ≡ Option.Some row
         → row_of rows.old.items named.now.target ≡ Option.Some file → ShowsRow (P.region memory.old) sup.now held h row free.old
         → ShowsRow (P.region memory.old) sup.now held f file free.old → file.numbers.links ≤ 1
-        → TailIsFirst (P.region memory.old) (P.region memory.new) sup.now free.old.pools cpu row.inode row.tail (name_entries Remove file.inode named.now.name.now time) (slot_address sup.now file.inode) }
+        → TailIsFirst (P.region memory.old) (P.region memory.new) sup.now free.old.pools cpu row.inode row.tail (name_entries Remove file.inode named.now.name.now time) (slot_address sup.now
+        file.inode) }
     // Whatever a stop leaves: recovery finds what is held, or it without the name and the link or the file, without faults.
     ensures any_stop { (row file : RowValue) (held : Store) (h f : Held) → row_of rows.old.items named.now.directory ≡ Option.Some row
         → row_of rows.old.items named.now.target ≡ Option.Some file → ShowsRow (P.region memory.old) sup.now held h row free.old
         → ShowsRow (P.region memory.old) sup.now held f file free.old → NothingPending (P.region memory.old) (P.may_hold memory.old)
-        → LeavesOnly (P.region memory.new) (P.may_hold memory.new) (LeavesEither (P.region memory.old) (fixed_layout sup.now) held (Released (P.region memory.old) sup.now free.old cpu row file named.now.name.now time)) }
+        → LeavesOnly (P.region memory.new) (P.may_hold memory.new) (LeavesEither (P.region memory.old) (fixed_layout sup.now) held
+        (Released (P.region memory.old) sup.now free.old cpu row file named.now.name.now time)) }
 {
     if has_more_links(rows.row(named.target)) {
         unlink_at(alloc, memory, sup, free, cpu, rows, named, time)
@@ -223,7 +232,8 @@ impl<P: Pmem + Drop> Fs<P> {
         ensures log { (names : List (List ℕ)) (i d : ℕ) (node : Node) (held : Store) (h f : Held) → IsPath path.now names → LeadsTo (shown P.region self.old) names i node
             → walk (shown P.region self.old) 1 names ≡ Result.Ok d
             → ShowsSound (P.region self.old.memory) self.old.sup held → held d ≡ Option.Some h → held i ≡ Option.Some f → 1 < node.links
-            → OnOk result (ShowsBothGrew (P.region self.new.memory) self.old.sup self.old.free.pools cpu held d h (name_entries Remove i (last_name names) time) i f (links_entries (node.links - 1) time)) }
+            → OnOk result (ShowsBothGrew (P.region self.new.memory) self.old.sup self.old.free.pools cpu held d h (name_entries Remove i (last_name names) time) i f
+            (links_entries (node.links - 1) time)) }
         // With its last name the file goes too. In both cases no other log has changed.
         ensures last { (names : List (List ℕ)) (i d : ℕ) (node : Node) (held : Store) (h : Held) → IsPath path.now names → LeadsTo (shown P.region self.old) names i node
             → walk (shown P.region self.old) 1 names ≡ Result.Ok d
@@ -255,11 +265,13 @@ impl<P: Pmem + Drop> Fs<P> {
         ensures in_order { (names : List (List ℕ)) (i d : ℕ) (node : Node) (held : Store) (h : Held) → IsPath path.now names → LeadsTo (shown P.region self.old) names i node
             → walk (shown P.region self.old) 1 names ≡ Result.Ok d
             → ShowsSound (P.region self.old.memory) self.old.sup held → held d ≡ Option.Some h → 1 < node.links
-            → ShowsTailFirst (P.region self.old.memory) (P.region self.new.memory) self.old.sup self.old.free.pools cpu d h (name_entries Remove i (last_name names) time) (tail_address self.old.sup i) }
+            → ShowsTailFirst (P.region self.old.memory) (P.region self.new.memory) self.old.sup self.old.free.pools cpu d h (name_entries Remove i
+            (last_name names) time) (tail_address self.old.sup i) }
         ensures last_in_order { (names : List (List ℕ)) (i d : ℕ) (node : Node) (held : Store) (h : Held) → IsPath path.now names → LeadsTo (shown P.region self.old) names i node
             → walk (shown P.region self.old) 1 names ≡ Result.Ok d
             → ShowsSound (P.region self.old.memory) self.old.sup held → held d ≡ Option.Some h → node.links ≤ 1
-            → ShowsTailFirst (P.region self.old.memory) (P.region self.new.memory) self.old.sup self.old.free.pools cpu d h (name_entries Remove i (last_name names) time) (slot_address self.old.sup i) }
+            → ShowsTailFirst (P.region self.old.memory) (P.region self.new.memory) self.old.sup self.old.free.pools cpu d h (name_entries Remove i
+            (last_name names) time) (slot_address self.old.sup i) }
         // Whatever a stop leaves, at any exit: recovery finds what was mounted, or what the call makes, without faults.
         ensures any_stop { (names : List (List ℕ)) → IsPath path.now names → self.old.stopped ≡ false → self.old.read_only ≡ false
             → LeavesOnly (P.region self.new.memory) (P.may_hold self.new.memory) (LeavesCall (makes_unlink time) (LogsUnlink cpu time) (P.region self.old.memory) self.old names) }

@@ -92,7 +92,8 @@ impl<P: Pmem + Drop> Fs<P> {
             → ShowsSound (P.region self.old.memory) self.old.sup held → StoresIn self.old.sup held (one_log self.old.sup i) (P.region self.old.memory) (P.region self.new.memory) }
         // Whatever a stop leaves, at any exit: recovery finds what was mounted, or what the call makes, without faults.
         ensures any_stop { (names : List (List ℕ)) → IsPath path.now names → self.old.stopped ≡ false → self.old.read_only ≡ false
-            → LeavesOnly (P.region self.new.memory) (P.may_hold self.new.memory) (LeavesCall (makes_bytes offset bytes.now time) (LogsBytes cpu offset (length bytes.now) time) (P.region self.old.memory) self.old names) }
+            → LeavesOnly (P.region self.new.memory) (P.may_hold self.new.memory) (LeavesCall (makes_bytes offset bytes.now time) (LogsBytes cpu offset (length bytes.now) time)
+            (P.region self.old.memory) self.old names) }
     {
         self.write_data(cpu, path, offset, Data::Given(bytes), time)
     }
@@ -120,7 +121,8 @@ impl<P: Pmem + Drop> Fs<P> {
         // The log of the inode has the write's entries more, and no other log has changed.
         ensures log { (names : List (List ℕ)) (i : ℕ) (node : Node) (held : Store) (h : Held) → IsPath path.now names → LeadsTo (shown P.region self.old) names i node
             → ShowsSound (P.region self.old.memory) self.old.sup held → held i ≡ Option.Some h → 0 < length (data_bytes content.entry)
-            → OnOk result (ShowsLogWrite (P.region self.new.memory) self.old cpu held i h (plan_of (block_of (good_in (fixed_layout self.old.sup) h)) node.size offset (length (data_bytes content.entry)) time)) }
+            → OnOk result (ShowsLogWrite (P.region self.new.memory) self.old cpu held i h (plan_of (block_of (good_in (fixed_layout self.old.sup) h)) node.size offset
+            (length (data_bytes content.entry)) time)) }
         ensures nothing { length (data_bytes content.entry) ≡ 0 → OnOk result (self.new ≡ self.old) }
         ensures unchanged { IfErr result (λ e. (e ≡ RefusalValue.Stopped → ⊥) → SameMount self.old self.new) }
         ensures stopped { self.old.stopped ≡ false → (IsTrue self.new.stopped → (result ≡ Result.Err RefusalValue.Stopped) × IsTrue (P.fuse self.new.memory).has_burnt)
@@ -138,7 +140,8 @@ impl<P: Pmem + Drop> Fs<P> {
             → ShowsSound (P.region self.old.memory) self.old.sup held → StoresIn self.old.sup held (one_log self.old.sup i) (P.region self.old.memory) (P.region self.new.memory) }
         // Whatever a stop leaves, at any exit: recovery finds what was mounted, or what the call makes, without faults.
         ensures any_stop { (names : List (List ℕ)) → IsPath path.now names → self.old.stopped ≡ false → self.old.read_only ≡ false
-            → LeavesOnly (P.region self.new.memory) (P.may_hold self.new.memory) (LeavesCall (makes_bytes offset (data_bytes content.entry) time) (LogsBytes cpu offset (length (data_bytes content.entry)) time) (P.region self.old.memory) self.old names) }
+            → LeavesOnly (P.region self.new.memory) (P.may_hold self.new.memory) (LeavesCall (makes_bytes offset (data_bytes content.entry) time)
+            (LogsBytes cpu offset (length (data_bytes content.entry)) time) (P.region self.old.memory) self.old names) }
     {
         self.writable(cpu.0)?;
         let count = content.len();

@@ -208,7 +208,8 @@ impl Progress {
 impl Pace {
     // The next claim of the last ticket.
     fn next_claim(&self, work: &[Vec<(u64, Owner)>]) -> Option<(u64, Owner)>
-        ensures { MatchOption result (left_at (lists work.now) self.now ≡ []) (λ p. (left_at (lists work.now) self.now ≡ p ∷ drop (self.now.made + 1) (pairs_at (lists work.now) self.now.ticket)) × (self.now.made + 1 < 2 ^ 64)) }
+        ensures { MatchOption result (left_at (lists work.now) self.now ≡ []) (λ p. (left_at (lists work.now) self.now ≡ p ∷ drop (self.now.made + 1) (pairs_at (lists work.now) self.now.ticket))
+            × (self.now.made + 1 < 2 ^ 64)) }
     {
         if self.ticket < work.len() && self.made < work[self.ticket].len() {
             Some(work[self.ticket][self.made])

@@ -194,7 +194,8 @@ impl ClaimState {
     // The place, among the mask's blocks, of the first one that the worker may not mark.
     fn refused_mark(&self, worker: u32, word: usize, mask: u64) -> Option<usize>
         requires { word < 2 ^ 58 }
-        ensures { MatchOption result (all_allowed (sizes_of self.now) self.now (mark_events worker word mask) ≡ true) (λ place. RefusesFrom (sizes_of self.now) self.now (mark_events worker word mask) (NotAllowed place)) }
+        ensures { MatchOption result (all_allowed (sizes_of self.now) self.now (mark_events worker word mask) ≡ true)
+            (λ place. RefusesFrom (sizes_of self.now) self.now (mark_events worker word mask) (NotAllowed place)) }
     {
         let mut place = 0;
         for bit in 0..64 {

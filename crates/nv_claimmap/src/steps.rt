@@ -80,7 +80,15 @@ fn claim_part(
     requires run { InWord start count shared.now.key.blocks }
     requires seat { (0 < seat.old.me.0.seats) × All Settled seat.old.me.0.records }
     ensures same { (seat.new.table_id ≡ seat.old.table_id) × (seat.new.id ≡ seat.old.id) }
-    ensures me { (n : ℕ) × (seat.new.me ≡ (record { seats = seat.old.me.0.seats; numbers = seat.old.me.0.numbers; records = seat.old.me.0.records ++ settle n (pairs start owner count) }, seat.old.me.1)) }
+    ensures me { (n : ℕ) × (seat.new.me ≡ (
+      record {
+        seats = seat.old.me.0.seats;
+        numbers = seat.old.me.0.numbers;
+        records = seat.old.me.0.records
+            ++ settle n (pairs start owner count);
+      },
+      seat.old.me.1,
+    )) }
 {
     let word = (start / 64) as usize;
     let mask = (u64::MAX >> (64 - count)) << (start % 64);

@@ -127,7 +127,8 @@ pub fn run_script_on<H: Threads + Sync, R: Read + Drop, W: Write, N: Hints>(
     hints: &mut N,
 ) -> Result<Ended, ScriptError>
     // The region is that of the state in which these lines may end.
-    ensures ok { IfOk result (λ ended. WritesAll (ShowsEnd (state_with region.region) (option_map (λ memory. memory.region) ended.region)) (R.remaining reader) (W.contents writer.old) (W.contents writer.new) ended.status) }
+    ensures ok { IfOk result (λ ended. WritesAll (ShowsEnd (state_with region.region) (option_map (λ memory. memory.region) ended.region)) (R.remaining reader) (W.contents writer.old)
+        (W.contents writer.new) ended.status) }
     // Nothing is pending in it.
     ensures settled { IfOk result (λ ended. IfSome ended.region (λ memory. IsSettled memory)) }
     ensures err { IfErr result (λ e. FailsScript (ShowsFrom (state_with region.region)) e (R.remaining reader) (W.contents writer.old) (W.contents writer.new)) }
@@ -160,7 +161,8 @@ fn run_in<H: Threads + Sync, R: Read + Drop, W: Write, N: Hints>(
     writer: &mut W,
     hints: &mut N,
 ) -> Result<u8, ScriptError>
-    ensures ok { IfOk result (λ status. FromEach session.old (λ begin. WritesAll (ShowsEndBy rule begin (region_in session.new.store)) (R.remaining reader) (W.contents writer.old) (W.contents writer.new) status)) }
+    ensures ok { IfOk result (λ status. FromEach session.old (λ begin. WritesAll (ShowsEndBy rule begin (region_in session.new.store)) (R.remaining reader) (W.contents writer.old)
+        (W.contents writer.new) status)) }
     ensures err { IfErr result (λ e. FromEach session.old (λ begin. FailsScript (ShowsFromBy rule begin) e (R.remaining reader) (W.contents writer.old) (W.contents writer.new))) }
     ensures hints { IfOk result (λ status. FromEach session.old (λ begin. WritesAll (HintsFromBy rule begin) (R.remaining reader) (N.told hints.old) (N.told hints.new) status)) }
     ensures first_hints { OnErr result (FromEach session.old (λ begin. WritesWhole (HintsFromBy rule begin) (R.remaining reader) (N.told hints.old) (N.told hints.new))) }
@@ -192,7 +194,8 @@ fn run_lines<H: Threads + Sync, R: Read, W: Write, N: Hints>(
     writer: &mut W,
     hints: &mut N,
 ) -> Result<u8, ScriptError>
-    ensures ok { IfOk result (λ status. FromEach session.old (λ begin. WritesAll (ShowsEndBy rule begin (region_in session.new.store)) (R.remaining reader.old) (W.contents writer.old) (W.contents writer.new) status)) }
+    ensures ok { IfOk result (λ status. FromEach session.old (λ begin. WritesAll (ShowsEndBy rule begin (region_in session.new.store)) (R.remaining reader.old) (W.contents writer.old)
+        (W.contents writer.new) status)) }
     ensures err { IfErr result (λ e. FromEach session.old (λ begin. FailsScript (ShowsFromBy rule begin) e (R.remaining reader.old) (W.contents writer.old) (W.contents writer.new))) }
     ensures hints { IfOk result (λ status. FromEach session.old (λ begin. WritesAll (HintsFromBy rule begin) (R.remaining reader.old) (N.told hints.old) (N.told hints.new) status)) }
     ensures first_hints { OnErr result (FromEach session.old (λ begin. WritesWhole (HintsFromBy rule begin) (R.remaining reader.old) (N.told hints.old) (N.told hints.new))) }
@@ -323,7 +326,8 @@ pub fn run_script_to_end<H: Threads + Sync, R: Read + Drop, W: Write, N: Hints>(
     writer: &mut W,
     hints: &mut N,
 ) -> Result<Ended, ScriptError>
-    ensures ok { IfOk result (λ ended. WritesAll (ShowsEnd first_state (option_map (λ memory. memory.region) ended.region)) (R.remaining reader) (W.contents writer.old) (W.contents writer.new) ended.status) }
+    ensures ok { IfOk result (λ ended. WritesAll (ShowsEnd first_state (option_map (λ memory. memory.region) ended.region)) (R.remaining reader) (W.contents writer.old)
+        (W.contents writer.new) ended.status) }
     ensures settled { IfOk result (λ ended. IfSome ended.region (λ memory. IsSettled memory)) }
     ensures err { IfErr result (λ e. FailsScript ShowsScript e (R.remaining reader) (W.contents writer.old) (W.contents writer.new)) }
     ensures hints { IfOk result (λ ended. WritesAll HintsScript (R.remaining reader) (N.told hints.old) (N.told hints.new) ended.status) }
@@ -357,10 +361,12 @@ pub fn run_script_strictly<H: Threads + Sync, R: Read + Drop, W: Write, N: Hints
     writer: &mut W,
     hints: &mut N,
 ) -> Result<Ended, ScriptError>
-    ensures ok { IfOk result (λ ended. WritesAll (ShowsStrictEnd (state_from (option_map (λ memory. memory.region) region)) (option_map (λ memory. memory.region) ended.region)) (R.remaining reader) (W.contents writer.old) (W.contents writer.new) ended.status) }
+    ensures ok { IfOk result (λ ended. WritesAll (ShowsStrictEnd (state_from (option_map (λ memory. memory.region) region)) (option_map (λ memory. memory.region) ended.region)) (R.remaining reader)
+        (W.contents writer.old) (W.contents writer.new) ended.status) }
     ensures settled { IfOk result (λ ended. IfSome ended.region (λ memory. IsSettled memory)) }
     ensures err { IfErr result (λ e. FailsScript (ShowsStrictFrom (state_from (option_map (λ memory. memory.region) region))) e (R.remaining reader) (W.contents writer.old) (W.contents writer.new)) }
-    ensures hints { IfOk result (λ ended. WritesAll (HintsStrictFrom (state_from (option_map (λ memory. memory.region) region))) (R.remaining reader) (N.told hints.old) (N.told hints.new) ended.status) }
+    ensures hints { IfOk result (λ ended. WritesAll (HintsStrictFrom (state_from (option_map (λ memory. memory.region) region))) (R.remaining reader) (N.told hints.old)
+        (N.told hints.new) ended.status) }
     ensures first_hints { OnErr result (WritesWhole (HintsStrictFrom (state_from (option_map (λ memory. memory.region) region))) (R.remaining reader) (N.told hints.old) (N.told hints.new)) }
 {
     let mut session = session_with(region);

@@ -8,7 +8,8 @@ ghost use Rattle.nv_session.specs.Printed.{Prints};
 ghost use Rattle.nv_session.specs.declared.printed.Printed.TheVariants as printeds;
 ghost use Rattle.nv_cli.specs.declared.shell.Answer.TheVariants as answers;
 ghost use Rattle.nv_cli.specs.Script.{FromEach};
-ghost use Rattle.nv_cli.specs.Shell.{Kept, Grows, GrowsBy, kept_by, IsOwn, IsSaveAnswer, Tells, PrintsAnswer, ShowsLinesEnd, ShowsAnyLines, ShowsShell, FailsShell, Asks, KeepsFor, AnswersLine, KnownAnswers, help_text};
+ghost use Rattle.nv_cli.specs.Shell.{Kept, Grows, GrowsBy, kept_by, IsOwn, IsSaveAnswer, Tells, PrintsAnswer, ShowsLinesEnd, ShowsAnyLines, ShowsShell, FailsShell, Asks, KeepsFor, AnswersLine};
+ghost use Rattle.nv_cli.specs.Shell.{KnownAnswers, help_text};
 ghost use Rattle.nv_cli.specs.Transcript.{WritesAll, FailsScript};
 
 use crate::hinting::Hint;
@@ -68,10 +69,12 @@ pub fn run_shell<H: Threads + Sync, R: Read + Drop, W: Write, P: Host>(
 ) -> Result<Ended, ScriptError>
     // What is written is what these lines may print that keep what the host has kept, and status and region are those with
     // which they may end.
-    ensures ok { IfOk result (λ ended. GrowsBy (P.kept host.old) (P.kept host.new) (λ kept. WritesAll (ShowsShell region.region workers kept (option_map (λ memory. memory.region) ended.region)) (R.remaining reader) (W.contents writer.old) (W.contents writer.new) ended.status)) }
+    ensures ok { IfOk result (λ ended. GrowsBy (P.kept host.old) (P.kept host.new) (λ kept. WritesAll (ShowsShell region.region workers kept (option_map (λ memory. memory.region) ended.region))
+        (R.remaining reader) (W.contents writer.old) (W.contents writer.new) ended.status)) }
     // Nothing is pending in the region.
     ensures settled { IfOk result (λ ended. IfSome ended.region (λ memory. IsSettled memory)) }
-    ensures err { IfErr result (λ e. GrowsBy (P.kept host.old) (P.kept host.new) (λ kept. FailsShell region.region workers kept e (R.remaining reader) (W.contents writer.old) (W.contents writer.new))) }
+    ensures err { IfErr result (λ e. GrowsBy (P.kept host.old) (P.kept host.new) (λ kept. FailsShell region.region workers kept e (R.remaining reader) (W.contents writer.old)
+        (W.contents writer.new))) }
 {
     let mut session = Session::with_region(region);
     let text = session.execute(rt, alloc, Command::Recover { workers })?;
@@ -92,8 +95,10 @@ fn run_in<H: Threads + Sync, R: Read + Drop, W: Write, P: Host>(
     writer: &mut W,
     host: &mut P,
 ) -> Result<u8, ScriptError>
-    ensures ok { IfOk result (λ status. GrowsBy (P.kept host.old) (P.kept host.new) (λ kept. FromEach session.old (λ begin. WritesAll (ShowsLinesEnd 1 begin kept (region_in session.new.store)) (R.remaining reader) (W.contents writer.old) (W.contents writer.new) status))) }
-    ensures err { IfErr result (λ e. GrowsBy (P.kept host.old) (P.kept host.new) (λ kept. FromEach session.old (λ begin. FailsScript (ShowsAnyLines 1 begin kept) e (R.remaining reader) (W.contents writer.old) (W.contents writer.new)))) }
+    ensures ok { IfOk result (λ status. GrowsBy (P.kept host.old) (P.kept host.new) (λ kept. FromEach session.old
+        (λ begin. WritesAll (ShowsLinesEnd 1 begin kept (region_in session.new.store)) (R.remaining reader) (W.contents writer.old) (W.contents writer.new) status))) }
+    ensures err { IfErr result (λ e. GrowsBy (P.kept host.old) (P.kept host.new) (λ kept. FromEach session.old
+        (λ begin. FailsScript (ShowsAnyLines 1 begin kept) e (R.remaining reader) (W.contents writer.old) (W.contents writer.new)))) }
 {
     let Ok(mut reader) = BufReader::with_capacity(alloc, BUFFER_SIZE, reader) else {
         return Err(ScriptError::Memory);
@@ -123,8 +128,10 @@ fn run_lines<H: Threads + Sync, R: Read, W: Write, P: Host>(
     writer: &mut W,
     host: &mut P,
 ) -> Result<u8, ScriptError>
-    ensures ok { IfOk result (λ status. GrowsBy (P.kept host.old) (P.kept host.new) (λ kept. FromEach session.old (λ begin. WritesAll (ShowsLinesEnd 1 begin kept (region_in session.new.store)) (R.remaining reader.old) (W.contents writer.old) (W.contents writer.new) status))) }
-    ensures err { IfErr result (λ e. GrowsBy (P.kept host.old) (P.kept host.new) (λ kept. FromEach session.old (λ begin. FailsScript (ShowsAnyLines 1 begin kept) e (R.remaining reader.old) (W.contents writer.old) (W.contents writer.new)))) }
+    ensures ok { IfOk result (λ status. GrowsBy (P.kept host.old) (P.kept host.new) (λ kept. FromEach session.old
+        (λ begin. WritesAll (ShowsLinesEnd 1 begin kept (region_in session.new.store)) (R.remaining reader.old) (W.contents writer.old) (W.contents writer.new) status))) }
+    ensures err { IfErr result (λ e. GrowsBy (P.kept host.old) (P.kept host.new) (λ kept. FromEach session.old
+        (λ begin. FailsScript (ShowsAnyLines 1 begin kept) e (R.remaining reader.old) (W.contents writer.old) (W.contents writer.new)))) }
 {
     'lines: for number in 1..u64::MAX {
         host.prompt();

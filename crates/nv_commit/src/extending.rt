@@ -1,8 +1,8 @@
 //! Entries written behind the tail of a log, and the tail moved behind them by one store.
 
-ghost use Rattle.std.specs.Prelude.{◌≡◌, ◌+◌, ◌/◌, ◌%◌, ◌≤◌, ◌∷◌, ℕ, true, IfOk, OnErr, OnOk, is_err};
+ghost use Rattle.std.specs.Prelude.{◌≡◌, ◌+◌, ◌/◌, ◌%◌, ◌≤◌, ◌∷◌, ℕ, true, IfOk, OnErr, OnOk};
 ghost use Rattle.nv_region.specs.Region.{size};
-ghost use Rattle.nv_region.specs.Stops.{LeavesOnly, NothingPending, PendingOnly};
+ghost use Rattle.nv_region.specs.Stops.{LeavesOnly, PendingOnly};
 ghost use Rattle.nv_region.specs.Fuses.{KeepsFuse};
 ghost use Rattle.nv_region.specs.Stored.{StoresOnly};
 ghost use Rattle.nv_region.specs.Storing.{AtAnyMoment, StoresAndFences};

@@ -45,8 +45,10 @@ pub fn linked_is_faultless()
         → IsFaultless l held → held d ≡ Some h → h.kind ≡ Directory → IsGoodName l.sup i name
         → held i ≡ Some f → f.kind ≡ File → (node_in l f).links < 1000 → (graph_in l held).name d name ≡ None
         → OwnsNew l held i (Some (grown f file_tail (links_entry file_at ((node_in l f).links + 1) time ∷ []) file_fresh))
-        → OwnsNew l (with_inode held i (Some (grown f file_tail (links_entry file_at ((node_in l f).links + 1) time ∷ []) file_fresh))) d (Some (grown h tail (name_entry at Add i name time ∷ []) fresh))
-        → IsFaultless l (with_inode (with_inode held i (Some (grown f file_tail (links_entry file_at ((node_in l f).links + 1) time ∷ []) file_fresh))) d (Some (grown h tail (name_entry at Add i name time ∷ []) fresh))) }
+        → OwnsNew l (with_inode held i (Some (grown f file_tail (links_entry file_at ((node_in l f).links + 1) time ∷ []) file_fresh))) d
+        (Some (grown h tail (name_entry at Add i name time ∷ []) fresh))
+        → IsFaultless l (with_inode (with_inode held i (Some (grown f file_tail (links_entry file_at ((node_in l f).links + 1) time ∷ []) file_fresh))) d
+        (Some (grown h tail (name_entry at Add i name time ∷ []) fresh))) }
 {}
 
 /// A directory has a name less, and the file that it stood for, which has others, counts a link less.
@@ -55,14 +57,17 @@ pub fn unlinked_is_faultless()
         → IsFaultless l held → held d ≡ Some h → h.kind ≡ Directory → IsGoodName l.sup i name
         → held i ≡ Some f → f.kind ≡ File → 1 < (node_in l f).links → (node_in l f).links ≤ 1000 → (graph_in l held).name d name ≡ Some i
         → OwnsNew l held d (Some (grown h tail (name_entry at Remove i name time ∷ []) fresh))
-        → OwnsNew l (with_inode held d (Some (grown h tail (name_entry at Remove i name time ∷ []) fresh))) i (Some (grown f file_tail (links_entry file_at ((node_in l f).links - 1) time ∷ []) file_fresh))
-        → IsFaultless l (with_inode (with_inode held d (Some (grown h tail (name_entry at Remove i name time ∷ []) fresh))) i (Some (grown f file_tail (links_entry file_at ((node_in l f).links - 1) time ∷ []) file_fresh))) }
+        → OwnsNew l (with_inode held d (Some (grown h tail (name_entry at Remove i name time ∷ []) fresh))) i
+        (Some (grown f file_tail (links_entry file_at ((node_in l f).links - 1) time ∷ []) file_fresh))
+        → IsFaultless l (with_inode (with_inode held d (Some (grown h tail (name_entry at Remove i name time ∷ []) fresh))) i
+        (Some (grown f file_tail (links_entry file_at ((node_in l f).links - 1) time ∷ []) file_fresh))) }
 {}
 
 /// A directory has a name less, and another, or itself, has a name more for the same inode, which it didn't have. A directory is
 /// moved only where the path that leads to the new name's directory doesn't pass it.
 pub fn renamed_is_faultless()
-    ensures two { (l : Layout) (held : Store) (d : ℕ) (h : Held) (i : ℕ) (name : List ℕ) (at time tail : ℕ) (fresh : List ℕ) (e : ℕ) (k : Held) (other : List ℕ) (path : List (List ℕ)) (next end : ℕ) (pages : List ℕ) → IsFaultless l held → held d ≡ Some h → h.kind ≡ Directory → IsGoodName l.sup i name → IsGoodName l.sup i other
+    ensures two { (l : Layout) (held : Store) (d : ℕ) (h : Held) (i : ℕ) (name : List ℕ) (at time tail : ℕ) (fresh : List ℕ) (e : ℕ) (k : Held) (other : List ℕ)
+        (path : List (List ℕ)) (next end : ℕ) (pages : List ℕ) → IsFaultless l held → held d ≡ Some h → h.kind ≡ Directory → IsGoodName l.sup i name → IsGoodName l.sup i other
         → (graph_in l held).name d name ≡ Some i → walked (graph_in l held) 1 path ≡ Some e → (graph_in l held).name e other ≡ None
         → (IsOfKind (graph_in l held) i Directory → Contains (passed (graph_in l held) 1 path) i → ⊥)
         → held e ≡ Some k → k.kind ≡ Directory → e ≢ d → OwnsNew l held d (Some (grown h tail (name_entry at Remove i name time ∷ []) fresh))

@@ -7,7 +7,8 @@ ghost use Rattle.std.specs.Prelude.{◌≡◌, ◌+◌, ◌*◌, ◌<◌, is_non
 ghost use Rattle.nv_super.specs.Layout.{HasAreas};
 ghost use Rattle.nv_entry.specs.Light.{bare, with_name};
 ghost use Rattle.nv_entry.specs.declared.entry.NameEntry.{NameEntry as NameValue};
-ghost use Rattle.nv_entry.specs.Content.{is_wrong_kind, is_out_of_range, is_write_out_of_range, is_attr_out_of_range, is_name_out_of_range, is_links_out_of_range, is_dots, has_bad_byte, content_fault, is_good};
+ghost use Rattle.nv_entry.specs.Content.{is_wrong_kind, is_out_of_range, is_write_out_of_range, is_attr_out_of_range, is_name_out_of_range, is_links_out_of_range, is_dots, has_bad_byte};
+ghost use Rattle.nv_entry.specs.Content.{content_fault, is_good};
 
 use crate::entry::{AttrEntry, Entry, LinksEntry, WriteEntry};
 use crate::light::{LightEntry, LightName};

@@ -9,7 +9,8 @@ ghost use Rattle.nv_region.specs.Stops.{NothingPending, LeavesOnly};
 ghost use Rattle.nv_region.specs.Fuses.{KeepsFuse};
 ghost use Rattle.nv_region.specs.Stored.{StoresOnly, Within};
 ghost use Rattle.nv_super.specs.Layout.{IsLayout};
-ghost use Rattle.nv_format.specs.Format.{IsFormatRefusal, CanFormat, IsFormatted, IsLaidOut, HasRoot, AnyAt, IsSystemWord, IsRootWord, fresh_super, root_page, refusal_name, FormatIsDetermined, FormatLeaves};
+ghost use Rattle.nv_format.specs.Format.{IsFormatRefusal, CanFormat, IsFormatted, IsLaidOut, HasRoot, AnyAt, IsSystemWord, IsRootWord, fresh_super, root_page, refusal_name, FormatIsDetermined};
+ghost use Rattle.nv_format.specs.Format.{FormatLeaves};
 ghost use Rattle.nv_format.specs.Sentences.{refusal_sentence};
 
 use crate::clearing::clear_system;

@@ -39,7 +39,8 @@ pub fn graph_less()
 pub fn graph_moved()
     ensures { (l : Layout) (held : Store) (d : ℕ) (h : Held) (tail at next i : ℕ) (name other : List ℕ) (time : ℕ) (fresh : List ℕ) → held d ≡ Some h → h.kind ≡ Directory
         → IsGoodName l.sup i name → IsGoodName l.sup i other
-        → SameGraph (with_name (with_name (graph_in l held) d name None) d other (Some i)) (graph_in l (with_inode held d (Some (grown h tail (name_entry at Remove i name time ∷ name_entry next Add i other time ∷ []) fresh)))) }
+        → SameGraph (with_name (with_name (graph_in l held) d name None) d other (Some i)) (graph_in l
+        (with_inode held d (Some (grown h tail (name_entry at Remove i name time ∷ name_entry next Add i other time ∷ []) fresh)))) }
 {}
 
 /// A file has this link count once its log grew by the entry for it.

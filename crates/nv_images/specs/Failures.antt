@@ -27,6 +27,7 @@ abbrev pub failure_text : Failure → Option (List ℕ)
 failure_text (CannotRead path reason) = option_map (λ shown. codes "cannot read " ++ shown) (shown_text path.now)
 failure_text (NothingToWrite path) = option_map (λ shown. codes "cannot write " ++ shown ++ codes ": there is no region") (shown_text path.now)
 failure_text WordNotUtf8 = Some (codes "a word of the command line isn't UTF-8")
-failure_text (BadEscape path) = option_map (λ shown. codes "in " ++ shown ++ codes " a backslash begins no escape; \\\\ stands for one, and \\x and two hexadecimal digits for a byte") (shown_text path.now)
+failure_text (BadEscape path) = option_map (λ shown. codes "in " ++ shown
+    ++ codes " a backslash begins no escape; \\\\ stands for one, and \\x and two hexadecimal digits for a byte") (shown_text path.now)
 failure_text (NoClass name) = option_map (λ shown. codes "no class of faults is named " ++ shown) (shown_text name.now)
 failure_text _ = None

@@ -4,7 +4,8 @@
 //! counts them.
 
 ghost use Rattle.std.specs.Prelude.{◌≡◌, ◌++◌, ◌+◌, ◌*◌, ◌/◌, ◌<◌, ◌^◌, IfOk, OnOk, length, string_bytes};
-ghost use Rattle.nv_images.specs.Drawing.{colour, use_name, use_phrase, told_use, shaded_blocks, shade_text, head_line, square_line, number_line, number_at, title_text, range_text, free_text, place_text, part_text, kind_text, parts_text, cell_line, words_line, each_line, cell_lines, use_lines, legend_lines, rows_height, drawing};
+ghost use Rattle.nv_images.specs.Drawing.{colour, use_name, use_phrase, told_use, shaded_blocks, shade_text, head_line, square_line, number_line, number_at, title_text, range_text, free_text};
+ghost use Rattle.nv_images.specs.Drawing.{place_text, part_text, kind_text, parts_text, cell_line, words_line, each_line, cell_lines, use_lines, legend_lines, rows_height, drawing};
 
 use nv_map::{BlockUse, Cells, Share};
 use std::alloc::{AllocError, Global};

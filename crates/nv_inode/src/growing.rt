@@ -1,6 +1,6 @@
 //! A block of slots that is linked to the end of a CPU's chain.
 
-ghost use Rattle.std.specs.Prelude.{◌≡◌, ◌⊎◌, ◌≤◌, ◌<◌, ◌+◌, ◌*◌, ◌%◌, ℕ, IsTrue, OnOk, OnErr, is_err};
+ghost use Rattle.std.specs.Prelude.{◌≡◌, ◌⊎◌, ◌≤◌, ◌<◌, ◌+◌, ◌*◌, ◌%◌, ℕ, IsTrue, OnOk, OnErr};
 ghost use Rattle.nv_super.specs.nv_region.Region.{size, word};
 ghost use Rattle.nv_super.specs.nv_region.Stops.{LeavesOnly, NothingPending};
 ghost use Rattle.nv_super.specs.nv_region.Fuses.{KeepsFuse};

@@ -17,7 +17,8 @@ pub record IsReady (R : Region) (cpu : ℕ) : Type 0 where
 
 -- A call stores at most these and words of this CPU's journal, and leaves the journal empty. Of the journal's block it stores
 -- to the numbers and the records alone.
-pub record StoresByJournal {M T E : Type 0} (region : M → Region) (may_hold : M → Choices) (fuse : M → FuseState) (cpu : ℕ) (these : Choices) (behind : ℕ → Type 0) (old new : M) (result : Result T E) : Type 0 where
+pub record StoresByJournal {M T E : Type 0} (region : M → Region) (may_hold : M → Choices) (fuse : M → FuseState) (cpu : ℕ) (these : Choices) (behind : ℕ
+    → Type 0) (old new : M) (result : Result T E) : Type 0 where
   pub stores : StoresAndFences region may_hold fuse (λ i x. Within (journal cpu) 4096 i x ⊎ these i x) behind old new result
   pub open stores use *
   pub keeps_link : StoresOnly (λ i x. JournalWords cpu i x ⊎ these i x) (region old) (region new) (may_hold old) (may_hold new)

@@ -12,10 +12,9 @@ ghost use Rattle.nv_region.specs.Stored.{SameOutside, StoresOnly, Within};
 ghost use Rattle.nv_region.specs.Storing.{AtAnyMoment, StoresAndFences};
 ghost use Rattle.nv_journal.specs.Undo.{journal, enqueue};
 ghost use Rattle.nv_journal.specs.Pending.{BeforeOrAfter, Begun, CanUndo, HasRecords, IsEmpty};
-ghost use Rattle.nv_journal.specs.Recorded.{Recorded, Changes, CommitWords, JournalWords, Two};
+ghost use Rattle.nv_journal.specs.Recorded.{Recorded, JournalWords, Two};
 ghost use Rattle.nv_journal.specs.InOrder.{FirstIsFirst};
 ghost use Rattle.nv_journal.specs.Changing.{IsReady, StoresByJournal, UndoGives};
-ghost use Rattle.nv_journal.specs.Faults.{NoJournalFault};
 
 use crate::pending::{Pending, dequeue_word, enqueue_word};
 use nv_region::{Pmem, Stopped, commit_word};

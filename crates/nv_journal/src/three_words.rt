@@ -1,17 +1,14 @@
 //! Three words that change together, by the journal of a CPU.
 
-ghost use Rattle.std.specs.Prelude.{◌≡◌, ◌≢◌, ◌≤◌, ◌<◌, ◌+◌, ◌%◌, ◌^◌, ◌∷◌, [], ℕ, Bool, IsTrue, OnOk, OnErr, is_err, length};
+ghost use Rattle.std.specs.Prelude.{◌≡◌, ◌≢◌, ◌≤◌, ◌<◌, ◌+◌, ◌%◌, ◌∷◌, [], ℕ, Bool, IsTrue, OnOk, OnErr};
 ghost use Rattle.nv_region.specs.Region.{size};
-ghost use Rattle.nv_region.specs.Stops.{NothingPending, LeavesOnly};
+ghost use Rattle.nv_region.specs.Stops.{NothingPending};
 ghost use Rattle.nv_region.specs.Fuses.{KeepsFuse};
 ghost use Rattle.nv_region.specs.Stored.{SameOutside, StoresOnly};
-ghost use Rattle.nv_region.specs.Storing.{AtAnyMoment, StoresAndFences};
 ghost use Rattle.nv_journal.specs.Undo.{journal};
-ghost use Rattle.nv_journal.specs.Pending.{IsEmpty};
-ghost use Rattle.nv_journal.specs.Several.{BeforeOrAll, CanUndoAll, ChangesAll, CommitsAll, Values, changed};
+ghost use Rattle.nv_journal.specs.Several.{BeforeOrAll, CanUndoAll, Values, changed};
 ghost use Rattle.nv_journal.specs.InOrder.{ThreeInOrder};
 ghost use Rattle.nv_journal.specs.Changing.{IsReady, StoresByJournal, UndoGives};
-ghost use Rattle.nv_journal.specs.Faults.{NoJournalFault};
 
 use crate::committing::{begin, commit};
 use nv_region::{Pmem, Stopped};

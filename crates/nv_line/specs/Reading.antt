@@ -11,7 +11,8 @@ use Rattle.nv_line.specs.Request.{Request}
 use Rattle.nv_line.specs.declared.reasons.Form.{Form}
 use Rattle.nv_line.specs.declared.reasons.Form.TheVariants as forms
 use Rattle.nv_line.specs.Shapes.{Moment, After, At, Slot, Number, UpTo, Path, When, Keeping, Shape, End, Numbers, Then, ValueOf, Values, Makes, made_of}
-use Rattle.nv_line.specs.Table.{Row, rows, attribute_words, cpu_and_path, cpu_and_two_paths, cpu_path_and_number, one_number, one_path, path_and_two_numbers, stop_of, stop_words, three_numbers, two_numbers, write_words}
+use Rattle.nv_line.specs.Table.{Row, rows, attribute_words, cpu_and_path, cpu_and_two_paths, cpu_path_and_number, one_number, one_path, path_and_two_numbers, stop_of, stop_words, three_numbers}
+use Rattle.nv_line.specs.Table.{two_numbers, write_words}
 
 -- digits with no zero in front, or a zero alone
 unfoldable pub is_numeral : List ℕ → Bool

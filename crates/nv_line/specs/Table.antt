@@ -1,7 +1,8 @@
 -- The commands of a script, a row for each.
 use Rattle.std.specs.Prelude.{ℕ, List, [], ◌∷◌, codes}
 use Rattle.nv_region.specs.declared.memory.Keep.{Keep}
-use Rattle.nv_line.specs.Request.{Request, Format, Time, Poke, Cut, Recover, Replay, ListNames, Stat, Read, Create, MakeDirectory, Write, SetSize, SetAttributes, Link, Unlink, RemoveDirectory, Rename, Clean, Tree, Free, Faults, Report, Peek, Stop}
+use Rattle.nv_line.specs.Request.{Request, Format, Time, Poke, Cut, Recover, Replay, ListNames, Stat, Read, Create, MakeDirectory, Write, SetSize, SetAttributes, Link, Unlink, RemoveDirectory, Rename}
+use Rattle.nv_line.specs.Request.{Clean, Tree, Free, Faults, Report, Peek, Stop}
 use Rattle.nv_line.specs.declared.reasons.Form.{Form}
 use Rattle.nv_line.specs.declared.reasons.Form.TheVariants as forms
 use Rattle.nv_line.specs.Shapes.{Moment, Shape, End, Numbers, Then, Number, UpTo, Path, When, Keeping, Makes, fuse_by}

@@ -25,7 +25,11 @@ pub fn push_long_list(out: &mut String, rows: &Rows, row: &Row) -> Result<(), Al
     push_names(out, rows, &listed)
 }
 
-fn push_names(out: &mut String, rows: &Rows, listed: &[Named<'_>]) -> Result<(), AllocError>
+pub(crate) fn push_names(
+    out: &mut String,
+    rows: &Rows,
+    listed: &[Named<'_>],
+) -> Result<(), AllocError>
     ensures { OnOk result (string_bytes out.new ≡ string_bytes out.old ++ long_lines rows.now.items (map line_of listed.now)) }
 {
     for named in listed {

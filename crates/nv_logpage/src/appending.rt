@@ -6,8 +6,6 @@
 
 ghost use Rattle.std.specs.Prelude.{◌≡◌, ◌≢◌, ◌⊎◌, ◌+◌, ◌*◌, ◌/◌, ◌%◌, ◌^◌, ◌<◌, ◌≤◌, List, ◌∷◌, ◌++◌, ℕ, length, take, IfOk, OnOk, OnErr, None, IsTrue, false, is_err};
 ghost use Rattle.nv_region.specs.Region.{Region, size};
-ghost use Rattle.nv_region.specs.Stops.{LeavesOnly, NothingPending};
-ghost use Rattle.nv_region.specs.Fuses.{KeepsFuse};
 ghost use Rattle.nv_region.specs.Stored.{StoresOnly};
 ghost use Rattle.nv_region.specs.Storing.{AtAnyMoment, StoresEach, StoresUnfenced};
 ghost use Rattle.nv_super.specs.Layout.{is_data_address, is_page_start};

@@ -1,10 +1,9 @@
 //! A page taken out of a log by one store.
 
-ghost use Rattle.std.specs.Prelude.{◌≡◌, ◌≢◌, ◌⊎◌, ◌+◌, ◌/◌, ◌%◌, ◌<◌, ◌≤◌, List, ℕ, length, OnOk, None, IsTrue, is_err};
+ghost use Rattle.std.specs.Prelude.{◌≡◌, ◌≢◌, ◌⊎◌, ◌+◌, ◌/◌, ◌%◌, ◌<◌, ◌≤◌, List, ℕ, length, OnOk, None, IsTrue};
 ghost use Rattle.std.specs.List.{Contains};
 ghost use Rattle.nv_region.specs.Region.{put, size};
 ghost use Rattle.nv_region.specs.Stops.{LeavesOnly, NothingPending, One};
-ghost use Rattle.nv_region.specs.Fuses.{KeepsFuse};
 ghost use Rattle.nv_region.specs.Storing.{StoresAndFences};
 ghost use Rattle.nv_super.specs.declared.superblock.Super.{Super};
 ghost use Rattle.nv_super.specs.Layout.{is_page_start};

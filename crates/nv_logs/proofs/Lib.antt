@@ -5,3 +5,4 @@ pub mod Looks
 pub mod BlockLooks
 pub mod LowRows
 pub mod RowLooks
+pub mod Tops

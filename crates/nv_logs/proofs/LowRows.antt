@@ -36,7 +36,11 @@ pub found_low : (g : Gathered) (m : MetadataState) (r : Recovered) → IsFoundIn
 found_low (gatherings.Metadata s memory) m r found = low_rows memory.memory.region (outcome_of r) found.0
 found_low (gatherings.Refused fault) m r found = absurd found
 
--- an inode that is asked for is in use
+-- the row of an inode that is asked for is that of its number
+pub asked_row : (t : Tree) (rows : List Row) (inode : Inode) (row : Row) → IsAsked t rows inode row → row_of rows row.inode ≡ Some row
+asked_row t rows (inodes.Path path) row asked = asked.3
+asked_row t rows (inodes.Number i) row asked = subst (λ (j : ℕ). row_of rows j ≡ Some row) (sym (numbered rows i row asked)) asked
+
+-- it is in use
 pub asked_used : (t : Tree) (rows : List Row) (inode : Inode) (row : Row) → IsAsked t rows inode row → IsInUse rows row.inode
-asked_used t rows (inodes.Path path) row asked = ap is_some asked.3
-asked_used t rows (inodes.Number i) row asked = ap is_some (subst (λ (j : ℕ). row_of rows j ≡ Some row) (sym (numbered rows i row asked)) asked)
+asked_used t rows inode row asked = ap is_some (asked_row t rows inode row asked)

@@ -1,6 +1,7 @@
 pub mod All
 pub mod Asking
 pub mod Block
+pub mod Folders
 pub mod Listing
 pub mod Looking
 pub mod Rows

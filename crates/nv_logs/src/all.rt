@@ -48,7 +48,8 @@ pub fn logs_gathered<W: Write, E: Write>(
     requires { IsOpen gathered }
     ensures ok { (R : Region) → AreGathered R gathered
         → IfOk result (λ answered. WritesTold (IsLogsLook R) (W.contents writer.old) (W.contents writer.new) (E.contents errors.old) (E.contents errors.new) answered) }
-    ensures err { (R : Region) → AreGathered R gathered → IfErr result (λ e. FailsTold (IsLogsLook R) (W.contents writer.old) (W.contents writer.new) (E.contents errors.old) (E.contents errors.new) e) }
+    ensures err { (R : Region) → AreGathered R gathered → IfErr result (λ e. FailsTold (IsLogsLook R) (W.contents writer.old) (W.contents writer.new) (E.contents errors.old)
+        (E.contents errors.new) e) }
     ensures unread { IfErr result (λ e. e ≢ ScriptError.Read) }
 {
     let look = look_at_gathered(alloc, gathered)?;

@@ -2,13 +2,14 @@
 //!
 //! `inode` says which inode. `asking` finds its row. `looking` recovers a region and makes the text, of all its bytes or of its
 //! metadata alone, and `writing` writes that: the text to an output, and a refusal to the errors. `all` does so with the logs of
-//! all inodes in use, `block` tells what a block is, `listing` lists names with the numbers of their inodes, and `usage` counts
-//! blocks.
+//! all inodes in use, `block` tells what a block is, `listing` lists names with the numbers of their inodes, `folders` those of all
+//! directories below, and `usage` counts blocks.
 #![tactic(auto)]
 
 mod all;
 mod asking;
 mod block;
+mod folders;
 mod inode;
 mod listing;
 mod looking;
@@ -17,6 +18,7 @@ mod writing;
 
 pub use all::{logs_gathered, logs_image};
 pub use block::block_image;
+pub use folders::{folders_gathered, folders_image};
 pub use inode::Inode;
 pub use listing::{list_long_gathered, list_long_image};
 pub use usage::{usage_gathered, usage_image};

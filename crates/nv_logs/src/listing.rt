@@ -33,7 +33,8 @@ pub fn list_long_image<W: Write, E: Write>(
     writer: &mut W,
     errors: &mut E,
 ) -> Result<Answered, ScriptError>
-    ensures ok { IfOk result (λ answered. WritesTold (IsListLook inode.now (region_of bytes.now)) (W.contents writer.old) (W.contents writer.new) (E.contents errors.old) (E.contents errors.new) answered) }
+    ensures ok { IfOk result (λ answered. WritesTold (IsListLook inode.now (region_of bytes.now)) (W.contents writer.old) (W.contents writer.new) (E.contents errors.old)
+        (E.contents errors.new) answered) }
     ensures err { IfErr result (λ e. FailsTold (IsListLook inode.now (region_of bytes.now)) (W.contents writer.old) (W.contents writer.new) (E.contents errors.old) (E.contents errors.new) e) }
 {
     let look = look_at_image(alloc, bytes, inode)?;
@@ -53,7 +54,8 @@ pub fn list_long_gathered<W: Write, E: Write>(
     requires { IsOpen gathered }
     ensures ok { (R : Region) → AreGathered R gathered
         → IfOk result (λ answered. WritesTold (IsListLook inode.now R) (W.contents writer.old) (W.contents writer.new) (E.contents errors.old) (E.contents errors.new) answered) }
-    ensures err { (R : Region) → AreGathered R gathered → IfErr result (λ e. FailsTold (IsListLook inode.now R) (W.contents writer.old) (W.contents writer.new) (E.contents errors.old) (E.contents errors.new) e) }
+    ensures err { (R : Region) → AreGathered R gathered → IfErr result (λ e. FailsTold (IsListLook inode.now R) (W.contents writer.old) (W.contents writer.new) (E.contents errors.old)
+        (E.contents errors.new) e) }
     ensures unread { IfErr result (λ e. e ≢ ScriptError.Read) }
 {
     let look = look_at_gathered(alloc, gathered, inode)?;

@@ -35,9 +35,11 @@ pub fn tar_blocks<B: Blocks, W: Write, E: Write>(
     errors: &mut E,
 ) -> Result<Answered, BlocksError>
     ensures ok { (bytes : List ℕ) → B.bytes source.now ≡ Some bytes
-        → IfOk result (λ answered. WritesLook (GivesArchive chosen.entry all) bytes (written (W.contents writer.old) (E.contents errors.old)) (written (W.contents writer.new) (E.contents errors.new)) answered) }
+        → IfOk result (λ answered. WritesLook (GivesArchive chosen.entry all) bytes (written (W.contents writer.old) (E.contents errors.old))
+        (written (W.contents writer.new) (E.contents errors.new)) answered) }
     ensures err { (bytes : List ℕ) → B.bytes source.now ≡ Some bytes
-        → IfErr result (λ e. FailsBlocksCat (GivesArchive chosen.entry all) bytes e (written (W.contents writer.old) (E.contents errors.old)) (written (W.contents writer.new) (E.contents errors.new))) }
+        → IfErr result (λ e. FailsBlocksCat (GivesArchive chosen.entry all) bytes e (written (W.contents writer.old) (E.contents errors.old))
+        (written (W.contents writer.new) (E.contents errors.new))) }
 {
     let gathered = gather(alloc, source)?;
     tar_gathered(alloc, source, gathered, chosen, all, writer, errors)
@@ -55,9 +57,11 @@ pub fn tar_gathered<B: Blocks, W: Write, E: Write>(
 ) -> Result<Answered, BlocksError>
     requires { IsOpen gathered }
     ensures ok { (bytes : List ℕ) → B.bytes source.now ≡ Some bytes → AreGathered (region_of bytes) gathered
-        → IfOk result (λ answered. WritesLook (GivesArchive chosen.entry all) bytes (written (W.contents writer.old) (E.contents errors.old)) (written (W.contents writer.new) (E.contents errors.new)) answered) }
+        → IfOk result (λ answered. WritesLook (GivesArchive chosen.entry all) bytes (written (W.contents writer.old) (E.contents errors.old))
+        (written (W.contents writer.new) (E.contents errors.new)) answered) }
     ensures err { (bytes : List ℕ) → B.bytes source.now ≡ Some bytes → AreGathered (region_of bytes) gathered
-        → IfErr result (λ e. FailsBlocksCat (GivesArchive chosen.entry all) bytes e (written (W.contents writer.old) (E.contents errors.old)) (written (W.contents writer.new) (E.contents errors.new))) }
+        → IfErr result (λ e. FailsBlocksCat (GivesArchive chosen.entry all) bytes e (written (W.contents writer.old) (E.contents errors.old))
+        (written (W.contents writer.new) (E.contents errors.new))) }
 {
     let opened = open_gathered(alloc, gathered)?;
     match opened {
@@ -89,9 +93,11 @@ fn tar_rows<B: Blocks, W: Write, E: Write>(
     requires small { AreSmallRows rows.now.items }
     requires low { AreLowRows rows.now.items }
     ensures ok { AreKnown (B.bytes source.now) rows.now.items
-        → IfOk result (λ status. WritesTold (GivesArchive chosen.entry all) (shown_tree (B.bytes source.now) rows.now.items) (written (W.contents writer.old) (E.contents errors.old)) (written (W.contents writer.new) (E.contents errors.new)) status) }
+        → IfOk result (λ status. WritesTold (GivesArchive chosen.entry all) (shown_tree (B.bytes source.now) rows.now.items) (written (W.contents writer.old) (E.contents errors.old))
+        (written (W.contents writer.new) (E.contents errors.new)) status) }
     ensures err { AreKnown (B.bytes source.now) rows.now.items
-        → IfErr result (λ e. FailsTold (GivesArchive chosen.entry all) (shown_tree (B.bytes source.now) rows.now.items) e (written (W.contents writer.old) (E.contents errors.old)) (written (W.contents writer.new) (E.contents errors.new))) }
+        → IfErr result (λ e. FailsTold (GivesArchive chosen.entry all) (shown_tree (B.bytes source.now) rows.now.items) e (written (W.contents writer.old) (E.contents errors.old))
+        (written (W.contents writer.new) (E.contents errors.new))) }
 {
     match inode_of(rows, chosen) {
         Ok(inode) => told(write_archive(alloc, source, rows, inode, chosen, all, writer)),

@@ -45,7 +45,8 @@ pub fn cat_blocks<B: Blocks, W: Write, E: Write>(
     errors: &mut E,
 ) -> Result<Answered, BlocksError>
     ensures ok { (bytes : List ℕ) → B.bytes source.now ≡ Some bytes
-        → IfOk result (λ answered. WritesLook (GivesBytes path.now) bytes (written (W.contents writer.old) (E.contents errors.old)) (written (W.contents writer.new) (E.contents errors.new)) answered) }
+        → IfOk result (λ answered. WritesLook (GivesBytes path.now) bytes (written (W.contents writer.old) (E.contents errors.old))
+        (written (W.contents writer.new) (E.contents errors.new)) answered) }
     ensures err { (bytes : List ℕ) → B.bytes source.now ≡ Some bytes
         → IfErr result (λ e. FailsBlocksCat (GivesBytes path.now) bytes e (written (W.contents writer.old) (E.contents errors.old)) (written (W.contents writer.new) (E.contents errors.new))) }
 {
@@ -64,7 +65,8 @@ pub fn cat_gathered<B: Blocks, W: Write, E: Write>(
 ) -> Result<Answered, BlocksError>
     requires { IsOpen gathered }
     ensures ok { (bytes : List ℕ) → B.bytes source.now ≡ Some bytes → AreGathered (region_of bytes) gathered
-        → IfOk result (λ answered. WritesLook (GivesBytes path.now) bytes (written (W.contents writer.old) (E.contents errors.old)) (written (W.contents writer.new) (E.contents errors.new)) answered) }
+        → IfOk result (λ answered. WritesLook (GivesBytes path.now) bytes (written (W.contents writer.old) (E.contents errors.old))
+        (written (W.contents writer.new) (E.contents errors.new)) answered) }
     ensures err { (bytes : List ℕ) → B.bytes source.now ≡ Some bytes → AreGathered (region_of bytes) gathered
         → IfErr result (λ e. FailsBlocksCat (GivesBytes path.now) bytes e (written (W.contents writer.old) (E.contents errors.old)) (written (W.contents writer.new) (E.contents errors.new))) }
 {

@@ -38,7 +38,8 @@ pub fn list_blocks<B: Blocks, W: Write, E: Write>(
     errors: &mut E,
 ) -> Result<Answered, BlocksError>
     ensures ok { (bytes : List ℕ) → B.bytes source.now ≡ Some bytes
-        → IfOk result (λ answered. WritesLook (ListsNames path.now) bytes (written (W.contents writer.old) (E.contents errors.old)) (written (W.contents writer.new) (E.contents errors.new)) answered) }
+        → IfOk result (λ answered. WritesLook (ListsNames path.now) bytes (written (W.contents writer.old) (E.contents errors.old))
+        (written (W.contents writer.new) (E.contents errors.new)) answered) }
     ensures err { (bytes : List ℕ) → B.bytes source.now ≡ Some bytes
         → IfErr result (λ e. FailsBlocksLook (ListsNames path.now) bytes e (written (W.contents writer.old) (E.contents errors.old)) (written (W.contents writer.new) (E.contents errors.new))) }
     ensures unread { IfErr result (λ e. KeepsBothUnread e (written (W.contents writer.old) (E.contents errors.old)) (written (W.contents writer.new) (E.contents errors.new))) }
@@ -59,7 +60,8 @@ pub fn list_gathered<W: Write, E: Write>(
 ) -> Result<Answered, ScriptError>
     requires { IsOpen gathered }
     ensures ok { (bytes : List ℕ) → AreGathered (region_of bytes) gathered
-        → IfOk result (λ answered. WritesLook (ListsNames path.now) bytes (written (W.contents writer.old) (E.contents errors.old)) (written (W.contents writer.new) (E.contents errors.new)) answered) }
+        → IfOk result (λ answered. WritesLook (ListsNames path.now) bytes (written (W.contents writer.old) (E.contents errors.old))
+        (written (W.contents writer.new) (E.contents errors.new)) answered) }
     ensures err { (bytes : List ℕ) → AreGathered (region_of bytes) gathered
         → IfErr result (λ e. FailsLook (ListsNames path.now) bytes e (written (W.contents writer.old) (E.contents errors.old)) (written (W.contents writer.new) (E.contents errors.new))) }
     ensures unread { IfErr result (λ e. e ≢ ScriptError.Read) }
@@ -79,7 +81,8 @@ pub fn stat_blocks<B: Blocks, W: Write, E: Write>(
     errors: &mut E,
 ) -> Result<Answered, BlocksError>
     ensures ok { (bytes : List ℕ) → B.bytes source.now ≡ Some bytes
-        → IfOk result (λ answered. WritesLook (TellsNumbers path.now) bytes (written (W.contents writer.old) (E.contents errors.old)) (written (W.contents writer.new) (E.contents errors.new)) answered) }
+        → IfOk result (λ answered. WritesLook (TellsNumbers path.now) bytes (written (W.contents writer.old) (E.contents errors.old))
+        (written (W.contents writer.new) (E.contents errors.new)) answered) }
     ensures err { (bytes : List ℕ) → B.bytes source.now ≡ Some bytes
         → IfErr result (λ e. FailsBlocksLook (TellsNumbers path.now) bytes e (written (W.contents writer.old) (E.contents errors.old)) (written (W.contents writer.new) (E.contents errors.new))) }
     ensures unread { IfErr result (λ e. KeepsBothUnread e (written (W.contents writer.old) (E.contents errors.old)) (written (W.contents writer.new) (E.contents errors.new))) }
@@ -100,7 +103,8 @@ pub fn stat_gathered<W: Write, E: Write>(
 ) -> Result<Answered, ScriptError>
     requires { IsOpen gathered }
     ensures ok { (bytes : List ℕ) → AreGathered (region_of bytes) gathered
-        → IfOk result (λ answered. WritesLook (TellsNumbers path.now) bytes (written (W.contents writer.old) (E.contents errors.old)) (written (W.contents writer.new) (E.contents errors.new)) answered) }
+        → IfOk result (λ answered. WritesLook (TellsNumbers path.now) bytes (written (W.contents writer.old) (E.contents errors.old))
+        (written (W.contents writer.new) (E.contents errors.new)) answered) }
     ensures err { (bytes : List ℕ) → AreGathered (region_of bytes) gathered
         → IfErr result (λ e. FailsLook (TellsNumbers path.now) bytes e (written (W.contents writer.old) (E.contents errors.old)) (written (W.contents writer.new) (E.contents errors.new))) }
     ensures unread { IfErr result (λ e. e ≢ ScriptError.Read) }

@@ -10,7 +10,8 @@ ghost use Rattle.nv_tree.specs.Refusals.{Path};
 ghost use Rattle.nv_session.specs.nv_calls.Reading.{IsRead};
 ghost use Rattle.nv_checking.specs.Checking.{IsRefusal};
 ghost use Rattle.nv_looks.specs.Sent.{Sends, SendsFront, written};
-ghost use Rattle.nv_looks.specs.Looking.{IsLook, IsOpened, IsSized, ListsNames, TellsNumbers, GivesBytes, WritesLook, FailsLook, FailsCat, WritesCall, FailsCall, WritesFile, FailsFile, WritesRefusal, FailsRefusal};
+ghost use Rattle.nv_looks.specs.Looking.{IsLook, IsOpened, IsSized, ListsNames, TellsNumbers, GivesBytes, WritesLook, FailsLook, FailsCat, WritesCall, FailsCall, WritesFile, FailsFile, WritesRefusal};
+ghost use Rattle.nv_looks.specs.Looking.{FailsRefusal};
 ghost use Rattle.nv_calls.specs.Mount.{shown};
 
 use nv_checking::{Answered, Image, recover_image};
@@ -51,7 +52,8 @@ pub fn list_image<W: Write, E: Write>(
     writer: &mut W,
     errors: &mut E,
 ) -> Result<Answered, ScriptError>
-    ensures ok { IfOk result (λ answered. WritesLook (ListsNames path.now) bytes.now (written (W.contents writer.old) (E.contents errors.old)) (written (W.contents writer.new) (E.contents errors.new)) answered) }
+    ensures ok { IfOk result (λ answered. WritesLook (ListsNames path.now) bytes.now (written (W.contents writer.old) (E.contents errors.old))
+        (written (W.contents writer.new) (E.contents errors.new)) answered) }
     ensures err { IfErr result (λ e. FailsLook (ListsNames path.now) bytes.now e (written (W.contents writer.old) (E.contents errors.old)) (written (W.contents writer.new) (E.contents errors.new))) }
 {
     let look = look_at_names(alloc, bytes, path)?;
@@ -68,8 +70,10 @@ pub fn stat_image<W: Write, E: Write>(
     writer: &mut W,
     errors: &mut E,
 ) -> Result<Answered, ScriptError>
-    ensures ok { IfOk result (λ answered. WritesLook (TellsNumbers path.now) bytes.now (written (W.contents writer.old) (E.contents errors.old)) (written (W.contents writer.new) (E.contents errors.new)) answered) }
-    ensures err { IfErr result (λ e. FailsLook (TellsNumbers path.now) bytes.now e (written (W.contents writer.old) (E.contents errors.old)) (written (W.contents writer.new) (E.contents errors.new))) }
+    ensures ok { IfOk result (λ answered. WritesLook (TellsNumbers path.now) bytes.now (written (W.contents writer.old) (E.contents errors.old))
+        (written (W.contents writer.new) (E.contents errors.new)) answered) }
+    ensures err { IfErr result (λ e. FailsLook (TellsNumbers path.now) bytes.now e (written (W.contents writer.old) (E.contents errors.old))
+        (written (W.contents writer.new) (E.contents errors.new))) }
 {
     let look = look_at_numbers(alloc, bytes, path)?;
     write_look(&look, writer, errors)?;
@@ -88,7 +92,8 @@ pub fn cat_image<W: Write, E: Write>(
     writer: &mut W,
     errors: &mut E,
 ) -> Result<Answered, ScriptError>
-    ensures ok { IfOk result (λ answered. WritesLook (GivesBytes path.now) bytes.now (written (W.contents writer.old) (E.contents errors.old)) (written (W.contents writer.new) (E.contents errors.new)) answered) }
+    ensures ok { IfOk result (λ answered. WritesLook (GivesBytes path.now) bytes.now (written (W.contents writer.old) (E.contents errors.old))
+        (written (W.contents writer.new) (E.contents errors.new)) answered) }
     ensures err { IfErr result (λ e. FailsCat (GivesBytes path.now) bytes.now e (written (W.contents writer.old) (E.contents errors.old)) (written (W.contents writer.new) (E.contents errors.new))) }
 {
     let opened = open_image(alloc, bytes)?;
@@ -114,8 +119,10 @@ pub(crate) fn write_look<W: Write, E: Write>(
     writer: &mut W,
     errors: &mut E,
 ) -> Result<(), ScriptError>
-    ensures ok { OnOk result (Sends look.now.answered.status (written (W.contents writer.old) (E.contents errors.old)) (written (W.contents writer.new) (E.contents errors.new)) (string_bytes look.now.text)) }
-    ensures err { OnErr result (SendsFront look.now.answered.status (written (W.contents writer.old) (E.contents errors.old)) (written (W.contents writer.new) (E.contents errors.new)) (string_bytes look.now.text)) }
+    ensures ok { OnOk result (Sends look.now.answered.status (written (W.contents writer.old) (E.contents errors.old)) (written (W.contents writer.new) (E.contents errors.new))
+        (string_bytes look.now.text)) }
+    ensures err { OnErr result (SendsFront look.now.answered.status (written (W.contents writer.old) (E.contents errors.old)) (written (W.contents writer.new) (E.contents errors.new))
+        (string_bytes look.now.text)) }
     ensures kind { IfErr result (λ e. e ≡ ScriptError.Write) }
 {
     if look.answered.status == Last::Sound.status() {

@@ -27,8 +27,10 @@ pub fn list_inode_image<W: Write, E: Write>(
     writer: &mut W,
     errors: &mut E,
 ) -> Result<Answered, ScriptError>
-    ensures ok { IfOk result (λ answered. WritesLook (ListsInodeNames inode) bytes.now (written (W.contents writer.old) (E.contents errors.old)) (written (W.contents writer.new) (E.contents errors.new)) answered) }
-    ensures err { IfErr result (λ e. FailsLook (ListsInodeNames inode) bytes.now e (written (W.contents writer.old) (E.contents errors.old)) (written (W.contents writer.new) (E.contents errors.new))) }
+    ensures ok { IfOk result (λ answered. WritesLook (ListsInodeNames inode) bytes.now (written (W.contents writer.old) (E.contents errors.old))
+        (written (W.contents writer.new) (E.contents errors.new)) answered) }
+    ensures err { IfErr result (λ e. FailsLook (ListsInodeNames inode) bytes.now e (written (W.contents writer.old) (E.contents errors.old))
+        (written (W.contents writer.new) (E.contents errors.new))) }
 {
     let look = look_at_inode_names(alloc, bytes, inode)?;
     write_look(&look, writer, errors)?;
@@ -44,8 +46,10 @@ pub fn stat_inode_image<W: Write, E: Write>(
     writer: &mut W,
     errors: &mut E,
 ) -> Result<Answered, ScriptError>
-    ensures ok { IfOk result (λ answered. WritesLook (TellsInodeNumbers inode) bytes.now (written (W.contents writer.old) (E.contents errors.old)) (written (W.contents writer.new) (E.contents errors.new)) answered) }
-    ensures err { IfErr result (λ e. FailsLook (TellsInodeNumbers inode) bytes.now e (written (W.contents writer.old) (E.contents errors.old)) (written (W.contents writer.new) (E.contents errors.new))) }
+    ensures ok { IfOk result (λ answered. WritesLook (TellsInodeNumbers inode) bytes.now (written (W.contents writer.old) (E.contents errors.old))
+        (written (W.contents writer.new) (E.contents errors.new)) answered) }
+    ensures err { IfErr result (λ e. FailsLook (TellsInodeNumbers inode) bytes.now e (written (W.contents writer.old) (E.contents errors.old))
+        (written (W.contents writer.new) (E.contents errors.new))) }
 {
     let look = look_at_inode_numbers(alloc, bytes, inode)?;
     write_look(&look, writer, errors)?;
@@ -61,7 +65,8 @@ pub fn cat_inode_image<W: Write, E: Write>(
     writer: &mut W,
     errors: &mut E,
 ) -> Result<Answered, ScriptError>
-    ensures ok { IfOk result (λ answered. WritesLook (GivesInodeBytes inode) bytes.now (written (W.contents writer.old) (E.contents errors.old)) (written (W.contents writer.new) (E.contents errors.new)) answered) }
+    ensures ok { IfOk result (λ answered. WritesLook (GivesInodeBytes inode) bytes.now (written (W.contents writer.old) (E.contents errors.old))
+        (written (W.contents writer.new) (E.contents errors.new)) answered) }
     ensures err { IfErr result (λ e. FailsCat (GivesInodeBytes inode) bytes.now e (written (W.contents writer.old) (E.contents errors.old)) (written (W.contents writer.new) (E.contents errors.new))) }
 {
     let opened = open_image(alloc, bytes)?;
@@ -116,8 +121,10 @@ fn cat_inode<P: Pmem + Drop, W: Write, E: Write>(
     errors: &mut E,
 ) -> Result<u8, ScriptError>
     requires { mount.now.stopped ≡ false }
-    ensures ok { IfOk result (λ status. WritesInodeCall (shown P.region mount.now) inode (written (W.contents writer.old) (E.contents errors.old)) (written (W.contents writer.new) (E.contents errors.new)) status) }
-    ensures err { IfErr result (λ e. FailsInodeCall (shown P.region mount.now) inode e (written (W.contents writer.old) (E.contents errors.old)) (written (W.contents writer.new) (E.contents errors.new))) }
+    ensures ok { IfOk result (λ status. WritesInodeCall (shown P.region mount.now) inode (written (W.contents writer.old) (E.contents errors.old))
+        (written (W.contents writer.new) (E.contents errors.new)) status) }
+    ensures err { IfErr result (λ e. FailsInodeCall (shown P.region mount.now) inode e (written (W.contents writer.old) (E.contents errors.old))
+        (written (W.contents writer.new) (E.contents errors.new))) }
 {
     // No bytes: the same tests.
     match mount.read_inode(inode, 0, 0) {

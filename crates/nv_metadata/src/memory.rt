@@ -4,7 +4,7 @@
 //! held and where these begin: they stand one piece behind another, in the order in which they came, each without the zeros at
 //! its end. A store behind the front is refused as if a fuse had burnt.
 
-ghost use Rattle.std.specs.Prelude.{◌≡◌, ◌≢◌, ◌≤◌, ◌<◌, ◌+◌, ◌*◌, ◌/◌, ◌%◌, ◌^◌, ◌||◌, ◌==◌, ℕ, List, false, nat_le, IsTrue, IfOk, OnOk, OnErr, is_err, length, drop, set, refl};
+ghost use Rattle.std.specs.Prelude.{◌≡◌, ◌≢◌, ◌≤◌, ◌<◌, ◌+◌, ◌*◌, ◌/◌, ◌%◌, ◌||◌, ℕ, false, IfOk, OnOk, OnErr, is_err, length, drop, set, refl};
 ghost use Rattle.std.proofs.lemmas.Bool.{false≢true};
 ghost use Rattle.byteorder.specs.Endian.{little_number};
 ghost use Rattle.nv_region.specs.Region.{HasBlocks, size, word, put, words_of};

@@ -1,11 +1,11 @@
 //! The pages of logs, fetched one after another as the links lead to them.
 
-ghost use Rattle.std.specs.Prelude.{◌≡◌, ◌≢◌, ◌≤◌, ◌<◌, ◌/◌, ◌%◌, ◌*◌, ◌∷◌, [], ℕ, List, Some, IfErr, OnOk, OnSome, IfSome, IfNone, IsTrue, true, false, eqb, length};
+ghost use Rattle.std.specs.Prelude.{◌≡◌, ◌≢◌, ◌≤◌, ◌<◌, ◌/◌, ◌%◌, ◌*◌, ℕ, List, Some, IfErr, OnOk, IfSome, IfNone, IsTrue, true, false, eqb, length};
 ghost use Rattle.std.specs.List.{Contains, list_any};
-ghost use Rattle.nv_region.specs.Region.{HasBlocks, region_of};
-ghost use Rattle.nv_super.specs.Layout.{HasAreas, is_page_start, system_blocks};
+ghost use Rattle.nv_region.specs.Region.{region_of};
+ghost use Rattle.nv_super.specs.Layout.{HasAreas, is_page_start};
 ghost use Rattle.nv_inode.specs.Slot.{is_right_log};
-ghost use Rattle.nv_metadata.specs.Linked.{IsLinked, link_in, wanted};
+ghost use Rattle.nv_metadata.specs.Linked.{link_in, wanted};
 ghost use Rattle.nv_metadata.specs.Memory.{CanHold, SameFront, Shows};
 ghost use Rattle.nv_metadata.specs.Holding.{CanFetch, HoldsMore};
 ghost use Rattle.nv_metadata.specs.Walk.{IsFetched, AreFetched};

@@ -1,5 +1,6 @@
 -- What a contract sees of `Leaves`, and how it lays out its words.
-use Rattle.std.specs.Prelude.{◌≡◌, ◌⊎◌, ℕ, ◌+◌, ◌-◌, ◌*◌, ◌/◌, ◌%◌, ◌<◌, ◌≤◌, ◌^◌, Bool, nat_lt, nat_le, if◌then◌else◌, List, [], map, length, replicate, count_by, slice_index, slice_index_or, vec_items, vec_capacity, refl}
+use Rattle.std.specs.Prelude.{◌≡◌, ◌⊎◌, ℕ, ◌+◌, ◌-◌, ◌*◌, ◌/◌, ◌%◌, ◌<◌, ◌≤◌, ◌^◌, Bool, nat_lt, nat_le, if◌then◌else◌, List, [], map, length, replicate, count_by, slice_index, slice_index_or}
+use Rattle.std.specs.Prelude.{vec_items, vec_capacity, refl}
 use Rattle.std.specs.List.{All, range_with_len, sum_by}
 use Rattle.std.specs.Coded.{Coded, code_by, coded×, coded_ℕ, coded_list}
 use Rattle.std.specs.declared.vec.Vec.{Vec}

@@ -1,7 +1,8 @@
 //! Words by number, in leaves of 4,096 words, of which only those are made that have a word that isn't 0. Only `new`
 //! and `reserve` take memory.
 
-ghost use Rattle.std.specs.Prelude.{◌≡◌, ◌≢◌, ◌+◌, ◌<◌, ◌≤◌, ◌^◌, ◌++◌, [], ◌∷◌, ℕ, length, replicate, vec_len, vec_capacity, IsOk, IfOk, IfSome, OnOk, OnErr, unwrap_or, slice_index, slice_index_or, slice_set};
+ghost use Rattle.std.specs.Prelude.{◌≡◌, ◌≢◌, ◌+◌, ◌<◌, ◌≤◌, ◌^◌, ◌++◌, [], ◌∷◌, ℕ, length, replicate, vec_len, vec_capacity, IsOk, IfOk, IfSome, OnOk, OnErr, unwrap_or, slice_index, slice_index_or};
+ghost use Rattle.std.specs.Prelude.{slice_set};
 ghost use Rattle.nv_numbered.specs.Leaved.{leaves_of};
 
 use std::alloc::{AllocError, Global};

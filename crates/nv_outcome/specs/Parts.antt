@@ -42,7 +42,9 @@ pub record AreMaps (claims : List (ℕ × Owner)) (first second : List ℕ) : Ty
   pub once : (b : ℕ) → has first b ≡ min 1 (claims_of b claims)
   pub twice : (b : ℕ) → has second b ≡ min 1 (claims_of b claims - 1)
 
--- All parts of a recovery of a region: the pieces of its inodes; their claims, in any order, and the sets of blocks claimed; the free blocks; the claims of doubled blocks; the faults of its journals and those between its inodes; and all faults, those of its chains too.
+-- All parts of a recovery of a region: the pieces of its inodes; their claims, in any order, and the sets of blocks claimed; the
+-- free blocks; the claims of doubled blocks; the faults of its journals and those between its inodes; and all faults, those of its
+-- chains too.
 pub record AreParts (R : Region) (s : Super) (pieces : List Piece) (claims : List (ℕ × Owner)) (first second : List ℕ)
     (free : FreeLists) (doubled : List (ℕ × Owner)) (journal cross found : List Fault) : Type 0 where
   pub scanned : ArePieces (undone s R) (layout_of s (undone s R)) pieces

@@ -12,7 +12,8 @@ use Rattle.nv_paths.specs.Spots.{IsNoneNamed}
 
 -- the tests of `replace` between those of every writing call and that for space
 abbrev pub replace_spot_tests : Tree → Path → Path → Tests
-replace_spot_tests t p q = is_bad_name p ∷ is_bad_name q ∷ walk_tests t p ++ walk_tests t q ++ is_missing t p ∷ is_into_itself t p q ∷ is_over_directory t p q ∷ is_over_file t p q ∷ is_over_names t p q ∷ []
+replace_spot_tests t p q = is_bad_name p ∷ is_bad_name q ∷ walk_tests t p ++ walk_tests t q
+    ++ is_missing t p ∷ is_into_itself t p q ∷ is_over_directory t p q ∷ is_over_file t p q ∷ is_over_names t p q ∷ []
 
 -- The name of the directory at a place stands for an inode in use of the same kind as the one whose row is at another place, which
 -- has no names where it is another inode; or for none.

@@ -47,7 +47,8 @@ pub fn rename_for<'a>(rows: &Rows, old: &'a [u8], new: &'a [u8]) -> Result<Move<
     ensures name { IfOk result (λ moved. IsPathName moved.name.now) }
     ensures paths { OnOk result (((names : List (List ℕ)) × IsPath old.now names) × ((name : List ℕ) × (names : List (List ℕ)) × IsPath new.now (name ∷ names))) }
     ensures spot { (region : Region) (names others : List (List ℕ)) → IsPath old.now names → IsPath new.now others
-        → IfOk result (λ moved. IsMoveSpot (tree_of region rows.now.items) rows.now.items names others (place_in rows.now.items moved.from.directory) moved.from.name.now (place_in rows.now.items moved.from.target) (place_in rows.now.items moved.directory) moved.name.now) }
+        → IfOk result (λ moved. IsMoveSpot (tree_of region rows.now.items) rows.now.items names others (place_in rows.now.items moved.from.directory) moved.from.name.now
+        (place_in rows.now.items moved.from.target) (place_in rows.now.items moved.directory) moved.name.now) }
     ensures allowed { (region : Region) (p q : Path) → Says old.now p → Says new.now q → OnOk result (first_refusal (rename_spot_tests (tree_of region rows.now.items) p q) ≡ Option.None) }
     ensures refused { (region : Region) (p q : Path) → Says old.now p → Says new.now q → IfErr result (λ e. first_refusal (rename_spot_tests (tree_of region rows.now.items) p q) ≡ Option.Some e) }
 {
@@ -69,9 +70,11 @@ pub(crate) fn move_for<'a>(rows: &Rows, old: &'a [u8], new: &'a [u8]) -> Result<
     ensures name { IfOk result (λ moved. IsPathName moved.name.now) }
     ensures paths { OnOk result (((name : List ℕ) × (names : List (List ℕ)) × IsPath old.now (name ∷ names)) × ((name : List ℕ) × (names : List (List ℕ)) × IsPath new.now (name ∷ names))) }
     ensures way { (region : Region) (names others : List (List ℕ)) → IsPath old.now names → IsPath new.now others
-        → IfOk result (λ moved. IsMoveWay (tree_of region rows.now.items) rows.now.items names others (place_in rows.now.items moved.from.directory) moved.from.name.now (place_in rows.now.items moved.from.target) (place_in rows.now.items moved.directory) moved.name.now) }
+        → IfOk result (λ moved. IsMoveWay (tree_of region rows.now.items) rows.now.items names others (place_in rows.now.items moved.from.directory) moved.from.name.now
+        (place_in rows.now.items moved.from.target) (place_in rows.now.items moved.directory) moved.name.now) }
     ensures ended { (region : Region) (names : List (List ℕ)) → Spells new.now names
-        → IfOk result (λ moved. (row : RowValue) → row_of rows.now.items moved.directory ≡ Option.Some row → (tree_walk (tree_of region rows.now.items) 1 names ≡ Result.Ok row.inode) × (row.kind ≡ Directory)) }
+        → IfOk result (λ moved. (row : RowValue) → row_of rows.now.items moved.directory ≡ Option.Some row
+        → (tree_walk (tree_of region rows.now.items) 1 names ≡ Result.Ok row.inode) × (row.kind ≡ Directory)) }
     ensures last { (names : List (List ℕ)) → Spells new.now names → IfOk result (λ moved. moved.name.now ≡ last_name names) }
     ensures allowed { (region : Region) (p q : Path) → Says old.now p → Says new.now q → OnOk result (first_refusal (move_tests (tree_of region rows.now.items) p q) ≡ Option.None) }
     ensures refused { (region : Region) (p q : Path) → Says old.now p → Says new.now q → IfErr result (λ e. first_refusal (move_tests (tree_of region rows.now.items) p q) ≡ Option.Some e) }

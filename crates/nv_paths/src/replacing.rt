@@ -47,7 +47,8 @@ pub fn replace_for<'a>(
     ensures name { IfOk result (λ r. IsPathName r.moved.name.now) }
     ensures paths { OnOk result (((name : List ℕ) × (names : List (List ℕ)) × IsPath old.now (name ∷ names)) × ((name : List ℕ) × (names : List (List ℕ)) × IsPath new.now (name ∷ names))) }
     ensures spot { (region : Region) (names others : List (List ℕ)) → IsPath old.now names → IsPath new.now others
-        → IfOk result (λ r. IsReplaceSpot (tree_of region rows.now.items) rows.now.items names others (place_in rows.now.items r.moved.from.directory) r.moved.from.name.now (place_in rows.now.items r.moved.from.target) (place_in rows.now.items r.moved.directory) r.moved.name.now r.there) }
+        → IfOk result (λ r. IsReplaceSpot (tree_of region rows.now.items) rows.now.items names others (place_in rows.now.items r.moved.from.directory) r.moved.from.name.now
+        (place_in rows.now.items r.moved.from.target) (place_in rows.now.items r.moved.directory) r.moved.name.now r.there) }
     ensures allowed { (region : Region) (p q : Path) → Says old.now p → Says new.now q → OnOk result (first_refusal (replace_spot_tests (tree_of region rows.now.items) p q) ≡ Option.None) }
     ensures refused { (region : Region) (p q : Path) → Says old.now p → Says new.now q → IfErr result (λ e. first_refusal (replace_spot_tests (tree_of region rows.now.items) p q) ≡ Option.Some e) }
 {

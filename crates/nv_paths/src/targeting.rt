@@ -35,7 +35,8 @@ pub fn link_for<'a>(rows: &Rows, old: &[u8], new: &'a [u8]) -> Result<Named<'a>,
     ensures name { IfOk result (λ named. IsPathName named.name.now) }
     ensures paths { OnOk result (((names : List (List ℕ)) × IsPath old.now names) × ((names : List (List ℕ)) × IsPath new.now names)) }
     ensures spot { (region : Region) (names others : List (List ℕ)) → IsPath old.now names → IsPath new.now others
-        → IfOk result (λ named. IsLinkSpot (tree_of region rows.now.items) rows.now.items names others (place_in rows.now.items named.directory) named.name.now (place_in rows.now.items named.target)) }
+        → IfOk result (λ named. IsLinkSpot (tree_of region rows.now.items) rows.now.items names others (place_in rows.now.items named.directory) named.name.now
+        (place_in rows.now.items named.target)) }
     ensures allowed { (region : Region) (p q : Path) → Says old.now p → Says new.now q → OnOk result (first_refusal (link_spot_tests (tree_of region rows.now.items) p q) ≡ Option.None) }
     ensures refused { (region : Region) (p q : Path) → Says old.now p → Says new.now q → IfErr result (λ e. first_refusal (link_spot_tests (tree_of region rows.now.items) p q) ≡ Option.Some e) }
 {

@@ -9,7 +9,8 @@ use Rattle.nv_journal.specs.Undo.{undone}
 use Rattle.nv_journal.specs.Faults.{HasFault}
 use Rattle.nv_recover.specs.declared.starting.Started.{Started}
 
--- The superblock of the old region, its tables, which have no chains, what is wrong with the chains of the new one, and the faults of the old one's journals; the new one is the old with its journals rolled back.
+-- The superblock of the old region, its tables, which have no chains, and the faults of its journals. The new region is the old
+-- one with its journals rolled back, and what is wrong with its chains is told.
 pub record IsStarted (old new : Region) (o : Started) : Type 0 where
   pub sup : IsSuper old o.sup
   pub layout : IsLayout o.sup

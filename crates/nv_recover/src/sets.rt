@@ -76,7 +76,8 @@ impl Sets {
         rows: &Chunks<Row>,
     ) -> Result<Owned, AllocError>
         requires { (region : Region) × (pieces : List Piece) × AreSetsOf region tables.now.layout pieces rows.now.items self.first.items self.second.items }
-        ensures { IfOk result (λ owned. (region : Region) (pieces : List Piece) → AreSetsOf region tables.now.layout pieces rows.now.items self.first.items self.second.items → AreOwned tables.now.layout.sup pieces owned) }
+        ensures { IfOk result (λ owned. (region : Region) (pieces : List Piece) → AreSetsOf region tables.now.layout pieces rows.now.items self.first.items self.second.items
+            → AreOwned tables.now.layout.sup pieces owned) }
     {
         let doubled = doubled_in(alloc, tables, rows, &self.second)?;
         Ok(Owned {

@@ -8,7 +8,8 @@ use Rattle.nv_region.specs.Stored.{StoresOnly}
 
 -- A call stores at most these, also where it is refused, and fences them. It is refused exactly where the fuse has burnt by
 -- its end. Behind says which addresses lie behind all that it stores.
-pub record StoresAndFences {M T E : Type 0} (region : M → Region) (may_hold : M → Choices) (fuse : M → FuseState) (these : Choices) (behind : ℕ → Type 0) (old new : M) (result : Result T E) : Type 0 where
+pub record StoresAndFences {M T E : Type 0} (region : M → Region) (may_hold : M → Choices) (fuse : M → FuseState) (these : Choices) (behind : ℕ
+    → Type 0) (old new : M) (result : Result T E) : Type 0 where
   pub wrote : StoresOnly these (region old) (region new) (may_hold old) (may_hold new)
   pub stopped : is_err result ≡ (fuse new).has_burnt
   pub keeps_fuse : KeepsFuse behind (fuse old) (fuse new)
@@ -28,7 +29,8 @@ pub record StoresUnfenced {M : Type 0} (region : M → Region) (may_hold : M →
 
 -- So does a call that is given so many things to store. Where there is none, the memory stays as it was; else it is refused
 -- exactly where the fuse has burnt by its end.
-pub record StoresEach {M T E : Type 0} (region : M → Region) (may_hold : M → Choices) (fuse : M → FuseState) (these : Choices) (behind : ℕ → Type 0) (count : ℕ) (old new : M) (result : Result T E) : Type 0 where
+pub record StoresEach {M T E : Type 0} (region : M → Region) (may_hold : M → Choices) (fuse : M → FuseState) (these : Choices) (behind : ℕ
+    → Type 0) (count : ℕ) (old new : M) (result : Result T E) : Type 0 where
   pub stores : StoresUnfenced region may_hold fuse these behind old new
   pub open stores use *
   pub nothing : count ≡ 0 → (is_err result ≡ false) × (new ≡ old)

@@ -4,16 +4,15 @@
 //! else each line of 64 bytes that was stored to, with its words at that fence. A fence forgets these, so it costs what was
 //! stored and never the size of the region.
 
-ghost use Rattle.std.specs.Prelude.{◌≡◌, IsTrue, ◌≢◌, ◌⊎◌, ◌≤◌, ◌<◌, ◌+◌, ◌-◌, ◌*◌, ◌/◌, ◌%◌, ◌||◌, ◌↔◌, ◌^◌, ◌==◌, ℕ, true, false, IfOk, OnOk, OnErr, IsErrOf, is_err, get_or, eqb, length, take, drop, min, replicate, List, [], refl};
+ghost use Rattle.std.specs.Prelude.{◌≡◌, IsTrue, ◌⊎◌, ◌≤◌, ◌<◌, ◌+◌, ◌-◌, ◌*◌, ◌/◌, ◌%◌, ◌||◌, ◌↔◌, ◌^◌, ◌==◌, ℕ};
+ghost use Rattle.std.specs.Prelude.{true, false, IfOk, OnOk, OnErr, IsErrOf, is_err, length, take, drop, replicate, [], refl};
 ghost use Rattle.std.proofs.Common.{inl};
-ghost use Rattle.std.specs.List.{list_any, IsDistinct};
-ghost use Rattle.std.specs.List.Sorted.{IsStrictlyIncreasing};
 ghost use Rattle.byteorder.specs.Endian.{little_number, little_bytes};
 ghost use Rattle.nv_region.specs.Region.{size, word, put, region_of, bytes_of};
 ghost use Rattle.nv_region.specs.Stops.{MayBeLeft, NothingPending, NoneAdded, Adds, One};
 ghost use Rattle.nv_region.specs.Lines.{Each, StoppedAmong, put_words};
 ghost use Rattle.nv_region.specs.Fuses.{KeepsFuse};
-ghost use Rattle.nv_region.specs.RegionState.{RegionState, fenced_or_last, burns_at_store, burns_at_fence, one_passed, after_store, after_stores, fuse_state, is_steady, steady_unburnt};
+ghost use Rattle.nv_region.specs.RegionState.{RegionState, fenced_or_last, burns_at_fence, one_passed, after_stores, fuse_state, is_steady, steady_unburnt};
 ghost use Rattle.nv_region.specs.OneStore.{PassesFuse};
 ghost use Rattle.nv_region.specs.Kept.{kept};
 ghost use Rattle.nv_region.specs.StoredLines.{words_before};
@@ -98,7 +97,12 @@ impl Model for MemRegion {
 
     ghost Value = { RegionState };
 
-    ghost view = { λ m. record { region = record { words = m.words.items; rest = m.rest.items }; fenced = words_before m.stored.rows m.stored.kept (taken_back m.recent m.words.items); fuse = m.fuse; burnt = m.burnt } };
+    ghost view = { λ m. record {
+      region = record { words = m.words.items; rest = m.rest.items };
+      fenced = words_before m.stored.rows m.stored.kept (taken_back m.recent m.words.items);
+      fuse = m.fuse;
+      burnt = m.burnt;
+    } };
 
     ghost use Rattle.nv_region.specs.Fenced.{IsTracked};
 

@@ -105,7 +105,8 @@ pub(crate) fn hold(
     ensures same { words.new ≡ words.old }
     ensures total { stored.new.total ≡ stored.old.total }
     ensures held { AreHeld recent.new (set words.old number value) }
-    ensures before { words_before stored.new.rows stored.new.kept (taken_back recent.new (set words.old number value)) ≡ words_before stored.old.rows stored.old.kept (taken_back recent.old words.old) }
+    ensures before { words_before stored.new.rows stored.new.kept (taken_back recent.new (set words.old number value))
+        ≡ words_before stored.old.rows stored.old.kept (taken_back recent.old words.old) }
 {
     if stored.is_empty() && !recent.is_full() {
         recent.push(StoredWord {

@@ -3,10 +3,11 @@
 //!
 //! All room is made when the region is made: a bit for each line, rows for all lines, and words for all that there are.
 
-ghost use Rattle.std.specs.Prelude.{◌≡◌, ◌≢◌, ◌==◌, ◌<◌, ◌≤◌, ◌+◌, ◌-◌, ◌*◌, ◌/◌, ◌^◌, ◌||◌, ◌++◌, ◌∷◌, ◌⊎◌, ℕ, List, IfOk, IsTrue, [], drop, take, min, length, get_or, true, false, replicate, vec_len, vec_capacity};
-ghost use Rattle.std.specs.List.{list_any, Contains, sum_by};
+ghost use Rattle.std.specs.Prelude.{◌≡◌, ◌≢◌, ◌==◌, ◌<◌, ◌≤◌, ◌+◌, ◌-◌, ◌*◌, ◌/◌, ◌^◌, ◌||◌, ◌++◌, ◌∷◌, ◌⊎◌};
+ghost use Rattle.std.specs.Prelude.{ℕ, List, IfOk, IsTrue, [], drop, take, min, length, get_or, true, false, replicate, vec_len, vec_capacity};
+ghost use Rattle.std.specs.List.{list_any, Contains};
 ghost use Rattle.nv_blockset.specs.BlockSet.{is_set};
-ghost use Rattle.nv_region.specs.Marks.{AreKept, RowsRise, lines_in};
+ghost use Rattle.nv_region.specs.Marks.{AreKept, RowsRise};
 ghost use Rattle.nv_region.specs.StoredLines.{holds, is_stored, word_before, words_before};
 
 use nv_blockset::{contains, empty_words, first_clear, first_set, insert, insert_row, words_for};

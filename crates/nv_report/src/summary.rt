@@ -3,7 +3,8 @@
 ghost use Rattle.std.specs.Prelude.{◌≡◌, ◌<◌, ◌-◌, ◌++◌, [], get_or, bytes_eq, count_by, length, map, IfOk, OnOk, string_bytes};
 ghost use Rattle.nv_super.specs.Layout.{HasAreas, system_blocks};
 ghost use Rattle.nv_outcome.specs.Answer.{outcome_of};
-ghost use Rattle.nv_report.specs.Summary.{classes, directories, files, names, class_of, class_sums, class_and_count, inodes_part, inodes_text, blocks_part, used_text, free_text, faults_part, count_text, sum_text, sums_text, more_text, summary_line};
+ghost use Rattle.nv_report.specs.Summary.{classes, directories, files, names, class_of, class_sums, class_and_count, inodes_part, inodes_text, blocks_part, used_text, free_text, faults_part};
+ghost use Rattle.nv_report.specs.Summary.{count_text, sum_text, sums_text, more_text, summary_line};
 
 use nv_outcome::{Recovered, Rows};
 use nv_super::{Fault, Kind, Super};

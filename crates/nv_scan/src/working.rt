@@ -160,7 +160,8 @@ fn scan_ticket<P: Pmem, G: Gate>(
     ensures scanner { scanner.new ≡ scanner.old }
     ensures seat { (seat.new.map ≡ seat.old.map) × (seat.new.number ≡ seat.old.number) × (seat.new.view.seats ≡ seat.old.view.seats) }
     ensures room { length each.new.items ≡ 32 }
-    ensures done { OnOk result (IsDone (P.region memory.now) tables.now.layout (numbers_of tables.now.layout ticket) seat.old.view seat.new.view inodes.old.rows.items inodes.new.rows.items inodes.old.faults.items inodes.new.faults.items) }
+    ensures done { OnOk result (IsDone (P.region memory.now) tables.now.layout (numbers_of tables.now.layout ticket) seat.old.view seat.new.view inodes.old.rows.items inodes.new.rows.items
+        inodes.old.faults.items inodes.new.faults.items) }
 {
     tables.are_laid();
     let count = scan_slots(memory, tables, scanner, inodes, each, ticket)?;
@@ -211,7 +212,8 @@ fn scan_block<P: Pmem>(
     ensures scanner { scanner.new ≡ scanner.old }
     ensures room { length each.new.items ≡ 32 }
     ensures count { IfOk result (λ count. count ≤ 32) }
-    ensures next { IfOk result (λ count. AreNext (P.region memory.now) tables.now.layout (numbers_to tables.now.layout block.now block.now.slots) inodes.old inodes.new (claims_among (take count each.new.items))) }
+    ensures next { IfOk result (λ count. AreNext (P.region memory.now) tables.now.layout (numbers_to tables.now.layout block.now block.now.slots) inodes.old inodes.new
+        (claims_among (take count each.new.items))) }
 {
     let cpus = tables.cpus();
     let mut count = 0;

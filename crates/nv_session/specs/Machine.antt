@@ -1,5 +1,6 @@
 -- The machine that a script runs: its state, and what each command may print and leave.
-use Rattle.std.specs.Prelude.{IsTrue, true, false, not, flat_map, ◌≡◌, ◌≢◌, ◌⊎◌, ◌+◌, ◌*◌, ◌%◌, ℕ, Bool, ◌&&◌, ◌==◌, nat_le, MatchBool, ⊤, if◌then◌else◌, List, [], replicate, take, Option, Some, None, codes}
+use Rattle.std.specs.Prelude.{IsTrue, true, false, not, flat_map, ◌≡◌, ◌≢◌, ◌⊎◌, ◌+◌, ◌*◌, ◌%◌, ℕ, Bool, ◌&&◌, ◌==◌, nat_le, MatchBool, ⊤, if◌then◌else◌, List, [], replicate, take, Option, Some, None}
+use Rattle.std.specs.Prelude.{codes}
 use Rattle.nv_region.specs.Region.{Region, size, word, put, region_of, bytes_of}
 use Rattle.nv_region.specs.RegionState.{is_off}
 use Rattle.nv_region.specs.declared.memory.Fuse.{Fuse}
@@ -11,11 +12,13 @@ use Rattle.nv_format.specs.Format.{IsFormatRefusal, CanFormat, IsFormatted, Form
 use Rattle.nv_format.specs.Format as formats
 use Rattle.nv_format.specs.declared.formatting.FormatRefusal.{FormatRefusal}
 use Rattle.nv_format.specs.declared.formatting.FormatRefusal.TheVariants.{Stopped}
-use Rattle.nv_line.specs.Request.{Request, Format, Time, Poke, Cut, Recover, Replay, ListNames, Stat, Read, Create, MakeDirectory, Write, SetSize, SetAttributes, Link, Unlink, RemoveDirectory, Rename, Clean, Tree, Free, Faults, Report, Peek, Stop}
+use Rattle.nv_line.specs.Request.{Request, Format, Time, Poke, Cut, Recover, Replay, ListNames, Stat, Read, Create, MakeDirectory, Write, SetSize, SetAttributes, Link, Unlink, RemoveDirectory, Rename}
+use Rattle.nv_line.specs.Request.{Clean, Tree, Free, Faults, Report, Peek, Stop}
 use Rattle.nv_super.specs.declared.kind.Kind.TheVariants.{File, Directory}
 use Rattle.nv_calls.specs.Mount.{has_faults}
 use Rattle.nv_calls.specs.Stopped.{LeavesCall}
-use Rattle.nv_calls.specs.Effects.{logs_page_less, Makes, Logs, LogsBytes, LogsUnlink, makes_inode, makes_bytes, makes_size, makes_attributes, makes_link, makes_unlink, makes_removal, makes_rename, makes_no_change, logs_inode, logs_size, logs_attributes, logs_link, logs_removal, logs_rename}
+use Rattle.nv_calls.specs.Effects.{logs_page_less, Makes, Logs, LogsBytes, LogsUnlink, makes_inode, makes_bytes, makes_size, makes_attributes, makes_link, makes_unlink, makes_removal, makes_rename}
+use Rattle.nv_calls.specs.Effects.{makes_no_change, logs_inode, logs_size, logs_attributes, logs_link, logs_removal, logs_rename}
 use Rattle.nv_session.specs.Calls.{Asks, Asked, LeavesTree, seen_in, asks_create, asks_write, asks_size, asks_attributes, asks_link, asks_unlink, asks_remove, asks_rename, asks_clean, finds_page}
 use Rattle.nv_super.specs.FaultText.{super_fault_name}
 use Rattle.nv_tree.specs.Path.{Says}
@@ -297,7 +300,8 @@ MakesDirectory armed cpu path old text new = Calls armed (asks_create cpu) (make
 
 -- `write` writes so many copies of a byte
 abbrev pub Writes : Bool → ℕ → List ℕ → ℕ → ℕ → ℕ → State → List ℕ → State → Type 0
-Writes armed cpu path offset count byte old text new = Calls armed (asks_write cpu offset count old.time) (makes_bytes offset (replicate count byte) old.time) (LogsBytes cpu offset count old.time) path old text new
+Writes armed cpu path offset count byte old text new = Calls armed (asks_write cpu offset count old.time) (makes_bytes offset
+    (replicate count byte) old.time) (LogsBytes cpu offset count old.time) path old text new
 
 -- `size` cuts a file, or lengthens it
 abbrev pub SetsSize : Bool → ℕ → List ℕ → ℕ → State → List ℕ → State → Type 0
@@ -305,7 +309,8 @@ SetsSize armed cpu path bytes old text new = Calls armed (asks_size cpu bytes) (
 
 -- `attr` sets mode, owner and group
 abbrev pub SetsAttributes : Bool → ℕ → List ℕ → ℕ → ℕ → ℕ → State → List ℕ → State → Type 0
-SetsAttributes armed cpu path mode owner group old text new = Calls armed (asks_attributes cpu) (makes_attributes mode owner group old.time) (logs_attributes cpu mode owner group old.time) path old text new
+SetsAttributes armed cpu path mode owner group old text new = Calls armed (asks_attributes cpu) (makes_attributes mode owner group old.time) (logs_attributes cpu mode owner group
+    old.time) path old text new
 
 -- `link` gives a file one more name
 abbrev pub Links : Bool → ℕ → List ℕ → List ℕ → State → List ℕ → State → Type 0

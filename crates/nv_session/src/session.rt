@@ -42,7 +42,8 @@ impl Session {
     ghost use Rattle.std.specs.Prelude.{string_bytes};
     ghost use Rattle.nv_session.specs.Sessions.{StandsFor, Moves, CanMount, Fails, Settles, IsSettled, region_in, mount_in, is_armed};
     ghost use Rattle.nv_session.specs.declared.store.Store.TheVariants as stores;
-    ghost use Rattle.nv_session.specs.Machine.{first_state, state_with, SetsTime, Formats, Recovers, Replays, Pokes, Cuts, ShowsPart, Peeks, MayStop, StopsFormat, StopsRecovery, Arms, Reads, TellsNames, TellsStat, TellsBytes, Does, Step, front};
+    ghost use Rattle.nv_session.specs.Machine.{first_state, state_with, SetsTime, Formats, Recovers, Replays, Pokes, Cuts, ShowsPart, Peeks, MayStop, StopsFormat, StopsRecovery, Arms, Reads};
+    ghost use Rattle.nv_session.specs.Machine.{TellsNames, TellsStat, TellsBytes, Does, Step, front};
     ghost use Rattle.nv_session.specs.Machine.{State};
     ghost use Rattle.nv_checking.specs.declared.recovery.Answer.TheVariants as answers;
     ghost use Rattle.nv_report.specs.Last.{status_of};

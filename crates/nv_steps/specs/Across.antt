@@ -28,7 +28,8 @@ with_two_gone held i h entries fresh e g others more j = with_inode (with_log (w
 
 -- Entries were put behind the logs of two rows, over blocks that a CPU took one by one, the first log's first, and another inode
 -- is gone. What each row has become is said by its blocks.
-pub record GrowsLess (R S : Region) (s : Super) (free after : FreeLists) (cpu : ℕ) (first : Row) (entries : List Entry) (second : Row) (others : List Entry) (j : ℕ) (Becomes Other : List ℕ → Type 0) : Type 0 where
+pub record GrowsLess (R S : Region) (s : Super) (free after : FreeLists) (cpu : ℕ) (first : Row) (entries : List Entry) (second : Row) (others : List Entry) (j : ℕ) (Becomes Other : List ℕ
+    → Type 0) : Type 0 where
   pub fresh : List ℕ
   pub more : List ℕ
   pub taken : TakesEach free cpu (fresh ++ more) after
@@ -45,7 +46,8 @@ Lengthens old new entries fresh = GrowsSame old fresh (end_of fresh 0 old.tail e
 
 -- both rows have their new tails and pages
 abbrev pub AppendsLogsLess : Region → Region → Super → FreeLists → FreeLists → ℕ → Row → Row → List Entry → Row → Row → List Entry → ℕ → Type 0
-AppendsLogsLess R S s free after cpu first first_now entries second second_now others j = GrowsLess R S s free after cpu first entries second others j (λ fresh. Lengthens first first_now entries fresh) (λ more. Lengthens second second_now others more)
+AppendsLogsLess R S s free after cpu first first_now entries second second_now others j = GrowsLess R S s free after cpu first entries second others j (λ fresh. Lengthens first first_now entries
+    fresh) (λ more. Lengthens second second_now others more)
 
 -- such a step, whatever the rows and the free lists become
 abbrev pub AppendedLogsLess : Region → Super → FreeLists → ℕ → Row → List Entry → Row → List Entry → ℕ → Region → Type 0
@@ -59,7 +61,8 @@ with_three_logs held i h entries fresh e g others more j f lasts rest = with_log
 
 -- Entries were put behind the logs of three rows, over blocks that a CPU took one by one, log after log. What each row has become
 -- is said by its blocks.
-pub record GrowsThree (R S : Region) (s : Super) (free after : FreeLists) (cpu : ℕ) (first : Row) (entries : List Entry) (second : Row) (others : List Entry) (third : Row) (lasts : List Entry) (Becomes Other Third : List ℕ → Type 0) : Type 0 where
+pub record GrowsThree (R S : Region) (s : Super) (free after : FreeLists) (cpu : ℕ) (first : Row) (entries : List Entry) (second : Row) (others : List Entry) (third : Row) (lasts : List
+    Entry) (Becomes Other Third : List ℕ → Type 0) : Type 0 where
   pub fresh : List ℕ
   pub more : List ℕ
   pub rest : List ℕ
@@ -75,11 +78,13 @@ pub record GrowsThree (R S : Region) (s : Super) (free after : FreeLists) (cpu :
 
 -- all rows have their new tails and pages
 abbrev pub AppendsThreeLogs : Region → Region → Super → FreeLists → FreeLists → ℕ → Row → Row → List Entry → Row → Row → List Entry → Row → Row → List Entry → Type 0
-AppendsThreeLogs R S s free after cpu first first_now entries second second_now others third third_now lasts = GrowsThree R S s free after cpu first entries second others third lasts (λ fresh. Lengthens first first_now entries fresh) (λ more. Lengthens second second_now others more) (λ rest. Lengthens third third_now lasts rest)
+AppendsThreeLogs R S s free after cpu first first_now entries second second_now others third third_now lasts = GrowsThree R S s free after cpu first entries second others third lasts (λ
+    fresh. Lengthens first first_now entries fresh) (λ more. Lengthens second second_now others more) (λ rest. Lengthens third third_now lasts rest)
 
 -- such a step, whatever the rows and the free lists become
 abbrev pub AppendedThreeLogs : Region → Super → FreeLists → ℕ → Row → List Entry → Row → List Entry → Row → List Entry → Region → Type 0
-AppendedThreeLogs R s free cpu first entries second others third lasts S = (after : FreeLists) × (one : Row) × (two : Row) × (three : Row) × AppendsThreeLogs R S s free after cpu first one entries second two others third three lasts
+AppendedThreeLogs R s free cpu first entries second others third lasts S = (after : FreeLists) × (one : Row) × (two : Row) × (three : Row)
+    × AppendsThreeLogs R S s free after cpu first one entries second two others third three lasts
 
 -- ---- a name that is given to another inode
 
@@ -108,7 +113,8 @@ LosesLink file now time rest = GetsCount file (file.numbers.links - 1) time rest
 -- Inode i has a name less in one directory, and in another the name of inode j, which is gone.
 abbrev pub TakesAcross : Region → Region → Super → FreeLists → FreeLists → ℕ → Row → Row → Row → Row → ℕ → ℕ → List ℕ → List ℕ → ℕ → Type 0
 TakesAcross R S s free after cpu from from_now to to_now i j name other time =
-    GrowsLess R S s free after cpu from (name_entries Remove i name time) to (handed_entries i j other time) j (λ fresh. IsLeft from from_now i name time fresh) (λ more. IsHanded to to_now i j other time more)
+    GrowsLess R S s free after cpu from (name_entries Remove i name time) to (handed_entries i j other time) j (λ fresh. IsLeft from from_now i name time fresh) (λ more. IsHanded to to_now i j other
+    time more)
 
 -- such a step from two rows
 abbrev pub TookAcross : Region → Super → FreeLists → ℕ → Row → Row → ℕ → ℕ → List ℕ → List ℕ → ℕ → Region → Type 0
@@ -122,4 +128,5 @@ LessensAcross R S s free after cpu from from_now to to_now file file_now i name 
 
 -- such a step from three rows
 abbrev pub LessenedAcross : Region → Super → FreeLists → ℕ → Row → Row → Row → ℕ → List ℕ → List ℕ → ℕ → Region → Type 0
-LessenedAcross R s free cpu from to file i name other time S = (after : FreeLists) × (one : Row) × (two : Row) × (three : Row) × LessensAcross R S s free after cpu from one to two file three i name other time
+LessenedAcross R s free cpu from to file i name other time S = (after : FreeLists) × (one : Row) × (two : Row) × (three : Row)
+    × LessensAcross R S s free after cpu from one to two file three i name other time

@@ -87,7 +87,8 @@ pub record ReadiesRow (old new : Row) (entries : List Entry) (names : ℕ) : Typ
 
 -- Entries were written behind the logs of the rows at two places, over blocks that a CPU took one by one, the first log's
 -- first. What each row has become is said by its blocks.
-pub record GrowsTwo (R S : Region) (s : Super) (free after : FreeLists) (cpu : ℕ) (rows news : List Row) (i : ℕ) (first : Row) (entries : List Entry) (j : ℕ) (second : Row) (others : List Entry) (Becomes Other : List ℕ → Row → Type 0) : Type 0 where
+pub record GrowsTwo (R S : Region) (s : Super) (free after : FreeLists) (cpu : ℕ) (rows news : List Row) (i : ℕ) (first : Row) (entries : List Entry) (j : ℕ) (second : Row) (others : List
+    Entry) (Becomes Other : List ℕ → Row → Type 0) : Type 0 where
   pub first_now : Row
   pub second_now : Row
   pub at : slice_get rows i ≡ Some first
@@ -109,7 +110,8 @@ pub record GrowsTwo (R S : Region) (s : Super) (free after : FreeLists) (cpu : �
 pub record AppendsLogs (R S : Region) (s : Super) (free after : FreeLists) (cpu : ℕ) (rows news : List Row) (i : ℕ) (entries : List Entry) (j : ℕ) (others : List Entry) : Type 0 where
   pub first : Row
   pub second : Row
-  pub step : GrowsTwo R S s free after cpu rows news i first entries j second others (λ fresh now. GrowsSame first fresh (end_of fresh 0 first.tail entries) now) (λ more now. GrowsSame second more (end_of more 0 second.tail others) now)
+  pub step : GrowsTwo R S s free after cpu rows news i first entries j second others (λ fresh now. GrowsSame first fresh (end_of fresh 0 first.tail entries) now) (λ more now. GrowsSame second more
+      (end_of more 0 second.tail others) now)
 
 -- what a file's row becomes that counts so many links
 abbrev pub GetsCount : Row → ℕ → ℕ → List ℕ → Row → Type 0
@@ -123,4 +125,5 @@ GetsName directory name j time more now = HasNamed directory more (end_of more 0
 pub record LinksAt (R S : Region) (s : Super) (free after : FreeLists) (cpu : ℕ) (rows news : List Row) (target place : ℕ) (name : List ℕ) (time : ℕ) : Type 0 where
   pub file : Row
   pub directory : Row
-  pub step : GrowsTwo R S s free after cpu rows news target file (links_entries (file.numbers.links + 1) time) place directory (name_entries Add file.inode name time) (λ fresh now. GetsCount file (file.numbers.links + 1) time fresh now) (λ more now. GetsName directory name file.inode time more now)
+  pub step : GrowsTwo R S s free after cpu rows news target file (links_entries (file.numbers.links + 1) time) place directory (name_entries Add file.inode name time) (λ fresh now. GetsCount file
+      (file.numbers.links + 1) time fresh now) (λ more now. GetsName directory name file.inode time more now)

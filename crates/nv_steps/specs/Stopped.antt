@@ -63,7 +63,8 @@ MovedHere R s free cpu old i name other time S = (after : FreeLists) × (now : R
 -- and a name went from the directory of a row to that of another
 abbrev pub MovedOver : Region → Super → FreeLists → ℕ → Row → Row → ℕ → List ℕ → List ℕ → ℕ → Region → Type 0
 MovedOver R s free cpu from to i name other time S = (after : FreeLists) × (one : Row) × (two : Row)
-    × GrowsTwo R S s free after cpu (from ∷ to ∷ []) (one ∷ two ∷ []) 0 from (name_entries Remove i name time) 1 to (name_entries Add i other time) (λ fresh now. LosesName from name i time fresh now) (λ more now. GetsName to other i time more now)
+    × GrowsTwo R S s free after cpu (from ∷ to ∷ []) (one ∷ two ∷ []) 0 from (name_entries Remove i name time) 1 to (name_entries Add i other time) (λ fresh now. LosesName from name i time fresh
+    now) (λ more now. GetsName to other i time more now)
 
 -- and the file of a row has a size
 abbrev pub Resized : Region → Super → FreeLists → ℕ → Row → AttrEntry → Region → Type 0

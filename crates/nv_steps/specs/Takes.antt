@@ -35,7 +35,8 @@ AppendedLess R s free cpu old j entries S = (after : FreeLists) × (now : Row) �
 -- the entries that take a name from inode j and give it to inode i, in place of another of the same directory
 abbrev pub take_entries : ℕ → ℕ → List ℕ → List ℕ → ℕ → List Entry
 take_entries i j name other time =
-    Name (record { operation = Remove; inode = i; time = time; name = name }) ∷ Name (record { operation = Remove; inode = j; time = time; name = other }) ∷ Name (record { operation = Add; inode = i; time = time; name = other }) ∷ []
+    Name (record { operation = Remove; inode = i; time = time; name = name }) ∷ Name (record { operation = Remove; inode = j; time = time; name = other }) ∷ Name (record
+    { operation = Add; inode = i; time = time; name = other }) ∷ []
 
 -- where the last of these entries goes
 abbrev pub take_place : List ℕ → ℕ → ℕ → ℕ → List ℕ → List ℕ → ℕ → ℕ

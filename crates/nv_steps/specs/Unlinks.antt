@@ -26,4 +26,5 @@ LosesName directory name j time fresh now = HasLost directory fresh (end_of fres
 pub record UnlinksAt (R S : Region) (s : Super) (free after : FreeLists) (cpu : ℕ) (rows news : List Row) (place target : ℕ) (name : List ℕ) (time : ℕ) : Type 0 where
   pub directory : Row
   pub file : Row
-  pub step : GrowsTwo R S s free after cpu rows news place directory (name_entries Remove file.inode name time) target file (links_entries (file.numbers.links - 1) time) (λ fresh now. LosesName directory name file.inode time fresh now) (λ more now. GetsCount file (file.numbers.links - 1) time more now)
+  pub step : GrowsTwo R S s free after cpu rows news place directory (name_entries Remove file.inode name time) target file (links_entries
+      (file.numbers.links - 1) time) (λ fresh now. LosesName directory name file.inode time fresh now) (λ more now. GetsCount file (file.numbers.links - 1) time more now)

@@ -59,11 +59,14 @@ pub fn take_across<P: Pmem>(
     requires to_differs { to.old.inode ≢ gone.inode }
     requires name { IsName moved.now.name.now }
     requires other { IsName moved.now.other.now }
-    ensures taken { OnOk result (TakesAcross (P.region memory.old) (P.region memory.new) sup.now free.old free.new cpu from.old from.new to.old to.new moved.now.inode gone.inode moved.now.name.now moved.now.other.now moved.now.time) }
+    ensures taken { OnOk result (TakesAcross (P.region memory.old) (P.region memory.new) sup.now free.old free.new cpu from.old from.new to.old to.new moved.now.inode gone.inode moved.now.name.now
+        moved.now.other.now moved.now.time) }
     ensures room { OnOk result (gone.blocks ≤ free.new.room) }
-    ensures enough { OnOk result (needed (from.old.tail % 4096) (name_entries Remove moved.now.inode moved.now.name.now moved.now.time) + needed (to.old.tail % 4096) (handed_entries moved.now.inode gone.inode moved.now.other.now moved.now.time) ≤ all_blocks free.old.pools) }
+    ensures enough { OnOk result (needed (from.old.tail % 4096) (name_entries Remove moved.now.inode moved.now.name.now moved.now.time)
+        + needed (to.old.tail % 4096) (handed_entries moved.now.inode gone.inode moved.now.other.now moved.now.time) ≤ all_blocks free.old.pools) }
     ensures settled { OnOk result (NothingPending (P.region memory.new) (P.may_hold memory.new)) }
-    ensures refused { IfErr result (λ e. RefusesStep e (needed (from.old.tail % 4096) (name_entries Remove moved.now.inode moved.now.name.now moved.now.time) + needed (to.old.tail % 4096) (handed_entries moved.now.inode gone.inode moved.now.other.now moved.now.time)) free.old) }
+    ensures refused { IfErr result (λ e. RefusesStep e (needed (from.old.tail % 4096) (name_entries Remove moved.now.inode moved.now.name.now moved.now.time)
+        + needed (to.old.tail % 4096) (handed_entries moved.now.inode gone.inode moved.now.other.now moved.now.time)) free.old) }
     ensures unchanged { IfErr result (λ e. (e ≡ RefusalValue.Stopped → ⊥) → LeavesStep memory.old memory.new free.old free.new from.old from.new × SameRow to.old to.new) }
     ensures stopped { IfErr result (λ e. e ≡ RefusalValue.Stopped → IsTrue (P.fuse memory.new).has_burnt) }
     ensures inode { from.new.inode ≡ from.old.inode }
@@ -76,12 +79,16 @@ pub fn take_across<P: Pmem>(
         → StoresIn sup.now held (two_less sup.now cpu from.old.inode to.old.inode gone.inode) (P.region memory.old) (P.region memory.new) }
     // The old directory's tail is stored first, then that of the new one, and then the valid word.
     ensures in_order { (held : Store) (h g : Held) → ShowsRow (P.region memory.old) sup.now held h from.old free.old → ShowsRow (P.region memory.old) sup.now held g to.old free.old
-        → TailIsFirst (P.region memory.old) (P.region memory.new) sup.now free.old.pools cpu from.old.inode from.old.tail (name_entries Remove moved.now.inode moved.now.name.now moved.now.time) (tail_address sup.now to.old.inode)
-        × TailIsNext (P.region memory.old) (P.region memory.new) sup.now free.old.pools cpu (needed (from.old.tail % 4096) (name_entries Remove moved.now.inode moved.now.name.now moved.now.time)) to.old.inode to.old.tail (handed_entries moved.now.inode gone.inode moved.now.other.now moved.now.time) (slot_address sup.now gone.inode) }
+        → TailIsFirst (P.region memory.old) (P.region memory.new) sup.now free.old.pools cpu from.old.inode from.old.tail (name_entries Remove moved.now.inode moved.now.name.now
+        moved.now.time) (tail_address sup.now to.old.inode)
+        × TailIsNext (P.region memory.old) (P.region memory.new) sup.now free.old.pools cpu (needed (from.old.tail % 4096)
+        (name_entries Remove moved.now.inode moved.now.name.now moved.now.time)) to.old.inode to.old.tail (handed_entries moved.now.inode gone.inode moved.now.other.now moved.now.time)
+        (slot_address sup.now gone.inode) }
     // Whatever a stop leaves: recovery finds what is held, or it with the name given and without the inode, without faults.
     ensures any_stop { (held : Store) (h g : Held) → ShowsRow (P.region memory.old) sup.now held h from.old free.old → ShowsRow (P.region memory.old) sup.now held g to.old free.old
         → NothingPending (P.region memory.old) (P.may_hold memory.old)
-        → LeavesOnly (P.region memory.new) (P.may_hold memory.new) (LeavesEither (P.region memory.old) (fixed_layout sup.now) held (TookAcross (P.region memory.old) sup.now free.old cpu from.old to.old moved.now.inode gone.inode moved.now.name.now moved.now.other.now moved.now.time)) }
+        → LeavesOnly (P.region memory.new) (P.may_hold memory.new) (LeavesEither (P.region memory.old) (fixed_layout sup.now) held
+        (TookAcross (P.region memory.old) sup.now free.old cpu from.old to.old moved.now.inode gone.inode moved.now.name.now moved.now.other.now moved.now.time)) }
 {
     let removal = [name_entry(Operation::Remove, moved.inode, moved.name, moved.time)];
     let handing = [
@@ -129,10 +136,15 @@ pub fn lessen_across<P: Pmem>(
     requires more { 1 < file.old.numbers.links }
     requires name { IsName moved.now.name.now }
     requires other { IsName moved.now.other.now }
-    ensures lessened { OnOk result (LessensAcross (P.region memory.old) (P.region memory.new) sup.now free.old free.new cpu from.old from.new to.old to.new file.old file.new moved.now.inode moved.now.name.now moved.now.other.now moved.now.time) }
-    ensures enough { OnOk result (needed (from.old.tail % 4096) (name_entries Remove moved.now.inode moved.now.name.now moved.now.time) + needed (to.old.tail % 4096) (handed_entries moved.now.inode file.old.inode moved.now.other.now moved.now.time) + needed (file.old.tail % 4096) (links_entries (file.old.numbers.links - 1) moved.now.time) ≤ all_blocks free.old.pools) }
+    ensures lessened { OnOk result (LessensAcross (P.region memory.old) (P.region memory.new) sup.now free.old free.new cpu from.old from.new to.old to.new file.old file.new moved.now.inode
+        moved.now.name.now moved.now.other.now moved.now.time) }
+    ensures enough { OnOk result (needed (from.old.tail % 4096) (name_entries Remove moved.now.inode moved.now.name.now moved.now.time)
+        + needed (to.old.tail % 4096) (handed_entries moved.now.inode file.old.inode moved.now.other.now moved.now.time)
+        + needed (file.old.tail % 4096) (links_entries (file.old.numbers.links - 1) moved.now.time) ≤ all_blocks free.old.pools) }
     ensures settled { OnOk result (NothingPending (P.region memory.new) (P.may_hold memory.new)) }
-    ensures refused { IfErr result (λ e. RefusesStep e (needed (from.old.tail % 4096) (name_entries Remove moved.now.inode moved.now.name.now moved.now.time) + needed (to.old.tail % 4096) (handed_entries moved.now.inode file.old.inode moved.now.other.now moved.now.time) + needed (file.old.tail % 4096) (links_entries (file.old.numbers.links - 1) moved.now.time)) free.old) }
+    ensures refused { IfErr result (λ e. RefusesStep e (needed (from.old.tail % 4096) (name_entries Remove moved.now.inode moved.now.name.now moved.now.time)
+        + needed (to.old.tail % 4096) (handed_entries moved.now.inode file.old.inode moved.now.other.now moved.now.time)
+        + needed (file.old.tail % 4096) (links_entries (file.old.numbers.links - 1) moved.now.time)) free.old) }
     ensures unchanged { IfErr result (λ e. (e ≡ RefusalValue.Stopped → ⊥) → LeavesStep memory.old memory.new free.old free.new from.old from.new × SameRow to.old to.new × SameRow file.old file.new) }
     ensures stopped { IfErr result (λ e. e ≡ RefusalValue.Stopped → IsTrue (P.fuse memory.new).has_burnt) }
     ensures inodes { (from.new.inode ≡ from.old.inode) × (to.new.inode ≡ to.old.inode) × (file.new.inode ≡ file.old.inode) }
@@ -140,16 +152,23 @@ pub fn lessen_across<P: Pmem>(
     ensures length { size (P.region memory.new) ≡ size (P.region memory.old) }
     ensures keeps_fuse { KeepsFuse (λ limit. size (P.region memory.old) ≤ limit) (P.fuse memory.old) (P.fuse memory.new) }
     // Every word outside these places is as it was.
-    ensures wrote { (held : Store) (h g f : Held) → ShowsRow (P.region memory.old) sup.now held h from.old free.old → ShowsRow (P.region memory.old) sup.now held g to.old free.old → ShowsRow (P.region memory.old) sup.now held f file.old free.old
+    ensures wrote { (held : Store) (h g f : Held) → ShowsRow (P.region memory.old) sup.now held h from.old free.old → ShowsRow (P.region memory.old) sup.now held g to.old free.old
+        → ShowsRow (P.region memory.old) sup.now held f file.old free.old
         → StoresIn sup.now held (three_logs sup.now cpu from.old.inode to.old.inode file.old.inode) (P.region memory.old) (P.region memory.new) }
     // The old directory's tail is stored first, then that of the new one, and then that of the file.
-    ensures in_order { (held : Store) (h g f : Held) → ShowsRow (P.region memory.old) sup.now held h from.old free.old → ShowsRow (P.region memory.old) sup.now held g to.old free.old → ShowsRow (P.region memory.old) sup.now held f file.old free.old
-        → TailIsFirst (P.region memory.old) (P.region memory.new) sup.now free.old.pools cpu from.old.inode from.old.tail (name_entries Remove moved.now.inode moved.now.name.now moved.now.time) (tail_address sup.now to.old.inode)
-        × TailIsNext (P.region memory.old) (P.region memory.new) sup.now free.old.pools cpu (needed (from.old.tail % 4096) (name_entries Remove moved.now.inode moved.now.name.now moved.now.time)) to.old.inode to.old.tail (handed_entries moved.now.inode file.old.inode moved.now.other.now moved.now.time) (tail_address sup.now file.old.inode) }
+    ensures in_order { (held : Store) (h g f : Held) → ShowsRow (P.region memory.old) sup.now held h from.old free.old → ShowsRow (P.region memory.old) sup.now held g to.old free.old
+        → ShowsRow (P.region memory.old) sup.now held f file.old free.old
+        → TailIsFirst (P.region memory.old) (P.region memory.new) sup.now free.old.pools cpu from.old.inode from.old.tail (name_entries Remove moved.now.inode moved.now.name.now
+        moved.now.time) (tail_address sup.now to.old.inode)
+        × TailIsNext (P.region memory.old) (P.region memory.new) sup.now free.old.pools cpu (needed (from.old.tail % 4096)
+        (name_entries Remove moved.now.inode moved.now.name.now moved.now.time)) to.old.inode to.old.tail (handed_entries moved.now.inode file.old.inode moved.now.other.now moved.now.time)
+        (tail_address sup.now file.old.inode) }
     // Whatever a stop leaves: recovery finds what is held, or it with the name given and the link less, without faults.
-    ensures any_stop { (held : Store) (h g f : Held) → ShowsRow (P.region memory.old) sup.now held h from.old free.old → ShowsRow (P.region memory.old) sup.now held g to.old free.old → ShowsRow (P.region memory.old) sup.now held f file.old free.old
+    ensures any_stop { (held : Store) (h g f : Held) → ShowsRow (P.region memory.old) sup.now held h from.old free.old → ShowsRow (P.region memory.old) sup.now held g to.old free.old
+        → ShowsRow (P.region memory.old) sup.now held f file.old free.old
         → NothingPending (P.region memory.old) (P.may_hold memory.old)
-        → LeavesOnly (P.region memory.new) (P.may_hold memory.new) (LeavesEither (P.region memory.old) (fixed_layout sup.now) held (LessenedAcross (P.region memory.old) sup.now free.old cpu from.old to.old file.old moved.now.inode moved.now.name.now moved.now.other.now moved.now.time)) }
+        → LeavesOnly (P.region memory.new) (P.may_hold memory.new) (LeavesEither (P.region memory.old) (fixed_layout sup.now) held
+        (LessenedAcross (P.region memory.old) sup.now free.old cpu from.old to.old file.old moved.now.inode moved.now.name.now moved.now.other.now moved.now.time)) }
 {
     let time = moved.time;
     let count = file.numbers.links - 1;

@@ -60,7 +60,8 @@ pub(crate) fn append_log<P: Pmem>(
     // What a stop leaves, at any exit.
     ensures any_stop { (held : Store) (h : Held) → ShowsRow (P.region memory.old) sup.now held h row.old free.old → 0 < length entries.now
         → NothingPending (P.region memory.old) (P.may_hold memory.old)
-        → LeavesOnly (P.region memory.new) (P.may_hold memory.new) (LeavesEither (P.region memory.old) (fixed_layout sup.now) held (Appended (P.region memory.old) sup.now free.old cpu row.old entries.now)) }
+        → LeavesOnly (P.region memory.new) (P.may_hold memory.new) (LeavesEither (P.region memory.old) (fixed_layout sup.now) held
+        (Appended (P.region memory.old) sup.now free.old cpu row.old entries.now)) }
 {
     let slot = sup.slot_address(row.inode);
     let tail = row.tail;

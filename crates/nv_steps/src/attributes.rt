@@ -61,7 +61,8 @@ pub fn change_attributes<P: Pmem>(
         → StoresIn sup.now held (one_log sup.now row.old.inode) (P.region memory.old) (P.region memory.new) }
     // What a stop leaves, at any exit.
     ensures any_stop { (held : Store) (h : Held) → ShowsRow (P.region memory.old) sup.now held h row.old free.old → NothingPending (P.region memory.old) (P.may_hold memory.old)
-        → LeavesOnly (P.region memory.new) (P.may_hold memory.new) (LeavesEither (P.region memory.old) (fixed_layout sup.now) held (Attributed (P.region memory.old) sup.now free.old cpu row.old attributes)) }
+        → LeavesOnly (P.region memory.new) (P.may_hold memory.new) (LeavesEither (P.region memory.old) (fixed_layout sup.now) held
+        (Attributed (P.region memory.old) sup.now free.old cpu row.old attributes)) }
 {
     let entries = [Entry::Attr(attributes)];
     append_log(alloc, memory, sup, free, cpu, row, &entries)?;

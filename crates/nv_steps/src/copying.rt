@@ -70,7 +70,8 @@ pub(crate) fn resize_with_copy<P: Pmem>(
         → StoresIn sup.now held (one_log sup.now row.old.inode) (P.region memory.old) (P.region memory.new) }
     // Whatever a stop leaves: recovery finds what is held, or it with the file's new size, without faults.
     ensures any_stop { (held : Store) (h : Held) → ShowsRow (P.region memory.old) sup.now held h row.old free.old → NothingPending (P.region memory.old) (P.may_hold memory.old)
-        → LeavesOnly (P.region memory.new) (P.may_hold memory.new) (LeavesEither (P.region memory.old) (fixed_layout sup.now) held (Resized (P.region memory.old) sup.now free.old cpu row.old attributes)) }
+        → LeavesOnly (P.region memory.new) (P.may_hold memory.new) (LeavesEither (P.region memory.old) (fixed_layout sup.now) held
+        (Resized (P.region memory.old) sup.now free.old cpu row.old attributes)) }
 {
     let bytes = row.numbers.size;
     let slot = sup.slot_address(row.inode);
@@ -177,7 +178,8 @@ fn copy_end<P: Pmem>(
     // Whatever a stop leaves: recovery finds what is held, or it with the page copied and the log grown, without faults.
     ensures any_stop { (s : SuperValue) (held : Store) (i : ℕ) (h : Held) → CanExtend (P.region memory.old) s held i h log.now.slot log.now.tail log.now.entries.now log.now.fresh.now
         → IsUnowned (fixed_layout s) held to → NothingPending (P.region memory.old) (P.may_hold memory.old)
-        → LeavesOnly (P.region memory.new) (P.may_hold memory.new) (LeavesEither (P.region memory.old) (fixed_layout s) held (λ S. CopiesEnd (P.region memory.old) S from to bytes log.now.slot log.now.tail log.now.entries.now log.now.fresh.now)) }
+        → LeavesOnly (P.region memory.new) (P.may_hold memory.new) (LeavesEither (P.region memory.old) (fixed_layout s) held
+        (λ S. CopiesEnd (P.region memory.old) S from to bytes log.now.slot log.now.tail log.now.entries.now log.now.fresh.now)) }
 {
     copy_page(memory, from, to, bytes)?;
     extend_log(memory, log.slot, log.tail, log.entries, log.fresh)

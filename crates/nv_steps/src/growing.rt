@@ -64,7 +64,8 @@ pub(crate) fn append_logs<P: Pmem>(
     requires other_stands { StandsRight (P.region memory.old) sup.now free.old other.old × CanName (P.region memory.old) sup.now cpu other.old.inode other.old }
     requires given { AreFew first.now.entries.now }
     requires more_given { AreFew second.now.entries.now }
-    ensures appended { OnOk result (AppendsLogs (P.region memory.old) (P.region memory.new) sup.now free.old free.new cpu (row.old ∷ other.old ∷ []) (row.new ∷ other.new ∷ []) 0 first.now.entries.now 1 second.now.entries.now) }
+    ensures appended { OnOk result (AppendsLogs (P.region memory.old) (P.region memory.new) sup.now free.old free.new cpu (row.old ∷ other.old ∷ [])
+        (row.new ∷ other.new ∷ []) 0 first.now.entries.now 1 second.now.entries.now) }
     ensures first_room { OnOk result (first.now.names ≤ row.new.names.room) }
     ensures room { OnOk result (second.now.names ≤ other.new.names.room) }
     ensures enough { OnOk result (needed (row.old.tail % 4096) first.now.entries.now + needed (other.old.tail % 4096) second.now.entries.now ≤ all_blocks free.old.pools) }
@@ -86,7 +87,8 @@ pub(crate) fn append_logs<P: Pmem>(
     // Whatever a stop leaves: recovery finds what is held, or it with both logs grown, without faults.
     ensures any_stop { (held : Store) (h g : Held) → ShowsRow (P.region memory.old) sup.now held h row.old free.old → ShowsRow (P.region memory.old) sup.now held g other.old free.old
         → NothingPending (P.region memory.old) (P.may_hold memory.old)
-        → LeavesOnly (P.region memory.new) (P.may_hold memory.new) (LeavesEither (P.region memory.old) (fixed_layout sup.now) held (AppendedBoth (P.region memory.old) sup.now free.old cpu row.old first.now.entries.now other.old second.now.entries.now)) }
+        → LeavesOnly (P.region memory.new) (P.may_hold memory.new) (LeavesEither (P.region memory.old) (fixed_layout sup.now) held
+        (AppendedBoth (P.region memory.old) sup.now free.old cpu row.old first.now.entries.now other.old second.now.entries.now)) }
 {
     let blocks = prepare_logs(alloc, free, cpu, row, first, other, second)?;
     let count = blocks_for(row, first) as usize;

@@ -57,7 +57,8 @@ pub(crate) fn append_logs_less<P: Pmem>(
     requires number { IsTrue (is_number sup.now gone.inode) }
     requires differ { row.old.inode ≢ gone.inode }
     requires other_differs { other.old.inode ≢ gone.inode }
-    ensures appended { OnOk result (AppendsLogsLess (P.region memory.old) (P.region memory.new) sup.now free.old free.new cpu row.old row.new first.now.entries.now other.old other.new second.now.entries.now gone.inode) }
+    ensures appended { OnOk result (AppendsLogsLess (P.region memory.old) (P.region memory.new) sup.now free.old free.new cpu row.old row.new first.now.entries.now other.old other.new
+        second.now.entries.now gone.inode) }
     ensures room { OnOk result (second.now.names ≤ other.new.names.room) }
     ensures blocks_room { OnOk result (gone.blocks ≤ free.new.room) }
     ensures enough { OnOk result (needed (row.old.tail % 4096) first.now.entries.now + needed (other.old.tail % 4096) second.now.entries.now ≤ all_blocks free.old.pools) }
@@ -76,11 +77,13 @@ pub(crate) fn append_logs_less<P: Pmem>(
     // The tails are stored in their order, and then the valid word.
     ensures in_order { (held : Store) (h g : Held) → ShowsRow (P.region memory.old) sup.now held h row.old free.old → ShowsRow (P.region memory.old) sup.now held g other.old free.old
         → TailIsFirst (P.region memory.old) (P.region memory.new) sup.now free.old.pools cpu row.old.inode row.old.tail first.now.entries.now (tail_address sup.now other.old.inode)
-        × TailIsNext (P.region memory.old) (P.region memory.new) sup.now free.old.pools cpu (needed (row.old.tail % 4096) first.now.entries.now) other.old.inode other.old.tail second.now.entries.now (slot_address sup.now gone.inode) }
+        × TailIsNext (P.region memory.old) (P.region memory.new) sup.now free.old.pools cpu (needed
+        (row.old.tail % 4096) first.now.entries.now) other.old.inode other.old.tail second.now.entries.now (slot_address sup.now gone.inode) }
     // Whatever a stop leaves: recovery finds what is held, or it with both logs grown and without the inode, without faults.
     ensures any_stop { (held : Store) (h g : Held) → ShowsRow (P.region memory.old) sup.now held h row.old free.old → ShowsRow (P.region memory.old) sup.now held g other.old free.old
         → NothingPending (P.region memory.old) (P.may_hold memory.old)
-        → LeavesOnly (P.region memory.new) (P.may_hold memory.new) (LeavesEither (P.region memory.old) (fixed_layout sup.now) held (AppendedLogsLess (P.region memory.old) sup.now free.old cpu row.old first.now.entries.now other.old second.now.entries.now gone.inode)) }
+        → LeavesOnly (P.region memory.new) (P.may_hold memory.new) (LeavesEither (P.region memory.old) (fixed_layout sup.now) held
+        (AppendedLogsLess (P.region memory.old) sup.now free.old cpu row.old first.now.entries.now other.old second.now.entries.now gone.inode)) }
 {
     let blocks = prepare_logs_less(alloc, free, cpu, row, first, other, second, gone.blocks)?;
     let count = blocks_for(row, first) as usize;

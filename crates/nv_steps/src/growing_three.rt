@@ -56,28 +56,37 @@ pub(crate) fn append_three_logs<P: Pmem>(
     requires given { AreFew first.now.entries.now }
     requires more_given { AreFew second.now.entries.now }
     requires last_given { AreFew third.now.entries.now }
-    ensures appended { OnOk result (AppendsThreeLogs (P.region memory.old) (P.region memory.new) sup.now free.old free.new cpu row.old row.new first.now.entries.now other.old other.new second.now.entries.now last.old last.new third.now.entries.now) }
+    ensures appended { OnOk result (AppendsThreeLogs (P.region memory.old) (P.region memory.new) sup.now free.old free.new cpu row.old row.new first.now.entries.now other.old other.new
+        second.now.entries.now last.old last.new third.now.entries.now) }
     ensures room { OnOk result (second.now.names ≤ other.new.names.room) }
-    ensures enough { OnOk result (needed (row.old.tail % 4096) first.now.entries.now + needed (other.old.tail % 4096) second.now.entries.now + needed (last.old.tail % 4096) third.now.entries.now ≤ all_blocks free.old.pools) }
+    ensures enough { OnOk result (needed (row.old.tail % 4096) first.now.entries.now + needed (other.old.tail % 4096) second.now.entries.now
+        + needed (last.old.tail % 4096) third.now.entries.now ≤ all_blocks free.old.pools) }
     ensures settled { OnOk result (NothingPending (P.region memory.new) (P.may_hold memory.new)) }
-    ensures refused { IfErr result (λ e. RefusesStep e (needed (row.old.tail % 4096) first.now.entries.now + needed (other.old.tail % 4096) second.now.entries.now + needed (last.old.tail % 4096) third.now.entries.now) free.old) }
-    ensures unchanged { IfErr result (λ e. (e ≡ RefusalValue.Stopped → ⊥) → LeavesStep memory.old memory.new free.old free.new row.old row.new × SameRow other.old other.new × SameRow last.old last.new) }
+    ensures refused { IfErr result (λ e. RefusesStep e (needed (row.old.tail % 4096) first.now.entries.now + needed (other.old.tail % 4096) second.now.entries.now
+        + needed (last.old.tail % 4096) third.now.entries.now) free.old) }
+    ensures unchanged { IfErr result (λ e. (e ≡ RefusalValue.Stopped → ⊥) → LeavesStep memory.old memory.new free.old free.new row.old row.new × SameRow other.old other.new
+        × SameRow last.old last.new) }
     ensures stopped { IfErr result (λ e. e ≡ RefusalValue.Stopped → IsTrue (P.fuse memory.new).has_burnt) }
     ensures inodes { (row.new.inode ≡ row.old.inode) × (other.new.inode ≡ other.old.inode) × (last.new.inode ≡ last.old.inode) }
     ensures lists { free.new.sup ≡ free.old.sup }
     ensures length { size (P.region memory.new) ≡ size (P.region memory.old) }
     ensures keeps_fuse { KeepsFuse (λ limit. size (P.region memory.old) ≤ limit) (P.fuse memory.old) (P.fuse memory.new) }
     // Every word outside these places is as it was.
-    ensures wrote { (held : Store) (h g f : Held) → ShowsRow (P.region memory.old) sup.now held h row.old free.old → ShowsRow (P.region memory.old) sup.now held g other.old free.old → ShowsRow (P.region memory.old) sup.now held f last.old free.old
+    ensures wrote { (held : Store) (h g f : Held) → ShowsRow (P.region memory.old) sup.now held h row.old free.old → ShowsRow (P.region memory.old) sup.now held g other.old free.old
+        → ShowsRow (P.region memory.old) sup.now held f last.old free.old
         → StoresIn sup.now held (three_logs sup.now cpu row.old.inode other.old.inode last.old.inode) (P.region memory.old) (P.region memory.new) }
     // The tails are stored in their order.
-    ensures in_order { (held : Store) (h g f : Held) → ShowsRow (P.region memory.old) sup.now held h row.old free.old → ShowsRow (P.region memory.old) sup.now held g other.old free.old → ShowsRow (P.region memory.old) sup.now held f last.old free.old
+    ensures in_order { (held : Store) (h g f : Held) → ShowsRow (P.region memory.old) sup.now held h row.old free.old → ShowsRow (P.region memory.old) sup.now held g other.old free.old
+        → ShowsRow (P.region memory.old) sup.now held f last.old free.old
         → TailIsFirst (P.region memory.old) (P.region memory.new) sup.now free.old.pools cpu row.old.inode row.old.tail first.now.entries.now (tail_address sup.now other.old.inode)
-        × TailIsNext (P.region memory.old) (P.region memory.new) sup.now free.old.pools cpu (needed (row.old.tail % 4096) first.now.entries.now) other.old.inode other.old.tail second.now.entries.now (tail_address sup.now last.old.inode) }
+        × TailIsNext (P.region memory.old) (P.region memory.new) sup.now free.old.pools cpu (needed
+        (row.old.tail % 4096) first.now.entries.now) other.old.inode other.old.tail second.now.entries.now (tail_address sup.now last.old.inode) }
     // Whatever a stop leaves: recovery finds what is held, or it with all logs grown, without faults.
-    ensures any_stop { (held : Store) (h g f : Held) → ShowsRow (P.region memory.old) sup.now held h row.old free.old → ShowsRow (P.region memory.old) sup.now held g other.old free.old → ShowsRow (P.region memory.old) sup.now held f last.old free.old
+    ensures any_stop { (held : Store) (h g f : Held) → ShowsRow (P.region memory.old) sup.now held h row.old free.old → ShowsRow (P.region memory.old) sup.now held g other.old free.old
+        → ShowsRow (P.region memory.old) sup.now held f last.old free.old
         → NothingPending (P.region memory.old) (P.may_hold memory.old)
-        → LeavesOnly (P.region memory.new) (P.may_hold memory.new) (LeavesEither (P.region memory.old) (fixed_layout sup.now) held (AppendedThreeLogs (P.region memory.old) sup.now free.old cpu row.old first.now.entries.now other.old second.now.entries.now last.old third.now.entries.now)) }
+        → LeavesOnly (P.region memory.new) (P.may_hold memory.new) (LeavesEither (P.region memory.old) (fixed_layout sup.now) held
+        (AppendedThreeLogs (P.region memory.old) sup.now free.old cpu row.old first.now.entries.now other.old second.now.entries.now last.old third.now.entries.now)) }
 {
     let blocks = prepare_three(alloc, free, cpu, row, first, other, second, last, third)?;
     let count = blocks_for(row, first) as usize;
@@ -115,9 +124,12 @@ fn prepare_three(
     requires more_few { length second.now.entries.now < 4096 }
     requires last_few { length third.now.entries.now < 4096 }
     ensures taken { IfOk result (λ blocks. TakesEach free.old cpu blocks.items free.new) }
-    ensures count { IfOk result (λ blocks. length blocks.items ≡ needed (row.old.tail % 4096) first.now.entries.now + needed (other.old.tail % 4096) second.now.entries.now + needed (last.old.tail % 4096) third.now.entries.now) }
-    ensures enough { OnOk result (needed (row.old.tail % 4096) first.now.entries.now + needed (other.old.tail % 4096) second.now.entries.now + needed (last.old.tail % 4096) third.now.entries.now ≤ all_blocks free.old.pools) }
-    ensures refused { IfErr result (λ e. RefusesStep e (needed (row.old.tail % 4096) first.now.entries.now + needed (other.old.tail % 4096) second.now.entries.now + needed (last.old.tail % 4096) third.now.entries.now) free.old) }
+    ensures count { IfOk result (λ blocks. length blocks.items ≡ needed (row.old.tail % 4096) first.now.entries.now + needed (other.old.tail % 4096) second.now.entries.now
+        + needed (last.old.tail % 4096) third.now.entries.now) }
+    ensures enough { OnOk result (needed (row.old.tail % 4096) first.now.entries.now + needed (other.old.tail % 4096) second.now.entries.now
+        + needed (last.old.tail % 4096) third.now.entries.now ≤ all_blocks free.old.pools) }
+    ensures refused { IfErr result (λ e. RefusesStep e (needed (row.old.tail % 4096) first.now.entries.now + needed (other.old.tail % 4096) second.now.entries.now
+        + needed (last.old.tail % 4096) third.now.entries.now) free.old) }
     ensures goes_on { IfErr result (λ e. e ≡ RefusalValue.Stopped → ⊥) }
     ensures unchanged { OnErr result (SamePools free.old free.new) }
     ensures rows { SameRow row.old row.new × SameRow other.old other.new × SameRow last.old last.new }

@@ -73,7 +73,8 @@ pub fn append_less<P: Pmem>(
         → TailIsFirst (P.region memory.old) (P.region memory.new) sup.now free.old.pools cpu row.old.inode row.old.tail entries.now (slot_address sup.now gone) }
     // Whatever a stop leaves: recovery finds what is held, or it with the entries and without the inode, without faults.
     ensures any_stop { (held : Store) (h : Held) → ShowsRow (P.region memory.old) sup.now held h row.old free.old → NothingPending (P.region memory.old) (P.may_hold memory.old)
-        → LeavesOnly (P.region memory.new) (P.may_hold memory.new) (LeavesEither (P.region memory.old) (fixed_layout sup.now) held (AppendedLess (P.region memory.old) sup.now free.old cpu row.old gone entries.now)) }
+        → LeavesOnly (P.region memory.new) (P.may_hold memory.new) (LeavesEither (P.region memory.old) (fixed_layout sup.now) held
+        (AppendedLess (P.region memory.old) sup.now free.old cpu row.old gone entries.now)) }
 {
     let fresh = prepare_cut(alloc, free, cpu, row, entries, coming)?;
     let parent = Extension {

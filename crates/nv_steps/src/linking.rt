@@ -54,9 +54,11 @@ pub fn link_both<P: Pmem>(
     requires few { file.old.numbers.links < 1000 }
     requires name { IsName name.now }
     ensures linked { OnOk result (LinksAt (P.region memory.old) (P.region memory.new) sup.now free.old free.new cpu (file.old ∷ directory.old ∷ []) (file.new ∷ directory.new ∷ []) 0 1 name.now time) }
-    ensures enough { OnOk result (needed (file.old.tail % 4096) (links_entries (file.old.numbers.links + 1) time) + needed (directory.old.tail % 4096) (name_entries Add file.old.inode name.now time) ≤ all_blocks free.old.pools) }
+    ensures enough { OnOk result (needed (file.old.tail % 4096) (links_entries (file.old.numbers.links + 1) time)
+        + needed (directory.old.tail % 4096) (name_entries Add file.old.inode name.now time) ≤ all_blocks free.old.pools) }
     ensures settled { OnOk result (NothingPending (P.region memory.new) (P.may_hold memory.new)) }
-    ensures refused { IfErr result (λ e. RefusesStep e (needed (file.old.tail % 4096) (links_entries (file.old.numbers.links + 1) time) + needed (directory.old.tail % 4096) (name_entries Add file.old.inode name.now time)) free.old) }
+    ensures refused { IfErr result (λ e. RefusesStep e (needed (file.old.tail % 4096) (links_entries (file.old.numbers.links + 1) time)
+        + needed (directory.old.tail % 4096) (name_entries Add file.old.inode name.now time)) free.old) }
     ensures unchanged { IfErr result (λ e. (e ≡ RefusalValue.Stopped → ⊥) → LeavesStep memory.old memory.new free.old free.new file.old file.new × SameRow directory.old directory.new) }
     ensures stopped { IfErr result (λ e. e ≡ RefusalValue.Stopped → IsTrue (P.fuse memory.new).has_burnt) }
     ensures inode { file.new.inode ≡ file.old.inode }
@@ -69,11 +71,13 @@ pub fn link_both<P: Pmem>(
         → StoresIn sup.now held (two_logs sup.now cpu file.old.inode directory.old.inode) (P.region memory.old) (P.region memory.new) }
     // The file's tail is stored first.
     ensures in_order { (held : Store) (h g : Held) → ShowsRow (P.region memory.old) sup.now held h file.old free.old → ShowsRow (P.region memory.old) sup.now held g directory.old free.old
-        → TailIsFirst (P.region memory.old) (P.region memory.new) sup.now free.old.pools cpu file.old.inode file.old.tail (links_entries (file.old.numbers.links + 1) time) (tail_address sup.now directory.old.inode) }
+        → TailIsFirst (P.region memory.old) (P.region memory.new) sup.now free.old.pools cpu file.old.inode file.old.tail (links_entries
+        (file.old.numbers.links + 1) time) (tail_address sup.now directory.old.inode) }
     // Whatever a stop leaves: recovery finds what is held, or it with the link and the name, without faults.
     ensures any_stop { (held : Store) (h g : Held) → ShowsRow (P.region memory.old) sup.now held h file.old free.old → ShowsRow (P.region memory.old) sup.now held g directory.old free.old
         → name_at directory.old.names name.now ≡ Option.None → NothingPending (P.region memory.old) (P.may_hold memory.old)
-        → LeavesOnly (P.region memory.new) (P.may_hold memory.new) (LeavesEither (P.region memory.old) (fixed_layout sup.now) held (Linked (P.region memory.old) sup.now free.old cpu file.old directory.old name.now time)) }
+        → LeavesOnly (P.region memory.new) (P.may_hold memory.new) (LeavesEither (P.region memory.old) (fixed_layout sup.now) held
+        (Linked (P.region memory.old) sup.now free.old cpu file.old directory.old name.now time)) }
 {
     let inode = file.inode;
     let count = file.numbers.links + 1;

@@ -68,7 +68,8 @@ pub fn make_named<P: Pmem>(
     requires stands { StandsRight (P.region memory.old) sup.now free.old directory.old }
     requires can { CanName (P.region memory.old) sup.now cpu new.now.inode directory.old }
     requires name { IsName new.now.name.now }
-    ensures made { IfOk result (λ row. MakesNamed (P.region memory.old) (P.region memory.new) sup.now free.old free.new cpu directory.old directory.new new.now.kind new.now.mode new.now.time new.now.inode new.now.name.now row) }
+    ensures made { IfOk result (λ row. MakesNamed (P.region memory.old) (P.region memory.new) sup.now free.old free.new cpu directory.old directory.new new.now.kind new.now.mode new.now.time
+        new.now.inode new.now.name.now row) }
     ensures enough { OnOk result (1 + needed (directory.old.tail % 4096) (name_entries OperationValue.Add new.now.inode new.now.name.now new.now.time) ≤ all_blocks free.old.pools) }
     ensures settled { OnOk result (NothingPending (P.region memory.new) (P.may_hold memory.new)) }
     ensures refused { IfErr result (λ e. RefusesStep e (1 + needed (directory.old.tail % 4096) (name_entries OperationValue.Add new.now.inode new.now.name.now new.now.time)) free.old) }
@@ -87,7 +88,8 @@ pub fn make_named<P: Pmem>(
     // What a stop leaves, at any exit.
     ensures any_stop { (held : Store) (h : Held) → ShowsRow (P.region memory.old) sup.now held h directory.old free.old → held new.now.inode ≡ None
         → name_at directory.old.names new.now.name.now ≡ None → NothingPending (P.region memory.old) (P.may_hold memory.old)
-        → LeavesOnly (P.region memory.new) (P.may_hold memory.new) (LeavesEither (P.region memory.old) (fixed_layout sup.now) held (Named (P.region memory.old) sup.now free.old cpu directory.old new.now.kind new.now.mode new.now.time new.now.inode new.now.name.now)) }
+        → LeavesOnly (P.region memory.new) (P.may_hold memory.new) (LeavesEither (P.region memory.old) (fixed_layout sup.now) held
+        (Named (P.region memory.old) sup.now free.old cpu directory.old new.now.kind new.now.mode new.now.time new.now.inode new.now.name.now)) }
 {
     let entries = [name_entry(Operation::Add, new.inode, new.name, new.time)];
     let blocks = prepare_name(alloc, free, cpu, directory, &entries)?;

@@ -75,10 +75,12 @@ pub fn cut_name<P: Pmem>(
         → StoresIn sup.now held (one_less sup.now cpu directory.old.inode gone.now.inode) (P.region memory.old) (P.region memory.new) }
     // The directory's tail is stored first.
     ensures in_order { (held : Store) (h : Held) → ShowsRow (P.region memory.old) sup.now held h directory.old free.old
-        → TailIsFirst (P.region memory.old) (P.region memory.new) sup.now free.old.pools cpu directory.old.inode directory.old.tail (name_entries OperationValue.Remove gone.now.inode gone.now.name.now gone.now.time) (slot_address sup.now gone.now.inode) }
+        → TailIsFirst (P.region memory.old) (P.region memory.new) sup.now free.old.pools cpu directory.old.inode directory.old.tail (name_entries OperationValue.Remove gone.now.inode gone.now.name.now
+        gone.now.time) (slot_address sup.now gone.now.inode) }
     // Whatever a stop leaves: recovery finds what is held, or it without the name and the inode, without faults.
     ensures any_stop { (held : Store) (h : Held) → ShowsRow (P.region memory.old) sup.now held h directory.old free.old → NothingPending (P.region memory.old) (P.may_hold memory.old)
-        → LeavesOnly (P.region memory.new) (P.may_hold memory.new) (LeavesEither (P.region memory.old) (fixed_layout sup.now) held (Cut (P.region memory.old) sup.now free.old cpu directory.old gone.now.inode gone.now.time gone.now.name.now)) }
+        → LeavesOnly (P.region memory.new) (P.may_hold memory.new) (LeavesEither (P.region memory.old) (fixed_layout sup.now) held
+        (Cut (P.region memory.old) sup.now free.old cpu directory.old gone.now.inode gone.now.time gone.now.name.now)) }
 {
     let entries = [name_entry(Operation::Remove, gone.inode, gone.name, gone.time)];
     append_less(

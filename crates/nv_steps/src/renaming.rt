@@ -63,7 +63,8 @@ pub fn move_within<P: Pmem>(
     requires stands { StandsRight (P.region memory.old) sup.now free.old directory.old }
     requires name { IsName moved.now.name.now }
     requires other { IsName moved.now.other.now }
-    ensures moved { OnOk result (MovesWithin (P.region memory.old) (P.region memory.new) sup.now free.old free.new cpu directory.old directory.new moved.now.inode moved.now.name.now moved.now.other.now moved.now.time) }
+    ensures moved { OnOk result (MovesWithin (P.region memory.old) (P.region memory.new) sup.now free.old free.new cpu directory.old directory.new moved.now.inode moved.now.name.now
+        moved.now.other.now moved.now.time) }
     ensures enough { OnOk result (needed (directory.old.tail % 4096) (move_entries moved.now.inode moved.now.name.now moved.now.other.now moved.now.time) ≤ all_blocks free.old.pools) }
     ensures settled { OnOk result (NothingPending (P.region memory.new) (P.may_hold memory.new)) }
     ensures refused { IfErr result (λ e. RefusesStep e (needed (directory.old.tail % 4096) (move_entries moved.now.inode moved.now.name.now moved.now.other.now moved.now.time)) free.old) }
@@ -79,7 +80,8 @@ pub fn move_within<P: Pmem>(
     // Whatever a stop leaves: recovery finds what is held, or it with the other name, without faults.
     ensures any_stop { (held : Store) (h : Held) → ShowsRow (P.region memory.old) sup.now held h directory.old free.old → name_at directory.old.names moved.now.other.now ≡ Option.None
         → NothingPending (P.region memory.old) (P.may_hold memory.old)
-        → LeavesOnly (P.region memory.new) (P.may_hold memory.new) (LeavesEither (P.region memory.old) (fixed_layout sup.now) held (MovedHere (P.region memory.old) sup.now free.old cpu directory.old moved.now.inode moved.now.name.now moved.now.other.now moved.now.time)) }
+        → LeavesOnly (P.region memory.new) (P.may_hold memory.new) (LeavesEither (P.region memory.old) (fixed_layout sup.now) held
+        (MovedHere (P.region memory.old) sup.now free.old cpu directory.old moved.now.inode moved.now.name.now moved.now.other.now moved.now.time)) }
 {
     let entries = [
         name_entry(Operation::Remove, moved.inode, moved.name, moved.time),
@@ -119,10 +121,14 @@ pub fn move_both<P: Pmem>(
     requires to_stands { StandsRight (P.region memory.old) sup.now free.old to.old × CanName (P.region memory.old) sup.now cpu to.old.inode to.old }
     requires name { IsName moved.now.name.now }
     requires other { IsName moved.now.other.now }
-    ensures moved { OnOk result (GrowsTwo (P.region memory.old) (P.region memory.new) sup.now free.old free.new cpu (from.old ∷ to.old ∷ []) (from.new ∷ to.new ∷ []) 0 from.old (name_entries Remove moved.now.inode moved.now.name.now moved.now.time) 1 to.old (name_entries Add moved.now.inode moved.now.other.now moved.now.time) (λ fresh now. LosesName from.old moved.now.name.now moved.now.inode moved.now.time fresh now) (λ more now. GetsName to.old moved.now.other.now moved.now.inode moved.now.time more now)) }
-    ensures enough { OnOk result (needed (from.old.tail % 4096) (name_entries Remove moved.now.inode moved.now.name.now moved.now.time) + needed (to.old.tail % 4096) (name_entries Add moved.now.inode moved.now.other.now moved.now.time) ≤ all_blocks free.old.pools) }
+    ensures moved { OnOk result (GrowsTwo (P.region memory.old) (P.region memory.new) sup.now free.old free.new cpu (from.old ∷ to.old ∷ []) (from.new ∷ to.new ∷ []) 0 from.old
+        (name_entries Remove moved.now.inode moved.now.name.now moved.now.time) 1 to.old (name_entries Add moved.now.inode moved.now.other.now moved.now.time) (λ fresh now. LosesName from.old
+        moved.now.name.now moved.now.inode moved.now.time fresh now) (λ more now. GetsName to.old moved.now.other.now moved.now.inode moved.now.time more now)) }
+    ensures enough { OnOk result (needed (from.old.tail % 4096) (name_entries Remove moved.now.inode moved.now.name.now moved.now.time)
+        + needed (to.old.tail % 4096) (name_entries Add moved.now.inode moved.now.other.now moved.now.time) ≤ all_blocks free.old.pools) }
     ensures settled { OnOk result (NothingPending (P.region memory.new) (P.may_hold memory.new)) }
-    ensures refused { IfErr result (λ e. RefusesStep e (needed (from.old.tail % 4096) (name_entries Remove moved.now.inode moved.now.name.now moved.now.time) + needed (to.old.tail % 4096) (name_entries Add moved.now.inode moved.now.other.now moved.now.time)) free.old) }
+    ensures refused { IfErr result (λ e. RefusesStep e (needed (from.old.tail % 4096) (name_entries Remove moved.now.inode moved.now.name.now moved.now.time)
+        + needed (to.old.tail % 4096) (name_entries Add moved.now.inode moved.now.other.now moved.now.time)) free.old) }
     ensures unchanged { IfErr result (λ e. (e ≡ RefusalValue.Stopped → ⊥) → LeavesStep memory.old memory.new free.old free.new from.old from.new × SameRow to.old to.new) }
     ensures stopped { IfErr result (λ e. e ≡ RefusalValue.Stopped → IsTrue (P.fuse memory.new).has_burnt) }
     ensures inode { from.new.inode ≡ from.old.inode }
@@ -135,11 +141,13 @@ pub fn move_both<P: Pmem>(
         → StoresIn sup.now held (two_logs sup.now cpu from.old.inode to.old.inode) (P.region memory.old) (P.region memory.new) }
     // The old directory's tail is stored first.
     ensures in_order { (held : Store) (h g : Held) → ShowsRow (P.region memory.old) sup.now held h from.old free.old → ShowsRow (P.region memory.old) sup.now held g to.old free.old
-        → TailIsFirst (P.region memory.old) (P.region memory.new) sup.now free.old.pools cpu from.old.inode from.old.tail (name_entries Remove moved.now.inode moved.now.name.now moved.now.time) (tail_address sup.now to.old.inode) }
+        → TailIsFirst (P.region memory.old) (P.region memory.new) sup.now free.old.pools cpu from.old.inode from.old.tail (name_entries Remove moved.now.inode moved.now.name.now
+        moved.now.time) (tail_address sup.now to.old.inode) }
     // Whatever a stop leaves: recovery finds what is held, or it with the name in the other directory, without faults.
     ensures any_stop { (held : Store) (h g : Held) → ShowsRow (P.region memory.old) sup.now held h from.old free.old → ShowsRow (P.region memory.old) sup.now held g to.old free.old
         → name_at to.old.names moved.now.other.now ≡ Option.None → NothingPending (P.region memory.old) (P.may_hold memory.old)
-        → LeavesOnly (P.region memory.new) (P.may_hold memory.new) (LeavesEither (P.region memory.old) (fixed_layout sup.now) held (MovedOver (P.region memory.old) sup.now free.old cpu from.old to.old moved.now.inode moved.now.name.now moved.now.other.now moved.now.time)) }
+        → LeavesOnly (P.region memory.new) (P.may_hold memory.new) (LeavesEither (P.region memory.old) (fixed_layout sup.now) held
+        (MovedOver (P.region memory.old) sup.now free.old cpu from.old to.old moved.now.inode moved.now.name.now moved.now.other.now moved.now.time)) }
 {
     let removal = [name_entry(Operation::Remove, moved.inode, moved.name, moved.time)];
     let addition = [name_entry(Operation::Add, moved.inode, moved.other, moved.time)];

@@ -57,7 +57,8 @@ pub fn resize<P: Pmem>(
         → StoresIn sup.now held (one_log sup.now row.old.inode) (P.region memory.old) (P.region memory.new) }
     // Whatever a stop leaves: recovery finds what is held, or it with the file's new size, without faults.
     ensures any_stop { (held : Store) (h : Held) → ShowsRow (P.region memory.old) sup.now held h row.old free.old → NothingPending (P.region memory.old) (P.may_hold memory.old)
-        → LeavesOnly (P.region memory.new) (P.may_hold memory.new) (LeavesEither (P.region memory.old) (fixed_layout sup.now) held (Resized (P.region memory.old) sup.now free.old cpu row.old attributes)) }
+        → LeavesOnly (P.region memory.new) (P.may_hold memory.new) (LeavesEither (P.region memory.old) (fixed_layout sup.now) held
+        (Resized (P.region memory.old) sup.now free.old cpu row.old attributes)) }
 {
     match end_block(row, attributes.size) {
         Some(from) => resize_with_copy(alloc, memory, sup, free, cpu, row, attributes, from),
@@ -106,7 +107,8 @@ fn resize_in_place<P: Pmem>(
         → StoresIn sup.now held (one_log sup.now row.old.inode) (P.region memory.old) (P.region memory.new) }
     // Whatever a stop leaves: recovery finds what is held, or it with the file's new size, without faults.
     ensures any_stop { (held : Store) (h : Held) → ShowsRow (P.region memory.old) sup.now held h row.old free.old → NothingPending (P.region memory.old) (P.may_hold memory.old)
-        → LeavesOnly (P.region memory.new) (P.may_hold memory.new) (LeavesEither (P.region memory.old) (fixed_layout sup.now) held (Resized (P.region memory.old) sup.now free.old cpu row.old attributes)) }
+        → LeavesOnly (P.region memory.new) (P.may_hold memory.new) (LeavesEither (P.region memory.old) (fixed_layout sup.now) held
+        (Resized (P.region memory.old) sup.now free.old cpu row.old attributes)) }
 {
     let first = attributes.size.div_ceil(BLOCK_SIZE);
     let end = row.numbers.size.div_ceil(BLOCK_SIZE);

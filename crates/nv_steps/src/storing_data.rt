@@ -40,7 +40,8 @@ pub(crate) fn store_data<P: Pmem>(
     requires fresh { AreFresh (P.region memory.old) index.now (entry_blocks entries.now) }
     requires pages { AreSmall entries.now }
     requires small { change.now.offset + length (data_bytes change.now.content) ≤ 2 ^ 62 }
-    ensures stored { OnOk result (HoldEntries (P.region memory.new) (byte_after change.now.offset (data_bytes change.now.content) change.now.size (file_byte (P.region memory.old) index.now)) entries.now) }
+    ensures stored { OnOk result (HoldEntries (P.region memory.new) (byte_after change.now.offset (data_bytes change.now.content) change.now.size (file_byte (P.region memory.old) index.now))
+        entries.now) }
     ensures wrote { StoresOnly (InBlocks (HasBlock (entry_blocks entries.now))) (P.region memory.old) (P.region memory.new) (P.may_hold memory.old) (P.may_hold memory.new) }
     ensures stopped { (P.fuse memory.old).has_burnt ≡ false → is_err result ≡ (P.fuse memory.new).has_burnt }
     ensures keeps_fuse { KeepsFuse (λ limit. size (P.region memory.old) ≤ limit) (P.fuse memory.old) (P.fuse memory.new) }
@@ -78,7 +79,8 @@ pub(crate) fn commit_data<P: Pmem>(
     requires inside { slot + 32 ≤ size (P.region memory.old) }
     ensures end { IfOk result (λ new. new ≡ end_of log.now.fresh.items 0 tail log.now.entries.items) }
     ensures commits { (s : Super) (inode : ℕ)
-        → OnOk result (Commits (P.region memory.old) (P.region memory.new) s inode slot tail (byte_after change.now.offset (data_bytes change.now.content) change.now.size (file_byte (P.region memory.old) index.now)) log.now.entries.items log.now.fresh.items) }
+        → OnOk result (Commits (P.region memory.old) (P.region memory.new) s inode slot tail
+        (byte_after change.now.offset (data_bytes change.now.content) change.now.size (file_byte (P.region memory.old) index.now)) log.now.entries.items log.now.fresh.items) }
     ensures settled { OnOk result (NothingPending (P.region memory.new) (P.may_hold memory.new)) }
     ensures stopped { (P.fuse memory.old).has_burnt ≡ false → is_err result ≡ (P.fuse memory.new).has_burnt }
     ensures length { size (P.region memory.new) ≡ size (P.region memory.old) }
@@ -91,7 +93,8 @@ pub(crate) fn commit_data<P: Pmem>(
     ensures any_stop { (s : Super) (held : Store) (inode : ℕ) (h : Held) → CanExtend (P.region memory.old) s held inode h slot tail log.now.entries.items log.now.fresh.items
         → ((b : ℕ) → HasBlock (entry_blocks log.now.entries.items) b → IsUnowned (fixed_layout s) held b)
         → NothingPending (P.region memory.old) (P.may_hold memory.old) → LeavesOnly (P.region memory.new) (P.may_hold memory.new) (LeavesEither (P.region memory.old) (fixed_layout s) held
-        (λ S. Commits (P.region memory.old) S s inode slot tail (byte_after change.now.offset (data_bytes change.now.content) change.now.size (file_byte (P.region memory.old) index.now)) log.now.entries.items log.now.fresh.items)) }
+        (λ S. Commits (P.region memory.old) S s inode slot tail (byte_after change.now.offset (data_bytes change.now.content) change.now.size (file_byte (P.region memory.old) index.now))
+        log.now.entries.items log.now.fresh.items)) }
 {
     store_data(memory, index, &log.entries, change)?;
     extend_log(memory, slot, tail, &log.entries, &log.fresh)

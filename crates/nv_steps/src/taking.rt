@@ -61,7 +61,8 @@ pub fn take_within<P: Pmem>(
     requires differ { directory.old.inode ≢ gone.inode }
     requires name { IsName moved.now.name.now }
     requires other { IsName moved.now.other.now }
-    ensures taken { OnOk result (TakesWithin (P.region memory.old) (P.region memory.new) sup.now free.old free.new cpu directory.old directory.new moved.now.inode gone.inode moved.now.name.now moved.now.other.now moved.now.time) }
+    ensures taken { OnOk result (TakesWithin (P.region memory.old) (P.region memory.new) sup.now free.old free.new cpu directory.old directory.new moved.now.inode gone.inode moved.now.name.now
+        moved.now.other.now moved.now.time) }
     ensures room { OnOk result (gone.blocks ≤ free.new.room) }
     ensures enough { OnOk result (needed (directory.old.tail % 4096) (take_entries moved.now.inode gone.inode moved.now.name.now moved.now.other.now moved.now.time) ≤ all_blocks free.old.pools) }
     ensures settled { OnOk result (NothingPending (P.region memory.new) (P.may_hold memory.new)) }
@@ -77,10 +78,12 @@ pub fn take_within<P: Pmem>(
         → StoresIn sup.now held (one_less sup.now cpu directory.old.inode gone.inode) (P.region memory.old) (P.region memory.new) }
     // The directory's tail is stored first.
     ensures in_order { (held : Store) (h : Held) → ShowsRow (P.region memory.old) sup.now held h directory.old free.old
-        → TailIsFirst (P.region memory.old) (P.region memory.new) sup.now free.old.pools cpu directory.old.inode directory.old.tail (take_entries moved.now.inode gone.inode moved.now.name.now moved.now.other.now moved.now.time) (slot_address sup.now gone.inode) }
+        → TailIsFirst (P.region memory.old) (P.region memory.new) sup.now free.old.pools cpu directory.old.inode directory.old.tail (take_entries moved.now.inode gone.inode moved.now.name.now
+        moved.now.other.now moved.now.time) (slot_address sup.now gone.inode) }
     // Whatever a stop leaves: recovery finds what is held, or it with the name given and without the inode, without faults.
     ensures any_stop { (held : Store) (h : Held) → ShowsRow (P.region memory.old) sup.now held h directory.old free.old → NothingPending (P.region memory.old) (P.may_hold memory.old)
-        → LeavesOnly (P.region memory.new) (P.may_hold memory.new) (LeavesEither (P.region memory.old) (fixed_layout sup.now) held (TookWithin (P.region memory.old) sup.now free.old cpu directory.old moved.now.inode gone.inode moved.now.name.now moved.now.other.now moved.now.time)) }
+        → LeavesOnly (P.region memory.new) (P.may_hold memory.new) (LeavesEither (P.region memory.old) (fixed_layout sup.now) held
+        (TookWithin (P.region memory.old) sup.now free.old cpu directory.old moved.now.inode gone.inode moved.now.name.now moved.now.other.now moved.now.time)) }
 {
     let entries = [
         name_entry(Operation::Remove, moved.inode, moved.name, moved.time),
@@ -130,10 +133,13 @@ pub fn lessen_within<P: Pmem>(
     requires more { 1 < file.old.numbers.links }
     requires name { IsName moved.now.name.now }
     requires other { IsName moved.now.other.now }
-    ensures lessened { OnOk result (LessensAt (P.region memory.old) (P.region memory.new) sup.now free.old free.new cpu (directory.old ∷ file.old ∷ []) (directory.new ∷ file.new ∷ []) 0 1 moved.now.inode moved.now.name.now moved.now.other.now moved.now.time) }
-    ensures enough { OnOk result (needed (directory.old.tail % 4096) (take_entries moved.now.inode file.old.inode moved.now.name.now moved.now.other.now moved.now.time) + needed (file.old.tail % 4096) (links_entries (file.old.numbers.links - 1) moved.now.time) ≤ all_blocks free.old.pools) }
+    ensures lessened { OnOk result (LessensAt (P.region memory.old) (P.region memory.new) sup.now free.old free.new cpu (directory.old ∷ file.old ∷ [])
+        (directory.new ∷ file.new ∷ []) 0 1 moved.now.inode moved.now.name.now moved.now.other.now moved.now.time) }
+    ensures enough { OnOk result (needed (directory.old.tail % 4096) (take_entries moved.now.inode file.old.inode moved.now.name.now moved.now.other.now moved.now.time)
+        + needed (file.old.tail % 4096) (links_entries (file.old.numbers.links - 1) moved.now.time) ≤ all_blocks free.old.pools) }
     ensures settled { OnOk result (NothingPending (P.region memory.new) (P.may_hold memory.new)) }
-    ensures refused { IfErr result (λ e. RefusesStep e (needed (directory.old.tail % 4096) (take_entries moved.now.inode file.old.inode moved.now.name.now moved.now.other.now moved.now.time) + needed (file.old.tail % 4096) (links_entries (file.old.numbers.links - 1) moved.now.time)) free.old) }
+    ensures refused { IfErr result (λ e. RefusesStep e (needed (directory.old.tail % 4096) (take_entries moved.now.inode file.old.inode moved.now.name.now moved.now.other.now moved.now.time)
+        + needed (file.old.tail % 4096) (links_entries (file.old.numbers.links - 1) moved.now.time)) free.old) }
     ensures unchanged { IfErr result (λ e. (e ≡ RefusalValue.Stopped → ⊥) → LeavesStep memory.old memory.new free.old free.new directory.old directory.new × SameRow file.old file.new) }
     ensures stopped { IfErr result (λ e. e ≡ RefusalValue.Stopped → IsTrue (P.fuse memory.new).has_burnt) }
     ensures inode { directory.new.inode ≡ directory.old.inode }
@@ -146,11 +152,13 @@ pub fn lessen_within<P: Pmem>(
         → StoresIn sup.now held (two_logs sup.now cpu directory.old.inode file.old.inode) (P.region memory.old) (P.region memory.new) }
     // The directory's tail is stored first.
     ensures in_order { (held : Store) (h f : Held) → ShowsRow (P.region memory.old) sup.now held h directory.old free.old → ShowsRow (P.region memory.old) sup.now held f file.old free.old
-        → TailIsFirst (P.region memory.old) (P.region memory.new) sup.now free.old.pools cpu directory.old.inode directory.old.tail (take_entries moved.now.inode file.old.inode moved.now.name.now moved.now.other.now moved.now.time) (tail_address sup.now file.old.inode) }
+        → TailIsFirst (P.region memory.old) (P.region memory.new) sup.now free.old.pools cpu directory.old.inode directory.old.tail (take_entries moved.now.inode file.old.inode moved.now.name.now
+        moved.now.other.now moved.now.time) (tail_address sup.now file.old.inode) }
     // Whatever a stop leaves: recovery finds what is held, or it with the name given and a link less, without faults.
     ensures any_stop { (held : Store) (h f : Held) → ShowsRow (P.region memory.old) sup.now held h directory.old free.old → ShowsRow (P.region memory.old) sup.now held f file.old free.old
         → NothingPending (P.region memory.old) (P.may_hold memory.old)
-        → LeavesOnly (P.region memory.new) (P.may_hold memory.new) (LeavesEither (P.region memory.old) (fixed_layout sup.now) held (Lessened (P.region memory.old) sup.now free.old cpu directory.old file.old moved.now.inode moved.now.name.now moved.now.other.now moved.now.time)) }
+        → LeavesOnly (P.region memory.new) (P.may_hold memory.new) (LeavesEither (P.region memory.old) (fixed_layout sup.now) held
+        (Lessened (P.region memory.old) sup.now free.old cpu directory.old file.old moved.now.inode moved.now.name.now moved.now.other.now moved.now.time)) }
 {
     let time = moved.time;
     let count = file.numbers.links - 1;

@@ -54,10 +54,13 @@ pub fn unlink_both<P: Pmem>(
     requires file_stands { StandsRight (P.region memory.old) sup.now free.old file.old × CanName (P.region memory.old) sup.now cpu file.old.inode file.old }
     requires more { 1 < file.old.numbers.links }
     requires name { IsName name.now }
-    ensures unlinked { OnOk result (UnlinksAt (P.region memory.old) (P.region memory.new) sup.now free.old free.new cpu (directory.old ∷ file.old ∷ []) (directory.new ∷ file.new ∷ []) 0 1 name.now time) }
-    ensures enough { OnOk result (needed (directory.old.tail % 4096) (name_entries Remove file.old.inode name.now time) + needed (file.old.tail % 4096) (links_entries (file.old.numbers.links - 1) time) ≤ all_blocks free.old.pools) }
+    ensures unlinked { OnOk result (UnlinksAt (P.region memory.old) (P.region memory.new) sup.now free.old free.new cpu (directory.old ∷ file.old ∷ [])
+        (directory.new ∷ file.new ∷ []) 0 1 name.now time) }
+    ensures enough { OnOk result (needed (directory.old.tail % 4096) (name_entries Remove file.old.inode name.now time)
+        + needed (file.old.tail % 4096) (links_entries (file.old.numbers.links - 1) time) ≤ all_blocks free.old.pools) }
     ensures settled { OnOk result (NothingPending (P.region memory.new) (P.may_hold memory.new)) }
-    ensures refused { IfErr result (λ e. RefusesStep e (needed (directory.old.tail % 4096) (name_entries Remove file.old.inode name.now time) + needed (file.old.tail % 4096) (links_entries (file.old.numbers.links - 1) time)) free.old) }
+    ensures refused { IfErr result (λ e. RefusesStep e (needed (directory.old.tail % 4096) (name_entries Remove file.old.inode name.now time)
+        + needed (file.old.tail % 4096) (links_entries (file.old.numbers.links - 1) time)) free.old) }
     ensures unchanged { IfErr result (λ e. (e ≡ RefusalValue.Stopped → ⊥) → LeavesStep memory.old memory.new free.old free.new directory.old directory.new × SameRow file.old file.new) }
     ensures stopped { IfErr result (λ e. e ≡ RefusalValue.Stopped → IsTrue (P.fuse memory.new).has_burnt) }
     ensures inode { directory.new.inode ≡ directory.old.inode }
@@ -70,11 +73,13 @@ pub fn unlink_both<P: Pmem>(
         → StoresIn sup.now held (two_logs sup.now cpu directory.old.inode file.old.inode) (P.region memory.old) (P.region memory.new) }
     // The directory's tail is stored first.
     ensures in_order { (held : Store) (h f : Held) → ShowsRow (P.region memory.old) sup.now held h directory.old free.old → ShowsRow (P.region memory.old) sup.now held f file.old free.old
-        → TailIsFirst (P.region memory.old) (P.region memory.new) sup.now free.old.pools cpu directory.old.inode directory.old.tail (name_entries Remove file.old.inode name.now time) (tail_address sup.now file.old.inode) }
+        → TailIsFirst (P.region memory.old) (P.region memory.new) sup.now free.old.pools cpu directory.old.inode directory.old.tail (name_entries Remove file.old.inode name.now time) (tail_address
+        sup.now file.old.inode) }
     // Whatever a stop leaves: recovery finds what is held, or it without the name and the link, without faults.
     ensures any_stop { (held : Store) (h f : Held) → ShowsRow (P.region memory.old) sup.now held h directory.old free.old → ShowsRow (P.region memory.old) sup.now held f file.old free.old
         → NothingPending (P.region memory.old) (P.may_hold memory.old)
-        → LeavesOnly (P.region memory.new) (P.may_hold memory.new) (LeavesEither (P.region memory.old) (fixed_layout sup.now) held (Unlinked (P.region memory.old) sup.now free.old cpu directory.old file.old name.now time)) }
+        → LeavesOnly (P.region memory.new) (P.may_hold memory.new) (LeavesEither (P.region memory.old) (fixed_layout sup.now) held
+        (Unlinked (P.region memory.old) sup.now free.old cpu directory.old file.old name.now time)) }
 {
     let count = file.numbers.links - 1;
     let names = [name_entry(Operation::Remove, file.inode, name, time)];

@@ -7,7 +7,8 @@ use Rattle.nv_super.specs.Kind.{kind_word}
 
 -- the numbers of a superblock
 abbrev pub region_line : Super → List ℕ
-region_line s = line (codes "region version " ++ decimal s.version ++ codes " cpus " ++ decimal s.cpus ++ codes " blocks " ++ decimal s.blocks ++ codes " tables " ++ decimal s.table_blocks ++ codes " state " ++ decimal s.state)
+region_line s = line (codes "region version " ++ decimal s.version ++ codes " cpus " ++ decimal s.cpus ++ codes " blocks " ++ decimal s.blocks ++ codes " tables " ++ decimal s.table_blocks
+    ++ codes " state " ++ decimal s.state)
 
 -- what an inode is, and whose
 abbrev pub inode_head : Attributes → List ℕ

@@ -102,7 +102,8 @@ removed names time t = on_some (found t names) (λ i. on_ok (walk t 1 names) (λ
 
 -- `rename`: the old name less, and then the new one more for the same inode
 abbrev pub renamed : List (List ℕ) → List (List ℕ) → ℕ → Tree → Tree
-renamed old new time t = on_some (found t old) (λ i. on_ok (walk t 1 old) (λ d. on_ok (walk t 1 new) (λ e. edit e (with_name (last_name new) i time) (edit d (without_name (last_name old) time) t)) t) t) t
+renamed old new time t = on_some (found t old) (λ i. on_ok (walk t 1 old) (λ d. on_ok (walk t 1 new) (λ e. edit e (with_name (last_name new) i time) (edit d (without_name (last_name old) time) t)) t)
+    t) t
 
 -- ---- what the reading calls answer
 

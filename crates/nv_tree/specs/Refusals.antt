@@ -3,7 +3,8 @@ use Rattle.std.specs.Prelude.{◌≡◌, ◌⊎◌, ℕ, Bool, true, false, not,
 use Rattle.std.specs.List.{list_any}
 use Rattle.std.specs.Option.{option_map_or}
 use Rattle.nv_tree.specs.declared.refusal.Refusal.{Refusal}
-use Rattle.nv_tree.specs.declared.refusal.Refusal.TheVariants.{NotFound, Exists, NotDirectory, IsDirectory, NotEmpty, BadName, NoSpace, NoInodes, TooLarge, ReadOnly, LinkLimit, IntoItself, BadCpu, Memory, Stopped}
+use Rattle.nv_tree.specs.declared.refusal.Refusal.TheVariants.{NotFound, Exists, NotDirectory, IsDirectory, NotEmpty, BadName, NoSpace, NoInodes, TooLarge, ReadOnly, LinkLimit, IntoItself, BadCpu}
+use Rattle.nv_tree.specs.declared.refusal.Refusal.TheVariants.{Memory, Stopped}
 use Rattle.nv_tree.specs.Tree.{Node, Tree, walk, found, passed, is_directory}
 use Rattle.nv_tree.specs.Calls.{links_at}
 
@@ -163,7 +164,8 @@ set_attr_tests w t cpu p needed = writing w cpu (is_bad p ∷ walk_tests t p ++ 
 
 -- `link`, from the old path to the new one
 abbrev pub link_tests : World → Tree → ℕ → Path → Path → ℕ → Tests
-link_tests w t cpu p q needed = writing w cpu (is_bad p ∷ is_bad_name q ∷ walk_tests t p ++ walk_tests t q ++ is_missing t p ∷ is_dir t p ∷ is_there t q ∷ has_most_links t p ∷ has_no_space w needed ∷ [])
+link_tests w t cpu p q needed = writing w cpu (is_bad p ∷ is_bad_name q ∷ walk_tests t p ++ walk_tests t q
+    ++ is_missing t p ∷ is_dir t p ∷ is_there t q ∷ has_most_links t p ∷ has_no_space w needed ∷ [])
 
 -- `unlink`
 abbrev pub unlink_tests : World → Tree → ℕ → Path → ℕ → Tests

@@ -41,7 +41,8 @@ is_over_names t p q = (not (are_one t p q) && option_map_or (λ i. nat_lt 0 (cou
 
 -- `replace`, from the old path to the new one
 abbrev pub replace_tests : World → Tree → ℕ → Path → Path → ℕ → Tests
-replace_tests w t cpu p q needed = writing w cpu (is_bad_name p ∷ is_bad_name q ∷ walk_tests t p ++ walk_tests t q ++ is_missing t p ∷ is_into_itself t p q ∷ is_over_directory t p q ∷ is_over_file t p q ∷ is_over_names t p q ∷ has_no_space w needed ∷ [])
+replace_tests w t cpu p q needed = writing w cpu (is_bad_name p ∷ is_bad_name q ∷ walk_tests t p ++ walk_tests t q
+    ++ is_missing t p ∷ is_into_itself t p q ∷ is_over_directory t p q ∷ is_over_file t p q ∷ is_over_names t p q ∷ has_no_space w needed ∷ [])
 
 -- ---- what the laws are told
 

@@ -7,7 +7,8 @@ ghost use Rattle.nv_tree.specs.declared.refusal.Refusal.{Refusal};
 ghost use Rattle.nv_tree.specs.Path.{Says, last_name};
 ghost use Rattle.nv_tree.specs.Tree.{Node, Tree, SameNode, SameTree, walk, found, passed};
 ghost use Rattle.nv_tree.specs.Calls.{with_bytes, with_size, created, written, resized, attributed, linked, unlinked, removed, renamed, bytes_read};
-ghost use Rattle.nv_tree.specs.Refusals.{Tests, first_refusal, World, Path, create_tests, write_tests, set_size_tests, set_attr_tests, link_tests, unlink_tests, rmdir_tests, rename_tests, read_tests, list_tests, stat_tests};
+ghost use Rattle.nv_tree.specs.Refusals.{Tests, first_refusal, World, Path, create_tests, write_tests, set_size_tests, set_attr_tests, link_tests, unlink_tests, rmdir_tests, rename_tests, read_tests};
+ghost use Rattle.nv_tree.specs.Refusals.{list_tests, stat_tests};
 ghost use Rattle.nv_tree.specs.Laws.{KeepsSameness, IsSeenAlike, Fails, IsFirstRefusal, HasNoNames, SetsName};
 
 /// Each text says one path, or that it is none.

@@ -6,4 +6,5 @@
 mod named;
 mod usage;
 
+pub use named::{NamedRows, named_rows};
 pub use usage::{blocks_below, push_usage};

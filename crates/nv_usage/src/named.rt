@@ -1,5 +1,6 @@
 //! Rows as inodes with names.
 
+ghost use Rattle.std.specs.Prelude.{◌≡◌};
 ghost use Rattle.nv_usage.specs.Named.{AreLowRows, IsAbove, names_tree};
 
 use nv_members::Inodes;
@@ -10,10 +11,21 @@ use std::alloc::AllocError;
 
 /// Rows, with a number above those of all.
 #[derive(Drop)]
-pub(crate) struct NamedRows<'a> {
-    pub(crate) rows: &'a Rows,
-    pub(crate) limit: usize,
+pub struct NamedRows<'a> {
+    pub rows: &'a Rows,
+    pub limit: usize,
     ghost above: { IsAbove rows.now.items limit },
+}
+
+/// The inodes of rows.
+pub fn named_rows<'a>(rows: &'a Rows) -> NamedRows<'a>
+    requires { AreLowRows rows.now.items }
+    ensures { result.rows.now ≡ rows.entry.now }
+{
+    NamedRows {
+        rows,
+        limit: limit_of(rows),
+    }
 }
 
 /// A number above those of all rows.

@@ -1,7 +1,7 @@
 //! Small rows, written by hand. Inodes have the numbers 1 to 31.
 
 use crate::rows::row;
-use crate::small::SMALL;
+use crate::small::small_tables;
 use nv_check::{cross_faults, doubled};
 use nv_claimmap::ClaimedRuns;
 use nv_names::NameIndex;
@@ -10,6 +10,7 @@ use nv_scan::RowList;
 use nv_super::{Fault, Kind, Owner, Run};
 use std::alloc::{AllocError, Global};
 use std::process::Abort;
+use std::test::Fail;
 
 /// One name, of this inode and at this place.
 fn one_name(alloc: Global, inode: u64, place: u64) -> Result<NameIndex, AllocError> {
@@ -43,7 +44,7 @@ fn assert_faults(rt: &impl Abort, faults: &[Fault]) {
 
 /// Inode 2 is a file of two links. Inodes 3 and 4 name each other. The rows come in no order.
 #[test]
-fn faults_between_four_rows(rt: HostRuntime) -> Result<(), AllocError> {
+fn faults_between_four_rows(rt: HostRuntime) -> Result<(), Fail> {
     let alloc = rt.alloc();
     let names = root_names(alloc)?;
     let names_of_3 = one_name(alloc, 4, 16384)?;
@@ -54,7 +55,8 @@ fn faults_between_four_rows(rt: HostRuntime) -> Result<(), AllocError> {
     rows.push(row(alloc, 4, Kind::Directory, 1, names_of_4))?;
     rows.push(row(alloc, 2, Kind::File, 2, NameIndex::new(alloc)))?;
     let rows = RowList::of(alloc, rows)?;
-    let found = cross_faults(alloc, &SMALL, &rows)?;
+    let tables = small_tables(alloc)?;
+    let found = cross_faults(alloc, &tables, &rows)?;
     assert_faults(&rt, &found);
     Ok(())
 }

@@ -60,6 +60,14 @@ pub fn tables_of(alloc: Global, memory: &MemRegion, sup: &Super) -> Result<Table
     Ok(tables)
 }
 
+/// The tables of the small region.
+pub fn small_tables(alloc: Global) -> Result<Tables, RegionRefusal>
+    ensures { IfOk result (λ t. t.layout ≡ fixed_layout SMALL) }
+{
+    let memory = small_region(alloc, &[])?;
+    Ok(tables_of(alloc, &memory, &SMALL)?)
+}
+
 /// A claim map of the small region for one worker, with its seat.
 pub fn opened_for_one(alloc: Global) -> Result<(ClaimMap, ClaimSeat), AllocError>
     ensures { IfOk result (λ r. (r.1.map ≡ r.0) × (r.1.view ≡ nothing 1) × (r.0.sizes ≡ record { blocks = 16; tickets = 1; workers = 1 })) }

@@ -13,8 +13,8 @@ returns-in-Err-clause-err g c =
     let R = g.P.Pmem.region was in
     let said = c.in-Err.ensures in
     let unstopped = never_stopped R (g.P.Pmem.region is) 1 [] c.in-Err.error said.err (g.P.Pmem.fuse was) c.requires.taken
-    (λ steady same. let burnt : IsTrue (g.P.Pmem.fuse is).has_burnt = said.stopped same in let still : IsTrue (g.P.Pmem.fuse is).is_steady = said.keeps_fuse.steady steady in let unburnt : (g.P.Pmem.fuse is).has_burnt ≡ false = laws.unburnt is still in cc) said.unstopped in
+    (λ steady same. let burnt : IsTrue (g.P.Pmem.fuse is).has_burnt = said.kept.stopped same in let still : IsTrue (g.P.Pmem.fuse is).is_steady = said.kept.keeps_fuse.steady steady in let unburnt : (g.P.Pmem.fuse is).has_burnt ≡ false = laws.unburnt is still in cc) said.kept.unstopped in
     on_err_weaker c.refused.result (want_of_memory R (g.P.Pmem.region is) 1 [] c.in-Err.error said.err unstopped) c.refused.ensures.err
 
 pub returns-in-Err-clause-settled : goal.returns-in-Err-clause-settled
-returns-in-Err-clause-settled g c none = IfOk-weaker c.refused.result _ _ (refusal_keeps (λ m. NothingPending (g.P.Pmem.region m) (g.P.Pmem.may_hold m)) c.args.memory.now c.recover_one.new.memory c.in-Err.error c.in-Err.ensures.untouched none) c.refused.ensures.ok
+returns-in-Err-clause-settled g c none = IfOk-weaker c.refused.result _ _ (refusal_keeps (λ m. NothingPending (g.P.Pmem.region m) (g.P.Pmem.may_hold m)) c.args.memory.now c.recover_one.new.memory c.in-Err.error c.in-Err.ensures.kept.untouched none) c.refused.ensures.ok

@@ -16,7 +16,7 @@ returns-in-Err-clause-unstopped g c =
     let laws = g.met.P.Pmem g.world.𝓛 g.world.𝓜 g.world.𝓡 ((λ s x. x), (λ x. x), (λ x. x), λ x. x) in
     let is = c.recover.new.memory in
     λ steady. IfOk-weaker c.stopped_or_refused.result _ _ (λ answer told. no_stop c.in-Err.error answer
-    (λ same. let burnt : IsTrue (g.P.Pmem.fuse is).has_burnt = c.in-Err.ensures.stopped same in let still : IsTrue (g.P.Pmem.fuse is).is_steady = c.in-Err.ensures.keeps_fuse.steady steady in let unburnt : (g.P.Pmem.fuse is).has_burnt ≡ false = laws.unburnt is still in cc) told) c.stopped_or_refused.ensures.ok
+    (λ same. let burnt : IsTrue (g.P.Pmem.fuse is).has_burnt = c.in-Err.ensures.kept.stopped same in let still : IsTrue (g.P.Pmem.fuse is).is_steady = c.in-Err.ensures.kept.keeps_fuse.steady steady in let unburnt : (g.P.Pmem.fuse is).has_burnt ≡ false = laws.unburnt is still in cc) told) c.stopped_or_refused.ensures.ok
 
 pub returns-in-Err-clause-settled : goal.returns-in-Err-clause-settled
-returns-in-Err-clause-settled g c none = IfOk-weaker c.stopped_or_refused.result _ _ (refused_keeps (λ m. NothingPending (g.P.Pmem.region m) (g.P.Pmem.may_hold m)) c.args.memory.now c.recover.new.memory c.in-Err.error c.in-Err.ensures.untouched none) c.stopped_or_refused.ensures.ok
+returns-in-Err-clause-settled g c none = IfOk-weaker c.stopped_or_refused.result _ _ (refused_keeps (λ m. NothingPending (g.P.Pmem.region m) (g.P.Pmem.may_hold m)) c.args.memory.now c.recover.new.memory c.in-Err.error c.in-Err.ensures.kept.untouched none) c.stopped_or_refused.ensures.ok

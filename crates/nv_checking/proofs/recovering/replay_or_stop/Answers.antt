@@ -21,10 +21,10 @@ returns-clause-unstopped g c =
     let laws = g.met.P.Pmem in
     let is = c.recover_replay.new.memory in
     λ steady. IfOk-weaker c.stopped_or_refused.result _ _ (λ answer told. no_stop c.in-Err.error answer
-    (λ same. let burnt : IsTrue (g.P.Pmem.fuse is).has_burnt = c.in-Err.ensures.stopped same in let still : IsTrue (g.P.Pmem.fuse is).is_steady = c.in-Err.ensures.keeps_fuse.steady steady in let unburnt : (g.P.Pmem.fuse is).has_burnt ≡ false = laws.unburnt is still in cc) told) c.stopped_or_refused.ensures.ok
+    (λ same. let burnt : IsTrue (g.P.Pmem.fuse is).has_burnt = c.in-Err.ensures.kept.stopped same in let still : IsTrue (g.P.Pmem.fuse is).is_steady = c.in-Err.ensures.kept.keeps_fuse.steady steady in let unburnt : (g.P.Pmem.fuse is).has_burnt ≡ false = laws.unburnt is still in cc) told) c.stopped_or_refused.ensures.ok
 
 pub returns-clause-settled : goal.returns-clause-settled
-returns-clause-settled g c none = IfOk-weaker c.stopped_or_refused.result _ _ (refused_keeps (λ m. NothingPending (g.P.Pmem.region m) (g.P.Pmem.may_hold m)) c.args.memory.now c.recover_replay.new.memory c.in-Err.error c.in-Err.ensures.untouched none) c.stopped_or_refused.ensures.ok
+returns-clause-settled g c none = IfOk-weaker c.stopped_or_refused.result _ _ (refused_keeps (λ m. NothingPending (g.P.Pmem.region m) (g.P.Pmem.may_hold m)) c.args.memory.now c.recover_replay.new.memory c.in-Err.error c.in-Err.ensures.kept.untouched none) c.stopped_or_refused.ensures.ok
 
 pub returns-in_err-numbers-clause-any_stop : goal.returns-in_err-numbers-clause-any_stop
 returns-in_err-numbers-clause-any_stop g c s is none left may =

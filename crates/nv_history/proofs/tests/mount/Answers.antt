@@ -17,4 +17,4 @@ open-requires-clause-own c =
     (c.rolled_back_outcome.ensures.same c.args.memory.region (outcome_of c.in_ok-recovered.recovered) c.in_ok-recovered.ensures.ok)
 
 pub open-requires-clause-settled : goal.open-requires-clause-settled
-open-requires-clause-settled c = c.in_ok-recovered.ensures.settled c.requires
+open-requires-clause-settled c = c.in_ok-recovered.ensures.kept.settled c.requires

@@ -1,4 +1,5 @@
 use Rattle.std.proofs.Common.{◌≡◌, ◌≢◌, IsTrue, refl}
+use Rattle.std.proofs.lemmas.Result.{IfOk-from_err}
 use Rattle.nv_recover.specs.Errors.{Fails, comes_first}
 use Rattle.nv_recover.specs.declared.errors.RecoverError.{RecoverError}
 use Rattle.nv_recover.specs.declared.errors.RecoverError.TheVariants.{Stopped, Workers, Schedule}
@@ -25,95 +26,100 @@ returns-clause-lists g c = (c.in_ok-finish.ensures _ _ c.in_ok-started.ensures.o
 pub returns-clause-numbers : goal.returns-clause-numbers
 returns-clause-numbers g c = (c.in_ok-finish.ensures _ _ c.in_ok-started.ensures.ok c.in_ok-scanned.ensures).numbers
 
-pub returns-in_err-started-clause-quiet : goal.returns-in_err-started-clause-quiet
-returns-in_err-started-clause-quiet g c = c.start.ensures.quiet
+pub returns-clause-kept : goal.returns-clause-kept
+returns-clause-kept g c = record {
+  stops = record { stopped = tt; quiet_done = λ s is quiet. tt; unstopped = λ s is free. tt };
+  quiet = c.start.ensures.kept.quiet;
+  untouched = tt;
+  wrote = c.start.ensures.kept.wrote;
+  keeps_fuse = c.start.ensures.kept.keeps_fuse;
+  settled = c.in_ok-started.ensures.kept.settled;
+  any_stop = c.start.ensures.kept.any_stop;
+}
 
-pub returns-in_err-started-clause-quiet_done : goal.returns-in_err-started-clause-quiet_done
-returns-in_err-started-clause-quiet_done g c = λ s is quiet. handed c.from_residual.result c.in_err-started.field-0.0 (λ (e : RecoverError). e ≢ Stopped) c.from_residual.ensures.1 (c.in_err-started.ensures.quiet_done s is quiet)
+pub returns-in_err-started-clause-kept : goal.returns-in_err-started-clause-kept
+returns-in_err-started-clause-kept g c = record {
+  stops = record {
+    stopped = handed c.from_residual.result c.in_err-started.field-0.0 (λ (e : RecoverError). e ≡ Stopped → IsTrue (g.P.Pmem.fuse c.start.new.memory).has_burnt) c.from_residual.ensures.1 c.in_err-started.ensures.kept.stopped;
+    quiet_done = λ s is quiet. handed c.from_residual.result c.in_err-started.field-0.0 (λ (e : RecoverError). e ≢ Stopped) c.from_residual.ensures.1 (c.in_err-started.ensures.kept.quiet_done s is quiet);
+    unstopped = λ s is free. handed c.from_residual.result c.in_err-started.field-0.0 (λ (e : RecoverError). e ≢ Stopped) c.from_residual.ensures.1 (c.in_err-started.ensures.kept.unstopped s is free);
+  };
+  quiet = c.start.ensures.kept.quiet;
+  untouched = handed c.from_residual.result c.in_err-started.field-0.0 (λ (e : RecoverError). IsTrue (comes_first e) → c.start.new.memory ≡ c.args.memory.now) c.from_residual.ensures.1 c.in_err-started.ensures.kept.untouched;
+  wrote = c.start.ensures.kept.wrote;
+  keeps_fuse = c.start.ensures.kept.keeps_fuse;
+  settled = λ none. IfOk-from_err c.from_residual.result _ c.from_residual.ensures.0;
+  any_stop = c.start.ensures.kept.any_stop;
+}
 
-pub returns-in_err-started-clause-untouched : goal.returns-in_err-started-clause-untouched
-returns-in_err-started-clause-untouched g c = handed c.from_residual.result c.in_err-started.field-0.0 (λ (e : RecoverError). IsTrue (comes_first e) → c.start.new.memory ≡ c.args.memory.now) c.from_residual.ensures.1 c.in_err-started.ensures.untouched
+pub returns-in_err-scanned-clause-kept : goal.returns-in_err-scanned-clause-kept
+returns-in_err-scanned-clause-kept g c = record {
+  stops = record {
+    stopped = memory_not_burnt c.from_residual-in_err-scanned.result c.from_residual-in_err-scanned.ensures.1 (IsTrue (g.P.Pmem.fuse c.start.new.memory).has_burnt);
+    quiet_done = λ s is quiet. memory_goes_on c.from_residual-in_err-scanned.result c.from_residual-in_err-scanned.ensures.1;
+    unstopped = λ s is free. memory_goes_on c.from_residual-in_err-scanned.result c.from_residual-in_err-scanned.ensures.1;
+  };
+  quiet = c.start.ensures.kept.quiet;
+  untouched = memory_not_first c.from_residual-in_err-scanned.result c.from_residual-in_err-scanned.ensures.1 (c.start.new.memory ≡ c.args.memory.now);
+  wrote = c.start.ensures.kept.wrote;
+  keeps_fuse = c.start.ensures.kept.keeps_fuse;
+  settled = λ none. IfOk-from_err c.from_residual-in_err-scanned.result _ c.from_residual-in_err-scanned.ensures.0;
+  any_stop = c.start.ensures.kept.any_stop;
+}
+
+pub returns-in_err-finish-clause-kept : goal.returns-in_err-finish-clause-kept
+returns-in_err-finish-clause-kept g c = record {
+  stops = record {
+    stopped = memory_not_burnt c.from_residual-in_err-finish.result c.from_residual-in_err-finish.ensures.1 (IsTrue (g.P.Pmem.fuse c.start.new.memory).has_burnt);
+    quiet_done = λ s is quiet. memory_goes_on c.from_residual-in_err-finish.result c.from_residual-in_err-finish.ensures.1;
+    unstopped = λ s is free. memory_goes_on c.from_residual-in_err-finish.result c.from_residual-in_err-finish.ensures.1;
+  };
+  quiet = c.start.ensures.kept.quiet;
+  untouched = memory_not_first c.from_residual-in_err-finish.result c.from_residual-in_err-finish.ensures.1 (c.start.new.memory ≡ c.args.memory.now);
+  wrote = c.start.ensures.kept.wrote;
+  keeps_fuse = c.start.ensures.kept.keeps_fuse;
+  settled = λ none. IfOk-from_err c.from_residual-in_err-finish.result _ c.from_residual-in_err-finish.ensures.0;
+  any_stop = c.start.ensures.kept.any_stop;
+}
+
+pub returns-then-not-is_worker_count-clause-kept : goal.returns-then-not-is_worker_count-clause-kept
+returns-then-not-is_worker_count-clause-kept g c = record {
+  stops = record {
+    stopped = λ is. absurd (goes_on Workers tt is);
+    quiet_done = λ s is quiet. goes_on Workers tt;
+    unstopped = λ s is free. goes_on Workers tt;
+  };
+  quiet = λ s is quiet. refl;
+  untouched = λ first. refl;
+  wrote = stores_none _ _ _;
+  keeps_fuse = record { burnt = λ was. was; steady = λ was. was; stays_open = λ limit past was. was };
+  settled = λ none. tt;
+  any_stop = λ s is none. stop_before (g.P.Pmem.region c.args.memory.now) (g.P.Pmem.may_hold c.args.memory.now) s is none;
+}
+
+pub returns-in-Some-clause-kept : goal.returns-in-Some-clause-kept
+returns-in-Some-clause-kept g c = record {
+  stops = record {
+    stopped = λ is. absurd (goes_on (Schedule c.in-Some.place) tt is);
+    quiet_done = λ s is quiet. goes_on (Schedule c.in-Some.place) tt;
+    unstopped = λ s is free. goes_on (Schedule c.in-Some.place) tt;
+  };
+  quiet = λ s is quiet. refl;
+  untouched = λ first. refl;
+  wrote = stores_none _ _ _;
+  keeps_fuse = record { burnt = λ was. was; steady = λ was. was; stays_open = λ limit past was. was };
+  settled = λ none. tt;
+  any_stop = λ s is none. stop_before (g.P.Pmem.region c.args.memory.now) (g.P.Pmem.may_hold c.args.memory.now) s is none;
+}
 
 pub returns-in_err-started-clause-err : goal.returns-in_err-started-clause-err
 returns-in_err-started-clause-err g c = handed c.from_residual.result c.in_err-started.field-0.0 (λ (e : RecoverError). Fails c.args.workers c.args.schedule.now e (g.P.Pmem.region c.args.memory.now) (g.P.Pmem.region c.start.new.memory)) c.from_residual.ensures.1 (c.in_err-started.ensures.err c.args.workers c.args.schedule.now)
 
-pub returns-in_err-started-clause-stopped : goal.returns-in_err-started-clause-stopped
-returns-in_err-started-clause-stopped g c = handed c.from_residual.result c.in_err-started.field-0.0 (λ (e : RecoverError). e ≡ Stopped → IsTrue (g.P.Pmem.fuse c.start.new.memory).has_burnt) c.from_residual.ensures.1 c.in_err-started.ensures.stopped
-
-pub returns-in_err-started-clause-keeps_fuse : goal.returns-in_err-started-clause-keeps_fuse
-returns-in_err-started-clause-keeps_fuse g c = c.start.ensures.keeps_fuse
-
-pub returns-in_err-started-clause-unstopped : goal.returns-in_err-started-clause-unstopped
-returns-in_err-started-clause-unstopped g c = λ s is free. handed c.from_residual.result c.in_err-started.field-0.0 (λ (e : RecoverError). e ≢ Stopped) c.from_residual.ensures.1 (c.in_err-started.ensures.unstopped s is free)
-
-pub returns-in_err-scanned-clause-quiet : goal.returns-in_err-scanned-clause-quiet
-returns-in_err-scanned-clause-quiet g c = c.start.ensures.quiet
-
-pub returns-in_err-scanned-clause-quiet_done : goal.returns-in_err-scanned-clause-quiet_done
-returns-in_err-scanned-clause-quiet_done g c = λ s is quiet. memory_goes_on c.from_residual-in_err-scanned.result c.from_residual-in_err-scanned.ensures.1
-
-pub returns-in_err-scanned-clause-untouched : goal.returns-in_err-scanned-clause-untouched
-returns-in_err-scanned-clause-untouched g c = memory_not_first c.from_residual-in_err-scanned.result c.from_residual-in_err-scanned.ensures.1 (c.start.new.memory ≡ c.args.memory.now)
-
 pub returns-in_err-scanned-clause-err : goal.returns-in_err-scanned-clause-err
 returns-in_err-scanned-clause-err g c = memory_fails c.from_residual-in_err-scanned.result c.from_residual-in_err-scanned.ensures.1 c.args.workers c.args.schedule.now (g.P.Pmem.region c.args.memory.now) (g.P.Pmem.region c.start.new.memory) c.in_ok-started.started.sup c.in_ok-started.ensures.ok.sup c.in_ok-started.ensures.ok.rolled_back
 
-pub returns-in_err-scanned-clause-stopped : goal.returns-in_err-scanned-clause-stopped
-returns-in_err-scanned-clause-stopped g c = memory_not_burnt c.from_residual-in_err-scanned.result c.from_residual-in_err-scanned.ensures.1 (IsTrue (g.P.Pmem.fuse c.start.new.memory).has_burnt)
-
-pub returns-in_err-scanned-clause-keeps_fuse : goal.returns-in_err-scanned-clause-keeps_fuse
-returns-in_err-scanned-clause-keeps_fuse g c = c.start.ensures.keeps_fuse
-
-pub returns-in_err-scanned-clause-unstopped : goal.returns-in_err-scanned-clause-unstopped
-returns-in_err-scanned-clause-unstopped g c = λ s is free. memory_goes_on c.from_residual-in_err-scanned.result c.from_residual-in_err-scanned.ensures.1
-
-pub returns-in_err-finish-clause-quiet : goal.returns-in_err-finish-clause-quiet
-returns-in_err-finish-clause-quiet g c = c.start.ensures.quiet
-
-pub returns-in_err-finish-clause-quiet_done : goal.returns-in_err-finish-clause-quiet_done
-returns-in_err-finish-clause-quiet_done g c = λ s is quiet. memory_goes_on c.from_residual-in_err-finish.result c.from_residual-in_err-finish.ensures.1
-
-pub returns-in_err-finish-clause-untouched : goal.returns-in_err-finish-clause-untouched
-returns-in_err-finish-clause-untouched g c = memory_not_first c.from_residual-in_err-finish.result c.from_residual-in_err-finish.ensures.1 (c.start.new.memory ≡ c.args.memory.now)
-
 pub returns-in_err-finish-clause-err : goal.returns-in_err-finish-clause-err
 returns-in_err-finish-clause-err g c = memory_fails c.from_residual-in_err-finish.result c.from_residual-in_err-finish.ensures.1 c.args.workers c.args.schedule.now (g.P.Pmem.region c.args.memory.now) (g.P.Pmem.region c.start.new.memory) c.in_ok-started.started.sup c.in_ok-started.ensures.ok.sup c.in_ok-started.ensures.ok.rolled_back
-
-pub returns-in_err-finish-clause-stopped : goal.returns-in_err-finish-clause-stopped
-returns-in_err-finish-clause-stopped g c = memory_not_burnt c.from_residual-in_err-finish.result c.from_residual-in_err-finish.ensures.1 (IsTrue (g.P.Pmem.fuse c.start.new.memory).has_burnt)
-
-pub returns-in_err-finish-clause-keeps_fuse : goal.returns-in_err-finish-clause-keeps_fuse
-returns-in_err-finish-clause-keeps_fuse g c = c.start.ensures.keeps_fuse
-
-pub returns-in_err-finish-clause-unstopped : goal.returns-in_err-finish-clause-unstopped
-returns-in_err-finish-clause-unstopped g c = λ s is free. memory_goes_on c.from_residual-in_err-finish.result c.from_residual-in_err-finish.ensures.1
-
-pub returns-clause-quiet : goal.returns-clause-quiet
-returns-clause-quiet g c = c.start.ensures.quiet
-
-pub returns-clause-keeps_fuse : goal.returns-clause-keeps_fuse
-returns-clause-keeps_fuse g c = c.start.ensures.keeps_fuse
-
-pub returns-in_err-started-clause-any_stop : goal.returns-in_err-started-clause-any_stop
-returns-in_err-started-clause-any_stop g c = c.start.ensures.any_stop
-
-pub returns-in_err-scanned-clause-any_stop : goal.returns-in_err-scanned-clause-any_stop
-returns-in_err-scanned-clause-any_stop g c = c.start.ensures.any_stop
-
-pub returns-in_err-finish-clause-any_stop : goal.returns-in_err-finish-clause-any_stop
-returns-in_err-finish-clause-any_stop g c = c.start.ensures.any_stop
-
-pub returns-clause-any_stop : goal.returns-clause-any_stop
-returns-clause-any_stop g c = c.start.ensures.any_stop
-
-pub returns-clause-settled : goal.returns-clause-settled
-returns-clause-settled g c = c.in_ok-started.ensures.settled
-
-pub returns-then-not-is_worker_count-clause-any_stop : goal.returns-then-not-is_worker_count-clause-any_stop
-returns-then-not-is_worker_count-clause-any_stop g c = λ s is none. stop_before (g.P.Pmem.region c.args.memory.now) (g.P.Pmem.may_hold c.args.memory.now) s is none
-
-pub returns-in-Some-clause-any_stop : goal.returns-in-Some-clause-any_stop
-returns-in-Some-clause-any_stop g c = λ s is none. stop_before (g.P.Pmem.region c.args.memory.now) (g.P.Pmem.may_hold c.args.memory.now) s is none
 
 pub returns-in_err-started-clause-workers : goal.returns-in_err-started-clause-workers
 returns-in_err-started-clause-workers g c = λ bad. absurd (c.is_worker_count.ensures.good c.if-not-is_worker_count.false bad)
@@ -130,62 +136,8 @@ returns-clause-workers g c = λ bad. absurd (c.is_worker_count.ensures.good c.if
 pub returns-in-Some-clause-workers : goal.returns-in-Some-clause-workers
 returns-in-Some-clause-workers g c = λ bad. absurd (c.is_worker_count.ensures.good c.if-not-is_worker_count.false bad)
 
-pub returns-then-not-is_worker_count-clause-quiet : goal.returns-then-not-is_worker_count-clause-quiet
-returns-then-not-is_worker_count-clause-quiet g c = λ s is quiet. refl
-
-pub returns-then-not-is_worker_count-clause-quiet_done : goal.returns-then-not-is_worker_count-clause-quiet_done
-returns-then-not-is_worker_count-clause-quiet_done g c = λ s is quiet. goes_on Workers tt
-
-pub returns-then-not-is_worker_count-clause-untouched : goal.returns-then-not-is_worker_count-clause-untouched
-returns-then-not-is_worker_count-clause-untouched g c = λ first. refl
-
 pub returns-then-not-is_worker_count-clause-workers : goal.returns-then-not-is_worker_count-clause-workers
 returns-then-not-is_worker_count-clause-workers g c = λ bad. (tt, refl)
 
 pub returns-then-not-is_worker_count-clause-err : goal.returns-then-not-is_worker_count-clause-err
 returns-then-not-is_worker_count-clause-err g c = (c.is_worker_count.ensures.bad c.if-not-is_worker_count.true, refl)
-
-pub returns-then-not-is_worker_count-clause-stopped : goal.returns-then-not-is_worker_count-clause-stopped
-returns-then-not-is_worker_count-clause-stopped g c = λ is. absurd (goes_on Workers tt is)
-
-pub returns-then-not-is_worker_count-clause-keeps_fuse : goal.returns-then-not-is_worker_count-clause-keeps_fuse
-returns-then-not-is_worker_count-clause-keeps_fuse g c = record { burnt = λ was. was; steady = λ was. was; stays_open = λ limit past was. was }
-
-pub returns-then-not-is_worker_count-clause-unstopped : goal.returns-then-not-is_worker_count-clause-unstopped
-returns-then-not-is_worker_count-clause-unstopped g c = λ s is free. goes_on Workers tt
-
-pub returns-in-Some-clause-quiet : goal.returns-in-Some-clause-quiet
-returns-in-Some-clause-quiet g c = λ s is quiet. refl
-
-pub returns-in-Some-clause-quiet_done : goal.returns-in-Some-clause-quiet_done
-returns-in-Some-clause-quiet_done g c = λ s is quiet. goes_on (Schedule c.in-Some.place) tt
-
-pub returns-in-Some-clause-untouched : goal.returns-in-Some-clause-untouched
-returns-in-Some-clause-untouched g c = λ first. refl
-
-pub returns-in-Some-clause-stopped : goal.returns-in-Some-clause-stopped
-returns-in-Some-clause-stopped g c = λ is. absurd (goes_on (Schedule c.in-Some.place) tt is)
-
-pub returns-in-Some-clause-keeps_fuse : goal.returns-in-Some-clause-keeps_fuse
-returns-in-Some-clause-keeps_fuse g c = record { burnt = λ was. was; steady = λ was. was; stays_open = λ limit past was. was }
-
-pub returns-in-Some-clause-unstopped : goal.returns-in-Some-clause-unstopped
-returns-in-Some-clause-unstopped g c = λ s is free. goes_on (Schedule c.in-Some.place) tt
-
-pub returns-in_err-started-clause-wrote : goal.returns-in_err-started-clause-wrote
-returns-in_err-started-clause-wrote g c = c.start.ensures.wrote
-
-pub returns-in_err-scanned-clause-wrote : goal.returns-in_err-scanned-clause-wrote
-returns-in_err-scanned-clause-wrote g c = c.start.ensures.wrote
-
-pub returns-in_err-finish-clause-wrote : goal.returns-in_err-finish-clause-wrote
-returns-in_err-finish-clause-wrote g c = c.start.ensures.wrote
-
-pub returns-clause-wrote : goal.returns-clause-wrote
-returns-clause-wrote g c = c.start.ensures.wrote
-
-pub returns-then-not-is_worker_count-clause-wrote : goal.returns-then-not-is_worker_count-clause-wrote
-returns-then-not-is_worker_count-clause-wrote g c = stores_none _ _ _
-
-pub returns-in-Some-clause-wrote : goal.returns-in-Some-clause-wrote
-returns-in-Some-clause-wrote g c = stores_none _ _ _

@@ -1,10 +1,10 @@
 use Rattle.std.proofs.Common.{◌≡◌, ◌∙◌, ℕ, zero, suc, ◌<◌, eqb, List, [], ◌∷◌, get_or, map, refl, ap, sym, subst, arith, eq-eqb}
-use Rattle.std.specs.Prelude.{IsTrue}
 use Rattle.std.specs.List.{IsDistinct}
 use Rattle.std.proofs.lemmas.Bool.{true≢false}
 use Rattle.std.proofs.lemmas.Map.Keys.{apart_from_distinct}
-use Rattle.nv_super.specs.Layout.{is_number, inode_limit}
+use Rattle.nv_super.specs.Layout.{Layout, inode_limit}
 use Rattle.nv_super.specs.declared.superblock.Super.{Super}
+use Rattle.nv_inode.specs.Numbers.{number_end}
 use Rattle.nv_scan.specs.declared.piece.Row.{Row}
 use Rattle.nv_check.specs.nv_numbered.Values.{AreNumbersBelow}
 use Rattle.test_system.proofs.faults.faults_between_four_rows.Goals as goal
@@ -36,19 +36,8 @@ module _ (a b c d : Row) (p : a.inode ≡ 3) (q : b.inode ≡ 1) (r : c.inode �
   apart : AreNumbersBelow (inode_limit small) (map (λ (x : Row). x.inode) (a ∷ b ∷ c ∷ d ∷ []))
   apart = subst (AreNumbersBelow (inode_limit small)) (sym (λ i. p i ∷ q i ∷ r i ∷ s i ∷ [])) numbers_apart
 
-  numbered : (k : ℕ) (e : Row) → k < 4 → IsTrue (is_number small (get_or (a ∷ b ∷ c ∷ d ∷ []) k e).inode)
-  numbered zero e lt = ap (is_number small) p
-  numbered (suc zero) e lt = ap (is_number small) q
-  numbered (suc (suc zero)) e lt = ap (is_number small) r
-  numbered (suc (suc (suc zero))) e lt = ap (is_number small) s
-  numbered (suc (suc (suc (suc k)))) e lt = absurd (omega (arith, lt))
-
-pub cross_faults-requires-clause-apart : goal.cross_faults-requires-clause-apart
-cross_faults-requires-clause-apart g c =
-    rw (c.in_ok-rows.ensures, c.in_ok-push-4.ensures.ok, c.in_ok-push-3.ensures.ok, c.in_ok-push-2.ensures.ok, c.in_ok-push.ensures.ok, c.new-rows.ensures)
-    (apart c.row.result c.row-2.result c.row-3.result c.row-4.result c.row.ensures c.row-2.ensures c.row-3.ensures c.row-4.ensures)
-
-pub cross_faults-requires-clause-numbers : goal.cross_faults-requires-clause-numbers
-cross_faults-requires-clause-numbers g c =
-    rw (c.in_ok-rows.ensures, c.in_ok-push-4.ensures.ok, c.in_ok-push-3.ensures.ok, c.in_ok-push-2.ensures.ok, c.in_ok-push.ensures.ok, c.new-rows.ensures)
-    (numbered c.row.result c.row-2.result c.row-3.result c.row-4.result c.row.ensures c.row-2.ensures c.row-3.ensures c.row-4.ensures)
+pub cross_faults-requires : goal.cross_faults-requires
+cross_faults-requires g c =
+    subst (λ (l : Layout). AreNumbersBelow (number_end l) (map (λ (x : Row). x.inode) c.in_ok-rows.rows.items)) (sym c.in_ok-tables.ensures)
+    (rw (c.in_ok-rows.ensures, c.in_ok-push-4.ensures.ok, c.in_ok-push-3.ensures.ok, c.in_ok-push-2.ensures.ok, c.in_ok-push.ensures.ok, c.new-rows.ensures)
+    (apart c.row.result c.row-2.result c.row-3.result c.row-4.result c.row.ensures c.row-2.ensures c.row-3.ensures c.row-4.ensures))

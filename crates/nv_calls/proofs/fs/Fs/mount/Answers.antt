@@ -20,7 +20,7 @@ open-requires-clause-own g c =
     (c.rolled_back_outcome.ensures.same (g.P.Pmem.region c.args.memory) (outcome_of c.in-Ok.recovered) c.in-Ok.ensures.ok)
 
 pub open-requires-clause-settled : goal.open-requires-clause-settled
-open-requires-clause-settled g c = c.in-Ok.ensures.settled c.requires.settled
+open-requires-clause-settled g c = c.in-Ok.ensures.kept.settled c.requires.settled
 
 pub returns-in-Ok-clause-outcome : goal.returns-in-Ok-clause-outcome
 returns-in-Ok-clause-outcome g c = tells (g.P.Pmem.region c.args.memory) c.open.result c.in-Ok.recovered c.open.ensures.sup c.open.ensures.rows c.open.ensures.free c.open.ensures.faults c.in-Ok.ensures.ok
@@ -30,18 +30,18 @@ returns-in-Ok-clause-undone g c =
     ap g.P.Pmem.region c.open.ensures.memory ∙ c.in-Ok.ensures.undone ∙ ap (λ (s : Super). undone s (g.P.Pmem.region c.args.memory)) (sym c.open.ensures.sup)
 
 pub returns-in-Ok-clause-quiet : goal.returns-in-Ok-clause-quiet
-returns-in-Ok-clause-quiet g c s is quiet = c.open.ensures.memory ∙ c.in-Ok.ensures.quiet s is quiet
+returns-in-Ok-clause-quiet g c s is quiet = c.open.ensures.memory ∙ c.in-Ok.ensures.kept.quiet s is quiet
 
 pub returns-in-Ok-clause-any_stop : goal.returns-in-Ok-clause-any_stop
 returns-in-Ok-clause-any_stop g c s is =
-    subst (λ (m : g.row.P.Denot). LeavesOnly (g.P.Pmem.region m) (g.P.Pmem.may_hold m) (UndoesAsBefore (g.P.Pmem.region c.args.memory))) (sym c.open.ensures.memory) (c.in-Ok.ensures.any_stop s is c.requires.settled)
+    subst (λ (m : g.row.P.Denot). LeavesOnly (g.P.Pmem.region m) (g.P.Pmem.may_hold m) (UndoesAsBefore (g.P.Pmem.region c.args.memory))) (sym c.open.ensures.memory) (c.in-Ok.ensures.kept.any_stop s is c.requires.settled)
 
 pub returns-in-Err-clause-any_stop : goal.returns-in-Err-clause-any_stop
-returns-in-Err-clause-any_stop g c s is = c.in-Err.ensures.any_stop s is c.requires.settled
+returns-in-Err-clause-any_stop g c s is = c.in-Err.ensures.kept.any_stop s is c.requires.settled
 
 pub returns-in-Ok-clause-wrote : goal.returns-in-Ok-clause-wrote
 returns-in-Ok-clause-wrote g c =
-    subst (λ (m : g.row.P.Denot). StoresOnly (RecoveryStores (g.P.Pmem.region c.args.memory)) (g.P.Pmem.region c.args.memory) (g.P.Pmem.region m) (g.P.Pmem.may_hold c.args.memory) (g.P.Pmem.may_hold m)) (sym c.open.ensures.memory) c.in-Ok.ensures.wrote
+    subst (λ (m : g.row.P.Denot). StoresOnly (RecoveryStores (g.P.Pmem.region c.args.memory)) (g.P.Pmem.region c.args.memory) (g.P.Pmem.region m) (g.P.Pmem.may_hold c.args.memory) (g.P.Pmem.may_hold m)) (sym c.open.ensures.memory) c.in-Ok.ensures.kept.wrote
 
 pub returns-in-Err-clause-wrote : goal.returns-in-Err-clause-wrote
-returns-in-Err-clause-wrote g c = c.in-Err.ensures.wrote
+returns-in-Err-clause-wrote g c = c.in-Err.ensures.kept.wrote

@@ -13,29 +13,29 @@ index_mut-requires-2 c = omega (arith, c.requires.within, ap (λ (m : MetadataSt
 
 pub returns-clause-begins : goal.returns-clause-begins
 returns-clause-begins c = record {
-    piece = λ at aligned here within. let inside : c.args.block < c.self.inside.blocks = omega (arith, c.requires.within, ap (λ (m : MetadataState). size m.memory.region) c.self.view_is, size_shown (words_of c.self.inside.front.items) c.self.inside.blocks c.self.inside.starts.items c.self.inside.counts.items c.self.inside.bytes.items c.self.invariant.front) in
-    let behind : 8 * length (words_of c.self.inside.front.items) ≤ 4096 * c.args.block = omega (arith, c.requires.behind, ap (λ (m : MetadataState). m.memory.front) c.self.view_is, count_of_words c.self.inside.front.items) in
-    let start : c.in_ok-start.start ≡ length c.self.inside.bytes.items = omega (arith, c.in_ok-start.ensures, c.len.ensures) in
-    let count : c.in_ok-count.count ≡ length c.args.piece.now = c.in_ok-count.ensures in
-    let items = c.in_ok-extend_from_slice.ensures.items in
-    (λ i. word (shown (words_of c.self.inside.front.items) c.self.inside.blocks (set c.self.inside.starts.items c.args.block (start i)) (set c.self.inside.counts.items c.args.block (count i)) (items i)) at)
-    ∙ piece_held (words_of c.self.inside.front.items) c.self.inside.blocks c.self.inside.starts.items c.self.inside.counts.items c.self.inside.bytes.items c.args.piece.now c.args.block c.self.invariant.front c.self.invariant.starts c.self.invariant.counts inside behind at aligned here within;
-    zeros = λ at aligned here past. let inside : c.args.block < c.self.inside.blocks = omega (arith, c.requires.within, ap (λ (m : MetadataState). size m.memory.region) c.self.view_is, size_shown (words_of c.self.inside.front.items) c.self.inside.blocks c.self.inside.starts.items c.self.inside.counts.items c.self.inside.bytes.items c.self.invariant.front) in
-    let behind : 8 * length (words_of c.self.inside.front.items) ≤ 4096 * c.args.block = omega (arith, c.requires.behind, ap (λ (m : MetadataState). m.memory.front) c.self.view_is, count_of_words c.self.inside.front.items) in
-    let start : c.in_ok-start.start ≡ length c.self.inside.bytes.items = omega (arith, c.in_ok-start.ensures, c.len.ensures) in
-    let count : c.in_ok-count.count ≡ length c.args.piece.now = c.in_ok-count.ensures in
-    let items = c.in_ok-extend_from_slice.ensures.items in
-    (λ i. word (shown (words_of c.self.inside.front.items) c.self.inside.blocks (set c.self.inside.starts.items c.args.block (start i)) (set c.self.inside.counts.items c.args.block (count i)) (items i)) at)
-    ∙ zeros_behind (words_of c.self.inside.front.items) c.self.inside.blocks c.self.inside.starts.items c.self.inside.counts.items c.self.inside.bytes.items c.args.piece.now c.args.block c.self.invariant.front c.self.invariant.starts c.self.invariant.counts inside behind at aligned here past;
-    others = λ at aligned other. let inside : c.args.block < c.self.inside.blocks = omega (arith, c.requires.within, ap (λ (m : MetadataState). size m.memory.region) c.self.view_is, size_shown (words_of c.self.inside.front.items) c.self.inside.blocks c.self.inside.starts.items c.self.inside.counts.items c.self.inside.bytes.items c.self.invariant.front) in
-    let behind : 8 * length (words_of c.self.inside.front.items) ≤ 4096 * c.args.block = omega (arith, c.requires.behind, ap (λ (m : MetadataState). m.memory.front) c.self.view_is, count_of_words c.self.inside.front.items) in
-    let start : c.in_ok-start.start ≡ length c.self.inside.bytes.items = omega (arith, c.in_ok-start.ensures, c.len.ensures) in
-    let count : c.in_ok-count.count ≡ length c.args.piece.now = c.in_ok-count.ensures in
-    let items = c.in_ok-extend_from_slice.ensures.items in
-    (λ i. word (shown (words_of c.self.inside.front.items) c.self.inside.blocks (set c.self.inside.starts.items c.args.block (start i)) (set c.self.inside.counts.items c.args.block (count i)) (items i)) at)
-    ∙ others_stay (words_of c.self.inside.front.items) c.self.inside.blocks c.self.inside.starts.items c.self.inside.counts.items c.self.inside.bytes.items c.args.piece.now c.args.block c.self.invariant.front c.self.invariant.starts c.self.invariant.counts inside behind c.self.invariant.whole c.self.invariant.inside at other
-    ∙ ap (λ (m : MetadataState). word m.memory.region at) c.self.view_is;
-  }
+  piece = λ at aligned here within. let inside : c.args.block < c.self.inside.blocks = omega (arith, c.requires.within, ap (λ (m : MetadataState). size m.memory.region) c.self.view_is, size_shown (words_of c.self.inside.front.items) c.self.inside.blocks c.self.inside.starts.items c.self.inside.counts.items c.self.inside.bytes.items c.self.invariant.front) in
+      let behind : 8 * length (words_of c.self.inside.front.items) ≤ 4096 * c.args.block = omega (arith, c.requires.behind, ap (λ (m : MetadataState). m.memory.front) c.self.view_is, count_of_words c.self.inside.front.items) in
+      let start : c.in_ok-start.start ≡ length c.self.inside.bytes.items = omega (arith, c.in_ok-start.ensures, c.len.ensures) in
+      let count : c.in_ok-count.count ≡ length c.args.piece.now = c.in_ok-count.ensures in
+      let items = c.in_ok-extend_from_slice.ensures.items in
+      (λ i. word (shown (words_of c.self.inside.front.items) c.self.inside.blocks (set c.self.inside.starts.items c.args.block (start i)) (set c.self.inside.counts.items c.args.block (count i)) (items i)) at)
+      ∙ piece_held (words_of c.self.inside.front.items) c.self.inside.blocks c.self.inside.starts.items c.self.inside.counts.items c.self.inside.bytes.items c.args.piece.now c.args.block c.self.invariant.front c.self.invariant.starts c.self.invariant.counts inside behind at aligned here within;
+  zeros = λ at aligned here past. let inside : c.args.block < c.self.inside.blocks = omega (arith, c.requires.within, ap (λ (m : MetadataState). size m.memory.region) c.self.view_is, size_shown (words_of c.self.inside.front.items) c.self.inside.blocks c.self.inside.starts.items c.self.inside.counts.items c.self.inside.bytes.items c.self.invariant.front) in
+      let behind : 8 * length (words_of c.self.inside.front.items) ≤ 4096 * c.args.block = omega (arith, c.requires.behind, ap (λ (m : MetadataState). m.memory.front) c.self.view_is, count_of_words c.self.inside.front.items) in
+      let start : c.in_ok-start.start ≡ length c.self.inside.bytes.items = omega (arith, c.in_ok-start.ensures, c.len.ensures) in
+      let count : c.in_ok-count.count ≡ length c.args.piece.now = c.in_ok-count.ensures in
+      let items = c.in_ok-extend_from_slice.ensures.items in
+      (λ i. word (shown (words_of c.self.inside.front.items) c.self.inside.blocks (set c.self.inside.starts.items c.args.block (start i)) (set c.self.inside.counts.items c.args.block (count i)) (items i)) at)
+      ∙ zeros_behind (words_of c.self.inside.front.items) c.self.inside.blocks c.self.inside.starts.items c.self.inside.counts.items c.self.inside.bytes.items c.args.piece.now c.args.block c.self.invariant.front c.self.invariant.starts c.self.invariant.counts inside behind at aligned here past;
+  others = λ at aligned other. let inside : c.args.block < c.self.inside.blocks = omega (arith, c.requires.within, ap (λ (m : MetadataState). size m.memory.region) c.self.view_is, size_shown (words_of c.self.inside.front.items) c.self.inside.blocks c.self.inside.starts.items c.self.inside.counts.items c.self.inside.bytes.items c.self.invariant.front) in
+      let behind : 8 * length (words_of c.self.inside.front.items) ≤ 4096 * c.args.block = omega (arith, c.requires.behind, ap (λ (m : MetadataState). m.memory.front) c.self.view_is, count_of_words c.self.inside.front.items) in
+      let start : c.in_ok-start.start ≡ length c.self.inside.bytes.items = omega (arith, c.in_ok-start.ensures, c.len.ensures) in
+      let count : c.in_ok-count.count ≡ length c.args.piece.now = c.in_ok-count.ensures in
+      let items = c.in_ok-extend_from_slice.ensures.items in
+      (λ i. word (shown (words_of c.self.inside.front.items) c.self.inside.blocks (set c.self.inside.starts.items c.args.block (start i)) (set c.self.inside.counts.items c.args.block (count i)) (items i)) at)
+      ∙ others_stay (words_of c.self.inside.front.items) c.self.inside.blocks c.self.inside.starts.items c.self.inside.counts.items c.self.inside.bytes.items c.args.piece.now c.args.block c.self.invariant.front c.self.invariant.starts c.self.invariant.counts inside behind c.self.invariant.whole c.self.invariant.inside at other
+      ∙ ap (λ (m : MetadataState). word m.memory.region at) c.self.view_is;
+}
 
 pub index_mut-requires-3 : goal.index_mut-requires-3
 index_mut-requires-3 c = omega (arith, c.requires.within, ap (λ (m : MetadataState). size m.memory.region) c.self.view_is, size_shown (words_of c.self.inside.front.items) c.self.inside.blocks c.self.inside.starts.items c.self.inside.counts.items c.self.inside.bytes.items c.self.invariant.front, c.self.invariant.known)
