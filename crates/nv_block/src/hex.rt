@@ -24,7 +24,7 @@ pub fn block_bytes(bytes: &[u8], block: u64) -> &[u8]
 }
 
 /// Puts bytes to a text, in rows: the address of the first of the row, and two digits for each. The first byte of all has this
-/// address.
+/// address, in bytes; addresses are shown from 2^32 on by their low 32 bits.
 ///
 /// Errors: `AllocError` where a growth was refused; of the text nothing is said then.
 pub fn push_hex_rows(out: &mut String, start: u64, bytes: &[u8]) -> Result<(), AllocError>

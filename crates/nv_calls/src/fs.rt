@@ -130,7 +130,7 @@ impl<P: Pmem + Drop> Fs<P> {
         &self.free
     }
 
-    /// The runs of the free blocks of a CPU's pool, rising. It takes no memory.
+    /// The runs of the free blocks of a CPU's pool, in blocks, rising. It takes no memory.
     pub fn free_runs(&self, cpu: Cpu) -> FreeRuns<'_>
         requires { cpu < self.now.sup.cpus }
         ensures { result ≡ pool_at self.now.free.pools cpu }

@@ -1,4 +1,5 @@
-//! `replace`, within one directory: another name for an inode, which it gets from an inode that goes or loses a link.
+//! Towards `replace`, within one directory: another name for an inode, which it gets from an inode that goes or loses a link. No
+//! call makes this step yet.
 
 ghost use Rattle.std.specs.Prelude.{◌≡◌, ◌≢◌, ◌+◌, ◌-◌, ◌%◌, ◌<◌, ◌≤◌, Option, IsTrue, IfErr, OnOk, true, false};
 ghost use Rattle.nv_super.specs.Layout.{fixed_layout, slot_address};

@@ -16,8 +16,8 @@ const FILE_MODE: u32 = 420;
 /// The mode of a directory that is made.
 const DIRECTORY_MODE: u32 = 493;
 
-/// The calls that a change makes of what is mounted, in the name of a CPU and at a time. Errors: `AllocError` where a growth was
-/// refused.
+/// The calls that a change makes of what is mounted, in the name of a CPU and at a time in seconds since 1970. Errors:
+/// `AllocError` where a growth was refused.
 pub(crate) fn calls_of<'a>(
     alloc: Global,
     mount: &Fs<MemRegion>,

@@ -25,17 +25,17 @@ pub enum Change<'a> {
         old: &'a [u8],
         new: &'a [u8],
     },
-    /// Cut a file, or lengthen it by zeros.
+    /// Cut a file to a size in bytes, or lengthen it to one by zeros.
     SetSize {
         path: &'a [u8],
         size: u64,
     },
-    /// Set a mode. Owner and group stay.
+    /// Set a mode, the permissions as a number. Owner and group stay.
     SetMode {
         path: &'a [u8],
         mode: u32,
     },
-    /// Set an owner, and a group where one is given. The mode stays.
+    /// Set an owner by its number, and a group where one is given. The mode stays.
     SetOwner {
         path: &'a [u8],
         owner: u32,

@@ -58,8 +58,8 @@ impl Changed {
     }
 }
 
-/// Recovers the region that a memory holds, and makes a change of it in the name of a CPU and at a time. What is pending in the
-/// memory is kept first, and its fuse is taken out. A region with faults is refused before anything else.
+/// Recovers the region that a memory holds, and makes a change of it in the name of a CPU and at a time in seconds since 1970.
+/// What is pending in the memory is kept first, and its fuse is taken out. A region with faults is refused before anything else.
 ///
 /// Errors: `AllocError` where a growth was refused.
 pub fn change_image(

@@ -22,13 +22,16 @@ use std::alloc::{AllocError, Global};
 use std::io;
 use std::io::Write;
 use std::thread::Threads;
+use thiserror::Error;
 
 /// Why an image that is read piece by piece was not checked.
-#[derive(Clone, Copy)]
+#[derive(Clone, Copy, Debug, Error)]
 pub enum BlocksError {
     /// Its length could not be told, or some of its bytes not be read, as the system's error says.
+    #[error("{0}")]
     Read(io::Error),
     /// The answer can't be held in memory, or not be written.
+    #[error("{0}")]
     Answer(ScriptError),
 }
 

@@ -1,4 +1,5 @@
--- The directories that one leads to, each with its path, in the order in which a list of all of them shows them.
+-- The directories that one leads to by paths of at most 4,096 bytes, each with its path, in the order in which a list of all of
+-- them shows them.
 use Rattle.std.specs.Prelude.{◌≡◌, ℕ, ◌&&◌, true, false, nat_le, eqb, if◌then◌else◌, List, [], ◌∷◌, ◌++◌, length, flat_map, Some}
 use Rattle.std.specs.List.{list_any}
 use Rattle.nv_super.specs.Order.{Lists}

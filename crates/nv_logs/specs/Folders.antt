@@ -1,4 +1,4 @@
--- What looking at the names of a directory and of all directories below it tells.
+-- What looking at the names of a directory and of all directories below it tells. Paths of over 4,096 bytes are left out.
 use Rattle.std.specs.Prelude.{◌≡◌, ◌⊎◌, ℕ, Bool, List, ◌++◌, codes, decimal}
 use Rattle.nv_region.specs.Region.{Region}
 use Rattle.nv_super.specs.declared.kind.Kind.TheVariants.{Directory, File}

@@ -29,9 +29,9 @@ use nv_usage::named_rows;
 use std::alloc::{AllocError, Global};
 use std::io::Write;
 
-/// Writes the names of a directory in the region of these bytes and of all directories that it leads to by names, each directory behind
-/// its path, and with `long` each name behind the numbers of its inode; or `refused NAME` to the errors, as `list` is refused. Errors
-/// as of `log_image`.
+/// Writes the names of a directory in the region of these bytes and of all directories that it leads to by paths of at most 4,096
+/// bytes, each directory behind its path, and with `long` each name behind the numbers of its inode; or `refused NAME` to the
+/// errors, as `list` is refused. Errors as of `log_image`.
 pub fn folders_image<W: Write, E: Write>(
     alloc: Global,
     bytes: &[u8],

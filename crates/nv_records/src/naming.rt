@@ -25,6 +25,7 @@ pub enum SlotPart {
 pub struct NamedWord {
     pub part: SlotPart,
     pub inode: u64,
+    /// What stands there.
     pub now: u64,
 }
 

@@ -20,7 +20,7 @@ use nv_super::{Owner, Run};
 use std::alloc::{AllocError, Global};
 
 /// Each block that is owned in a region with each of its owners, by the region's tables and the rows of its inodes in use,
-/// which may stand in any order. Blocks of chains come first.
+/// which may stand in any order.
 ///
 /// Errors: `AllocError` where a growth was refused.
 pub fn claims_of(

@@ -51,7 +51,7 @@ impl Fold {
     }
 
     /// Takes one entry more, and reads its name, if it has one, in place of what is in `name`. An entry that says what can't
-    /// be is told as a fault, and changes nothing else.
+    /// be is told as a fault, and changes nothing else. Errors: `AllocError` where a growth was refused.
     pub fn take<P: Pmem>(
         &mut self,
         memory: &P,

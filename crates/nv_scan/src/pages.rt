@@ -47,7 +47,7 @@ pub(crate) fn write_pages(
     extents.write_run(first_page_past(e.size), e.offset, e.block, e.count as u64)
 }
 
-/// The first page that begins at the size or later.
+/// The first page that begins at the size, in bytes, or later.
 pub fn first_page_past(size: u64) -> u64
     ensures { (p : ℕ) → nat_le result p ≡ nat_le size (p * 4096) }
 {

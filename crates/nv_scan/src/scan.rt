@@ -191,6 +191,8 @@ fn is_blank<P: Pmem>(memory: &P, inode: u64, at: u64, table: Option<ChainBlock>)
 /// the claims and the faults, and not for the entries; and, where there is a log to read, for a bit for each block of
 /// the region. A `Scanner` makes these bits once for many inodes. With the inode of the first slot of a chain's block that
 /// block is told, whatever the slot holds.
+///
+/// Errors: `AllocError` where a growth was refused.
 pub fn scan_slot<P: Pmem>(
     alloc: Global,
     memory: &P,

@@ -29,7 +29,7 @@ move_place fresh tail i name other time =
     place_of fresh (pages_after 0 tail removal) (place_of fresh 0 tail removal + entry_length removal) (Name (record { operation = Add; inode = i; time = time; name = other }))
 
 -- The row has another name for an inode in place of one, and a time; its log goes on over these pages up to a new tail. Between
--- them the index has neither.
+-- them the index lacks the first name.
 pub record HasMoved (old : Row) (fresh : List ℕ) (end : ℕ) (name other : List ℕ) (i spot time : ℕ) (new : Row) : Type 0 where
   pub inode : new.inode ≡ old.inode
   pub kind : new.kind ≡ old.kind

@@ -36,6 +36,7 @@ use std::alloc::Global;
 /// An inode whose name is given to another.
 #[derive(Clone, Copy)]
 pub struct Displaced {
+    /// Its number.
     pub inode: u64,
     /// At most so many blocks are its own.
     pub blocks: usize,
