@@ -4,11 +4,11 @@ use Rattle.std.specs.List.Sorted.{IsPermutation}
 use Rattle.std.proofs.lemmas.List.Sorted.{Contains-permutation, IsPermutation-sym, IsPermutation-append_left, IsPermutation-append_right}
 use Rattle.std.specs.Prelude.{Vec}
 use Rattle.std.specs.declared.alloc.Global.{Global}
-use Rattle.nv_region.specs.Region.{Region}
+use Rattle.nv_region.specs.Region.{HasBlocks, Region}
 use Rattle.nv_super.specs.declared.superblock.Super.{Super}
 use Rattle.nv_super.specs.declared.owners.Owner.{Owner}
 use Rattle.nv_super.specs.declared.faults.Fault.{Fault}
-use Rattle.nv_super.specs.Layout.{fixed_layout}
+use Rattle.nv_super.specs.Layout.{Layout, fixed_layout}
 use Rattle.nv_super.specs.Order.{fault_key, SortedOf}
 use Rattle.nv_inode.specs.Chains.{chain_faults, layout_of}
 use Rattle.nv_journal.specs.Undo.{undone}
@@ -19,7 +19,7 @@ use Rattle.nv_outcome.specs.nv_check.Doubled.{AreDoubled}
 use Rattle.nv_outcome.specs.Outcome.{IsOutcome}
 use Rattle.nv_outcome.specs.Parts.{ArePieces, AreParts, rows_in, faults_in, double_fault}
 use Rattle.nv_outcome.specs.Shared.{SharesAll}
-use Rattle.nv_outcome.proofs.Fixed.{from_fixed}
+use Rattle.nv_outcome.proofs.Fixed.{fixed_now}
 use Rattle.nv_outcome.proofs.RowsOf.{rows_are}
 use Rattle.nv_outcome.proofs.Whole.{parts_outcome}
 use Rattle.nv_outcome.proofs.Shared.{shares_all}
@@ -73,13 +73,24 @@ pub record IsMade (o : Started) (x : Scanned) (r : Recovered) : Type 0 where
   pub owned_twice : r.doubled ≡ x.owned.doubled
   pub all : SortedOf fault_key (all_told o.journal.items o.tables.faults x.inodes.faults.items x.cross.items r.doubled.items) r.faults.items
 
-module _ {old new : Region} {o : Started} {x : Scanned} {r : Recovered} (started : IsStarted old new o) (scanned : IsScanned new o.sup x) (made : IsMade o x r) where
+-- the tables are those of the superblock
+pub tables_sup : {old new : Region} {o : Started} → IsStarted old new o → o.tables.layout.sup ≡ o.sup
+tables_sup started = ap (λ (l : Layout). l.sup) started.tables
+
+pub tables_blocks : {old new : Region} {o : Started} → IsStarted old new o → HasBlocks new o.tables.layout.sup.blocks
+tables_blocks {new = new} started = subst (λ (s : Super). HasBlocks new s.blocks) (sym (tables_sup started)) started.blocks
+
+-- in version 1 these are the fixed ones
+pub tables_fixed : {old new : Region} {o : Started} → IsStarted old new o → o.tables.layout ≡ fixed_layout o.sup
+tables_fixed {old} {new} {o} started = started.tables ∙ fixed_now old o.sup started.sup new
+
+module _ {old new : Region} {o : Started} {x : Scanned} {r : Recovered} (started : IsStarted old new o) (scanned : IsScanned new o.tables.layout x) (made : IsMade o x r) where
   chained : o.tables.faults ≡ chain_faults o.sup (undone o.sup old)
   chained = started.chained ∙ ap (chain_faults o.sup) started.rolled_back
 
   parts : AreParts old o.sup scanned.pieces scanned.owned.claims x.owned.blocks.items scanned.owned.second r.free r.doubled.items o.journal.items x.cross.items r.faults.items
   parts = record {
-    scanned = from_fixed old o.sup started.sup (undone o.sup old) (λ l. ArePieces (undone o.sup old) l scanned.pieces) (subst (λ (R : Region). ArePieces R (fixed_layout o.sup) scanned.pieces) started.rolled_back scanned.inodes.pieces_are);
+    scanned = subst (λ (R : Region). ArePieces R (layout_of o.sup R) scanned.pieces) started.rolled_back (subst (λ (l : Layout). ArePieces new l scanned.pieces) started.tables scanned.inodes.pieces_are);
     claimed = scanned.owned.claimed;
     maps = scanned.owned.maps;
     outside = made.outside;

@@ -10,10 +10,9 @@ use Rattle.std.proofs.lemmas.List.Sorted.{Contains-permutation, IsPermutation-sy
 use Rattle.nv_region.specs.Region.{Region}
 use Rattle.nv_super.specs.declared.superblock.Super.{Super}
 use Rattle.nv_super.specs.declared.owners.Owner.{Owner}
-use Rattle.nv_super.specs.Layout.{IsLayout, fixed_layout}
+use Rattle.nv_super.specs.Layout.{Layout}
 use Rattle.nv_super.specs.Owners.{claims_of}
 use Rattle.nv_inode.specs.Chains.{IsLaid}
-use Rattle.nv_inode.proofs.FixedLayout.{fixed_laid}
 use Rattle.nv_claimcore.specs.Finished.{works_of}
 use Rattle.nv_claimcore.specs.Replay.{Inside, lists}
 use Rattle.nv_claimmap.specs.declared.map.Claimed.{Claimed}
@@ -25,29 +24,26 @@ use Rattle.nv_super.proofs.Members.{from_map, into_flat}
 use Rattle.nv_outcome.proofs.Pieces.{claimed_owned}
 use Rattle.nv_recover.specs.Scanned.{AreWithin, AreClaimed, AreClaimedSets, all_claims}
 
-module _ {R : Region} (s : Super) (pieces : List Piece) (layout : IsLayout s) (scanned : ArePieces R (fixed_layout s) pieces) where
-  laid : IsLaid (fixed_layout s)
-  laid = fixed_laid s layout
-
-  pub claims_within : (claims : List (ℕ × Owner)) → IsPermutation (claims_in pieces) claims → AreWithin s claims
+module _ {R : Region} (l : Layout) (pieces : List Piece) (laid : IsLaid l) (scanned : ArePieces R l pieces) where
+  pub claims_within : (claims : List (ℕ × Owner)) → IsPermutation (claims_in pieces) claims → AreWithin l.sup claims
   claims_within claims moved k d less =
       let x = get_or claims k d in
       let c = Contains-permutation claims (claims_in pieces) x (IsPermutation-sym (claims_in pieces) claims moved) (All-contains_itself claims k d less) in
-      (owned_block R (fixed_layout s) x.0 x.1 laid (claimed_owned pieces scanned x.0 x.1 c)).1
+      (owned_block R l x.0 x.1 laid (claimed_owned pieces scanned x.0 x.1 c)).1
 
   -- lists of them are work within the region
-  pub work_inside : (work : List (Vec (ℕ × Owner) Global)) → IsPermutation (claims_in pieces) (all_claims work) → Inside s.blocks (lists work)
+  pub work_inside : (work : List (Vec (ℕ × Owner) Global)) → IsPermutation (claims_in pieces) (all_claims work) → Inside l.sup.blocks (lists work)
   work_inside work moved k d less i e below =
       let list = get_or (lists work) k d in
       let x = get_or list i e in
       let w = from_map (λ (v : Vec (ℕ × Owner) Global). v.items) work list (All-contains_itself (lists work) k d less) in
       let c = into_flat (λ (v : Vec (ℕ × Owner) Global). v.items) work w.0 x w.1 (subst (λ (xs : List (ℕ × Owner)). Contains xs x) w.2 (All-contains_itself list i e below)) in
-      (owned_block R (fixed_layout s) x.0 x.1 laid (claimed_owned pieces scanned x.0 x.1 (Contains-permutation (all_claims work) (claims_in pieces) x (IsPermutation-sym (claims_in pieces) (all_claims work) moved) c))).1
+      (owned_block R l x.0 x.1 laid (claimed_owned pieces scanned x.0 x.1 (Contains-permutation (all_claims work) (claims_in pieces) x (IsPermutation-sym (claims_in pieces) (all_claims work) moved) c))).1
 
 -- the second set has a bit for each claim's block
-pub claims_covered : {R : Region} (s : Super) (pieces : List Piece) (c : Claimed) {claims : List (ℕ × Owner)} {second : List ℕ} → IsLayout s → ArePieces R (fixed_layout s) pieces → AreClaimed s pieces c → claims ≡ c.claims.items → second ≡ c.second.items
+pub claims_covered : {R : Region} (l : Layout) (pieces : List Piece) (c : Claimed) {claims : List (ℕ × Owner)} {second : List ℕ} → IsLaid l → ArePieces R l pieces → AreClaimed l.sup pieces c → claims ≡ c.claims.items → second ≡ c.second.items
     → All (λ (x : ℕ × Owner). x.0 < 64 * length second) claims
-claims_covered s pieces c layout scanned claimed same covers = rw (same, covers) (λ k d less. (let within = claims_within s pieces layout scanned c.claims.items claimed.claimed k d less in let cover = claimed.cover.1 in omega (arith, within, cover)))
+claims_covered l pieces c laid scanned claimed same covers = rw (same, covers) (λ k d less. (let within = claims_within l pieces laid scanned c.claims.items claimed.claimed k d less in let cover = claimed.cover.1 in omega (arith, within, cover)))
 
 -- a block stands in the lists of a work as often as in all of them together
 works_joined : (work : List (Vec (ℕ × Owner) Global)) (b : ℕ) → works_of b (lists work) ≡ claims_of b (all_claims work)

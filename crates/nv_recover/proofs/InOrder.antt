@@ -7,9 +7,8 @@ use native.Mathlib.Numerals.{add-one}
 use Rattle.std.proofs.lemmas.Bool.Decides.{nat_tests}
 use Rattle.std.proofs.lemmas.List.Sorted.{IsPermutation-refl, IsPermutation-sym, IsPermutation-trans, IsPermutation-cons, IsPermutation-middle}
 use Rattle.nv_region.specs.Region.{Region}
-use Rattle.nv_super.specs.declared.superblock.Super.{Super}
-use Rattle.nv_super.specs.Layout.{IsLayout, fixed_layout}
-use Rattle.nv_inode.proofs.FixedLayout.{fixed_laid}
+use Rattle.nv_super.specs.Layout.{Layout}
+use Rattle.nv_inode.specs.Chains.{IsLaid}
 use Rattle.nv_claimcore.specs.Claims.{times, below}
 use Rattle.nv_scan.specs.Tickets.{ticket_count}
 use Rattle.nv_scan.specs.Work.{numbers_in, claims_in, ArePiecesOf}
@@ -93,33 +92,33 @@ faults_permute : (ps qs : List Piece) → IsPermutation ps qs → IsPermutation 
 faults_permute ps qs moved = flat_map_permutation (λ (p : Piece). p.faults.items) ps qs moved
 
 -- Pieces in the order of inodes: all inodes have one, and the claims, the rows and the faults are theirs, in another order.
-pub record AreInOrder (R : Region) (s : Super) (pieces : List Piece) : Type 0 where
+pub record AreInOrder (R : Region) (l : Layout) (pieces : List Piece) : Type 0 where
   pub sorted : List Piece
-  pub pieces_are : ArePieces R (fixed_layout s) sorted
+  pub pieces_are : ArePieces R l sorted
   pub claims : IsPermutation (claims_in sorted) (claims_in pieces)
   pub rows : IsPermutation (rows_in sorted) (rows_in pieces)
   pub faults : IsPermutation (faults_in sorted) (faults_in pieces)
 
 -- Where each ticket stands once.
-pub tickets_in_order : (R : Region) (s : Super) (tickets : List ℕ) (pieces : List Piece) → IsLayout s → ArePiecesOf R (fixed_layout s) (numbers_in (fixed_layout s) tickets) pieces → ((t : ℕ) → times t tickets ≡ below t (ticket_count (fixed_layout s))) → AreInOrder R s pieces
-tickets_in_order R s tickets pieces layout are drawn =
+pub tickets_in_order : (R : Region) (l : Layout) (tickets : List ℕ) (pieces : List Piece) → IsLaid l → ArePiecesOf R l (numbers_in l tickets) pieces → ((t : ℕ) → times t tickets ≡ below t (ticket_count l)) → AreInOrder R l pieces
+tickets_in_order R l tickets pieces laid are drawn =
     let ps = in_order (λ (p : Piece). p.inode) pieces in
     let put : IsPermutation pieces ps = in_order_moves (λ (p : Piece). p.inode) pieces in
     let back : IsPermutation ps pieces = IsPermutation-sym pieces ps put in
     record {
       sorted = ps;
-      pieces_are = tickets_cover R (fixed_layout s) tickets pieces ps (fixed_laid s layout) are drawn put (up_sorted (λ (p : Piece). p.inode) ps (in_order_up (λ (p : Piece). p.inode) pieces));
+      pieces_are = tickets_cover R l tickets pieces ps laid are drawn put (up_sorted (λ (p : Piece). p.inode) ps (in_order_up (λ (p : Piece). p.inode) pieces));
       claims = claims_permute pieces ps put;
       rows = rows_permute ps pieces back;
       faults = faults_permute ps pieces back;
     }
 
 -- The inodes of all tickets, in the order of inodes.
-pub first_in_order : {R : Region} {s : Super} {n : ℕ} {ps : List Piece} {x : Inodes} {y : ListedInodes} → IsLayout s → n ≡ ticket_count (fixed_layout s) → AreFirst R s n ps x → y.rows.items ≡ x.rows.items → y.faults.items ≡ x.faults.items
-    → (order : AreInOrder R s ps) × AreInodes R s order.sorted y
-first_in_order {R} {s} {n} {ps} {x} {y} layout all first rows faults =
-    let are = subst (λ (m : ℕ). ArePiecesOf R (fixed_layout s) (numbers_in (fixed_layout s) (range_with_len 0 m)) ps) all first.are in
-    let order = tickets_in_order R s (range_with_len 0 (ticket_count (fixed_layout s))) ps layout are (all_times (ticket_count (fixed_layout s))) in (
+pub first_in_order : {R : Region} {l : Layout} {n : ℕ} {ps : List Piece} {x : Inodes} {y : ListedInodes} → IsLaid l → n ≡ ticket_count l → AreFirst R l n ps x → y.rows.items ≡ x.rows.items → y.faults.items ≡ x.faults.items
+    → (order : AreInOrder R l ps) × AreInodes R l order.sorted y
+first_in_order {R} {l} {n} {ps} {x} {y} laid all first rows faults =
+    let are = subst (λ (m : ℕ). ArePiecesOf R l (numbers_in l (range_with_len 0 m)) ps) all first.are in
+    let order = tickets_in_order R l (range_with_len 0 (ticket_count l)) ps laid are (all_times (ticket_count l)) in (
       order,
       record {
         pieces_are = order.pieces_are;

@@ -8,7 +8,7 @@ use Rattle.nv_blockset.specs.BlockSet.{has}
 use Rattle.nv_region.specs.Region.{Region}
 use Rattle.nv_super.specs.declared.superblock.Super.{Super}
 use Rattle.nv_super.specs.declared.owners.Owner.{Owner}
-use Rattle.nv_super.specs.Layout.{IsLayout, Layout, fixed_layout}
+use Rattle.nv_super.specs.Layout.{Layout}
 use Rattle.nv_super.specs.Order.{claim_key}
 use Rattle.nv_super.proofs.Rising.{Lists-same}
 use Rattle.nv_inode.specs.Chains.{IsLaid}
@@ -18,7 +18,6 @@ use Rattle.nv_scan.specs.Rows.{IsPiece}
 use Rattle.nv_scan.specs.Work.{claims_in}
 use Rattle.nv_scan.specs.declared.piece.Piece.{Piece}
 use Rattle.nv_scan.specs.declared.piece.Row.{Row}
-use Rattle.nv_inode.proofs.FixedLayout.{fixed_laid}
 use Rattle.nv_scan.proofs.Owned.{owned_block}
 use Rattle.nv_scan.proofs.Runs.{claims_fit}
 use Rattle.nv_outcome.specs.nv_check.Doubled.{AreDoubled}
@@ -30,10 +29,10 @@ use Rattle.nv_recover.specs.declared.scanned.Owned.{Owned}
 use Rattle.nv_recover.specs.Scanned.{AreWithin, AreClaimed, AreOwned, AreSetsOf, Cover}
 
 -- pieces claim blocks of the region
-pub pieces_within : (R : Region) (s : Super) (pieces : List Piece) → IsLayout s → AllByRecursion (IsPiece R (fixed_layout s)) pieces → AreWithin s (claims_in pieces)
-pieces_within R s [] layout each = All-nil (λ (x : ℕ × Owner). x.0 < s.blocks)
-pieces_within R s (p ∷ ps) layout (here, each) =
-    All-append (λ (x : ℕ × Owner). x.0 < s.blocks) p.claims.items (claims_in ps) (λ k d less. (claims_fit R (fixed_layout s) p.inode p.claims.items (fixed_laid s layout) here.claims k d less).0) (pieces_within R s ps layout each)
+pub pieces_within : (R : Region) (l : Layout) (pieces : List Piece) → IsLaid l → AllByRecursion (IsPiece R l) pieces → AreWithin l.sup (claims_in pieces)
+pieces_within R l [] laid each = All-nil (λ (x : ℕ × Owner). x.0 < l.sup.blocks)
+pieces_within R l (p ∷ ps) laid (here, each) =
+    All-append (λ (x : ℕ × Owner). x.0 < l.sup.blocks) p.claims.items (claims_in ps) (λ k d less. (claims_fit R l p.inode p.claims.items laid here.claims k d less).0) (pieces_within R l ps laid each)
 
 module _ {R : Region} {l : Layout} {pieces : List Piece} {rows : List Row} {first second : List ℕ} where
   -- the sets of the same rows

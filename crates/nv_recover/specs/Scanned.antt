@@ -1,5 +1,5 @@
 -- What a scan of all inodes gives, whichever way it goes.
-use Rattle.std.specs.Prelude.{◌≡◌, ℕ, ◌*◌, ◌/◌, ◌<◌, ◌≤◌, ◌-◌, min, List, ◌++◌, length, map, Vec, IsTrue, if◌then◌else◌}
+use Rattle.std.specs.Prelude.{◌≡◌, ℕ, ◌*◌, ◌/◌, ◌<◌, ◌≤◌, ◌-◌, min, List, ◌++◌, length, map, Vec, if◌then◌else◌}
 use Rattle.std.specs.declared.alloc.Global.{Global}
 use Rattle.std.specs.List.{All, AllByRecursion, flat_map, range_with_len}
 use Rattle.std.specs.List.Sorted.{IsPermutation}
@@ -8,7 +8,7 @@ use Rattle.nv_region.specs.Region.{Region}
 use Rattle.nv_super.specs.declared.superblock.Super.{Super}
 use Rattle.nv_super.specs.declared.owners.Owner.{Owner}
 use Rattle.nv_super.specs.declared.faults.Fault.{Fault}
-use Rattle.nv_super.specs.Layout.{Layout, inode_limit, is_number, fixed_layout}
+use Rattle.nv_super.specs.Layout.{Layout}
 use Rattle.nv_super.specs.Order.{fault_key, Lists}
 use Rattle.nv_claimcore.specs.Finished.{works_of}
 use Rattle.nv_claimmap.specs.declared.map.Claimed.{Claimed}
@@ -19,7 +19,6 @@ use Rattle.nv_scan.specs.declared.inodes.Inodes.{Inodes}
 use Rattle.nv_scan.specs.declared.inodes.ListedInodes.{ListedInodes}
 use Rattle.nv_scan.specs.declared.piece.Row.{Row}
 use Rattle.nv_scan.specs.declared.piece.Piece.{Piece}
-use Rattle.nv_outcome.specs.nv_rows.nv_numbered.Values.{AreNumbersBelow}
 use Rattle.nv_outcome.specs.nv_check.Cross.{IsCrossFaultIn}
 use Rattle.nv_outcome.specs.nv_check.Doubled.{AreDoubled}
 use Rattle.nv_outcome.specs.Parts.{ArePieces, AreMaps, rows_in, faults_in, double_fault}
@@ -29,8 +28,8 @@ use Rattle.nv_recover.specs.declared.scanned.Scanned.{Scanned}
 -- ---- the inodes by themselves
 
 -- The pieces are those of all inodes of the region; kept are their rows and their faults, in any order.
-pub record AreInodes (R : Region) (s : Super) (pieces : List Piece) (x : ListedInodes) : Type 0 where
-  pub pieces_are : ArePieces R (fixed_layout s) pieces
+pub record AreInodes (R : Region) (l : Layout) (pieces : List Piece) (x : ListedInodes) : Type 0 where
+  pub pieces_are : ArePieces R l pieces
   pub rows : IsPermutation (rows_in pieces) x.rows.items
   pub faults : IsPermutation (faults_in pieces) x.faults.items
 
@@ -39,22 +38,17 @@ abbrev pub all_claims : List (Vec (ℕ × Owner) Global) → List (ℕ × Owner)
 all_claims lists = flat_map (λ (v : Vec (ℕ × Owner) Global). v.items) lists
 
 -- The pieces are those of the inodes of the first tickets, so many; kept are their rows and their faults.
-pub record AreFirst (R : Region) (s : Super) (tickets : ℕ) (pieces : List Piece) (x : Inodes) : Type 0 where
-  pub are : ArePiecesOf R (fixed_layout s) (numbers_in (fixed_layout s) (range_with_len 0 tickets)) pieces
+pub record AreFirst (R : Region) (l : Layout) (tickets : ℕ) (pieces : List Piece) (x : Inodes) : Type 0 where
+  pub are : ArePiecesOf R l (numbers_in l (range_with_len 0 tickets)) pieces
   pub rows : x.rows.items ≡ rows_in pieces
   pub faults : x.faults.items ≡ faults_in pieces
 
 -- Pieces of the inodes of the first tickets, with a list of claims for each ticket.
-pub record AreOfTickets (R : Region) (s : Super) (tickets : ℕ) (x : Inodes) (work : List (Vec (ℕ × Owner) Global)) : Type 0 where
+pub record AreOfTickets (R : Region) (l : Layout) (tickets : ℕ) (x : Inodes) (work : List (Vec (ℕ × Owner) Global)) : Type 0 where
   pub pieces : List Piece
-  pub first : AreFirst R s tickets pieces x
+  pub first : AreFirst R l tickets pieces x
   pub lists_are : length work ≡ tickets
   pub claims_are : all_claims work ≡ claims_in pieces
-
--- Rows of numbers that an inode can have, no two of one inode.
-pub record AreApart (s : Super) (rows : List Row) : Type 0 where
-  pub apart : AreNumbersBelow (inode_limit s) (map (λ (r : Row). r.inode) rows)
-  pub numbers : All (λ (r : Row). IsTrue (is_number s r.inode)) rows
 
 -- ---- what they claim
 
@@ -110,10 +104,10 @@ pub record AreOwned (s : Super) (pieces : List Piece) (o : Owned) : Type 0 where
 -- ---- all of it
 
 -- All inodes of the region by themselves, what they own, and what is wrong between them.
-pub record IsScanned (R : Region) (s : Super) (x : Scanned) : Type 0 where
+pub record IsScanned (R : Region) (l : Layout) (x : Scanned) : Type 0 where
   pub pieces : List Piece
-  pub inodes : AreInodes R s pieces x.inodes
-  pub owned : AreOwned s pieces x.owned
+  pub inodes : AreInodes R l pieces x.inodes
+  pub owned : AreOwned l.sup pieces x.owned
   pub cross : Lists fault_key (IsCrossFaultIn x.inodes.rows.items) x.cross.items
 
 -- all faults that are told: of the journals, of the chains, of the inodes, between them, and of doubled blocks

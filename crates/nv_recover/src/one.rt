@@ -2,7 +2,6 @@
 
 ghost use Rattle.std.specs.Prelude.{◌≡◌, ◌*◌, List, [], IfOk, IfErr};
 ghost use Rattle.nv_region.specs.Region.{HasBlocks};
-ghost use Rattle.nv_super.specs.Layout.{IsLayout, fixed_layout};
 ghost use Rattle.std.specs.List.Sorted.{IsPermutation};
 ghost use Rattle.nv_scan.specs.Work.{claims_in};
 ghost use Rattle.nv_scan.specs.declared.piece.Piece.{Piece};
@@ -26,7 +25,6 @@ use nv_region::Pmem;
 use nv_scan::{
     Inodes, ListedInodes, Scanner, push_heads, room_for_ticket, scan_slots, ticket_count,
 };
-use nv_super::Super;
 use std::alloc::{AllocError, Global};
 
 /// Recovers a region, damaged or not, on one thread: rolls its journals back, and answers the outcome of the region as
@@ -53,23 +51,17 @@ pub fn recover_one<P: Pmem>(alloc: Global, memory: &mut P) -> Result<Recovered, 
     ensures kept { KeepsRecovering P.region P.may_hold P.fuse memory.old memory.new result }
 {
     let started = start(alloc, memory)?;
-    let scanned = scan_all(alloc, &*memory, &started.sup, &started.tables)?;
+    let scanned = scan_all(alloc, &*memory, &started.tables)?;
     Ok(finish(alloc, started, scanned)?)
 }
 
 // Scans all inodes. No list of all their claims is kept.
-fn scan_all<P: Pmem>(
-    alloc: Global,
-    memory: &P,
-    sup: &Super,
-    tables: &Tables,
-) -> Result<Scanned, AllocError>
-    requires layout { IsLayout sup.now }
-    requires tables { tables.now.layout ≡ fixed_layout sup.now }
-    requires blocks { HasBlocks (P.region memory.now) sup.now.blocks }
-    ensures { IfOk result (IsScanned (P.region memory.now) sup.now) }
+fn scan_all<P: Pmem>(alloc: Global, memory: &P, tables: &Tables) -> Result<Scanned, AllocError>
+    requires { HasBlocks (P.region memory.now) tables.now.layout.sup.blocks }
+    ensures { IfOk result (IsScanned (P.region memory.now) tables.now.layout) }
 {
-    let (inodes, sets) = scan_tickets(alloc, memory, sup, tables)?;
+    tables.are_laid();
+    let (inodes, sets) = scan_tickets(alloc, memory, tables)?;
     let owned = sets.owned(alloc, tables, inodes.rows.as_rows())?;
     let cross = cross_faults(alloc, tables, &inodes.rows)?;
     Ok(Scanned {
@@ -83,20 +75,18 @@ fn scan_all<P: Pmem>(
 fn scan_tickets<P: Pmem>(
     alloc: Global,
     memory: &P,
-    sup: &Super,
     tables: &Tables,
 ) -> Result<(ListedInodes, Sets), AllocError>
-    requires layout { IsLayout sup.now }
-    requires tables { tables.now.layout ≡ fixed_layout sup.now }
-    requires blocks { HasBlocks (P.region memory.now) sup.now.blocks }
-    ensures { IfOk result (λ r. (pieces drawn : List Piece) × AreInodes (P.region memory.now) sup.now pieces r.0 × IsPermutation (claims_in pieces) (claims_in drawn)
+    requires { HasBlocks (P.region memory.now) tables.now.layout.sup.blocks }
+    ensures { IfOk result (λ r. (pieces drawn : List Piece) × AreInodes (P.region memory.now) tables.now.layout pieces r.0 × IsPermutation (claims_in pieces) (claims_in drawn)
         × AreSetsOf (P.region memory.now) tables.now.layout drawn r.0.rows.items r.1.first.items r.1.second.items) }
 {
-    let mut scanner = Scanner::new(alloc, sup);
+    tables.are_laid();
+    let mut scanner = Scanner::new(alloc, tables.sup());
     let mut inodes = Inodes::new(alloc);
     let mut heads = Chunks::new(alloc);
     let mut each = room_for_ticket(alloc)?;
-    let mut sets = Sets::new(alloc, sup)?;
+    let mut sets = Sets::new(alloc, tables.sup())?;
     for ticket in 0..ticket_count(tables) {
         let count = scan_slots(memory, tables, &mut scanner, &mut inodes, &mut each, ticket)?;
         push_heads(&mut heads, &inodes.rows)?;

@@ -2,7 +2,6 @@
 
 ghost use Rattle.std.specs.Prelude.{◌≡◌, ◌*◌, ◌<◌, ◌≤◌, [], IfOk, IfErr};
 ghost use Rattle.nv_region.specs.Region.{HasBlocks};
-ghost use Rattle.nv_super.specs.Layout.{IsLayout, fixed_layout};
 ghost use Rattle.nv_recover.specs.declared.errors.RecoverError.TheVariants as errors;
 ghost use Rattle.nv_outcome.specs.Answer.{outcome_of, SharesBlocks};
 ghost use Rattle.nv_outcome.specs.Outcome.{IsOutcome};
@@ -21,7 +20,6 @@ use nv_inode::Tables;
 use nv_outcome::{Recovered, cross_faults};
 use nv_region::Pmem;
 use nv_scan::Gate;
-use nv_super::Super;
 use std::alloc::{AllocError, Global};
 use std::thread::Threads;
 
@@ -54,15 +52,7 @@ pub fn recover<P: Pmem + Sync, G: Gate + Sync, H: Threads + Sync>(
         return Err(RecoverError::Workers);
     }
     let started = start(alloc, memory)?;
-    let scanned = scan_on_threads(
-        rt,
-        alloc,
-        &*memory,
-        &started.sup,
-        &started.tables,
-        workers,
-        gate,
-    )?;
+    let scanned = scan_on_threads(rt, alloc, &*memory, &started.tables, workers, gate)?;
     Ok(finish(alloc, started, scanned)?)
 }
 
@@ -71,18 +61,16 @@ fn scan_on_threads<P: Pmem + Sync, G: Gate + Sync, H: Threads + Sync>(
     rt: &H,
     alloc: Global,
     memory: &P,
-    sup: &Super,
     tables: &Tables,
     workers: u64,
     gate: &G,
 ) -> Result<Scanned, AllocError>
-    requires layout { IsLayout sup.now }
-    requires tables { tables.now.layout ≡ fixed_layout sup.now }
-    requires blocks { HasBlocks (P.region memory.now) sup.now.blocks }
+    requires blocks { HasBlocks (P.region memory.now) tables.now.layout.sup.blocks }
     requires workers { (0 < workers) × (workers ≤ 64) }
-    ensures { IfOk result (IsScanned (P.region memory.now) sup.now) }
+    ensures { IfOk result (IsScanned (P.region memory.now) tables.now.layout) }
 {
-    let (inodes, claimed) = scan_by_workers(rt, alloc, memory, sup, tables, workers, gate)?;
+    tables.are_laid();
+    let (inodes, claimed) = scan_by_workers(rt, alloc, memory, tables, workers, gate)?;
     let owned = owned_of(alloc, claimed)?;
     let cross = cross_faults(alloc, tables, &inodes.rows)?;
     Ok(Scanned {

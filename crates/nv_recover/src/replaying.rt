@@ -3,7 +3,6 @@
 ghost use Rattle.std.specs.Prelude.{[], ◌≡◌, ◌*◌, ◌<◌, ℕ, List, Some, None, IfOk, IfErr, length};
 ghost use Rattle.std.specs.List.Sorted.{IsPermutation};
 ghost use Rattle.nv_region.specs.Region.{HasBlocks};
-ghost use Rattle.nv_super.specs.Layout.{IsLayout, fixed_layout};
 ghost use Rattle.nv_claimcore.specs.Replay.{lists, Inside, first_stranger};
 ghost use Rattle.nv_scan.specs.declared.piece.Piece.{Piece as PieceValue};
 ghost use Rattle.nv_scan.specs.Tickets.{ticket_count};
@@ -64,14 +63,7 @@ pub fn recover_replay<P: Pmem>(
         return Err(RecoverError::Schedule(place));
     }
     let started = start(alloc, memory)?;
-    let scanned = scan_by_schedule(
-        alloc,
-        &*memory,
-        &started.sup,
-        &started.tables,
-        workers as u32,
-        schedule,
-    )?;
+    let scanned = scan_by_schedule(alloc, &*memory, &started.tables, workers as u32, schedule)?;
     Ok(finish(alloc, started, scanned)?)
 }
 
@@ -79,20 +71,18 @@ pub fn recover_replay<P: Pmem>(
 fn scan_by_schedule<P: Pmem>(
     alloc: Global,
     memory: &P,
-    sup: &Super,
     tables: &Tables,
     workers: u32,
     schedule: &[u32],
 ) -> Result<Scanned, AllocError>
-    requires layout { IsLayout sup.now }
-    requires tables { tables.now.layout ≡ fixed_layout sup.now }
-    requires blocks { HasBlocks (P.region memory.now) sup.now.blocks }
+    requires blocks { HasBlocks (P.region memory.now) tables.now.layout.sup.blocks }
     requires workers { 0 < workers }
     requires named { first_stranger workers schedule.now ≡ None }
-    ensures { IfOk result (IsScanned (P.region memory.now) sup.now) }
+    ensures { IfOk result (IsScanned (P.region memory.now) tables.now.layout) }
 {
-    let (inodes, work, claims) = scan_apart(alloc, memory, sup, tables)?;
-    let claimed = claim_all(alloc, sup, workers, schedule, work, claims)?;
+    tables.are_laid();
+    let (inodes, work, claims) = scan_apart(alloc, memory, tables)?;
+    let claimed = claim_all(alloc, tables.sup(), workers, schedule, work, claims)?;
     let owned = owned_of(alloc, claimed)?;
     let cross = cross_faults(alloc, tables, &inodes.rows)?;
     Ok(Scanned {
@@ -106,17 +96,15 @@ fn scan_by_schedule<P: Pmem>(
 fn scan_apart<P: Pmem>(
     alloc: Global,
     memory: &P,
-    sup: &Super,
     tables: &Tables,
 ) -> Result<(ListedInodes, Vec<Vec<(u64, Owner)>>, ClaimedRuns), AllocError>
-    requires layout { IsLayout sup.now }
-    requires tables { tables.now.layout ≡ fixed_layout sup.now }
-    requires blocks { HasBlocks (P.region memory.now) sup.now.blocks }
-    ensures inodes { IfOk result (λ r. (pieces : List PieceValue) × AreInodes (P.region memory.now) sup.now pieces r.0 × IsPermutation (claims_in pieces) (all_claims r.1.items)) }
+    requires { HasBlocks (P.region memory.now) tables.now.layout.sup.blocks }
+    ensures inodes { IfOk result (λ r. (pieces : List PieceValue) × AreInodes (P.region memory.now) tables.now.layout pieces r.0 × IsPermutation (claims_in pieces) (all_claims r.1.items)) }
     ensures tickets { IfOk result (λ r. length r.1.items ≡ ticket_count tables.now.layout) }
     ensures claims { IfOk result (λ r. r.2.items ≡ all_claims r.1.items) }
 {
-    let mut scanner = Scanner::new(alloc, sup);
+    tables.are_laid();
+    let mut scanner = Scanner::new(alloc, tables.sup());
     let mut inodes = Inodes::new(alloc);
     let mut heads = Chunks::new(alloc);
     let mut each = room_for_ticket(alloc)?;

@@ -3,7 +3,6 @@
 ghost use Rattle.std.specs.Prelude.{◌≡◌, ◌<◌, ◌≤◌, ◌++◌, List, IfOk, OnOk, false, vec_len};
 ghost use Rattle.std.specs.List.{All};
 ghost use Rattle.nv_region.specs.Region.{HasBlocks};
-ghost use Rattle.nv_super.specs.Layout.{IsLayout, fixed_layout};
 ghost use Rattle.nv_claimcore.specs.Claims.{nothing, both_views};
 ghost use Rattle.nv_claimmap.specs.Held.{Held};
 ghost use Rattle.nv_numbered.specs.Chunked.{by_chunks};
@@ -18,7 +17,6 @@ use nv_claimmap::{ClaimMap, ClaimSeat, Claimed};
 use nv_inode::Tables;
 use nv_region::Pmem;
 use nv_scan::{Gate, ListedInodes, WorkerResult, ticket_count, worker};
-use nv_super::Super;
 use std::alloc::{AllocError, Global};
 use std::thread;
 use std::thread::Threads;
@@ -29,20 +27,18 @@ pub(crate) fn scan_by_workers<P: Pmem + Sync, G: Gate + Sync, H: Threads + Sync>
     rt: &H,
     alloc: Global,
     memory: &P,
-    sup: &Super,
     tables: &Tables,
     workers: u64,
     gate: &G,
 ) -> Result<(ListedInodes, Claimed), AllocError>
-    requires layout { IsLayout sup.now }
-    requires tables { tables.now.layout ≡ fixed_layout sup.now }
-    requires blocks { HasBlocks (P.region memory.now) sup.now.blocks }
+    requires blocks { HasBlocks (P.region memory.now) tables.now.layout.sup.blocks }
     requires workers { (0 < workers) × (workers ≤ 64) }
-    ensures { IfOk result (λ r. (pieces : List PieceValue) × AreInodes (P.region memory.now) sup.now pieces r.0 × AreClaimed sup.now pieces r.1) }
+    ensures { IfOk result (λ r. (pieces : List PieceValue) × AreInodes (P.region memory.now) tables.now.layout pieces r.0 × AreClaimed tables.now.layout.sup pieces r.1) }
 {
+    tables.are_laid();
     let tickets = ticket_count(tables);
     let sizes = Sizes {
-        blocks: sup.blocks,
+        blocks: tables.sup().blocks,
         tickets,
         workers: workers.min(tickets),
     };

@@ -1,7 +1,5 @@
-use Rattle.std.proofs.Common.{refl, subst}
-use Rattle.nv_super.specs.Layout.{Layout}
-use Rattle.nv_recover.specs.Scanned.{AreOwned}
-use Rattle.nv_recover.proofs.Inodes.{rows_apart, rows_below}
+use Rattle.std.proofs.Common.{refl}
+use Rattle.nv_recover.proofs.Inodes.{rows_below}
 use Rattle.nv_recover.proofs.Owned.{owned_moved}
 use Rattle.nv_recover.proofs.one.scan_all.Goals as goal
 
@@ -9,13 +7,12 @@ pub owned-requires : goal.owned-requires
 owned-requires g c = let is = c.in_ok-inodes.ensures in (g.P.Pmem.region c.args.memory.now, is.1, rw c.as_rows.ensures is.4)
 
 pub cross_faults-requires : goal.cross_faults-requires
-cross_faults-requires g c = rows_below c.args.sup.now c.args.tables.now.layout _ c.requires.tables (rows_apart c.requires.layout c.in_ok-inodes.ensures.2 _ refl)
+cross_faults-requires g c = rows_below c.are_laid.ensures c.in_ok-inodes.ensures.2 _ refl
 
 pub returns : goal.returns
 returns g c = let is = c.in_ok-inodes.ensures in record {
   pieces = is.0;
   inodes = is.2;
-  owned = owned_moved c.args.sup.now is.0 is.1 c.in_ok-owned.owned is.3
-      (subst (λ (l : Layout). AreOwned l.sup is.1 c.in_ok-owned.owned) c.requires.tables (c.in_ok-owned.ensures (g.P.Pmem.region c.args.memory.now) is.1 (rw c.as_rows.ensures is.4)));
+  owned = owned_moved c.args.tables.now.layout.sup is.0 is.1 c.in_ok-owned.owned is.3 (c.in_ok-owned.ensures (g.P.Pmem.region c.args.memory.now) is.1 (rw c.as_rows.ensures is.4));
   cross = c.in_ok-cross.ensures;
 }

@@ -1,16 +1,13 @@
 use Rattle.std.proofs.Common.{refl, ◌≤◌, ◌<◌, ◌*◌, ◌++◌, [], ℕ, List, take, sym, ap, ◌∙◌, subst}
 use Rattle.std.specs.List.{All}
-use Rattle.nv_region.specs.Region.{HasBlocks}
 use Rattle.nv_super.specs.declared.owners.Owner.{Owner}
-use Rattle.nv_super.specs.Layout.{Layout, fixed_layout}
-use Rattle.nv_inode.proofs.FixedLayout.{fixed_laid}
+use Rattle.nv_super.specs.declared.superblock.Super.{Super}
 use Rattle.nv_scan.specs.ClaimList.{ClaimList}
-use Rattle.nv_scan.specs.Tickets.{ticket_count, numbers_of}
-use Rattle.nv_scan.specs.Work.{AreNext, claims_among, claims_in, rows_in}
+use Rattle.nv_scan.specs.Work.{claims_among, claims_in, rows_in}
 use Rattle.nv_scan.proofs.RowHeads.{heads_first}
 use Rattle.nv_scan.proofs.Work.{claims_join}
 use Rattle.nv_outcome.specs.Parts.{AreMaps}
-use Rattle.nv_recover.specs.Scanned.{AreSetsOf, AreWithin, Fits}
+use Rattle.nv_recover.specs.Scanned.{AreWithin, Cover, Fits}
 use Rattle.nv_recover.proofs.Inodes.{ended_at}
 use Rattle.nv_recover.proofs.InOrder.{first_in_order}
 use Rattle.nv_recover.proofs.MadeMaps.{within_cover}
@@ -20,18 +17,18 @@ use Rattle.nv_recover.proofs.one.scan_tickets.Goals as goal
 
 pub loop-ticket-init : goal.loop-ticket-init
 loop-ticket-init g c = record {
-  same = c.new-scanner.ensures;
+  same = c.new-scanner.ensures ∙ c.sup.ensures;
   room = c.in_ok-each.ensures;
   first = ([], first_none c.new-inodes.ensures.rows c.new-inodes.ensures.faults, c.in_ok-sets.ensures.maps);
-  cover = c.in_ok-sets.ensures.cover;
+  cover = subst (λ (s : Super). Cover s c.in_ok-sets.sets.first.items c.in_ok-sets.sets.second.items) c.sup-2.ensures c.in_ok-sets.ensures.cover;
   heads = rw (c.new-heads.ensures, c.new-inodes.ensures.rows) refl;
 }
 
 pub scan_slots-requires-clause-tables : goal.scan_slots-requires-clause-tables
-scan_slots-requires-clause-tables g c = ap (λ (l : Layout). l.sup) c.requires.tables ∙ sym c.loop-ticket.invariant.same
+scan_slots-requires-clause-tables g c = sym c.loop-ticket.invariant.same
 
 pub scan_slots-requires-clause-blocks : goal.scan_slots-requires-clause-blocks
-scan_slots-requires-clause-blocks g c = subst (λ (l : Layout). HasBlocks (g.P.Pmem.region c.args.memory.now) l.sup.blocks) (sym c.requires.tables) c.requires.blocks
+scan_slots-requires-clause-blocks g c = c.requires
 
 pub scan_slots-requires-clause-ticket : goal.scan_slots-requires-clause-ticket
 scan_slots-requires-clause-ticket g c = let t = c.loop-ticket.ticket in subst (λ (n : ℕ). t < n) c.ticket_count-ticket-end.ensures c.loop-ticket-test.true
@@ -45,24 +42,24 @@ push_heads-requires g c =
 pub claim_each-requires : goal.claim_each-requires
 claim_each-requires g c =
     let R = g.P.Pmem.region c.args.memory.now in
-    let s = c.args.sup.now in
+    let lay = c.args.tables.now.layout in
     let l = c.loop-ticket in
     let n = c.in_ok-count.count in
     let first = l.sets.first.items in
     let second = l.sets.second.items in
     let own = claims_among (take n c.scan_slots.new.each.items) in
-    let next = subst (λ (x : Layout). AreNext R x (numbers_of x l.ticket) l.inodes c.scan_slots.new.inodes own) c.requires.tables c.in_ok-count.ensures.next in
-    let within = subst (AreWithin s) (sym next.claims_are) (pieces_within R s next.pieces c.requires.layout next.are.each) in
-    record { within = subst (λ (each : List ClaimList). All (Fits first second) (claims_among (take n each))) (sym c.deref.ensures.value) (within_cover s.blocks own first second within l.invariant.cover.0 l.invariant.cover.1) }
+    let next = c.in_ok-count.ensures.next in
+    let within = subst (AreWithin lay.sup) (sym next.claims_are) (pieces_within R lay next.pieces c.are_laid.ensures next.are.each) in
+    record { within = subst (λ (each : List ClaimList). All (Fits first second) (claims_among (take n each))) (sym c.deref.ensures.value) (within_cover lay.sup.blocks own first second within l.invariant.cover.0 l.invariant.cover.1) }
 
 pub loop-ticket-preserved : goal.loop-ticket-preserved
 loop-ticket-preserved g c =
     let R = g.P.Pmem.region c.args.memory.now in
-    let s = c.args.sup.now in
+    let lay = c.args.tables.now.layout in
     let l = c.loop-ticket in
     let n = c.in_ok-count.count in
     let own = claims_among (take n c.scan_slots.new.each.items) in
-    let next = subst (λ (x : Layout). AreNext R x (numbers_of x l.ticket) l.inodes c.scan_slots.new.inodes own) c.requires.tables c.in_ok-count.ensures.next in
+    let next = c.in_ok-count.ensures.next in
     let pieces = l.invariant.first.0 in
     let claims = ap (λ (each : List ClaimList). claims_in pieces ++ claims_among (take n each)) c.deref.ensures.value ∙ ap (λ (cs : List (ℕ × Owner)). claims_in pieces ++ cs) next.claims_are ∙ sym (claims_join pieces next.pieces) in
     let long = c.claim_each.ensures.as_long in
@@ -74,7 +71,7 @@ loop-ticket-preserved g c =
         first_more l.ticket pieces l.invariant.first.1 next,
         subst (λ (claims : List (ℕ × Owner)). AreMaps claims c.claim_each.new.self.first.items c.claim_each.new.self.second.items) claims (c.claim_each.ensures.maps (claims_in pieces) l.invariant.first.2),
       );
-      cover = (subst (λ (n : ℕ). s.blocks ≤ 64 * n) (sym long.0) cover.0, subst (λ (n : ℕ). s.blocks ≤ 64 * n) (sym long.1) cover.1);
+      cover = (subst (λ (n : ℕ). lay.sup.blocks ≤ 64 * n) (sym long.0) cover.0, subst (λ (n : ℕ). lay.sup.blocks ≤ 64 * n) (sym long.1) cover.1);
       heads = c.in_ok-push_heads.ensures;
     }
 
@@ -82,11 +79,10 @@ pub returns : goal.returns
 returns g c =
     let l = c.loop-ticket in
     let first = l.invariant.first.1 in
-    let is = first_in_order c.requires.layout (ended_at (c.ticket_count-ticket-end.ensures ∙ ap ticket_count c.requires.tables) c.loop-ticket-test.false l.auto.ticket-end) first c.with_heads.ensures.rows c.with_heads.ensures.faults in (
+    let is = first_in_order c.are_laid.ensures (ended_at c.ticket_count-ticket-end.ensures c.loop-ticket-test.false l.auto.ticket-end) first c.with_heads.ensures.rows c.with_heads.ensures.faults in (
       is.0.sorted,
       l.invariant.first.0,
       is.1,
       is.0.claims,
-      subst (λ (x : Layout). AreSetsOf (g.P.Pmem.region c.args.memory.now) x l.invariant.first.0 c.with_heads.result.rows.items l.sets.first.items l.sets.second.items) (sym c.requires.tables)
-          (sets_of (g.P.Pmem.region c.args.memory.now) (fixed_layout c.args.sup.now) is.0.sorted l.invariant.first.0 c.with_heads.result.rows.items l.sets.first.items l.sets.second.items (fixed_laid c.args.sup.now c.requires.layout) is.1.pieces_are is.1.rows is.0.claims l.invariant.first.2 l.invariant.cover),
+      sets_of (g.P.Pmem.region c.args.memory.now) c.args.tables.now.layout is.0.sorted l.invariant.first.0 c.with_heads.result.rows.items l.sets.first.items l.sets.second.items c.are_laid.ensures is.1.pieces_are is.1.rows is.0.claims l.invariant.first.2 l.invariant.cover,
     )

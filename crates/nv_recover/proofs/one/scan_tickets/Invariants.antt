@@ -8,9 +8,9 @@ use Rattle.nv_recover.proofs.one.scan_tickets.Given as goal
 
 abbrev pub invariant-loop-ticket : goal.invariant-loop-ticket
 invariant-loop-ticket g l = record {
-  same : l.scanner ≡ l.sup;
+  same : l.scanner ≡ l.tables.layout.sup;
   room : length l.each.items ≡ 32;
-  first : (pieces : List Piece) × AreFirst (g.P.Pmem.region l.memory) l.sup l.ticket pieces l.inodes × AreMaps (claims_in pieces) l.sets.first.items l.sets.second.items;
+  first : (pieces : List Piece) × AreFirst (g.P.Pmem.region l.memory) l.tables.layout l.ticket pieces l.inodes × AreMaps (claims_in pieces) l.sets.first.items l.sets.second.items;
   heads : l.heads.items ≡ heads_of l.inodes.rows.items;
-  cover : Cover l.sup l.sets.first.items l.sets.second.items;
+  cover : Cover l.tables.layout.sup l.sets.first.items l.sets.second.items;
 }

@@ -5,8 +5,9 @@ use Rattle.nv_super.specs.Layout.{system_blocks}
 use Rattle.nv_super.specs.declared.superblock.Super.{Super}
 use Rattle.nv_super.proofs.Accepted.{super_outside}
 use Rattle.nv_journal.specs.Undone.{AllQuiet}
-use Rattle.nv_inode.proofs.FixedLayout.{layout_fixed, fixed_faults}
-use Rattle.nv_outcome.proofs.SuperOf.{one_super, version_of_super}
+use Rattle.nv_inode.specs.Chains.{chain_faults}
+use Rattle.nv_outcome.proofs.SuperOf.{one_super}
+use Rattle.nv_journal.proofs.KeptLinks.{faults_undone}
 use Rattle.nv_recover.specs.Errors.{Fails, comes_first, error_of_undo}
 use Rattle.nv_recover.specs.declared.errors.RecoverError.{RecoverError}
 use Rattle.nv_recover.specs.declared.errors.RecoverError.TheVariants.{Super as Refused, Stopped}
@@ -98,9 +99,8 @@ pub returns-clause-ok : goal.returns-clause-ok
 returns-clause-ok g c = record {
   sup = c.in_ok-sup.ensures.accepted;
   layout = c.in_ok-sup.ensures.layout;
-  tables = c.in_ok-tables.ensures.layout ∙ layout_fixed c.in_ok-sup.sup (g.P.Pmem.region c.args.memory.now) (version_of_super (g.P.Pmem.region c.args.memory.now) c.in_ok-sup.sup c.in_ok-sup.ensures.accepted);
-  chained = (let one = version_of_super (g.P.Pmem.region c.args.memory.now) c.in_ok-sup.sup c.in_ok-sup.ensures.accepted in
-      c.in_ok-tables.ensures.faults ∙ fixed_faults c.in_ok-sup.sup (g.P.Pmem.region c.args.memory.now) one ∙ sym (fixed_faults c.in_ok-sup.sup (g.P.Pmem.region c.undo_by.new.memory) one));
+  tables = c.in_ok-tables.ensures.layout ∙ sym c.undo_by.ensures.stores.chains;
+  chained = c.in_ok-tables.ensures.faults ∙ sym (faults_undone c.in_ok-sup.sup (g.P.Pmem.region c.args.memory.now) c.in_ok-sup.ensures.layout) ∙ ap (chain_faults c.in_ok-sup.sup) (sym c.in_ok-journal.ensures.done.is);
   rolled_back = c.in_ok-journal.ensures.done.is;
   blocks = c.undo_by.ensures.stores.blocks;
   in_journals = c.in_ok-journal.ensures.faults;

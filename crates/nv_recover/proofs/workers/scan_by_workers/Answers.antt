@@ -2,14 +2,12 @@ use Rattle.std.proofs.Common.{◌≡◌, ◌<◌, ◌≤◌, ap, sym, ◌∙◌,
 use Rattle.std.specs.List.{All}
 use Rattle.std.specs.List.Sorted.{IsPermutation}
 use Rattle.std.proofs.lemmas.List.Sorted.{IsPermutation-trans}
-use Rattle.nv_region.specs.Region.{HasBlocks}
-use Rattle.nv_claimcore.specs.Claims.{nothing, past}
+use Rattle.nv_claimcore.specs.Claims.{nothing}
 use Rattle.nv_claimcore.specs.declared.view.Sizes.{Sizes}
 use Rattle.nv_claimcore.proofs.Runs.{all_drawn}
 use Rattle.nv_claimmap.specs.Held.{Held}
-use Rattle.nv_super.specs.Layout.{Layout, fixed_layout}
+use Rattle.nv_super.specs.declared.superblock.Super.{Super}
 use Rattle.nv_scan.specs.Tickets.{ticket_count}
-use Rattle.nv_recover.specs.Workers.{IsKeptWork}
 use Rattle.nv_recover.proofs.Tickets.{tickets_few, tickets_some}
 use Rattle.nv_scan.specs.Work.{tickets_among, claims_in}
 use Rattle.nv_scan.proofs.Drawn.{among_times}
@@ -20,7 +18,7 @@ use Rattle.nv_recover.proofs.workers.scan_by_workers.Goals as goal
 
 pub work_all-requires-clause-sizes : goal.work_all-requires-clause-sizes
 work_all-requires-clause-sizes g c κs within = (
-  ap (λ (z : Sizes). z.blocks) c.in_ok-map.ensures.sizes ∙ ap (λ (l : Layout). l.sup.blocks) (sym c.requires.tables),
+  ap (λ (z : Sizes). z.blocks) c.in_ok-map.ensures.sizes ∙ ap (λ (s : Super). s.blocks) c.sup.ensures,
   ap (λ (z : Sizes). z.tickets) c.in_ok-map.ensures.sizes ∙ c.ticket_count-tickets.ensures,
 )
 
@@ -35,17 +33,16 @@ close-requires-clause-all g c = c.in_ok-brought.ensures.seats ∙ c.in_ok-map.en
 
 pub returns : goal.returns
 returns g c =
-    let s = c.args.sup.now in
+    let l = c.args.tables.now.layout in
     let brought = c.in_ok-brought.brought in
-    let l = fixed_layout s in
-    let is = subst (λ (x : Layout). IsKeptWork (g.P.Pmem.region c.args.memory.now) x brought.seat.view brought.inodes.rows.items brought.inodes.faults.items) c.requires.tables c.in_ok-brought.ensures.work in
-    let ended = subst (λ (x : Layout). 0 < past (ticket_count x) brought.seat.view.numbers) c.requires.tables c.in_ok-brought.ensures.ended in
+    let is = c.in_ok-brought.ensures.work in
+    let ended = c.in_ok-brought.ensures.ended in
     let work = is.work in
-    let blocks : c.in_ok-map.map.sizes.blocks ≡ s.blocks = ap (λ (z : Sizes). z.blocks) c.in_ok-map.ensures.sizes in
+    let blocks : c.in_ok-map.map.sizes.blocks ≡ l.sup.blocks = ap (λ (z : Sizes). z.blocks) c.in_ok-map.ensures.sizes ∙ ap (λ (s : Super). s.blocks) c.sup.ensures in
     let numbers = c.close.ensures.numbers in
     let past_end : ticket_count l < numbers.0 = all_drawn (ticket_count l) numbers.0 brought.seat.view.numbers numbers.1 ended in
     let drawn = among_times (ticket_count l) numbers.0 brought.seat.view.numbers numbers.1 (omega (arith, past_end)) in
-    let order = tickets_in_order (g.P.Pmem.region c.args.memory.now) s (tickets_among (ticket_count l) brought.seat.view.numbers) work.pieces c.requires.layout work.are drawn in (
+    let order = tickets_in_order (g.P.Pmem.region c.args.memory.now) l (tickets_among (ticket_count l) brought.seat.view.numbers) work.pieces c.are_laid.ensures work.are drawn in (
       order.sorted,
       record {
         pieces_are = order.pieces_are;
@@ -60,11 +57,11 @@ returns g c =
     )
 
 pub work_all-requires-clause-blocks : goal.work_all-requires-clause-blocks
-work_all-requires-clause-blocks g c κs within = subst (λ (l : Layout). HasBlocks (g.P.Pmem.region c.args.memory.now) l.sup.blocks) (sym c.requires.tables) c.requires.blocks
+work_all-requires-clause-blocks g c κs within = c.requires.blocks
 
 pub open-requires-clause-numbers : goal.open-requires-clause-numbers
 open-requires-clause-numbers g c =
-    let few = subst (λ (l : Layout). ticket_count l ≤ 4096) (sym c.requires.tables) (tickets_few c.args.sup.now c.requires.layout) in
+    let few = tickets_few c.args.tables.now.layout c.are_laid.ensures in
     let is = c.ticket_count-tickets.ensures in
     let least = c.min.ensures in
     let workers = c.requires.workers.1 in
@@ -72,7 +69,7 @@ open-requires-clause-numbers g c =
 
 pub work_all-requires-clause-some : goal.work_all-requires-clause-some
 work_all-requires-clause-some g c κs within =
-    let some = subst (λ (l : Layout). 0 < ticket_count l) (sym c.requires.tables) (tickets_some c.args.sup.now c.requires.layout) in
+    let some = tickets_some c.args.tables.now.layout c.are_laid.ensures in
     let is = c.ticket_count-tickets.ensures in
     let least = c.min.ensures in
     let workers = c.requires.workers.0 in
