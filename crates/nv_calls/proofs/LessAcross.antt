@@ -44,10 +44,11 @@ use Rattle.nv_steps.proofs.TakenBlocks.{are_free, taken_sup}
 use Rattle.nv_steps.proofs.TwoLogs.{cut_each, taken_apart}
 use Rattle.nv_calls.specs.Mount.{IsKept}
 use Rattle.nv_calls.specs.ReplaceCalls.{keeps_others}
+use Rattle.nv_calls.specs.ReplaceLogs.{ShowsThreeGrew, ThreeGrew}
 use Rattle.nv_calls.proofs.GraphPaths.{way_to}
 use Rattle.nv_calls.proofs.HandedRow.{cut_place, given_place, handed_file, handed_told}
 use Rattle.nv_calls.proofs.MoreLogs.{GrewOver, grew_more, lists_grew, none_grew, owns_more, shown_once}
-use Rattle.nv_calls.proofs.Mounts.{bytes_stay, kept_of_mounted, mounted_of_kept}
+use Rattle.nv_calls.proofs.Mounts.{bytes_stay, kept_of_mounted, mounted_of_kept, mounted_with}
 use Rattle.nv_calls.proofs.OneRow.{shows_row}
 use Rattle.nv_calls.proofs.TakenOut.{places_differ}
 use Rattle.nv_calls.proofs.TakenSpot.{can_take, spot_directory, spot_to}
@@ -253,3 +254,32 @@ module _ {R S : Region} {s : Super} {rows news : List Row} {free after : FreeLis
   -- Each byte that a row's file had is where it was.
   pub bytes_kept : (r : Row) → Contains rows r → (x : ℕ) → byte_in S (block_at r.index (x / 4096)) x ≡ byte_in R (block_at r.index (x / 4096)) x
   bytes_kept = bytes_stay kept runs writes S bytes_then
+
+  -- All three logs, for whatever is held of the region.
+  pub three_grew : (held : Store) (a b c : Held) → ShowsSound R s held → held from.inode ≡ Some a → held to.inode ≡ Some b → held j ≡ Some c → ShowsThreeGrew S s free.pools cpu held from.inode a cut to.inode b hand j c less
+  three_grew held a b c sound is other_is last_is = ∥∥₁_map (mounted_with kept runs held sound) (λ m.
+      let shown = shows held m in
+      let shown_to = shows_to held m in
+      let shown_file = shows_file held m in
+      let one_is : Some (h held m) ≡ Some a = sym shown.holds ∙ is in
+      let two_is : Some (k held m) ≡ Some b = sym shown_to.holds ∙ other_is in
+      let three_is : Some (f held m) ≡ Some c = sym shown_file.holds ∙ last_is in
+      let same : h held m ≡ a = cc in
+      let same_to : k held m ≡ b = cc in
+      let same_file : f held m ≡ c = cc in
+      subst (λ (x : Held). ThreeGrew S s free.pools cpu held from.inode x cut to.inode b hand j c less) same
+      (subst (λ (x : Held). ThreeGrew S s free.pools cpu held from.inode (h held m) cut to.inode x hand j c less) same_to
+      (subst (λ (x : Held). ThreeGrew S s free.pools cpu held from.inode (h held m) cut to.inode (k held m) hand j x less) same_file (record {
+        fresh = step.fresh;
+        more = step.more;
+        last = step.rest;
+        rest = after.pools;
+        taken = by_rule step.taken;
+        free = all_free held m;
+        apart = blocks_apart held m;
+        last_apart = rest_apart held m;
+        count = count held m;
+        more_count = more_count held m;
+        last_count = rest_count held m;
+        sound = sound_then held m;
+      }))))

@@ -38,6 +38,10 @@ pub mod MoreLogs
 pub mod GoneAcross
 pub mod LessAcross
 pub mod ReplacedAcross
+pub mod StoppedHanding
+pub mod ReplaceCall
+pub mod ReplaceBlocks
+pub mod StoppedReplace
 pub mod TwoOut
 pub mod ThreeRows
 pub mod BothHeld
@@ -75,6 +79,7 @@ pub mod MovedWithin
 pub mod FrontsKept
 pub mod OneOut
 pub mod MoveTests
+pub mod ReplaceTests
 pub mod MoveCall
 pub mod StoppedMoves
 pub mod MoveAt

@@ -50,7 +50,7 @@ use Rattle.nv_calls.proofs.TakenSpot.{spot_named, spot_taken}
 use Rattle.nv_calls.proofs.TakenTree.{taken_node}
 
 module _ {R : Region} {s : Super} {rows : List Row} {free : FreeLists} {faults : List Fault} {read_only stopped : Bool} (kept : IsKept R s rows free faults read_only stopped) (runs : stopped ≡ false) (writes : read_only ≡ false)
-    {place source target : ℕ} {name other : List ℕ} (moved there : Row) (moved_at : slice_get rows source ≡ Some moved) (there_at : slice_get rows target ≡ Some there) (spelled : IsPathName name) (spelled_other : IsPathName other) (first_old : List ℕ) (old : List (List ℕ)) (first : List ℕ) (rest : List (List ℕ))
+    {place source : ℕ} (target : ℕ) {name other : List ℕ} (moved there : Row) (moved_at : slice_get rows source ≡ Some moved) (there_at : slice_get rows target ≡ Some there) (spelled : IsPathName name) (spelled_other : IsPathName other) (first_old : List ℕ) (old : List (List ℕ)) (first : List ℕ) (rest : List (List ℕ))
     (spot : IsReplaceSpot (tree_of R rows) rows (first_old ∷ old) (first ∷ rest) place name source place other (Some there.inode)) (apart : moved.inode ≢ there.inode) where
   abbrev i : ℕ
   i = moved.inode
@@ -69,22 +69,22 @@ module _ {R : Region} {s : Super} {rows : List Row} {free : FreeLists} {faults :
   SpotAt r = IsReplaceSpot t rows names others place name source place other (Some r.inode)
 
   spot_here : (r : Row) → slice_get rows target ≡ Some r → SpotAt r
-  spot_here = spot_at kept runs writes moved there moved_at there_at first_old old first rest spot apart
+  spot_here = spot_at kept runs writes target moved there moved_at there_at first_old old first rest spot apart
 
   apart_here : (r : Row) → slice_get rows target ≡ Some r → i ≢ r.inode
-  apart_here = apart_at kept runs writes moved there moved_at there_at first_old old first rest spot apart
+  apart_here = apart_at kept runs writes target moved there moved_at there_at first_old old first rest spot apart
 
   rises : Rises row_key rows
-  rises = rising kept runs writes moved there moved_at there_at first_old old first rest spot apart
+  rises = rising kept runs writes target moved there moved_at there_at first_old old first rest spot apart
 
   good_here : (q : List ℕ) → IsPathName q → (k : ℕ) (r : Row) → slice_get rows k ≡ Some r → IsGoodName s r.inode q
-  good_here = good kept runs writes moved there moved_at there_at first_old old first rest spot apart
+  good_here = good kept runs writes target moved there moved_at there_at first_old old first rest spot apart
 
   replaces_here : (row : Row) → slice_get rows place ≡ Some row → (r : Row) → slice_get rows target ≡ Some r → Replaces t names others i r.inode row.inode row.inode
-  replaces_here row at r r_at = replaces kept runs writes moved there moved_at there_at first_old old first rest spot apart row at row at r r_at
+  replaces_here row at r r_at = replaces kept runs writes target moved there moved_at there_at first_old old first rest spot apart row at row at r r_at
 
   rows_differ : (row : Row) → slice_get rows place ≡ Some row → (r : Row) → slice_get rows target ≡ Some r → row.inode ≢ r.inode
-  rows_differ = from_differs kept runs writes moved there moved_at there_at first_old old first rest spot apart
+  rows_differ = from_differs kept runs writes target moved there moved_at there_at first_old old first rest spot apart
 
   named_here : (row : Row) → slice_get rows place ≡ Some row → (r : Row) → slice_get rows target ≡ Some r → option_map (λ (x : ℕ × ℕ). x.0) (name_at row.names name) ≡ Some i
   named_here row at r r_at = spot_named R s rows target moved at at moved_at r_at names first rest (spot_here r r_at) (apart_here r r_at)
@@ -93,7 +93,7 @@ module _ {R : Region} {s : Super} {rows : List Row} {free : FreeLists} {faults :
   taken_here row at r r_at = spot_taken R s rows target moved at at moved_at r_at names first rest (spot_here r r_at) (apart_here r r_at)
 
   told_here : (row : Row) → slice_get rows place ≡ Some row → (r : Row) → slice_get rows target ≡ Some r → (a b d : ℕ) (node : Node) → TakesPlace t names others a b d d node → (i ≡ a) × (r.inode ≡ b) × (row.inode ≡ d) × (row.inode ≡ d) × (node_of R r ≡ node)
-  told_here row at r r_at a b d node takes = places_are kept runs writes moved there moved_at there_at first_old old first rest spot apart row at row at r r_at a b d d node takes
+  told_here row at r r_at a b d node takes = places_are kept runs writes target moved there moved_at there_at first_old old first rest spot apart row at row at r r_at a b d d node takes
 
   -- what both steps make of the directory
   abbrev change : ℕ → Node → Node
@@ -160,7 +160,7 @@ module _ {R : Region} {s : Super} {rows : List Row} {free : FreeLists} {faults :
             (row_changed S rows rises place row at now (change time) has.inode node) (edit_kept (tree_of S rows) t row.inode (change time) (change time) (change_kept time) (tree_stays R S rows bytes)) in
         let went : SameTree (tree_of S (remove (set rows place now) target)) (put_node gone.inode None (edit row.inode (change time) t)) = same_transitive (tree_of S (remove (set rows place now) target)) (put_node gone.inode None (tree_of S (set rows place now))) (put_node gone.inode None (edit row.inode (change time) t))
             (row_gone S (set rows place now) (set_rising rows place row now rises at has.inode) target gone set_there) (put_kept (tree_of S (set rows place now)) (edit row.inode (change time) t) gone.inode None None tt changed) in
-        let made : put_node gone.inode None (edit row.inode (change time) t) ≡ replaced names others time t = put_swaps t gone.inode row.inode None (change time) differ ∙ one_by_one (put_node gone.inode None t) row.inode time ∙ sym (replaced_gone time (replaces_here row at gone gone_at) (goes_there kept runs writes moved there moved_at there_at first_old old first rest spot apart gone gone_at goes)) in
+        let made : put_node gone.inode None (edit row.inode (change time) t) ≡ replaced names others time t = put_swaps t gone.inode row.inode None (change time) differ ∙ one_by_one (put_node gone.inode None t) row.inode time ∙ sym (replaced_gone time (replaces_here row at gone gone_at) (goes_there kept runs writes target moved there moved_at there_at first_old old first rest spot apart gone gone_at goes)) in
         subst (λ (rs : List Row). SameTree (tree_of S rs) (replaced names others time t)) (sym put) (subst (λ (u : Tree). SameTree (tree_of S (remove (set rows place now) target)) u) made went)
 
   -- ---- where it has other names
@@ -232,9 +232,9 @@ module _ {R : Region} {s : Super} {rows : List Row} {free : FreeLists} {faults :
         let less : SameTree (tree_of S (set (set rows place now) target other_now)) (edit file.inode change_links (edit row.inode (change time) t)) = same_transitive (tree_of S (set (set rows place now) target other_now)) (edit file.inode change_links (tree_of S (set rows place now))) (edit file.inode change_links (edit row.inode (change time) t))
             (row_changed S (set rows place now) (set_rising rows place row now rises at has.inode) target file set_there other_now change_links counts.inode counted)
             (edit_kept (tree_of S (set rows place now)) (edit row.inode (change time) t) file.inode change_links change_links (links_kept (links - 1) (links - 1) time refl) changed) in
-        let off : is_directory_at t file.inode ≡ false = kind_there kept runs writes moved there moved_at there_at first_old old first rest spot apart file file_at ∙ ap is_directory (stays_file file stays) in
+        let off : is_directory_at t file.inode ≡ false = kind_there kept runs writes target moved there moved_at there_at first_old old first rest spot apart file file_at ∙ ap is_directory (stays_file file stays) in
         let made : edit file.inode change_links (edit row.inode (change time) t) ≡ replaced names others time t = edits_swap t file.inode row.inode change_links (change time) less_differ ∙ one_by_one (edit file.inode change_links t) row.inode time
-            ∙ sym (replaced_less time (replaces_here row at file file_at) off links (links_there kept runs writes moved there moved_at there_at first_old old first rest spot apart file file_at) (more_links file stays)) in
+            ∙ sym (replaced_less time (replaces_here row at file file_at) off links (links_there kept runs writes target moved there moved_at there_at first_old old first rest spot apart file file_at) (more_links file stays)) in
         subst (λ (rs : List Row). SameTree (tree_of S rs) (replaced names others time t)) (sym both.put) (subst (λ (u : Tree). SameTree (tree_of S (set (set rows place now) target other_now)) u) made less)
 
   -- ---- in both cases

@@ -38,14 +38,11 @@ module _ (S : Region) (rows : List Row) (rising : Rises row_key rows) (place : �
   -- One row was replaced.
   pub row_changed : (now : Row) (change : Node → Node) → now.inode ≡ row.inode → SameNode (node_of S now) (change (node_of S row)) → SameTree (tree_of S (set rows place now)) (edit row.inode change (tree_of S rows))
   row_changed now change number here k = elim (cases_eq k row.inode) [
-    | inl same ↦ at_both (tree_of S (set rows place now)) made k (ap (tree_of S (set rows place now)) same ∙ there)
+    | inl same ↦ at_both (tree_of S (set rows place now)) (edit row.inode change (tree_of S rows)) k (ap (tree_of S (set rows place now)) same ∙ there)
         (ap (λ (b : Bool). cond b (option_map change (tree_of S rows row.inode)) (tree_of S rows k)) (eq-eqb k row.inode same) ∙ ap (λ (o : Option Row). option_map change (option_map (node_of S) o)) own) here
-    | inr differs ↦ at_both (tree_of S (set rows place now)) made k (ap (option_map (node_of S)) (row_of_other rows place row now k at differs (λ e. differs (e ∙ number))))
+    | inr differs ↦ at_both (tree_of S (set rows place now)) (edit row.inode change (tree_of S rows)) k (ap (option_map (node_of S)) (row_of_other rows place row now k at differs (λ e. differs (e ∙ number))))
         (ap (λ (b : Bool). cond b (option_map change (tree_of S rows row.inode)) (tree_of S rows k)) (ne_eqb k row.inode differs)) (same_itself (tree_of S rows) k)
   ] where
-    abbrev made : Tree
-    made = edit row.inode change (tree_of S rows)
-
     up : Rises row_key (set rows place now)
     up = set_rising rows place row now rising at number
 

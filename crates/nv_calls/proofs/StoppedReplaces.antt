@@ -76,11 +76,11 @@ module _ {P : Type 0} (region : P → Region) (n : Mount P) (kept : IsKept (regi
       record {
         rows = news;
         free = (w.0).pools;
-        recovers = recovers_to can (less_mounted kept runs writes moved there moved_there there_there spelled spelled_other first_old old first rest spot apart step stays held mounted).1;
-        tree = less_tree kept runs writes moved there moved_there there_there spelled spelled_other first_old old first rest spot apart step stays;
+        recovers = recovers_to can (less_mounted kept runs writes (place_in rows k) moved there moved_there there_there spelled spelled_other first_old old first rest spot apart step stays held mounted).1;
+        tree = less_tree kept runs writes (place_in rows k) moved there moved_there there_there spelled spelled_other first_old old first rest spot apart step stays;
         logs = record {
-          more = λ a b d node st h f takes sound is other_is on. less_more kept runs writes moved there moved_there there_there spelled spelled_other first_old old first rest spot apart step stays a b d node st h f takes sound is other_is;
-          last = λ a b d node st h takes sound is off. absurd (less_others kept runs writes moved there moved_there there_there spelled spelled_other first_old old first rest spot apart step stays a b d node takes off);
+          more = λ a b d node st h f takes sound is other_is on. less_more kept runs writes (place_in rows k) moved there moved_there there_there spelled spelled_other first_old old first rest spot apart step stays a b d node st h f takes sound is other_is;
+          last = λ a b d node st h takes sound is off. absurd (less_others kept runs writes (place_in rows k) moved there moved_there there_there spelled spelled_other first_old old first rest spot apart step stays a b d node takes off);
         };
       }
 
@@ -88,22 +88,22 @@ module _ {P : Type 0} (region : P → Region) (n : Mount P) (kept : IsKept (regi
   gone_made : (left : Region) (held : Store) (mounted : IsMounted R s held rows free.pools) → CanRecover s left → keeps_others there ≡ false → TookWithin R s free cpu row moved.inode there.inode name other time (undone s left)
       → IsAsMade s (replaced names others time (tree_of R rows)) (LogsTaken cpu time others R n names) left
   gone_made left held mounted can off w =
-      let v = gone_some kept runs writes moved there moved_there there_there spelled spelled_other first_old old first rest spot apart row_at there_there w.2 refl off held mounted in
+      let v = gone_some kept runs writes (place_in rows k) moved there moved_there there_there spelled spelled_other first_old old first rest spot apart row_at there_there w.2 refl off held mounted in
       record {
         rows = remove (set rows (place_in rows i) w.1) (place_in rows k);
         free = v.1;
         recovers = recovers_to can v.2;
-        tree = gone_tree kept runs writes moved there moved_there there_there spelled spelled_other first_old old first rest spot apart row_at there_there w.2 refl off;
+        tree = gone_tree kept runs writes (place_in rows k) moved there moved_there there_there spelled spelled_other first_old old first rest spot apart row_at there_there w.2 refl off;
         logs = record {
-          more = λ a b d node st h f takes sound is other_is on. absurd (gone_others kept runs writes moved there moved_there there_there spelled spelled_other first_old old first rest spot apart row_at there_there w.2 refl off a b d node takes on);
-          last = λ a b d node st h takes sound is none. gone_last kept runs writes moved there moved_there there_there spelled spelled_other first_old old first rest spot apart row_at there_there w.2 refl off a b d node st h takes sound is;
+          more = λ a b d node st h f takes sound is other_is on. absurd (gone_others kept runs writes (place_in rows k) moved there moved_there there_there spelled spelled_other first_old old first rest spot apart row_at there_there w.2 refl off a b d node takes on);
+          last = λ a b d node st h takes sound is none. gone_last kept runs writes (place_in rows k) moved there moved_there there_there spelled spelled_other first_old old first rest spot apart row_at there_there w.2 refl off a b d node st h takes sound is;
         };
       }
 
-  replaced_by : (left : Region) (held : Store) (mounted : IsMounted R s held rows free.pools) → LeavesEither R (fixed_layout s) held (ReplacedHere R s free cpu row there moved.inode name other time) left
+  pub here_by : (left : Region) (held : Store) (mounted : IsMounted R s held rows free.pools) → LeavesEither R (fixed_layout s) held (ReplacedHere R s free cpu row there moved.inode name other time) left
       → IsAsMounted R s rows free.pools left ⊎ IsAsMade s (replaced names others time (tree_of R rows)) (LogsTaken cpu time others R n names) left
-  replaced_by left held mounted (inl as_before) = inl (still_mounted mounted as_before)
-  replaced_by left held mounted (inr w) = inr (by w.1) where
+  here_by left held mounted (inl as_before) = inl (still_mounted mounted as_before)
+  here_by left held mounted (inr w) = inr (by w.1) where
     by : ReplacedHere R s free cpu row there moved.inode name other time (undone s left) → IsAsMade s (replaced names others time (tree_of R rows)) (LogsTaken cpu time others R n names) left
     by (inl v) = less_made left held mounted w.0 v.0 v.1
     by (inr v) = gone_made left held mounted w.0 v.0 v.1
@@ -116,4 +116,4 @@ module _ {P : Type 0} (region : P → Region) (n : Mount P) (kept : IsKept (regi
   here_left S before last step settled left may = ∥∥₁_map (mounted_of_kept kept runs writes) (λ w.
       let v = shows_row w.1 kept.lists row (stands rows (place_in rows i) row row_at) in
       let u = shows_row w.1 kept.lists there (stands rows (place_in rows k) there there_there) in
-      replaced_by left w.0 w.1 (step w.0 v.0 u.0 v.1 u.1 settled left may))
+      here_by left w.0 w.1 (step w.0 v.0 u.0 v.1 u.1 settled left may))

@@ -1,0 +1,192 @@
+-- What recovery finds in a region that a stop within `replace` has left.
+use Rattle.std.proofs.Common.{◌≡◌, ◌≢◌, ◌⊎◌, ℕ, false, inl, inr, List, ◌∷◌, slice_get, refl, ap, sym, ◌∙◌, subst, Option, Some, None, Result, Ok}
+use Rattle.std.specs.Option.{option_and_then}
+use Rattle.std.proofs.Math.Logic.{∥∥₁_map}
+use Rattle.nv_region.specs.Region.{Region}
+use Rattle.nv_region.specs.Stops.{Choices, LeavesOnly, NothingPending}
+use Rattle.nv_super.specs.declared.superblock.Super.{Super}
+use Rattle.nv_super.specs.Layout.{fixed_layout}
+use Rattle.nv_super.specs.Order.{Rises}
+use Rattle.nv_super.proofs.Members.{stands}
+use Rattle.nv_alloc.specs.FreeValue.{FreeLists}
+use Rattle.nv_names.specs.Names.{name_at}
+use Rattle.nv_scan.specs.declared.piece.Row.{Row}
+use Rattle.nv_rows.specs.Rows.{place_in}
+use Rattle.nv_rows.proofs.Places.{at_place, numbered}
+use Rattle.nv_held.specs.nv_check.Cross.{row_key}
+use Rattle.nv_held.specs.nv_graph.Read.{row_of}
+use Rattle.nv_held.specs.Held.{Held, Store}
+use Rattle.nv_held.specs.Mounted.{IsMounted}
+use Rattle.nv_commit.specs.Stopped.{LeavesEither}
+use Rattle.nv_tree.specs.declared.refusal.Refusal.{Refusal}
+use Rattle.nv_tree.specs.Path.{IsPathName}
+use Rattle.nv_tree.specs.Tree.{SameTree, Tree, found, walk}
+use Rattle.nv_tree.specs.Replace.{replaced}
+use Rattle.nv_tree.proofs.Replaced.{replaced_unused}
+use Rattle.nv_paths.specs.MoveSpots.{IsMoveSpot}
+use Rattle.nv_paths.specs.ReplaceSpots.{IsReplaceSpot}
+use Rattle.nv_paths.specs.Seen.{tree_of}
+use Rattle.nv_steps.specs.Steps.{ShowsRow}
+use Rattle.nv_calls.specs.Effects.{LogsMove, LogsReplace, logs_replace, makes_replace}
+use Rattle.nv_calls.specs.Mount.{IsKept, Mount}
+use Rattle.nv_calls.specs.ReplaceCalls.{ReplacedAt, ReplacedHere, ReplacedOver}
+use Rattle.nv_calls.specs.ReplaceLogs.{LogsHanded, LogsTaken}
+use Rattle.nv_calls.specs.Stopped.{IsAsMade, IsAsMounted, LeavesCall, Renamed}
+use Rattle.nv_calls.proofs.CreatedRows.{not_named}
+use Rattle.nv_calls.proofs.Kept.{rows_rise}
+use Rattle.nv_calls.proofs.MoveCall.{places_numbers}
+use Rattle.nv_calls.proofs.Mounts.{mounted_of_kept}
+use Rattle.nv_calls.proofs.OneRow.{shows_row}
+use Rattle.nv_calls.proofs.ReplacedSpot.{from_differs}
+use Rattle.nv_calls.proofs.Stopped.{still_mounted}
+use Rattle.nv_calls.proofs.StoppedHanding.{over_by}
+use Rattle.nv_calls.proofs.StoppedMoves.{rename_by}
+use Rattle.nv_calls.proofs.StoppedReplaces.{here_by}
+
+-- what was made with these logs was made with what follows of them
+with_logs : {R : Region} {s : Super} {rows : List Row} {free : FreeLists} {made then : Tree} {A B : Region → Type 0} {left : Region} → ((S : Region) → A S → B S) → made ≡ then → IsAsMounted R s rows free.pools left ⊎ IsAsMade s made A left → IsAsMounted R s rows free.pools left ⊎ IsAsMade s then B left
+with_logs follows same (inl was) = inl was
+with_logs follows same (inr is) = inr (record { rows = is.rows; free = is.free; recovers = is.recovers; tree = subst (λ (u : Tree). SameTree (tree_of _ is.rows) u) same is.tree; logs = follows _ is.logs })
+
+one_end : {a b : ℕ} {r : Result ℕ Refusal} → r ≡ Ok a → r ≡ Ok b → a ≡ b
+one_end {a} {b} e f = let both : Ok a ≡ Ok b = sym e ∙ f in cc
+
+module _ {P : Type 0} (region : P → Region) {n m : Mount P} (same : n ≡ m) (kept : IsKept (region n.memory) n.sup n.rows n.free n.faults n.read_only n.stopped) (runs : n.stopped ≡ false) (writes : n.read_only ≡ false)
+    (i j e : ℕ) (from moved to : Row) (at : row_of n.rows i ≡ Some from) (moved_at : row_of n.rows j ≡ Some moved) (to_at : row_of n.rows e ≡ Some to) (there : Option ℕ) (name other : List ℕ) (cpu time : ℕ) (spelled : IsPathName name) (spelled_other : IsPathName other)
+    (first_old : List ℕ) (old : List (List ℕ)) (first : List ℕ) (rest : List (List ℕ)) (spot : IsReplaceSpot (tree_of (region n.memory) n.rows) n.rows (first_old ∷ old) (first ∷ rest) (place_in n.rows i) name (place_in n.rows j) (place_in n.rows e) other there) where
+  abbrev R : Region
+  R = region n.memory
+
+  abbrev s : Super
+  s = n.sup
+
+  abbrev rows : List Row
+  rows = n.rows
+
+  abbrev free : FreeLists
+  free = n.free
+
+  abbrev t : Tree
+  t = tree_of R rows
+
+  abbrev names : List (List ℕ)
+  names = first_old ∷ old
+
+  abbrev others : List (List ℕ)
+  others = first ∷ rest
+
+  from_there : slice_get rows (place_in rows i) ≡ Some from
+  from_there = at_place rows i ∙ at
+
+  to_there : slice_get rows (place_in rows e) ≡ Some to
+  to_there = at_place rows e ∙ to_at
+
+  moved_there : slice_get rows (place_in rows j) ≡ Some moved
+  moved_there = at_place rows j ∙ moved_at
+
+  walked : walk t 1 names ≡ Ok from.inode
+  walked = let way = spot.way in let named = way.from in (named.directory from from_there).0
+
+  ended : walk t 1 others ≡ Ok to.inode
+  ended = let way = spot.way in let ends = way.to in (ends.row to to_there).0
+
+  leads : found t names ≡ Some moved.inode
+  leads = let way = spot.way in let named = way.from in named.leads moved moved_there
+
+  rises : Rises row_key rows
+  rises = rows_rise R s rows free n.faults n.read_only n.stopped kept runs
+
+  abbrev Result_ : Region → Type 0
+  Result_ left = IsAsMounted R s rows free.pools left ⊎ IsAsMade s (replaced names others time t) (LogsReplace cpu time others R n names) left
+
+  -- where the new name was free
+  module _ (none : there ≡ None) where
+    not_there : found t others ≡ None
+    not_there = spot.leads ∙ none
+
+    move_spot : IsMoveSpot t rows names others (place_in rows i) name (place_in rows j) (place_in rows e) other
+    move_spot =
+        let way = spot.way in
+        let over = spot.over in
+        record { from = way.from; spot = record { directory = way.to; absent = λ row row_at. over.none row row_at none }; apart = way.apart }
+
+    moved_logs : (S : Region) → LogsMove cpu time others R n names S → LogsReplace cpu time others R n names S
+    moved_logs S logs = record {
+      unused = λ _. logs;
+      within = record {
+        more = λ a b d node st h f takes sound is other_is on. absurd (let led = takes.there in let clash : None ≡ Some b = sym not_there ∙ led.leads in cc);
+        last = λ a b d node st h takes sound is off. absurd (let led = takes.there in let clash : None ≡ Some b = sym not_there ∙ led.leads in cc);
+      };
+      across = record {
+        more = λ a b d c node st h g f takes parted sound is other_is last_is on. absurd (let led = takes.there in let clash : None ≡ Some b = sym not_there ∙ led.leads in cc);
+        last = λ a b d c node st h g takes parted sound is other_is off. absurd (let led = takes.there in let clash : None ≡ Some b = sym not_there ∙ led.leads in cc);
+      };
+      one = λ a first_leads leads_too. absurd (let clash : None ≡ Some a = sym not_there ∙ leads_too in cc);
+    }
+
+    moved_left : (left : Region) (held : Store) (mounted : IsMounted R s held rows free.pools) → LeavesEither R (fixed_layout s) held (Renamed R s free cpu (place_in rows i) (place_in rows e) from to moved.inode name other time) left → Result_ left
+    moved_left left held mounted w = with_logs {R = R} {s = s} {rows = rows} {free = free} moved_logs (sym (replaced_unused t names others time not_there))
+        (rename_by region {n = n} {m = n} refl kept runs writes i j e from moved to at moved_at to_at name other cpu time spelled spelled_other names first rest move_spot left held mounted w)
+
+  -- where it stood for another
+  module _ (k : ℕ) (is : there ≡ Some k) (had : Row) (had_at : row_of rows k ≡ Some had) (apart : had.inode ≢ moved.inode) where
+    number : had.inode ≡ k
+    number = numbered rows k had had_at
+
+    had_spot : IsReplaceSpot t rows names others (place_in rows i) name (place_in rows j) (place_in rows e) other (Some had.inode)
+    had_spot = subst (λ (o : Option ℕ). IsReplaceSpot t rows names others (place_in rows i) name (place_in rows j) (place_in rows e) other o) (is ∙ ap (λ (q : ℕ). Some q) (sym number)) spot
+
+    stood : found t others ≡ Some had.inode
+    stood = had_spot.leads
+
+    had_apart : moved.inode ≢ had.inode
+    had_apart e = apart (sym e)
+
+    not_free : (S : Region) → found t others ≡ None → LogsMove cpu time others R n names S
+    not_free S none = absurd (let clash : None ≡ Some had.inode = sym none ∙ stood in cc)
+
+    not_one : (S : Region) (a : ℕ) → found t names ≡ Some a → found t others ≡ Some a → S ≡ R
+    not_one S a first_leads leads_too = absurd (let one : Some moved.inode ≡ Some a = sym leads ∙ first_leads in let two : Some had.inode ≡ Some a = sym stood ∙ leads_too in let clash : had.inode ≡ moved.inode = cc in apart clash)
+
+    -- within one directory
+    module _ (one_place : place_in rows i ≡ place_in rows e) where
+      here_spot : IsReplaceSpot t rows names others (place_in rows i) name (place_in rows j) (place_in rows i) other (Some had.inode)
+      here_spot = subst (λ (q : ℕ). IsReplaceSpot t rows names others (place_in rows i) name (place_in rows j) q other (Some had.inode)) (sym one_place) had_spot
+
+      ends_here : walk t 1 others ≡ Ok from.inode
+      ends_here = let way = here_spot.way in let ends = way.to in (ends.row from from_there).0
+
+      differ : i ≢ k
+      differ e = from_differs kept runs writes (place_in rows k) moved had moved_there (at_place rows k ∙ had_at) first_old old first rest here_spot had_apart from from_there had (at_place rows k ∙ had_at) (numbered rows i from at ∙ e ∙ sym number)
+
+      here_logs : (S : Region) → LogsTaken cpu time others R n names S → LogsReplace cpu time others R n names S
+      here_logs S logs = record {
+        unused = not_free S;
+        within = logs;
+        across = record {
+          more = λ a b d c node st h g f takes parted sound is other_is last_is on. absurd (parted (sym (one_end walked takes.from) ∙ one_end ends_here takes.way));
+          last = λ a b d c node st h g takes parted sound is other_is off. absurd (parted (sym (one_end walked takes.from) ∙ one_end ends_here takes.way));
+        };
+        one = not_one S;
+      }
+
+      taken_left : (left : Region) (held : Store) (mounted : IsMounted R s held rows free.pools) → LeavesEither R (fixed_layout s) held (ReplacedHere R s free cpu from had moved.inode name other time) left → Result_ left
+      taken_left left held mounted w = with_logs {R = R} {s = s} {rows = rows} {free = free} here_logs refl
+          (here_by region n kept runs writes i j k from moved had at moved_at had_at differ name other cpu time spelled spelled_other first_old old first rest here_spot had_apart left held mounted w)
+
+    -- from one to another
+    module _ (two_places : place_in rows i ≢ place_in rows e) where
+      over_logs : (S : Region) → LogsHanded cpu time others R n names S → LogsReplace cpu time others R n names S
+      over_logs S logs = record {
+        unused = not_free S;
+        within = record {
+          more = λ a b d node st h f takes sound is other_is on. absurd (places_numbers rows (place_in rows i) (place_in rows e) from to rises from_there to_there two_places (one_end walked takes.from ∙ sym (one_end ended takes.way)));
+          last = λ a b d node st h takes sound is off. absurd (places_numbers rows (place_in rows i) (place_in rows e) from to rises from_there to_there two_places (one_end walked takes.from ∙ sym (one_end ended takes.way)));
+        };
+        across = logs;
+        one = not_one S;
+      }
+
+      handed_left : (left : Region) (held : Store) (mounted : IsMounted R s held rows free.pools) → LeavesEither R (fixed_layout s) held (ReplacedOver R s free cpu from to had moved.inode name other time) left → Result_ left
+      handed_left left held mounted w = with_logs {R = R} {s = s} {rows = rows} {free = free} over_logs refl
+          (over_by region n kept runs writes i e j k from to moved had at to_at moved_at had_at two_places name other cpu time spelled spelled_other first_old old first rest had_spot had_apart left held mounted w)

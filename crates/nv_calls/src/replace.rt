@@ -1,0 +1,107 @@
+//! `replace`: another name for an inode, also one that stands for another inode, which goes or loses a link.
+
+ghost use Rattle.std.specs.Prelude.{◌≡◌, ◌≢◌, ◌<◌, ◌≤◌, ℕ, List, Option, Result, IsTrue, IfErr, OnOk, false};
+ghost use Rattle.std.specs.Option.{option_and_then};
+ghost use Rattle.nv_super.specs.Layout.{fixed_layout, is_number};
+ghost use Rattle.nv_region.specs.Region.{size};
+ghost use Rattle.nv_region.specs.Stops.{LeavesOnly, NothingPending};
+ghost use Rattle.nv_region.specs.Fuses.{KeepsFuse};
+ghost use Rattle.nv_alloc.specs.Taking.{all_blocks};
+ghost use Rattle.nv_names.specs.Names.{IsName, name_at};
+ghost use Rattle.nv_scan.specs.declared.piece.Row.{Row as RowValue};
+ghost use Rattle.nv_rows.specs.Rows.{IsInUse, place_in, row_of};
+ghost use Rattle.nv_held.specs.Held.{Held, Store};
+ghost use Rattle.nv_commit.specs.Stopped.{LeavesEither};
+ghost use Rattle.nv_tree.specs.Path.{IsPath, Says};
+ghost use Rattle.nv_tree.specs.Tree.{SameTree};
+ghost use Rattle.nv_tree.specs.Refusals.{Path, first_refusal, IsRefusedBy};
+ghost use Rattle.nv_tree.specs.Replace.{replaced, replace_tests};
+ghost use Rattle.nv_tree.specs.declared.refusal.Refusal.{Refusal as RefusalValue};
+ghost use Rattle.nv_steps.specs.Fronts.{SameFrontBut};
+ghost use Rattle.nv_steps.specs.Grown.{StandsRight};
+ghost use Rattle.nv_steps.specs.LessNames.{OwnsBlocks};
+ghost use Rattle.nv_steps.specs.NewNames.{CanName};
+ghost use Rattle.nv_steps.specs.Steps.{RefusesStep, ShowsRow};
+ghost use Rattle.nv_calls.specs.AtPlaces.{LeavesRows};
+ghost use Rattle.nv_calls.specs.Effects.{logs_replace, makes_replace};
+ghost use Rattle.nv_calls.specs.Mount.{shown};
+ghost use Rattle.nv_calls.specs.ReplaceBlocks.{replace_blocks};
+ghost use Rattle.nv_calls.specs.ReplaceCalls.{ReplacedAt, ReplacesAt, replace_count};
+ghost use Rattle.nv_calls.specs.Same.{KeepsMount, SameMount};
+ghost use Rattle.nv_calls.specs.Stopped.{LeavesCall};
+ghost use Rattle.nv_calls.specs.World.{world_of};
+
+use crate::Fs;
+use crate::arguments::{Cpu, Time};
+use crate::renaming::move_at;
+use crate::replacing::replace_within;
+use crate::replacing_across::replace_over;
+use crate::writing::is_stop;
+use nv_alloc::Allocators;
+use nv_paths::{Move, replace_for};
+use nv_region::Pmem;
+use nv_rows::Rows;
+use nv_super::Super;
+use nv_tree::Refusal;
+use std::alloc::Global;
+
+/// Gives an inode its new name, which the inode of a number has, if there is one. Where it is the same, nothing changes.
+///
+/// `NoSpace` where all pools together have too few blocks, `Memory` where a growth was refused; both change nothing.
+/// `Stopped` where the fuse has burnt.
+fn replace_at<P: Pmem>(
+    alloc: Global,
+    memory: &mut P,
+    sup: &Super,
+    free: &mut Allocators,
+    cpu: u64,
+    rows: &mut Rows,
+    moved: &Move<'_>,
+    had: Option<u64>,
+    time: u64,
+) -> Result<(), Refusal>
+    requires cpu { cpu < free.old.sup.cpus }
+    requires target { IsInUse rows.old.items moved.now.from.target }
+    requires from { IsInUse rows.old.items moved.now.from.directory }
+    requires directory { IsInUse rows.old.items moved.now.directory }
+    requires there { (i : ℕ) → had ≡ Option.Some i → IsInUse rows.old.items i }
+    requires apart { (i : ℕ) → had ≡ Option.Some i → i ≢ moved.now.from.target → (moved.now.from.directory ≢ i) × (moved.now.directory ≢ i) }
+    requires stands { (row : RowValue) → row_of rows.old.items moved.now.from.directory ≡ Option.Some row
+        → StandsRight (P.region memory.old) sup.now free.old row × CanName (P.region memory.old) sup.now cpu row.inode row }
+    requires other_stands { (row : RowValue) → row_of rows.old.items moved.now.directory ≡ Option.Some row
+        → StandsRight (P.region memory.old) sup.now free.old row × CanName (P.region memory.old) sup.now cpu row.inode row }
+    requires there_stands { (i : ℕ) (row : RowValue) → had ≡ Option.Some i → row_of rows.old.items i ≡ Option.Some row
+        → StandsRight (P.region memory.old) sup.now free.old row × CanName (P.region memory.old) sup.now cpu row.inode row }
+    requires can { (i : ℕ) (row : RowValue) → had ≡ Option.Some i → row_of rows.old.items moved.now.directory ≡ Option.Some row → CanName (P.region memory.old) sup.now cpu i row }
+    requires number { (i : ℕ) → had ≡ Option.Some i → IsTrue (is_number sup.now i) }
+    requires owns { (i : ℕ) (row : RowValue) → had ≡ Option.Some i → row_of rows.old.items i ≡ Option.Some row → OwnsBlocks free.old row }
+    requires settled_before { NothingPending (P.region memory.old) (P.may_hold memory.old) }
+    requires name { IsName moved.now.from.name.now }
+    requires other { IsName moved.now.name.now }
+    ensures replaced { OnOk result (ReplacesAt (P.region memory.old) (P.region memory.new) sup.now free.old free.new cpu rows.old.items rows.new.items (place_in rows.old.items moved.now.from.directory)
+        (place_in rows.old.items moved.now.from.target) (place_in rows.old.items moved.now.directory) had moved.now.from.target moved.now.from.name.now moved.now.name.now time) }
+    ensures enough { (from to : RowValue) → row_of rows.old.items moved.now.from.directory ≡ Option.Some from → row_of rows.old.items moved.now.directory ≡ Option.Some to
+        → OnOk result (replace_count (place_in rows.old.items moved.now.from.directory) (place_in rows.old.items moved.now.directory) from to (option_and_then (row_of rows.old.items) had)
+        moved.now.from.target moved.now.from.name.now moved.now.name.now time ≤ all_blocks free.old.pools) }
+    ensures settled { OnOk result (NothingPending (P.region memory.new) (P.may_hold memory.new)) }
+    ensures refused { (from to : RowValue) → row_of rows.old.items moved.now.from.directory ≡ Option.Some from → row_of rows.old.items moved.now.directory ≡ Option.Some to
+        → IfErr result (λ e. RefusesStep e (replace_count (place_in rows.old.items moved.now.from.directory) (place_in rows.old.items moved.now.directory) from to (option_and_then (row_of
+        rows.old.items) had) moved.now.from.target moved.now.from.name.now moved.now.name.now time) free.old) }
+    ensures unchanged { IfErr result (λ e. (e ≡ RefusalValue.Stopped → ⊥) → LeavesRows memory.old memory.new free.old free.new rows.old.items rows.new.items) }
+    ensures stopped { IfErr result (λ e. e ≡ RefusalValue.Stopped → IsTrue (P.fuse memory.new).has_burnt) }
+    ensures limit { rows.new.sup ≡ rows.old.sup }
+    ensures lists { free.new.sup ≡ free.old.sup }
+    ensures length { size (P.region memory.new) ≡ size (P.region memory.old) }
+    ensures keeps_fuse { KeepsFuse (λ limit. size (P.region memory.old) ≤ limit) (P.fuse memory.old) (P.fuse memory.new) }
+{
+    let Some(there) = had else {
+        return move_at(alloc, memory, sup, free, cpu, rows, moved, time);
+    };
+    if there == moved.from.target {
+        return Ok(());
+    }
+    if moved.from.directory != moved.directory {
+        return replace_over(alloc, memory, sup, free, cpu, rows, moved, there, time);
+    }
+    replace_within(alloc, memory, sup, free, cpu, rows, moved, there, time)
+}
