@@ -39,6 +39,7 @@ pub mod GoneAcross
 pub mod LessAcross
 pub mod ReplacedAcross
 pub mod StoppedHanding
+pub mod ReplaceCount
 pub mod ReplaceCall
 pub mod ReplaceBlocks
 pub mod StoppedReplace

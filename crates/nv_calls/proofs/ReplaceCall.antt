@@ -26,6 +26,7 @@ use Rattle.nv_calls.specs.ReplaceCalls.{ReplacesAt, ReplacesHere, ReplacesOver}
 use Rattle.nv_calls.proofs.FrontsKept.{handed_front, moved_front, taken_front}
 use Rattle.nv_calls.proofs.MoveCall.{moved_kept, moved_mounted, moved_tree}
 use Rattle.nv_calls.proofs.ReplacedAcross.{over_kept, over_mounted, over_tree}
+use Rattle.nv_calls.proofs.ReplacedSpot.{from_differs, to_differs}
 use Rattle.nv_calls.proofs.ReplacedWithin.{here_kept, here_mounted, here_tree}
 
 module _ {R : Region} {s : Super} {rows : List Row} {free : FreeLists} {faults : List Fault} {read_only stopped : Bool} (kept : IsKept R s rows free faults read_only stopped) (runs : stopped ≡ false) (writes : read_only ≡ false)
@@ -71,6 +72,13 @@ module _ {R : Region} {s : Super} {rows : List Row} {free : FreeLists} {faults :
 
     had_apart : i ≢ had.inode
     had_apart same = apart (sym (same ∙ number))
+
+    -- neither directory is that inode
+    pub ends_apart : (from to : Row) → slice_get rows place ≡ Some from → slice_get rows end ≡ Some to → (from.inode ≢ j) × (to.inode ≢ j)
+    ends_apart from to at to_at = (
+      λ e. from_differs kept runs writes (place_in rows j) moved had moved_at had_at first_old old first rest had_spot had_apart from at had had_at (e ∙ sym number),
+      λ e. to_differs kept runs writes (place_in rows j) moved had moved_at had_at first_old old first rest had_spot had_apart to to_at had had_at (e ∙ sym number),
+    )
 
     module _ {S : Region} {news : List Row} {after : FreeLists} {cpu time : ℕ} where
       within_kept : (same : place ≡ end) → ReplacesHere R S s free after cpu rows news place (place_in rows j) i name other time → (later : Bool) → IsKept S s news after faults read_only later

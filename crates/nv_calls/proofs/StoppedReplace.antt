@@ -8,6 +8,7 @@ use Rattle.nv_super.specs.declared.superblock.Super.{Super}
 use Rattle.nv_super.specs.Layout.{fixed_layout}
 use Rattle.nv_super.specs.Order.{Rises}
 use Rattle.nv_super.proofs.Members.{stands}
+use Rattle.nv_journal.specs.Undo.{undone}
 use Rattle.nv_alloc.specs.FreeValue.{FreeLists}
 use Rattle.nv_names.specs.Names.{name_at}
 use Rattle.nv_scan.specs.declared.piece.Row.{Row}
@@ -190,3 +191,37 @@ module _ {P : Type 0} (region : P → Region) {n m : Mount P} (same : n ≡ m) (
       handed_left : (left : Region) (held : Store) (mounted : IsMounted R s held rows free.pools) → LeavesEither R (fixed_layout s) held (ReplacedOver R s free cpu from to had moved.inode name other time) left → Result_ left
       handed_left left held mounted w = with_logs {R = R} {s = s} {rows = rows} {free = free} over_logs refl
           (over_by region n kept runs writes i e j k from to moved had at to_at moved_at had_at two_places name other cpu time spelled spelled_other first_old old first rest had_spot had_apart left held mounted w)
+
+  -- ---- in all cases
+
+  abbrev Left_ : Store → Option Row → Region → Type 0
+  Left_ held had left = LeavesEither R (fixed_layout s) held (ReplacedAt R s free cpu (place_in rows i) (place_in rows e) from to had moved.inode name other time) left
+
+  some_left : (k : ℕ) (is : there ≡ Some k) (had : Row) (had_at : row_of rows k ≡ Some had) (left : Region) (held : Store) (mounted : IsMounted R s held rows free.pools) → Left_ held (Some had) left → Result_ left
+  some_left k is had had_at left held mounted (inl as_before) = inl (still_mounted mounted as_before)
+  some_left k is had had_at left held mounted (inr w) = by w.1.1 where
+    by : ((place_in rows i ≡ place_in rows e) × ReplacedHere R s free cpu from had moved.inode name other time (undone s left)) ⊎ ((place_in rows i ≢ place_in rows e) × ReplacedOver R s free cpu from to had moved.inode name other time (undone s left)) → Result_ left
+    by (inl v) = taken_left k is had had_at w.1.0 v.0 left held mounted (inr (w.0, v.1))
+    by (inr v) = handed_left k is had had_at w.1.0 v.0 left held mounted (inr (w.0, v.1))
+
+  replaced_left : ((k : ℕ) → there ≡ Some k → (had : Row) × (row_of rows k ≡ Some had)) → (left : Region) (held : Store) (mounted : IsMounted R s held rows free.pools) → Left_ held (option_and_then (row_of rows) there) left → Result_ left
+  replaced_left known left held mounted w = by there refl where
+    by : (o : Option ℕ) → there ≡ o → Result_ left
+    by None none = moved_left none left held mounted (subst (λ (o : Option ℕ). Left_ held (option_and_then (row_of rows) o) left) none w)
+    by (Some k) is =
+        let row = known k is in
+        some_left k is row.0 row.1 left held mounted (subst (λ (o : Option Row). Left_ held o left) row.1 (subst (λ (o : Option ℕ). Left_ held (option_and_then (row_of rows) o) left) is w))
+
+  -- What a stop leaves within the call.
+  pub replace_left : ((k : ℕ) → there ≡ Some k → (had : Row) × (row_of rows k ≡ Some had)) → (S : Region) (last : Choices)
+      → ((held : Store) (h g : Held) → ShowsRow R s held h from free → ShowsRow R s held g to free → (there ≡ None → name_at to.names other ≡ None)
+      → ((k : ℕ) (row : Row) → there ≡ Some k → row_of rows k ≡ Some row → (f : Held) × ShowsRow R s held f row free) → LeavesOnly S last (Left_ held (option_and_then (row_of rows) there)))
+      → LeavesOnly S last (LeavesCall (makes_replace time (Some others)) (logs_replace cpu time (Some others)) (region m.memory) m names)
+  replace_left known S last step =
+      subst (λ (q : Mount P). LeavesOnly S last (LeavesCall (makes_replace time (Some others)) (logs_replace cpu time (Some others)) (region q.memory) q names)) same
+      (λ left may. ∥∥₁_map (mounted_of_kept kept runs writes) (λ w.
+      let v = shows_row w.1 kept.lists from (stands rows (place_in rows i) from from_there) in
+      let u = shows_row w.1 kept.lists to (stands rows (place_in rows e) to to_there) in
+      let over = spot.over in
+      replaced_left known left w.0 w.1 (step w.0 v.0 u.0 v.1 u.1 (λ none. not_named w.1 to (stands rows (place_in rows e) to to_there) other (over.none to to_there none))
+      (λ k row is row_is. (let z = shows_row w.1 kept.lists row (stands rows (place_in rows k) row (at_place rows k ∙ row_is)) in (z.0, z.1))) left may)))

@@ -93,6 +93,14 @@ fn replace_at<P: Pmem>(
     ensures lists { free.new.sup ≡ free.old.sup }
     ensures length { size (P.region memory.new) ≡ size (P.region memory.old) }
     ensures keeps_fuse { KeepsFuse (λ limit. size (P.region memory.old) ≤ limit) (P.fuse memory.old) (P.fuse memory.new) }
+    // Whatever a stop leaves: recovery finds what is held, or it with the name given, without faults.
+    ensures any_stop { (from to : RowValue) (held : Store) (h k : Held) → row_of rows.old.items moved.now.from.directory ≡ Option.Some from → row_of rows.old.items moved.now.directory ≡ Option.Some to
+        → ShowsRow (P.region memory.old) sup.now held h from free.old → ShowsRow (P.region memory.old) sup.now held k to free.old
+        → (had ≡ Option.None → name_at to.names moved.now.name.now ≡ Option.None)
+        → ((i : ℕ) (row : RowValue) → had ≡ Option.Some i → row_of rows.old.items i ≡ Option.Some row → (f : Held) × ShowsRow (P.region memory.old) sup.now held f row free.old)
+        → LeavesOnly (P.region memory.new) (P.may_hold memory.new) (LeavesEither (P.region memory.old) (fixed_layout sup.now) held
+        (ReplacedAt (P.region memory.old) sup.now free.old cpu (place_in rows.old.items moved.now.from.directory) (place_in rows.old.items moved.now.directory) from to (option_and_then (row_of
+        rows.old.items) had) moved.now.from.target moved.now.from.name.now moved.now.name.now time)) }
 {
     let Some(there) = had else {
         return move_at(alloc, memory, sup, free, cpu, rows, moved, time);
@@ -104,4 +112,72 @@ fn replace_at<P: Pmem>(
         return replace_over(alloc, memory, sup, free, cpu, rows, moved, there, time);
     }
     replace_within(alloc, memory, sup, free, cpu, rows, moved, there, time)
+}
+
+impl<P: Pmem + Drop> Fs<P> {
+    /// Gives the inode that the first path leads to the name that the second path says, in place of its old one, and in place of
+    /// another inode that has it: that one goes where it is a directory or has no further name, and else loses a link. Where both
+    /// paths lead to one inode, nothing changes.
+    ///
+    /// Errors, the first that applies:
+    /// - `Stopped` after a stop
+    /// - `BadCpu` where there is no CPU of that number
+    /// - `ReadOnly` where the region was mounted with faults
+    /// - `BadName` where a text is no path or `/`
+    /// - `NotFound` or `NotDirectory` for an inode on the first way and then on the second
+    /// - `NotFound` where the first path leads to no inode
+    /// - `IntoItself` where it leads to a directory that the second way passes
+    /// - `IsDirectory` where the second leads to a directory, and the first to a file
+    /// - `NotDirectory` where the second leads to a file, and the first to a directory
+    /// - `NotEmpty` where the second leads to another inode, which has names
+    /// - `NoSpace` where fewer blocks are free than the logs need
+    ///
+    /// Besides these `Memory` where a growth was refused, and `Stopped` where the fuse burns. All but `Stopped` leave
+    /// everything as it was.
+    pub fn replace(&mut self, cpu: Cpu, old: &[u8], new: &[u8], time: Time) -> Result<(), Refusal>
+        ensures stopped_before { IsTrue self.old.stopped → (result ≡ Result.Err RefusalValue.Stopped) × (self.new ≡ self.old) }
+        ensures allowed { (p q : Path) → Says old.now p → Says new.now q
+            → OnOk result (first_refusal (replace_tests (world_of self.old) (shown P.region self.old) cpu p q (replace_blocks self.old.rows (shown P.region self.old) p q)) ≡ Option.None) }
+        ensures refused { self.old.stopped ≡ false → (p q : Path) → Says old.now p → Says new.now q
+            → IfErr result (IsRefusedBy (first_refusal (replace_tests (world_of self.old) (shown P.region self.old) cpu p q (replace_blocks self.old.rows (shown P.region self.old) p q)))) }
+        ensures changed { (names others : List (List ℕ)) → IsPath old.now names → IsPath new.now others
+            → OnOk result (SameTree (shown P.region self.new) (replaced names others time (shown P.region self.old))) }
+        ensures unchanged { IfErr result (λ e. (e ≡ RefusalValue.Stopped → ⊥) → SameMount self.old self.new) }
+        ensures stopped { self.old.stopped ≡ false → (IsTrue self.new.stopped → (result ≡ Result.Err RefusalValue.Stopped) × IsTrue (P.fuse self.new.memory).has_burnt)
+            × (result ≡ Result.Err RefusalValue.Stopped → IsTrue self.new.stopped) }
+        ensures keeps { KeepsMount self.old self.new }
+        // The superblock and all journals but that of the CPU are as they were.
+        ensures journals { OnOk result (SameFrontBut self.old.sup.cpus cpu (P.region self.old.memory) (P.region self.new.memory)) }
+        ensures settled { OnOk result (NothingPending (P.region self.new.memory) (P.may_hold self.new.memory)) }
+        ensures length { size (P.region self.new.memory) ≡ size (P.region self.old.memory) }
+        ensures keeps_fuse { KeepsFuse (λ limit. size (P.region self.old.memory) ≤ limit) (P.fuse self.old.memory) (P.fuse self.new.memory) }
+        // Where one of the texts is no path, all stays as it was.
+        ensures bad_text { ((names others : List (List ℕ)) → IsPath old.now names → IsPath new.now others → ⊥) → SameMount self.old self.new }
+        // What was mounted with faults stays as it was.
+        ensures read_only { IsTrue self.old.read_only → SameMount self.old self.new }
+        // Whatever a stop leaves, at any exit: recovery finds what was mounted, or what the call makes, without faults.
+        ensures any_stop { (names others : List (List ℕ)) → IsPath old.now names → IsPath new.now others → self.old.stopped ≡ false → self.old.read_only ≡ false
+            → LeavesOnly (P.region self.new.memory) (P.may_hold self.new.memory) (LeavesCall (makes_replace time (Option.Some others)) (logs_replace cpu time (Option.Some others))
+            (P.region self.old.memory) self.old names) }
+    {
+        self.writable(cpu.0)?;
+        let planned = replace_for(&self.rows, old, new)?;
+        match replace_at(
+            self.alloc,
+            &mut self.memory,
+            &self.sup,
+            &mut self.free,
+            cpu.0,
+            &mut self.rows,
+            &planned.moved,
+            planned.there,
+            time.0,
+        ) {
+            Ok(()) => Ok(()),
+            Err(refusal) => {
+                self.stopped = is_stop(refusal);
+                Err(refusal)
+            }
+        }
+    }
 }

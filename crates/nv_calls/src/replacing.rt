@@ -188,7 +188,7 @@ pub(crate) fn keeps_others(row: &Row) -> bool
 
 /// Gives an inode the name of another of its directory, which loses a link where it has more, and else goes. It is refused as
 /// `lessen_at` and `take_at` are.
-fn replace_within<P: Pmem>(
+pub(crate) fn replace_within<P: Pmem>(
     alloc: Global,
     memory: &mut P,
     sup: &Super,

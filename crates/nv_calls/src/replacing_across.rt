@@ -195,7 +195,7 @@ fn lessen_over<P: Pmem>(
 
 /// Gives an inode the name of another in another directory, which loses a link where it has more, and else goes. It is refused as
 /// `lessen_over` and `take_over` are.
-fn replace_over<P: Pmem>(
+pub(crate) fn replace_over<P: Pmem>(
     alloc: Global,
     memory: &mut P,
     sup: &Super,
