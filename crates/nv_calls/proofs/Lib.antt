@@ -39,10 +39,6 @@ pub mod GoneAcross
 pub mod LessAcross
 pub mod ReplacedAcross
 pub mod StoppedHanding
-pub mod ReplaceCount
-pub mod ReplaceCall
-pub mod ReplaceBlocks
-pub mod StoppedReplace
 pub mod TwoOut
 pub mod ThreeRows
 pub mod BothHeld
@@ -80,7 +76,6 @@ pub mod MovedWithin
 pub mod FrontsKept
 pub mod OneOut
 pub mod MoveTests
-pub mod ReplaceTests
 pub mod MoveCall
 pub mod StoppedMoves
 pub mod MoveAt

@@ -146,13 +146,16 @@ module _ {R : Region} {s : Super} {rows : List Row} {free : FreeLists} {faults :
         (apart_here gone gone_at) goes (both_apart from to at to_at) (from_apart from at gone gone_at) (to_apart to to_at gone gone_at) given later
 
     pub gone_mounted : {after : FreeLists} → GivesRow mid gone after → (held : Store) (m : IsMounted R s held rows free.pools) → (then : Store) × IsMounted S s then news after.pools
-    gone_mounted given held m = (_, gone_across.mounted_then kept runs writes target moved at to_at moved_at gone_at step put names first rest (spot_here gone gone_at) (good_here name spelled source moved moved_at) (good_here other spelled_other source moved moved_at) (good_here other spelled_other target gone gone_at)
-        (apart_here gone gone_at) goes (both_apart from to at to_at) (from_apart from at gone gone_at) (to_apart to to_at gone gone_at) held m given)
+    gone_mounted given held m = (
+      _,
+      gone_across.mounted_then kept runs writes target moved at to_at moved_at gone_at step put names first rest (spot_here gone gone_at) (good_here name spelled source moved moved_at) (good_here other spelled_other source moved moved_at) (good_here other spelled_other target gone gone_at)
+          (apart_here gone gone_at) goes (both_apart from to at to_at) (from_apart from at gone gone_at) (to_apart to to_at gone gone_at) held m given,
+    )
 
     pub gone_some : (held : Store) (m : IsMounted R s held rows free.pools) → (then : Store) × (lists : List (List Run)) × IsMounted S s then news lists
     gone_some held m =
         let w = gone_across.mounted_some kept runs writes target moved at to_at moved_at gone_at step put names first rest (spot_here gone gone_at) (good_here name spelled source moved moved_at) (good_here other spelled_other source moved moved_at) (good_here other spelled_other target gone gone_at)
-            (apart_here gone gone_at) goes (both_apart from to at to_at) (from_apart from at gone gone_at) (to_apart to to_at gone gone_at) held m in
+        (apart_here gone gone_at) goes (both_apart from to at to_at) (from_apart from at gone gone_at) (to_apart to to_at gone gone_at) held m in
         (_, w.0, w.1)
 
     pub gone_last : (a b d e : ℕ) (node : Node) (held : Store) (h k : Held) → TakesPlace t names others a b d e node → ShowsSound R s held → held d ≡ Some h → held e ≡ Some k
@@ -165,7 +168,7 @@ module _ {R : Region} {s : Super} {rows : List Row} {free : FreeLists} {faults :
         by_words (λ (x y : ℕ) (q o : List ℕ) (z : ℕ). ShowsBothLess S s free.pools cpu held d h (name_entries Remove x q time) z k (handed_entries x y o time) y) w.0 w.1 named.name_is ends.name_is w.3
         (subst (λ (z : ℕ). ShowsBothLess S s free.pools cpu held z h (name_entries Remove i name time) to.inode k (handed_entries i gone.inode other time) gone.inode) w.2
         (gone_across.was_handed kept runs writes target moved at to_at moved_at gone_at step put names first rest (spot_here gone gone_at) (good_here name spelled source moved moved_at) (good_here other spelled_other source moved moved_at) (good_here other spelled_other target gone gone_at)
-            (apart_here gone gone_at) goes (both_apart from to at to_at) (from_apart from at gone gone_at) (to_apart to to_at gone gone_at) held h k sound (ap held w.2 ∙ is) (ap held w.3 ∙ other_is)))
+        (apart_here gone gone_at) goes (both_apart from to at to_at) (from_apart from at gone gone_at) (to_apart to to_at gone gone_at) held h k sound (ap held w.2 ∙ is) (ap held w.3 ∙ other_is)))
 
     -- it had no other names
     pub gone_others : (a b d e : ℕ) (node : Node) → TakesPlace t names others a b d e node → has_others node ≡ true → ⊥
@@ -187,11 +190,11 @@ module _ {R : Region} {s : Super} {rows : List Row} {free : FreeLists} {faults :
         let two = set (set rows place from_now) end to_now in
         let made : Tree = edit e (hand time) (edit d (lose time) t) in
         let went : SameTree (tree_of S (remove two target)) (put_node gone.inode None made) = same_transitive (tree_of S (remove two target)) (put_node gone.inode None (tree_of S two)) (put_node gone.inode None made)
-            (row_gone S two (all_rises S time step.fresh step.more _ _ _ at to_at gone_at left.0 left.1 has bytes) target gone (still_there S time step.fresh step.more _ _ _ at to_at gone_at left.0 left.1 has bytes))
-            (put_kept (tree_of S two) made gone.inode None None tt (both_tree S time step.fresh step.more _ _ _ at to_at gone_at left.0 left.1 has bytes)) in
+        (row_gone S two (all_rises S time step.fresh step.more _ _ _ at to_at gone_at left.0 left.1 has bytes) target gone (still_there S time step.fresh step.more _ _ _ at to_at gone_at left.0 left.1 has bytes))
+        (put_kept (tree_of S two) made gone.inode None None tt (both_tree S time step.fresh step.more _ _ _ at to_at gone_at left.0 left.1 has bytes)) in
         let order : put_node gone.inode None made ≡ replaced names others time t = put_swaps (edit d (lose time) t) gone.inode e None (hand time) (to_apart to to_at gone gone_at)
-            ∙ ap (edit e (hand time)) (put_swaps t gone.inode d None (lose time) (from_apart from at gone gone_at)) ∙ one_by_one (put_node gone.inode None t) d e time (both_apart from to at to_at)
-            ∙ sym (replaced_gone time (replaces kept runs writes target moved there moved_at there_at first_old old first rest spot apart from at to to_at gone gone_at) (goes_there kept runs writes target moved there moved_at there_at first_old old first rest spot apart gone gone_at goes)) in
+        ∙ ap (edit e (hand time)) (put_swaps t gone.inode d None (lose time) (from_apart from at gone gone_at)) ∙ one_by_one (put_node gone.inode None t) d e time (both_apart from to at to_at)
+        ∙ sym (replaced_gone time (replaces kept runs writes target moved there moved_at there_at first_old old first rest spot apart from at to to_at gone gone_at) (goes_there kept runs writes target moved there moved_at there_at first_old old first rest spot apart gone gone_at goes)) in
         subst (λ (rs : List Row). SameTree (tree_of S rs) (replaced names others time t)) (sym put) (subst (λ (u : Tree). SameTree (tree_of S (remove two target)) u) order went)
 
   -- ---- where it has other names
@@ -203,8 +206,11 @@ module _ {R : Region} {s : Super} {rows : List Row} {free : FreeLists} {faults :
         (apart_here file file_at) has_more (both_apart from to at to_at) (from_apart from at file file_at) (to_apart to to_at file file_at) later
 
     pub less_mounted : (held : Store) (m : IsMounted R s held rows free.pools) → (then : Store) × IsMounted S s then news after.pools
-    less_mounted held m = (_, less_across.mounted_then kept runs writes target moved at to_at moved_at file_at step put names first rest (spot_here file file_at) (good_here name spelled source moved moved_at) (good_here other spelled_other source moved moved_at) (good_here other spelled_other target file file_at)
-        (apart_here file file_at) has_more (both_apart from to at to_at) (from_apart from at file file_at) (to_apart to to_at file file_at) held m)
+    less_mounted held m = (
+      _,
+      less_across.mounted_then kept runs writes target moved at to_at moved_at file_at step put names first rest (spot_here file file_at) (good_here name spelled source moved moved_at) (good_here other spelled_other source moved moved_at) (good_here other spelled_other target file file_at)
+          (apart_here file file_at) has_more (both_apart from to at to_at) (from_apart from at file file_at) (to_apart to to_at file file_at) held m,
+    )
 
     pub less_more : (a b d e : ℕ) (node : Node) (held : Store) (h k f : Held) → TakesPlace t names others a b d e node → ShowsSound R s held → held d ≡ Some h → held e ≡ Some k → held b ≡ Some f
         → ShowsThreeGrew S s free.pools cpu held d h (name_entries Remove a (last_name names) time) e k (handed_entries a b (last_name others) time) b f (links_entries (node.links - 1) time)
@@ -217,7 +223,7 @@ module _ {R : Region} {s : Super} {rows : List Row} {free : FreeLists} {faults :
         (by_words (λ (x y : ℕ) (q o : List ℕ) (z : ℕ). ShowsThreeGrew S s free.pools cpu held d h (name_entries Remove x q time) z k (handed_entries x y o time) y f (links_entries (file.numbers.links - 1) time)) w.0 w.1 named.name_is ends.name_is w.3
         (subst (λ (z : ℕ). ShowsThreeGrew S s free.pools cpu held z h (name_entries Remove i name time) to.inode k (handed_entries i file.inode other time) file.inode f (links_entries (file.numbers.links - 1) time)) w.2
         (less_across.three_grew kept runs writes target moved at to_at moved_at file_at step put names first rest (spot_here file file_at) (good_here name spelled source moved moved_at) (good_here other spelled_other source moved moved_at) (good_here other spelled_other target file file_at)
-            (apart_here file file_at) has_more (both_apart from to at to_at) (from_apart from at file file_at) (to_apart to to_at file file_at) held h k f sound (ap held w.2 ∙ is) (ap held w.3 ∙ other_is) (ap held w.1 ∙ last_is))))
+        (apart_here file file_at) has_more (both_apart from to at to_at) (from_apart from at file file_at) (to_apart to to_at file file_at) held h k f sound (ap held w.2 ∙ is) (ap held w.3 ∙ other_is) (ap held w.1 ∙ last_is))))
 
     -- it has other names
     pub less_others : (a b d e : ℕ) (node : Node) → TakesPlace t names others a b d e node → has_others node ≡ false → ⊥
@@ -245,12 +251,12 @@ module _ {R : Region} {s : Super} {rows : List Row} {free : FreeLists} {faults :
         let made : Tree = edit e (hand time) (edit d (lose time) t) in
         let node = counted_node S S step.rest _ (links - 1) time counted (as_many file.names file_now.names files_once.0 files_once.1 counted.names) (λ x. refl) in
         let less : SameTree (tree_of S (set two target file_now)) (edit file.inode change_links made) = same_transitive (tree_of S (set two target file_now)) (edit file.inode change_links (tree_of S two)) (edit file.inode change_links made)
-            (row_changed S two (all_rises S time step.fresh step.more _ _ _ at to_at file_at left.0 left.1 has less_bytes) target file (still_there S time step.fresh step.more _ _ _ at to_at file_at left.0 left.1 has less_bytes) file_now change_links counted.inode node)
-            (edit_kept (tree_of S two) made file.inode change_links change_links (links_kept (links - 1) (links - 1) time refl) (both_tree S time step.fresh step.more _ _ _ at to_at file_at left.0 left.1 has less_bytes)) in
+        (row_changed S two (all_rises S time step.fresh step.more _ _ _ at to_at file_at left.0 left.1 has less_bytes) target file (still_there S time step.fresh step.more _ _ _ at to_at file_at left.0 left.1 has less_bytes) file_now change_links counted.inode node)
+        (edit_kept (tree_of S two) made file.inode change_links change_links (links_kept (links - 1) (links - 1) time refl) (both_tree S time step.fresh step.more _ _ _ at to_at file_at left.0 left.1 has less_bytes)) in
         let off : is_directory_at t file.inode ≡ false = kind_there kept runs writes target moved there moved_at there_at first_old old first rest spot apart file file_at ∙ ap is_directory (stays_file file has_more) in
         let order : edit file.inode change_links made ≡ replaced names others time t = edits_swap (edit d (lose time) t) file.inode e change_links (hand time) (to_apart to to_at file file_at)
-            ∙ ap (edit e (hand time)) (edits_swap t file.inode d change_links (lose time) (from_apart from at file file_at)) ∙ one_by_one (edit file.inode change_links t) d e time (both_apart from to at to_at)
-            ∙ sym (replaced_less time (replaces kept runs writes target moved there moved_at there_at first_old old first rest spot apart from at to to_at file file_at) off links (links_there kept runs writes target moved there moved_at there_at first_old old first rest spot apart file file_at) (more_links file has_more)) in
+        ∙ ap (edit e (hand time)) (edits_swap t file.inode d change_links (lose time) (from_apart from at file file_at)) ∙ one_by_one (edit file.inode change_links t) d e time (both_apart from to at to_at)
+        ∙ sym (replaced_less time (replaces kept runs writes target moved there moved_at there_at first_old old first rest spot apart from at to to_at file file_at) off links (links_there kept runs writes target moved there moved_at there_at first_old old first rest spot apart file file_at) (more_links file has_more)) in
         subst (λ (rs : List Row). SameTree (tree_of S rs) (replaced names others time t)) (sym put) (subst (λ (u : Tree). SameTree (tree_of S (set two target file_now)) u) order less)
 
   -- ---- in both cases

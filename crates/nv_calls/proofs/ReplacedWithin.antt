@@ -157,9 +157,9 @@ module _ {R : Region} {s : Super} {rows : List Row} {free : FreeLists} {faults :
         let set_there : slice_get (set rows place now) target ≡ Some gone = other_set rows place target now (places_differ rows place target row gone at gone_at differ) ∙ gone_at in
         let node = taken_node S S step.fresh _ _ name other i gone.inode time has (apart_here gone gone_at) (named_here row at gone gone_at) (taken_here row at gone gone_at) (λ x. refl) in
         let changed : SameTree (tree_of S (set rows place now)) (edit row.inode (change time) t) = same_transitive (tree_of S (set rows place now)) (edit row.inode (change time) (tree_of S rows)) (edit row.inode (change time) t)
-            (row_changed S rows rises place row at now (change time) has.inode node) (edit_kept (tree_of S rows) t row.inode (change time) (change time) (change_kept time) (tree_stays R S rows bytes)) in
+        (row_changed S rows rises place row at now (change time) has.inode node) (edit_kept (tree_of S rows) t row.inode (change time) (change time) (change_kept time) (tree_stays R S rows bytes)) in
         let went : SameTree (tree_of S (remove (set rows place now) target)) (put_node gone.inode None (edit row.inode (change time) t)) = same_transitive (tree_of S (remove (set rows place now) target)) (put_node gone.inode None (tree_of S (set rows place now))) (put_node gone.inode None (edit row.inode (change time) t))
-            (row_gone S (set rows place now) (set_rising rows place row now rises at has.inode) target gone set_there) (put_kept (tree_of S (set rows place now)) (edit row.inode (change time) t) gone.inode None None tt changed) in
+        (row_gone S (set rows place now) (set_rising rows place row now rises at has.inode) target gone set_there) (put_kept (tree_of S (set rows place now)) (edit row.inode (change time) t) gone.inode None None tt changed) in
         let made : put_node gone.inode None (edit row.inode (change time) t) ≡ replaced names others time t = put_swaps t gone.inode row.inode None (change time) differ ∙ one_by_one (put_node gone.inode None t) row.inode time ∙ sym (replaced_gone time (replaces_here row at gone gone_at) (goes_there kept runs writes target moved there moved_at there_at first_old old first rest spot apart gone gone_at goes)) in
         subst (λ (rs : List Row). SameTree (tree_of S rs) (replaced names others time t)) (sym put) (subst (λ (u : Tree). SameTree (tree_of S (remove (set rows place now) target)) u) made went)
 
@@ -227,14 +227,14 @@ module _ {R : Region} {s : Super} {rows : List Row} {free : FreeLists} {faults :
         let set_there : slice_get (set rows place now) target ≡ Some file = other_set rows place target now (places_differ rows place target row file at file_at less_differ) ∙ file_at in
         let node = taken_node S S both.fresh _ _ name other i file.inode time has (apart_here file file_at) (named_here row at file file_at) (taken_here row at file file_at) (λ x. refl) in
         let changed : SameTree (tree_of S (set rows place now)) (edit row.inode (change time) t) = same_transitive (tree_of S (set rows place now)) (edit row.inode (change time) (tree_of S rows)) (edit row.inode (change time) t)
-            (row_changed S rows rises place row at now (change time) has.inode node) (edit_kept (tree_of S rows) t row.inode (change time) (change time) (change_kept time) (tree_stays R S rows less_bytes)) in
+        (row_changed S rows rises place row at now (change time) has.inode node) (edit_kept (tree_of S rows) t row.inode (change time) (change time) (change_kept time) (tree_stays R S rows less_bytes)) in
         let counted = counted_node S S both.more _ (links - 1) time counts (as_many file.names other_now.names both.other_once.0 both.other_once.1 counts.names) (λ x. refl) in
         let less : SameTree (tree_of S (set (set rows place now) target other_now)) (edit file.inode change_links (edit row.inode (change time) t)) = same_transitive (tree_of S (set (set rows place now) target other_now)) (edit file.inode change_links (tree_of S (set rows place now))) (edit file.inode change_links (edit row.inode (change time) t))
-            (row_changed S (set rows place now) (set_rising rows place row now rises at has.inode) target file set_there other_now change_links counts.inode counted)
-            (edit_kept (tree_of S (set rows place now)) (edit row.inode (change time) t) file.inode change_links change_links (links_kept (links - 1) (links - 1) time refl) changed) in
+        (row_changed S (set rows place now) (set_rising rows place row now rises at has.inode) target file set_there other_now change_links counts.inode counted)
+        (edit_kept (tree_of S (set rows place now)) (edit row.inode (change time) t) file.inode change_links change_links (links_kept (links - 1) (links - 1) time refl) changed) in
         let off : is_directory_at t file.inode ≡ false = kind_there kept runs writes target moved there moved_at there_at first_old old first rest spot apart file file_at ∙ ap is_directory (stays_file file stays) in
         let made : edit file.inode change_links (edit row.inode (change time) t) ≡ replaced names others time t = edits_swap t file.inode row.inode change_links (change time) less_differ ∙ one_by_one (edit file.inode change_links t) row.inode time
-            ∙ sym (replaced_less time (replaces_here row at file file_at) off links (links_there kept runs writes target moved there moved_at there_at first_old old first rest spot apart file file_at) (more_links file stays)) in
+        ∙ sym (replaced_less time (replaces_here row at file file_at) off links (links_there kept runs writes target moved there moved_at there_at first_old old first rest spot apart file file_at) (more_links file stays)) in
         subst (λ (rs : List Row). SameTree (tree_of S rs) (replaced names others time t)) (sym both.put) (subst (λ (u : Tree). SameTree (tree_of S (set (set rows place now) target other_now)) u) made less)
 
   -- ---- in both cases

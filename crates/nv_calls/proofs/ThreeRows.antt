@@ -60,7 +60,10 @@ module _ (rows mid last : List Row) (i j k : ℕ) (apart : i ≢ j) (i_apart : i
 
   -- ---- given back
 
-  module _ (rest one two : List Row) (row other third : Row) (lent_k : IsLent last rest k) (number : row.inode ≡ i) (other_number : other.inode ≡ j) (third_number : third.inode ≡ k) (first_back : one ≡ set rest (place_in rest third.inode) third) where
+  pub last_given : (rest : List Row) (third : Row) → IsLent last rest k → third.inode ≡ k → IsInUse rest third.inode
+  last_given rest third lent_k third_number = subst (IsInUse rest) (sym third_number) (used_lent last rest k third_still lent_k)
+
+  module _ (rest one : List Row) (other third : Row) (lent_k : IsLent last rest k) (other_number : other.inode ≡ j) (third_number : third.inode ≡ k) (first_back : one ≡ set rest (place_in rest third.inode) third) where
     rest_k : IsInUse rest k
     rest_k = used_lent last rest k third_still lent_k
 
@@ -70,13 +73,10 @@ module _ (rows mid last : List Row) (i j k : ℕ) (apart : i ≢ j) (i_apart : i
     one_j : IsInUse one j
     one_j = used_back rest one j k third j_apart rest_k third_number first_back (used_still last rest k j (λ e. j_apart (sym e)) third_still lent_k (used_lent mid last j mid_j lent_j))
 
-    pub last_given : IsInUse rest third.inode
-    last_given = subst (IsInUse rest) (sym third_number) rest_k
-
     pub second_given : IsInUse one other.inode
     second_given = subst (IsInUse one) (sym other_number) one_j
 
-    module _ (second_back : two ≡ set one (place_in one other.inode) other) where
+    module _ (two : List Row) (row : Row) (number : row.inode ≡ i) (second_back : two ≡ set one (place_in one other.inode) other) where
       pub first_given : IsInUse two row.inode
       first_given = subst (IsInUse two) (sym number) (used_back one two i j other apart one_j other_number second_back (used_back rest one i k third i_apart rest_k third_number first_back rest_i))
 

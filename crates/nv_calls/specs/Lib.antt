@@ -13,7 +13,6 @@ pub use Rattle.nv_held.specs.nv_graph
 pub mod MoveCalls
 pub mod ReplaceCalls
 pub mod ReplaceLogs
-pub mod ReplaceBlocks
 pub mod LinkCalls
 pub mod NameCalls
 pub mod RemoveCalls

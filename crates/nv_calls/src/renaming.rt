@@ -140,7 +140,7 @@ pub(crate) fn other_name<'a>(moved: &Move<'a>, time: u64) -> OtherName<'a>
 ///
 /// `NoSpace` where all pools together have too few blocks, `Memory` where a growth was refused; both change nothing.
 /// `Stopped` where the fuse has burnt.
-pub(crate) fn move_at<P: Pmem>(
+fn move_at<P: Pmem>(
     alloc: Global,
     memory: &mut P,
     sup: &Super,

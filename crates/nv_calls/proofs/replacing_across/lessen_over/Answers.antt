@@ -45,19 +45,19 @@ pub lessen_across-done-requires-clause-more : goal.lessen_across-done-requires-c
 lessen_across-done-requires-clause-more g c = c.requires.more c.lend-file.result (third_stays c.args.rows.now.items c.lend-from.new.self.items c.lend-to.new.self.items c.args.moved.now.from.directory c.args.moved.now.directory c.args.there c.requires.apart.0 c.requires.apart.1 c.requires.apart.2 c.requires.from c.requires.directory c.requires.there c.lend-from.ensures.lent c.lend-to.ensures.lent c.lend-file.result c.lend-file.ensures.row)
 
 pub give_back-requires : goal.give_back-requires
-give_back-requires g c = last_given c.args.rows.now.items c.lend-from.new.self.items c.lend-to.new.self.items c.args.moved.now.from.directory c.args.moved.now.directory c.args.there c.requires.apart.0 c.requires.apart.1 c.requires.apart.2 c.requires.from c.requires.directory c.requires.there c.lend-from.ensures.lent c.lend-to.ensures.lent c.lend-file.new.self.items c.give_back.new.self.items c.give_back-2.new.self.items c.lessen_across-done.new.from c.lessen_across-done.new.to c.lessen_across-done.new.file c.lend-file.ensures.lent (c.lessen_across-done.ensures.inodes.0 ∙ c.lend-from.ensures.number) (c.lessen_across-done.ensures.inodes.1 ∙ c.lend-to.ensures.number) (c.lessen_across-done.ensures.inodes.2 ∙ c.lend-file.ensures.number) c.give_back.ensures.rows
+give_back-requires g c = last_given c.args.rows.now.items c.lend-from.new.self.items c.lend-to.new.self.items c.args.moved.now.from.directory c.args.moved.now.directory c.args.there c.requires.apart.0 c.requires.apart.1 c.requires.apart.2 c.requires.from c.requires.directory c.requires.there c.lend-from.ensures.lent c.lend-to.ensures.lent c.lend-file.new.self.items c.lessen_across-done.new.file c.lend-file.ensures.lent (c.lessen_across-done.ensures.inodes.2 ∙ c.lend-file.ensures.number)
 
 pub give_back-requires-2 : goal.give_back-requires-2
-give_back-requires-2 g c = second_given c.args.rows.now.items c.lend-from.new.self.items c.lend-to.new.self.items c.args.moved.now.from.directory c.args.moved.now.directory c.args.there c.requires.apart.0 c.requires.apart.1 c.requires.apart.2 c.requires.from c.requires.directory c.requires.there c.lend-from.ensures.lent c.lend-to.ensures.lent c.lend-file.new.self.items c.give_back.new.self.items c.give_back-2.new.self.items c.lessen_across-done.new.from c.lessen_across-done.new.to c.lessen_across-done.new.file c.lend-file.ensures.lent (c.lessen_across-done.ensures.inodes.0 ∙ c.lend-from.ensures.number) (c.lessen_across-done.ensures.inodes.1 ∙ c.lend-to.ensures.number) (c.lessen_across-done.ensures.inodes.2 ∙ c.lend-file.ensures.number) c.give_back.ensures.rows
+give_back-requires-2 g c = second_given c.args.rows.now.items c.lend-from.new.self.items c.lend-to.new.self.items c.args.moved.now.from.directory c.args.moved.now.directory c.args.there c.requires.apart.0 c.requires.apart.1 c.requires.apart.2 c.requires.from c.requires.directory c.requires.there c.lend-from.ensures.lent c.lend-to.ensures.lent c.lend-file.new.self.items c.give_back.new.self.items c.lessen_across-done.new.to c.lessen_across-done.new.file c.lend-file.ensures.lent (c.lessen_across-done.ensures.inodes.1 ∙ c.lend-to.ensures.number) (c.lessen_across-done.ensures.inodes.2 ∙ c.lend-file.ensures.number) c.give_back.ensures.rows
 
 pub give_back-requires-3 : goal.give_back-requires-3
-give_back-requires-3 g c = first_given c.args.rows.now.items c.lend-from.new.self.items c.lend-to.new.self.items c.args.moved.now.from.directory c.args.moved.now.directory c.args.there c.requires.apart.0 c.requires.apart.1 c.requires.apart.2 c.requires.from c.requires.directory c.requires.there c.lend-from.ensures.lent c.lend-to.ensures.lent c.lend-file.new.self.items c.give_back.new.self.items c.give_back-2.new.self.items c.lessen_across-done.new.from c.lessen_across-done.new.to c.lessen_across-done.new.file c.lend-file.ensures.lent (c.lessen_across-done.ensures.inodes.0 ∙ c.lend-from.ensures.number) (c.lessen_across-done.ensures.inodes.1 ∙ c.lend-to.ensures.number) (c.lessen_across-done.ensures.inodes.2 ∙ c.lend-file.ensures.number) c.give_back.ensures.rows c.give_back-2.ensures.rows
+give_back-requires-3 g c = first_given c.args.rows.now.items c.lend-from.new.self.items c.lend-to.new.self.items c.args.moved.now.from.directory c.args.moved.now.directory c.args.there c.requires.apart.0 c.requires.apart.1 c.requires.apart.2 c.requires.from c.requires.directory c.requires.there c.lend-from.ensures.lent c.lend-to.ensures.lent c.lend-file.new.self.items c.give_back.new.self.items c.lessen_across-done.new.to c.lessen_across-done.new.file c.lend-file.ensures.lent (c.lessen_across-done.ensures.inodes.1 ∙ c.lend-to.ensures.number) (c.lessen_across-done.ensures.inodes.2 ∙ c.lend-file.ensures.number) c.give_back.ensures.rows c.give_back-2.new.self.items c.lessen_across-done.new.from (c.lessen_across-done.ensures.inodes.0 ∙ c.lend-from.ensures.number) c.give_back-2.ensures.rows
 
 pub returns-clause-lessened : goal.returns-clause-lessened
 returns-clause-lessened g c =
     let to_at = row_stays c.args.rows.now.items c.lend-from.new.self.items c.args.moved.now.from.directory c.args.moved.now.directory c.requires.apart.0 c.requires.from c.lend-from.ensures.lent c.lend-to.result c.lend-to.ensures.row in
     let file_at = third_stays c.args.rows.now.items c.lend-from.new.self.items c.lend-to.new.self.items c.args.moved.now.from.directory c.args.moved.now.directory c.args.there c.requires.apart.0 c.requires.apart.1 c.requires.apart.2 c.requires.from c.requires.directory c.requires.there c.lend-from.ensures.lent c.lend-to.ensures.lent c.lend-file.result c.lend-file.ensures.row in
-    let put = back_three c.args.rows.now.items c.lend-from.new.self.items c.lend-to.new.self.items c.args.moved.now.from.directory c.args.moved.now.directory c.args.there c.requires.apart.0 c.requires.apart.1 c.requires.apart.2 c.requires.from c.requires.directory c.requires.there c.lend-from.ensures.lent c.lend-to.ensures.lent c.lend-file.new.self.items c.give_back.new.self.items c.give_back-2.new.self.items c.lessen_across-done.new.from c.lessen_across-done.new.to c.lessen_across-done.new.file c.lend-file.ensures.lent (c.lessen_across-done.ensures.inodes.0 ∙ c.lend-from.ensures.number) (c.lessen_across-done.ensures.inodes.1 ∙ c.lend-to.ensures.number) (c.lessen_across-done.ensures.inodes.2 ∙ c.lend-file.ensures.number) c.give_back.ensures.rows c.give_back-2.ensures.rows c.give_back-3.ensures.rows in
+    let put = back_three c.args.rows.now.items c.lend-from.new.self.items c.lend-to.new.self.items c.args.moved.now.from.directory c.args.moved.now.directory c.args.there c.requires.apart.0 c.requires.apart.1 c.requires.apart.2 c.requires.from c.requires.directory c.requires.there c.lend-from.ensures.lent c.lend-to.ensures.lent c.lend-file.new.self.items c.give_back.new.self.items c.lessen_across-done.new.to c.lessen_across-done.new.file c.lend-file.ensures.lent (c.lessen_across-done.ensures.inodes.1 ∙ c.lend-to.ensures.number) (c.lessen_across-done.ensures.inodes.2 ∙ c.lend-file.ensures.number) c.give_back.ensures.rows c.give_back-2.new.self.items c.lessen_across-done.new.from (c.lessen_across-done.ensures.inodes.0 ∙ c.lend-from.ensures.number) c.give_back-2.ensures.rows c.give_back-3.ensures.rows in
     on_ok_weaker c.lessen_across-done.result
     (λ (step : LessensAcross (g.P.Pmem.region c.args.memory.now) (g.P.Pmem.region c.lessen_across-done.new.memory) c.args.sup.now c.args.free.now c.lessen_across-done.new.free c.args.cpu c.lend-from.result c.lessen_across-done.new.from c.lend-to.result c.lessen_across-done.new.to c.lend-file.result c.lessen_across-done.new.file c.other_name-other.result.inode c.other_name-other.result.name.now c.other_name-other.result.other.now c.other_name-other.result.time). record {
       from = c.lend-from.result;
@@ -89,7 +89,7 @@ pub returns-clause-unchanged : goal.returns-clause-unchanged
 returns-clause-unchanged g c =
     let to_at = row_stays c.args.rows.now.items c.lend-from.new.self.items c.args.moved.now.from.directory c.args.moved.now.directory c.requires.apart.0 c.requires.from c.lend-from.ensures.lent c.lend-to.result c.lend-to.ensures.row in
     let file_at = third_stays c.args.rows.now.items c.lend-from.new.self.items c.lend-to.new.self.items c.args.moved.now.from.directory c.args.moved.now.directory c.args.there c.requires.apart.0 c.requires.apart.1 c.requires.apart.2 c.requires.from c.requires.directory c.requires.there c.lend-from.ensures.lent c.lend-to.ensures.lent c.lend-file.result c.lend-file.ensures.row in
-    let put = back_three c.args.rows.now.items c.lend-from.new.self.items c.lend-to.new.self.items c.args.moved.now.from.directory c.args.moved.now.directory c.args.there c.requires.apart.0 c.requires.apart.1 c.requires.apart.2 c.requires.from c.requires.directory c.requires.there c.lend-from.ensures.lent c.lend-to.ensures.lent c.lend-file.new.self.items c.give_back.new.self.items c.give_back-2.new.self.items c.lessen_across-done.new.from c.lessen_across-done.new.to c.lessen_across-done.new.file c.lend-file.ensures.lent (c.lessen_across-done.ensures.inodes.0 ∙ c.lend-from.ensures.number) (c.lessen_across-done.ensures.inodes.1 ∙ c.lend-to.ensures.number) (c.lessen_across-done.ensures.inodes.2 ∙ c.lend-file.ensures.number) c.give_back.ensures.rows c.give_back-2.ensures.rows c.give_back-3.ensures.rows in
+    let put = back_three c.args.rows.now.items c.lend-from.new.self.items c.lend-to.new.self.items c.args.moved.now.from.directory c.args.moved.now.directory c.args.there c.requires.apart.0 c.requires.apart.1 c.requires.apart.2 c.requires.from c.requires.directory c.requires.there c.lend-from.ensures.lent c.lend-to.ensures.lent c.lend-file.new.self.items c.give_back.new.self.items c.lessen_across-done.new.to c.lessen_across-done.new.file c.lend-file.ensures.lent (c.lessen_across-done.ensures.inodes.1 ∙ c.lend-to.ensures.number) (c.lessen_across-done.ensures.inodes.2 ∙ c.lend-file.ensures.number) c.give_back.ensures.rows c.give_back-2.new.self.items c.lessen_across-done.new.from (c.lessen_across-done.ensures.inodes.0 ∙ c.lend-from.ensures.number) c.give_back-2.ensures.rows c.give_back-3.ensures.rows in
     IfErr-weaker c.lessen_across-done.result _ _ (λ (e : Refusal) told off. (let left = told off in left_three c.args.rows.now.items c.lend-from.new.self.items c.lend-to.new.self.items c.args.moved.now.from.directory c.args.moved.now.directory c.args.there c.requires.apart.0 c.requires.apart.1 c.requires.apart.2 c.requires.from c.requires.directory c.requires.there c.lend-from.ensures.lent c.lend-to.ensures.lent c.args.memory.now c.lessen_across-done.new.memory c.args.free.now c.lessen_across-done.new.free c.lend-from.result c.lend-to.result c.lend-file.result c.lessen_across-done.new.from c.lessen_across-done.new.to c.lessen_across-done.new.file c.give_back-3.new.self.items c.lend-from.ensures.row to_at file_at put left.0 left.1 left.2)) c.lessen_across-done.ensures.unchanged
 
 pub returns-clause-any_stop : goal.returns-clause-any_stop
