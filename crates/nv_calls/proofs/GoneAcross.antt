@@ -22,7 +22,7 @@ use Rattle.nv_scan.specs.declared.piece.Row.{Row}
 use Rattle.nv_rows.proofs.Places.{number_at}
 use Rattle.nv_held.specs.nv_graph.Step.{IsGoodName}
 use Rattle.nv_held.specs.Held.{Held, Store}
-use Rattle.nv_held.specs.Blocks.{KeepsFree, OwnsNew}
+use Rattle.nv_held.specs.Blocks.{OwnsNew}
 use Rattle.nv_held.specs.Bytes.{byte_in, byte_of}
 use Rattle.nv_held.specs.Grows.{AreFree, SameFile}
 use Rattle.nv_held.specs.Mounted.{IsFaultless, IsMounted, KeepsRows, ShowsSound}

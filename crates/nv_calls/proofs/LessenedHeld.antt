@@ -1,6 +1,6 @@
 -- What is held once a name was given to another inode of its directory, and the file that had it counts a link less: nothing is wrong
 -- with it, and both rows are of it.
-use Rattle.std.proofs.Common.{◌≡◌, ◌≢◌, ℕ, ◌-◌, ◌%◌, ◌<◌, ◌≤◌, not, Bool, true, false, nat_lt, ◌&&◌, List, ◌∷◌, slice_get, take, refl, ap, sym, ◌∙◌, subst, arith, Some}
+use Rattle.std.proofs.Common.{◌≡◌, ◌≢◌, ℕ, ◌-◌, ◌%◌, ◌<◌, ◌≤◌, not, true, false, nat_lt, ◌&&◌, List, ◌∷◌, slice_get, take, refl, ap, sym, ◌∙◌, subst, arith, Some}
 use Rattle.nv_region.specs.Region.{Region}
 use Rattle.nv_super.specs.declared.superblock.Super.{Super}
 use Rattle.nv_super.specs.declared.kind.Kind.{Kind}

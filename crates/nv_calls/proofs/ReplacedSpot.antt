@@ -18,7 +18,7 @@ use Rattle.nv_held.specs.nv_graph.Read.{row_of}
 use Rattle.nv_held.specs.nv_graph.Step.{IsGoodName}
 use Rattle.nv_tree.specs.declared.refusal.Refusal.{Refusal}
 use Rattle.nv_tree.specs.Path.{IsPathName}
-use Rattle.nv_tree.specs.Tree.{Node, Tree, is_directory, name_in}
+use Rattle.nv_tree.specs.Tree.{Node, Tree, is_directory}
 use Rattle.nv_tree.specs.Calls.{links_at}
 use Rattle.nv_tree.specs.Refusals.{is_directory_at}
 use Rattle.nv_tree.specs.Replace.{Replaces}
