@@ -136,7 +136,7 @@ module _ {R S : Region} {s : Super} {rows : List Row} {free after : FreeLists} {
         let right = sound.faultless in
         moved_here_faultless l held right row.inode h shows.holds of_kind i name good removal_place time end pages row.inode other good_other (way_to (first ∷ rest)) is_named leads not_there outside refl addition_place
         (grown_owns l held row.inode h (extended h entries fresh) shows.holds fresh (pages_now entries shows kept.lists step.taken step.count given (omega arith)) (fresh_free entries shows kept.lists step.taken step.count given (omega arith))
-        (moved_file l h of_kind i name other good good_other removal_place addition_place time end pages) right.undoubled (pages_once {S = S} can (step.moved held h can)))
+        (moved_file l h of_kind i i name other good good_other removal_place addition_place time end pages) right.undoubled (pages_once {S = S} can (step.moved held h can)))
 
     -- The row is of its log.
     told_now : KeepsRow l (extended h entries fresh) new
@@ -145,14 +145,14 @@ module _ {R S : Region} {s : Super} {rows : List Row} {free after : FreeLists} {
         let has = step.row in
         record {
           kind = has.kind ∙ told.kind;
-          numbers = moved_numbers l h of_kind i name other good good_other removal_place addition_place time end pages row.numbers new.numbers told.numbers has.numbers;
+          numbers = moved_numbers l h of_kind i i name other good good_other removal_place addition_place time end pages row.numbers new.numbers told.numbers has.numbers;
           head = has.head ∙ told.head;
           tail = has.tail ∙ ap (λ (t : ℕ). end_of fresh 0 t entries) told.tail;
           pages = has.pages ∙ ap (λ (ps : List ℕ). ps ++ fresh) told.pages ∙ sym (pages_now entries shows kept.lists step.taken step.count given (omega arith));
-          index = λ p. has.index p ∙ told.index p ∙ sym (moved_file l h of_kind i name other good good_other removal_place addition_place time end pages p);
+          index = λ p. has.index p ∙ told.index p ∙ sym (moved_file l h of_kind i i name other good good_other removal_place addition_place time end pages p);
           names = λ q. has.names q ∙ ap (λ (t : ℕ). cond (pointwise nat_eq q other) (Some (i, move_place fresh t i name other time)) (name_at has.between q)) told.tail
               ∙ ap (λ (o : Option (ℕ × ℕ)). cond (pointwise nat_eq q other) (Some (i, addition_place)) o) (has.lost q ∙ ap (λ (o : Option (ℕ × ℕ)). cond (pointwise nat_eq q name) None o) (told.names q))
-              ∙ sym (moved_names l h of_kind i name other good good_other removal_place addition_place time end pages q);
+              ∙ sym (moved_names l h of_kind i i name other good good_other removal_place addition_place time end pages q);
         }
 
     -- The log has grown by both entries.
@@ -171,7 +171,7 @@ module _ {R S : Region} {s : Super} {rows : List Row} {free after : FreeLists} {
           inode = has.inode;
           lists = lists_without step.taken l held shows.lists kept.lists (with_log held row.inode h entries fresh)
               (free_but l held row.inode h (extended h entries fresh) shows.holds fresh (pages_now entries shows kept.lists step.taken step.count given (omega arith)) (fresh_free entries shows kept.lists step.taken step.count given (omega arith))
-              (moved_file l h of_kind i name other good good_other removal_place addition_place time end pages));
+              (moved_file l h of_kind i i name other good good_other removal_place addition_place time end pages));
           bytes = extended_bytes can step.mixed;
         }
 

@@ -27,7 +27,7 @@ use Rattle.nv_calls.proofs.LinkedHeld.{counted_file, counted_told}
 use Rattle.nv_steps.proofs.NamedLogs.{lost_told, named_file}
 
 -- no file has more than a thousand links
-few_links : {R : Region} {s : Super} {held : Store} {f : Held} {file : Row} {free : FreeLists} → ShowsRow R s held f file free → file.numbers.links ≤ 1000
+pub few_links : {R : Region} {s : Super} {held : Store} {f : Held} {file : Row} {free : FreeLists} → ShowsRow R s held f file free → file.numbers.links ≤ 1000
 few_links {s = s} {f = f} shows = let told = shows.told in let numbers = told.numbers in subst (λ (n : ℕ). n ≤ 1000) (sym numbers.links) (links_small s f.kind f.entries)
 
 module _ {R S : Region} {s : Super} {rows news : List Row} {free after : FreeLists} {cpu place target : ℕ} {name : List ℕ} {time : ℕ} (step : UnlinksAt R S s free after cpu rows news place target name time)

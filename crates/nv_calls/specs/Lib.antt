@@ -12,6 +12,7 @@ pub use Rattle.nv_rows.specs as nv_rows
 pub use Rattle.nv_held.specs.nv_graph
 pub mod MoveCalls
 pub mod ReplaceCalls
+pub mod ReplaceLogs
 pub mod LinkCalls
 pub mod NameCalls
 pub mod RemoveCalls

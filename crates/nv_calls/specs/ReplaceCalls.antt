@@ -6,9 +6,12 @@ use Rattle.nv_alloc.specs.FreeValue.{FreeLists}
 use Rattle.nv_logpage.specs.Append.{needed}
 use Rattle.nv_scan.specs.declared.piece.Row.{Row}
 use Rattle.nv_tree.specs.Tree.{is_directory}
+use Rattle.nv_entry.specs.declared.entry.Operation.TheVariants.{Remove}
+use Rattle.nv_steps.specs.Across.{LessenedAcross, LessensAcross, TakesAcross, TookAcross, handed_entries}
+use Rattle.nv_steps.specs.InOrder.{TailIsFirst, TailIsNext, tail_address}
 use Rattle.nv_steps.specs.LessNames.{GivesRow}
 use Rattle.nv_steps.specs.Lessens.{Lessened, LessensAt}
-use Rattle.nv_steps.specs.NameEntries.{links_entries}
+use Rattle.nv_steps.specs.NameEntries.{links_entries, name_entries}
 use Rattle.nv_steps.specs.Takes.{TakesWithin, TookWithin, take_entries}
 
 -- a file with more links than one, which stays without one of its names
@@ -29,13 +32,13 @@ pub record TakesAt (R S : Region) (s : Super) (free after : FreeLists) (cpu : �
   pub put : news ≡ remove (set rows place now) target
 
 -- the row at this place is of an inode that stays, or of one that goes
-abbrev pub AllStay : Bool → List Row → ℕ → Type 0
-AllStay stays rows target = (there : Row) → slice_get rows target ≡ Some there → keeps_others there ≡ stays
+abbrev pub StaysAt : Bool → List Row → ℕ → Type 0
+StaysAt stays rows target = (there : Row) → slice_get rows target ≡ Some there → keeps_others there ≡ stays
 
 -- where the file has other names, it counts a link less; else it goes
 abbrev pub ReplacesHere : Region → Region → Super → FreeLists → FreeLists → ℕ → List Row → List Row → ℕ → ℕ → ℕ → List ℕ → List ℕ → ℕ → Type 0
-ReplacesHere R S s free after cpu rows news place target i name other time = (AllStay true rows target × LessensAt R S s free after cpu rows news place target i name other time)
-    ⊎ (AllStay false rows target × TakesAt R S s free after cpu rows news place target i name other time)
+ReplacesHere R S s free after cpu rows news place target i name other time = (StaysAt true rows target × LessensAt R S s free after cpu rows news place target i name other time)
+    ⊎ (StaysAt false rows target × TakesAt R S s free after cpu rows news place target i name other time)
 
 -- how many blocks it takes
 abbrev pub replace_here_blocks : Row → Row → ℕ → List ℕ → List ℕ → ℕ → ℕ
@@ -46,3 +49,59 @@ replace_here_blocks row there i name other time = needed (row.tail % 4096) (take
 abbrev pub ReplacedHere : Region → Super → FreeLists → ℕ → Row → Row → ℕ → List ℕ → List ℕ → ℕ → Region → Type 0
 ReplacedHere R s free cpu row there i name other time S = ((keeps_others there ≡ true) × Lessened R s free cpu row there i name other time S)
     ⊎ ((keeps_others there ≡ false) × TookWithin R s free cpu row i there.inode name other time S)
+
+-- ---- the two names in different directories
+
+-- Inode i lost a name in the directory whose row is at one place, and got that of another in the one at a second place. That one
+-- went, whose row was at a third.
+pub record TakesOver (R S : Region) (s : Super) (free after : FreeLists) (cpu : ℕ) (rows news : List Row) (place end target i : ℕ) (name other : List ℕ) (time : ℕ) : Type 0 where
+  pub from : Row
+  pub to : Row
+  pub gone : Row
+  pub from_now : Row
+  pub to_now : Row
+  pub mid : FreeLists
+  pub at : slice_get rows place ≡ Some from
+  pub to_at : slice_get rows end ≡ Some to
+  pub gone_at : slice_get rows target ≡ Some gone
+  pub step : TakesAcross R S s free mid cpu from from_now to to_now i gone.inode name other time
+  pub given : GivesRow mid gone after
+  pub put : news ≡ remove (set (set rows place from_now) end to_now) target
+
+-- The same where the file whose row is at the third place counts a link less.
+pub record LessensOver (R S : Region) (s : Super) (free after : FreeLists) (cpu : ℕ) (rows news : List Row) (place end target i : ℕ) (name other : List ℕ) (time : ℕ) : Type 0 where
+  pub from : Row
+  pub to : Row
+  pub file : Row
+  pub from_now : Row
+  pub to_now : Row
+  pub file_now : Row
+  pub at : slice_get rows place ≡ Some from
+  pub to_at : slice_get rows end ≡ Some to
+  pub file_at : slice_get rows target ≡ Some file
+  pub step : LessensAcross R S s free after cpu from from_now to to_now file file_now i name other time
+  pub put : news ≡ set (set (set rows place from_now) end to_now) target file_now
+
+-- where the file has other names, it counts a link less; else it goes
+abbrev pub ReplacesOver : Region → Region → Super → FreeLists → FreeLists → ℕ → List Row → List Row → ℕ → ℕ → ℕ → ℕ → List ℕ → List ℕ → ℕ → Type 0
+ReplacesOver R S s free after cpu rows news place end target i name other time = (StaysAt true rows target × LessensOver R S s free after cpu rows news place end target i name other time)
+    ⊎ (StaysAt false rows target × TakesOver R S s free after cpu rows news place end target i name other time)
+
+-- how many blocks the two directories take
+abbrev pub hand_blocks : Row → Row → ℕ → ℕ → List ℕ → List ℕ → ℕ → ℕ
+hand_blocks from to i j name other time = needed (from.tail % 4096) (name_entries Remove i name time) + needed (to.tail % 4096) (handed_entries i j other time)
+
+-- the old directory's tail is stored first, then that of the new one, and then a word
+abbrev pub HandsInOrder : Region → Region → Super → FreeLists → ℕ → Row → Row → ℕ → ℕ → List ℕ → List ℕ → ℕ → ℕ → Type 0
+HandsInOrder R S s free cpu from to i j name other time at = TailIsFirst R S s free.pools cpu from.inode from.tail (name_entries Remove i name time) (tail_address s to.inode)
+    × TailIsNext R S s free.pools cpu (needed (from.tail % 4096) (name_entries Remove i name time)) to.inode to.tail (handed_entries i j other time) at
+
+-- how many blocks it takes
+abbrev pub replace_over_blocks : Row → Row → Row → ℕ → List ℕ → List ℕ → ℕ → ℕ
+replace_over_blocks from to there i name other time = hand_blocks from to i there.inode name other time
+    + (if keeps_others there then needed (there.tail % 4096) (links_entries (there.numbers.links - 1) time) else 0)
+
+-- what a stop leaves of it
+abbrev pub ReplacedOver : Region → Super → FreeLists → ℕ → Row → Row → Row → ℕ → List ℕ → List ℕ → ℕ → Region → Type 0
+ReplacedOver R s free cpu from to there i name other time S = ((keeps_others there ≡ true) × LessenedAcross R s free cpu from to there i name other time S)
+    ⊎ ((keeps_others there ≡ false) × TookAcross R s free cpu from to i there.inode name other time S)

@@ -16,6 +16,7 @@ mod removing;
 mod removing_directory;
 mod renaming;
 mod replacing;
+mod replacing_across;
 mod sizes;
 mod stating;
 mod stops;

@@ -54,6 +54,7 @@ fn take_at<P: Pmem>(
     there: u64,
     time: u64,
 ) -> Result<(), Refusal>
+    requires same { moved.now.from.directory ≡ moved.now.directory }
     requires directory { IsInUse rows.old.items moved.now.directory }
     requires there { IsInUse rows.old.items there }
     requires stands { (row : RowValue) → row_of rows.old.items moved.now.directory ≡ Option.Some row → StandsRight (P.region memory.old) sup.now free.old row }
@@ -119,6 +120,7 @@ fn lessen_at<P: Pmem>(
     there: u64,
     time: u64,
 ) -> Result<(), Refusal>
+    requires same { moved.now.from.directory ≡ moved.now.directory }
     requires directory { IsInUse rows.old.items moved.now.directory }
     requires there { IsInUse rows.old.items there }
     requires apart { moved.now.directory ≢ there }
@@ -178,7 +180,7 @@ fn lessen_at<P: Pmem>(
 }
 
 /// Whether an inode stays without one of its names: a file with more links than one.
-fn stays_without(row: &Row) -> bool
+pub(crate) fn keeps_others(row: &Row) -> bool
     ensures { result ≡ keeps_others row.now }
 {
     row.kind != Kind::Directory && row.numbers.links > 1
@@ -186,7 +188,7 @@ fn stays_without(row: &Row) -> bool
 
 /// Gives an inode the name of another of its directory, which loses a link where it has more, and else goes. It is refused as
 /// `lessen_at` and `take_at` are.
-fn replace_within<P: Pmem>(
+pub(crate) fn replace_within<P: Pmem>(
     alloc: Global,
     memory: &mut P,
     sup: &Super,
@@ -197,6 +199,7 @@ fn replace_within<P: Pmem>(
     there: u64,
     time: u64,
 ) -> Result<(), Refusal>
+    requires same { moved.now.from.directory ≡ moved.now.directory }
     requires directory { IsInUse rows.old.items moved.now.directory }
     requires there { IsInUse rows.old.items there }
     requires apart { moved.now.directory ≢ there }
@@ -244,7 +247,7 @@ fn replace_within<P: Pmem>(
         → LeavesOnly (P.region memory.new) (P.may_hold memory.new) (LeavesEither (P.region memory.old) (fixed_layout sup.now) held
         (ReplacedHere (P.region memory.old) sup.now free.old cpu row file moved.now.from.target moved.now.from.name.now moved.now.name.now time)) }
 {
-    if stays_without(rows.row(there)) {
+    if keeps_others(rows.row(there)) {
         lessen_at(alloc, memory, sup, free, cpu, rows, moved, there, time)
     } else {
         take_at(alloc, memory, sup, free, cpu, rows, moved, there, time)

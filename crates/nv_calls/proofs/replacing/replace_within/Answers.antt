@@ -8,83 +8,83 @@ use Rattle.nv_steps.specs.Lessens.{Lessened}
 use Rattle.nv_steps.specs.Steps.{RefusesStep}
 use Rattle.nv_steps.specs.Takes.{TookWithin}
 use Rattle.nv_calls.specs.ReplaceCalls.{ReplacedHere}
-use Rattle.nv_calls.proofs.ReplaceAt.{all_stay, blocks_go, blocks_stay, more_links}
+use Rattle.nv_calls.proofs.ReplaceAt.{stays_at, blocks_go, blocks_stay, more_links}
 use Rattle.nv_calls.proofs.Stopped.{left_made}
 use Rattle.nv_calls.proofs.replacing.replace_within.Goals as goal
 
 pub lessen_at-requires-clause-more : goal.lessen_at-requires-clause-more
 lessen_at-requires-clause-more g c file there =
-    more_links file (all_stay true c.args.rows.now.items (place_in c.args.rows.now.items c.args.there) c.row.result.now c.stays_without.result (at_place c.args.rows.now.items c.args.there ∙ c.row.ensures) c.stays_without.ensures c.if-stays_without.true file (at_place c.args.rows.now.items c.args.there ∙ there))
+    more_links file (stays_at true c.args.rows.now.items (place_in c.args.rows.now.items c.args.there) c.row.result.now c.keeps_others.result (at_place c.args.rows.now.items c.args.there ∙ c.row.ensures) c.keeps_others.ensures c.if-keeps_others.true file (at_place c.args.rows.now.items c.args.there ∙ there))
 
 pub take_at-requires-clause-stands : goal.take_at-requires-clause-stands
 take_at-requires-clause-stands g c row at = (c.requires.stands row at).0
 
-pub returns-then-stays_without-clause-replaced : goal.returns-then-stays_without-clause-replaced
-returns-then-stays_without-clause-replaced g c =
-    on_ok_weaker c.lessen_at.result (λ step. inl (all_stay true c.args.rows.now.items (place_in c.args.rows.now.items c.args.there) c.row.result.now c.stays_without.result (at_place c.args.rows.now.items c.args.there ∙ c.row.ensures) c.stays_without.ensures c.if-stays_without.true, step)) c.lessen_at.ensures.lessened
+pub returns-then-keeps_others-clause-replaced : goal.returns-then-keeps_others-clause-replaced
+returns-then-keeps_others-clause-replaced g c =
+    on_ok_weaker c.lessen_at.result (λ step. inl (stays_at true c.args.rows.now.items (place_in c.args.rows.now.items c.args.there) c.row.result.now c.keeps_others.result (at_place c.args.rows.now.items c.args.there ∙ c.row.ensures) c.keeps_others.ensures c.if-keeps_others.true, step)) c.lessen_at.ensures.lessened
 
-pub returns-then-stays_without-clause-enough : goal.returns-then-stays_without-clause-enough
-returns-then-stays_without-clause-enough g c row file at there =
-    let same = blocks_stay row file c.args.moved.now.from.target c.args.moved.now.from.name.now c.args.moved.now.name.now c.args.time (all_stay true c.args.rows.now.items (place_in c.args.rows.now.items c.args.there) c.row.result.now c.stays_without.result (at_place c.args.rows.now.items c.args.there ∙ c.row.ensures) c.stays_without.ensures c.if-stays_without.true file (at_place c.args.rows.now.items c.args.there ∙ there)) in
+pub returns-then-keeps_others-clause-enough : goal.returns-then-keeps_others-clause-enough
+returns-then-keeps_others-clause-enough g c row file at there =
+    let same = blocks_stay row file c.args.moved.now.from.target c.args.moved.now.from.name.now c.args.moved.now.name.now c.args.time (stays_at true c.args.rows.now.items (place_in c.args.rows.now.items c.args.there) c.row.result.now c.keeps_others.result (at_place c.args.rows.now.items c.args.there ∙ c.row.ensures) c.keeps_others.ensures c.if-keeps_others.true file (at_place c.args.rows.now.items c.args.there ∙ there)) in
     on_ok_weaker c.lessen_at.result (λ enough. subst (λ (n : ℕ). n ≤ all_blocks c.args.free.now.pools) same enough) (c.lessen_at.ensures.enough row file at there)
 
-pub returns-then-stays_without-clause-refused : goal.returns-then-stays_without-clause-refused
-returns-then-stays_without-clause-refused g c row file at there =
-    let same = blocks_stay row file c.args.moved.now.from.target c.args.moved.now.from.name.now c.args.moved.now.name.now c.args.time (all_stay true c.args.rows.now.items (place_in c.args.rows.now.items c.args.there) c.row.result.now c.stays_without.result (at_place c.args.rows.now.items c.args.there ∙ c.row.ensures) c.stays_without.ensures c.if-stays_without.true file (at_place c.args.rows.now.items c.args.there ∙ there)) in
+pub returns-then-keeps_others-clause-refused : goal.returns-then-keeps_others-clause-refused
+returns-then-keeps_others-clause-refused g c row file at there =
+    let same = blocks_stay row file c.args.moved.now.from.target c.args.moved.now.from.name.now c.args.moved.now.name.now c.args.time (stays_at true c.args.rows.now.items (place_in c.args.rows.now.items c.args.there) c.row.result.now c.keeps_others.result (at_place c.args.rows.now.items c.args.there ∙ c.row.ensures) c.keeps_others.ensures c.if-keeps_others.true file (at_place c.args.rows.now.items c.args.there ∙ there)) in
     IfErr-weaker c.lessen_at.result _ _ (λ (e : Refusal) refused. subst (λ (n : ℕ). RefusesStep e n c.args.free.now) same refused) (c.lessen_at.ensures.refused row file at there)
 
-pub returns-then-stays_without-clause-any_stop : goal.returns-then-stays_without-clause-any_stop
-returns-then-stays_without-clause-any_stop g c row file held h f at there here other settled left may =
-    let is = all_stay true c.args.rows.now.items (place_in c.args.rows.now.items c.args.there) c.row.result.now c.stays_without.result (at_place c.args.rows.now.items c.args.there ∙ c.row.ensures) c.stays_without.ensures c.if-stays_without.true file (at_place c.args.rows.now.items c.args.there ∙ there) in
+pub returns-then-keeps_others-clause-any_stop : goal.returns-then-keeps_others-clause-any_stop
+returns-then-keeps_others-clause-any_stop g c row file held h f at there here other settled left may =
+    let is = stays_at true c.args.rows.now.items (place_in c.args.rows.now.items c.args.there) c.row.result.now c.keeps_others.result (at_place c.args.rows.now.items c.args.there ∙ c.row.ensures) c.keeps_others.ensures c.if-keeps_others.true file (at_place c.args.rows.now.items c.args.there ∙ there) in
     left_made (Lessened (g.P.Pmem.region c.args.memory.now) c.args.sup.now c.args.free.now c.args.cpu row file c.args.moved.now.from.target c.args.moved.now.from.name.now c.args.moved.now.name.now c.args.time) (ReplacedHere (g.P.Pmem.region c.args.memory.now) c.args.sup.now c.args.free.now c.args.cpu row file c.args.moved.now.from.target c.args.moved.now.from.name.now c.args.moved.now.name.now c.args.time) (λ S w. inl (is, w)) left (c.lessen_at.ensures.any_stop row file held h f at there here other settled left may)
 
-pub returns-then-stays_without-clause-in_order : goal.returns-then-stays_without-clause-in_order
-returns-then-stays_without-clause-in_order g c row file held h f at there here other said = c.lessen_at.ensures.in_order row file held h f at there here other
+pub returns-then-keeps_others-clause-in_order : goal.returns-then-keeps_others-clause-in_order
+returns-then-keeps_others-clause-in_order g c row file held h f at there here other said = c.lessen_at.ensures.in_order row file held h f at there here other
 
-pub returns-then-stays_without-clause-last_in_order : goal.returns-then-stays_without-clause-last_in_order
-returns-then-stays_without-clause-last_in_order g c row file held h f at there here other said =
-    let clash : true ≡ false = sym (all_stay true c.args.rows.now.items (place_in c.args.rows.now.items c.args.there) c.row.result.now c.stays_without.result (at_place c.args.rows.now.items c.args.there ∙ c.row.ensures) c.stays_without.ensures c.if-stays_without.true file (at_place c.args.rows.now.items c.args.there ∙ there)) ∙ said in
+pub returns-then-keeps_others-clause-last_in_order : goal.returns-then-keeps_others-clause-last_in_order
+returns-then-keeps_others-clause-last_in_order g c row file held h f at there here other said =
+    let clash : true ≡ false = sym (stays_at true c.args.rows.now.items (place_in c.args.rows.now.items c.args.there) c.row.result.now c.keeps_others.result (at_place c.args.rows.now.items c.args.there ∙ c.row.ensures) c.keeps_others.ensures c.if-keeps_others.true file (at_place c.args.rows.now.items c.args.there ∙ there)) ∙ said in
     absurd (cc)
 
-pub returns-then-stays_without-clause-wrote : goal.returns-then-stays_without-clause-wrote
-returns-then-stays_without-clause-wrote g c row file held h f at there here other said = c.lessen_at.ensures.wrote row file held h f at there here other
+pub returns-then-keeps_others-clause-wrote : goal.returns-then-keeps_others-clause-wrote
+returns-then-keeps_others-clause-wrote g c row file held h f at there here other said = c.lessen_at.ensures.wrote row file held h f at there here other
 
-pub returns-then-stays_without-clause-last_wrote : goal.returns-then-stays_without-clause-last_wrote
-returns-then-stays_without-clause-last_wrote g c row file held h f at there here other said =
-    let clash : true ≡ false = sym (all_stay true c.args.rows.now.items (place_in c.args.rows.now.items c.args.there) c.row.result.now c.stays_without.result (at_place c.args.rows.now.items c.args.there ∙ c.row.ensures) c.stays_without.ensures c.if-stays_without.true file (at_place c.args.rows.now.items c.args.there ∙ there)) ∙ said in
+pub returns-then-keeps_others-clause-last_wrote : goal.returns-then-keeps_others-clause-last_wrote
+returns-then-keeps_others-clause-last_wrote g c row file held h f at there here other said =
+    let clash : true ≡ false = sym (stays_at true c.args.rows.now.items (place_in c.args.rows.now.items c.args.there) c.row.result.now c.keeps_others.result (at_place c.args.rows.now.items c.args.there ∙ c.row.ensures) c.keeps_others.ensures c.if-keeps_others.true file (at_place c.args.rows.now.items c.args.there ∙ there)) ∙ said in
     absurd (cc)
 
-pub returns-else-stays_without-clause-replaced : goal.returns-else-stays_without-clause-replaced
-returns-else-stays_without-clause-replaced g c =
-    on_ok_weaker c.take_at.result (λ step. inr (all_stay false c.args.rows.now.items (place_in c.args.rows.now.items c.args.there) c.row.result.now c.stays_without.result (at_place c.args.rows.now.items c.args.there ∙ c.row.ensures) c.stays_without.ensures c.if-stays_without.false, step)) c.take_at.ensures.taken
+pub returns-else-keeps_others-clause-replaced : goal.returns-else-keeps_others-clause-replaced
+returns-else-keeps_others-clause-replaced g c =
+    on_ok_weaker c.take_at.result (λ step. inr (stays_at false c.args.rows.now.items (place_in c.args.rows.now.items c.args.there) c.row.result.now c.keeps_others.result (at_place c.args.rows.now.items c.args.there ∙ c.row.ensures) c.keeps_others.ensures c.if-keeps_others.false, step)) c.take_at.ensures.taken
 
-pub returns-else-stays_without-clause-enough : goal.returns-else-stays_without-clause-enough
-returns-else-stays_without-clause-enough g c row file at there =
-    let same = blocks_go row file c.args.moved.now.from.target c.args.moved.now.from.name.now c.args.moved.now.name.now c.args.time (all_stay false c.args.rows.now.items (place_in c.args.rows.now.items c.args.there) c.row.result.now c.stays_without.result (at_place c.args.rows.now.items c.args.there ∙ c.row.ensures) c.stays_without.ensures c.if-stays_without.false file (at_place c.args.rows.now.items c.args.there ∙ there)) in
+pub returns-else-keeps_others-clause-enough : goal.returns-else-keeps_others-clause-enough
+returns-else-keeps_others-clause-enough g c row file at there =
+    let same = blocks_go row file c.args.moved.now.from.target c.args.moved.now.from.name.now c.args.moved.now.name.now c.args.time (stays_at false c.args.rows.now.items (place_in c.args.rows.now.items c.args.there) c.row.result.now c.keeps_others.result (at_place c.args.rows.now.items c.args.there ∙ c.row.ensures) c.keeps_others.ensures c.if-keeps_others.false file (at_place c.args.rows.now.items c.args.there ∙ there)) in
     on_ok_weaker c.take_at.result (λ enough. subst (λ (n : ℕ). n ≤ all_blocks c.args.free.now.pools) same enough) (c.take_at.ensures.enough row file at there)
 
-pub returns-else-stays_without-clause-refused : goal.returns-else-stays_without-clause-refused
-returns-else-stays_without-clause-refused g c row file at there =
-    let same = blocks_go row file c.args.moved.now.from.target c.args.moved.now.from.name.now c.args.moved.now.name.now c.args.time (all_stay false c.args.rows.now.items (place_in c.args.rows.now.items c.args.there) c.row.result.now c.stays_without.result (at_place c.args.rows.now.items c.args.there ∙ c.row.ensures) c.stays_without.ensures c.if-stays_without.false file (at_place c.args.rows.now.items c.args.there ∙ there)) in
+pub returns-else-keeps_others-clause-refused : goal.returns-else-keeps_others-clause-refused
+returns-else-keeps_others-clause-refused g c row file at there =
+    let same = blocks_go row file c.args.moved.now.from.target c.args.moved.now.from.name.now c.args.moved.now.name.now c.args.time (stays_at false c.args.rows.now.items (place_in c.args.rows.now.items c.args.there) c.row.result.now c.keeps_others.result (at_place c.args.rows.now.items c.args.there ∙ c.row.ensures) c.keeps_others.ensures c.if-keeps_others.false file (at_place c.args.rows.now.items c.args.there ∙ there)) in
     IfErr-weaker c.take_at.result _ _ (λ (e : Refusal) refused. subst (λ (n : ℕ). RefusesStep e n c.args.free.now) same refused) (c.take_at.ensures.refused row file at there)
 
-pub returns-else-stays_without-clause-any_stop : goal.returns-else-stays_without-clause-any_stop
-returns-else-stays_without-clause-any_stop g c row file held h f at there here other settled left may =
-    let is = all_stay false c.args.rows.now.items (place_in c.args.rows.now.items c.args.there) c.row.result.now c.stays_without.result (at_place c.args.rows.now.items c.args.there ∙ c.row.ensures) c.stays_without.ensures c.if-stays_without.false file (at_place c.args.rows.now.items c.args.there ∙ there) in
+pub returns-else-keeps_others-clause-any_stop : goal.returns-else-keeps_others-clause-any_stop
+returns-else-keeps_others-clause-any_stop g c row file held h f at there here other settled left may =
+    let is = stays_at false c.args.rows.now.items (place_in c.args.rows.now.items c.args.there) c.row.result.now c.keeps_others.result (at_place c.args.rows.now.items c.args.there ∙ c.row.ensures) c.keeps_others.ensures c.if-keeps_others.false file (at_place c.args.rows.now.items c.args.there ∙ there) in
     left_made (TookWithin (g.P.Pmem.region c.args.memory.now) c.args.sup.now c.args.free.now c.args.cpu row c.args.moved.now.from.target file.inode c.args.moved.now.from.name.now c.args.moved.now.name.now c.args.time) (ReplacedHere (g.P.Pmem.region c.args.memory.now) c.args.sup.now c.args.free.now c.args.cpu row file c.args.moved.now.from.target c.args.moved.now.from.name.now c.args.moved.now.name.now c.args.time) (λ S w. inr (is, w)) left (c.take_at.ensures.any_stop row file held h at there here settled left may)
 
-pub returns-else-stays_without-clause-in_order : goal.returns-else-stays_without-clause-in_order
-returns-else-stays_without-clause-in_order g c row file held h f at there here other said =
-    let clash : false ≡ true = sym (all_stay false c.args.rows.now.items (place_in c.args.rows.now.items c.args.there) c.row.result.now c.stays_without.result (at_place c.args.rows.now.items c.args.there ∙ c.row.ensures) c.stays_without.ensures c.if-stays_without.false file (at_place c.args.rows.now.items c.args.there ∙ there)) ∙ said in
+pub returns-else-keeps_others-clause-in_order : goal.returns-else-keeps_others-clause-in_order
+returns-else-keeps_others-clause-in_order g c row file held h f at there here other said =
+    let clash : false ≡ true = sym (stays_at false c.args.rows.now.items (place_in c.args.rows.now.items c.args.there) c.row.result.now c.keeps_others.result (at_place c.args.rows.now.items c.args.there ∙ c.row.ensures) c.keeps_others.ensures c.if-keeps_others.false file (at_place c.args.rows.now.items c.args.there ∙ there)) ∙ said in
     absurd (cc)
 
-pub returns-else-stays_without-clause-last_in_order : goal.returns-else-stays_without-clause-last_in_order
-returns-else-stays_without-clause-last_in_order g c row file held h f at there here other said = c.take_at.ensures.in_order row file held h at there here
+pub returns-else-keeps_others-clause-last_in_order : goal.returns-else-keeps_others-clause-last_in_order
+returns-else-keeps_others-clause-last_in_order g c row file held h f at there here other said = c.take_at.ensures.in_order row file held h at there here
 
-pub returns-else-stays_without-clause-wrote : goal.returns-else-stays_without-clause-wrote
-returns-else-stays_without-clause-wrote g c row file held h f at there here other said =
-    let clash : false ≡ true = sym (all_stay false c.args.rows.now.items (place_in c.args.rows.now.items c.args.there) c.row.result.now c.stays_without.result (at_place c.args.rows.now.items c.args.there ∙ c.row.ensures) c.stays_without.ensures c.if-stays_without.false file (at_place c.args.rows.now.items c.args.there ∙ there)) ∙ said in
+pub returns-else-keeps_others-clause-wrote : goal.returns-else-keeps_others-clause-wrote
+returns-else-keeps_others-clause-wrote g c row file held h f at there here other said =
+    let clash : false ≡ true = sym (stays_at false c.args.rows.now.items (place_in c.args.rows.now.items c.args.there) c.row.result.now c.keeps_others.result (at_place c.args.rows.now.items c.args.there ∙ c.row.ensures) c.keeps_others.ensures c.if-keeps_others.false file (at_place c.args.rows.now.items c.args.there ∙ there)) ∙ said in
     absurd (cc)
 
-pub returns-else-stays_without-clause-last_wrote : goal.returns-else-stays_without-clause-last_wrote
-returns-else-stays_without-clause-last_wrote g c row file held h f at there here other said = c.take_at.ensures.wrote row file held h at there here
+pub returns-else-keeps_others-clause-last_wrote : goal.returns-else-keeps_others-clause-last_wrote
+returns-else-keeps_others-clause-last_wrote g c row file held h f at there here other said = c.take_at.ensures.wrote row file held h at there here

@@ -1,0 +1,114 @@
+-- What recovery finds in a region that a stop has left where a name went from one directory to another, in which it stood for another
+-- inode.
+use Rattle.std.proofs.Common.{◌≡◌, ◌≢◌, ◌⊎◌, ℕ, true, false, inl, inr, List, ◌∷◌, remove, set, slice_get, refl, ◌∙◌, Some}
+use Rattle.std.proofs.Math.Logic.{∥∥₁_map}
+use Rattle.nv_region.specs.Region.{Region}
+use Rattle.nv_region.specs.Stops.{Choices, LeavesOnly, NothingPending}
+use Rattle.nv_super.specs.declared.superblock.Super.{Super}
+use Rattle.nv_super.specs.Layout.{fixed_layout}
+use Rattle.nv_super.proofs.Members.{stands}
+use Rattle.nv_journal.specs.Undo.{undone}
+use Rattle.nv_alloc.specs.FreeValue.{FreeLists}
+use Rattle.nv_scan.specs.declared.piece.Row.{Row}
+use Rattle.nv_rows.specs.Rows.{place_in}
+use Rattle.nv_rows.proofs.Places.{at_place}
+use Rattle.nv_held.specs.nv_graph.Read.{row_of}
+use Rattle.nv_held.specs.Held.{Held, Store}
+use Rattle.nv_held.specs.Mounted.{IsMounted}
+use Rattle.nv_commit.specs.Stopped.{CanRecover, LeavesEither}
+use Rattle.nv_tree.specs.Path.{IsPathName}
+use Rattle.nv_tree.specs.Replace.{replaced}
+use Rattle.nv_paths.specs.ReplaceSpots.{IsReplaceSpot}
+use Rattle.nv_paths.specs.Seen.{tree_of}
+use Rattle.nv_steps.specs.Across.{LessenedAcross, TookAcross}
+use Rattle.nv_steps.specs.Steps.{ShowsRow}
+use Rattle.nv_calls.specs.Mount.{IsKept, Mount}
+use Rattle.nv_calls.specs.ReplaceCalls.{ReplacedOver, keeps_others}
+use Rattle.nv_calls.specs.ReplaceLogs.{LogsHanded}
+use Rattle.nv_calls.specs.Stopped.{IsAsMade, IsAsMounted, StopLeaves}
+use Rattle.nv_calls.proofs.Mounts.{mounted_of_kept}
+use Rattle.nv_calls.proofs.OneRow.{shows_row}
+use Rattle.nv_calls.proofs.ReplacedAcross.{gone_last, gone_others, gone_some, gone_tree, less_more, less_mounted, less_others, less_tree}
+use Rattle.nv_calls.proofs.Stopped.{recovers_to, still_mounted}
+
+module _ {P : Type 0} (region : P → Region) (n : Mount P) (kept : IsKept (region n.memory) n.sup n.rows n.free n.faults n.read_only n.stopped) (runs : n.stopped ≡ false) (writes : n.read_only ≡ false)
+    (i e j k : ℕ) (from to moved there : Row) (at : row_of n.rows i ≡ Some from) (to_at : row_of n.rows e ≡ Some to) (moved_at : row_of n.rows j ≡ Some moved) (there_at : row_of n.rows k ≡ Some there) (places_apart : place_in n.rows i ≢ place_in n.rows e) (name other : List ℕ) (cpu time : ℕ) (spelled : IsPathName name) (spelled_other : IsPathName other)
+    (first_old : List ℕ) (old : List (List ℕ)) (first : List ℕ) (rest : List (List ℕ)) (spot : IsReplaceSpot (tree_of (region n.memory) n.rows) n.rows (first_old ∷ old) (first ∷ rest) (place_in n.rows i) name (place_in n.rows j) (place_in n.rows e) other (Some there.inode)) (apart : moved.inode ≢ there.inode) where
+  abbrev R : Region
+  R = region n.memory
+
+  abbrev s : Super
+  s = n.sup
+
+  abbrev rows : List Row
+  rows = n.rows
+
+  abbrev free : FreeLists
+  free = n.free
+
+  abbrev names : List (List ℕ)
+  names = first_old ∷ old
+
+  abbrev others : List (List ℕ)
+  others = first ∷ rest
+
+  from_there : slice_get rows (place_in rows i) ≡ Some from
+  from_there = at_place rows i ∙ at
+
+  to_there : slice_get rows (place_in rows e) ≡ Some to
+  to_there = at_place rows e ∙ to_at
+
+  moved_there : slice_get rows (place_in rows j) ≡ Some moved
+  moved_there = at_place rows j ∙ moved_at
+
+  there_there : slice_get rows (place_in rows k) ≡ Some there
+  there_there = at_place rows k ∙ there_at
+
+  -- where the file counts a link less
+  less_made : (left : Region) (held : Store) (mounted : IsMounted R s held rows free.pools) → CanRecover s left → keeps_others there ≡ true → LessenedAcross R s free cpu from to there moved.inode name other time (undone s left)
+      → IsAsMade s (replaced names others time (tree_of R rows)) (LogsHanded cpu time others R n names) left
+  less_made left held mounted can on w = record {
+    rows = set (set (set rows (place_in rows i) w.1) (place_in rows e) w.2) (place_in rows k) w.3;
+    free = (w.0).pools;
+    recovers = recovers_to can (less_mounted kept runs writes (place_in rows k) moved there moved_there there_there spelled spelled_other first_old old first rest spot apart places_apart from_there to_there there_there w.4 refl on held mounted).1;
+    tree = less_tree kept runs writes (place_in rows k) moved there moved_there there_there spelled spelled_other first_old old first rest spot apart places_apart from_there to_there there_there w.4 refl on;
+    logs = record {
+      more = λ a b d c node st h g f takes parted sound is other_is last_is yes. less_more kept runs writes (place_in rows k) moved there moved_there there_there spelled spelled_other first_old old first rest spot apart places_apart from_there to_there there_there w.4 refl on a b d c node st h g f takes sound is other_is last_is;
+      last = λ a b d c node st h g takes parted sound is other_is off. absurd (less_others kept runs writes (place_in rows k) moved there moved_there there_there spelled spelled_other first_old old first rest spot apart places_apart from_there to_there there_there w.4 refl on a b d c node takes off);
+    };
+  }
+
+  -- where it goes
+  gone_made : (left : Region) (held : Store) (mounted : IsMounted R s held rows free.pools) → CanRecover s left → keeps_others there ≡ false → TookAcross R s free cpu from to moved.inode there.inode name other time (undone s left)
+      → IsAsMade s (replaced names others time (tree_of R rows)) (LogsHanded cpu time others R n names) left
+  gone_made left held mounted can off w =
+      let v = gone_some kept runs writes (place_in rows k) moved there moved_there there_there spelled spelled_other first_old old first rest spot apart places_apart from_there to_there there_there w.3 refl off held mounted in
+      record {
+        rows = remove (set (set rows (place_in rows i) w.1) (place_in rows e) w.2) (place_in rows k);
+        free = v.1;
+        recovers = recovers_to can v.2;
+        tree = gone_tree kept runs writes (place_in rows k) moved there moved_there there_there spelled spelled_other first_old old first rest spot apart places_apart from_there to_there there_there w.3 refl off;
+        logs = record {
+          more = λ a b d c node st h g f takes parted sound is other_is last_is on. absurd (gone_others kept runs writes (place_in rows k) moved there moved_there there_there spelled spelled_other first_old old first rest spot apart places_apart from_there to_there there_there w.3 refl off a b d c node takes on);
+          last = λ a b d c node st h g takes parted sound is other_is none. gone_last kept runs writes (place_in rows k) moved there moved_there there_there spelled spelled_other first_old old first rest spot apart places_apart from_there to_there there_there w.3 refl off a b d c node st h g takes sound is other_is;
+        };
+      }
+
+  pub over_by : (left : Region) (held : Store) (mounted : IsMounted R s held rows free.pools) → LeavesEither R (fixed_layout s) held (ReplacedOver R s free cpu from to there moved.inode name other time) left
+      → IsAsMounted R s rows free.pools left ⊎ IsAsMade s (replaced names others time (tree_of R rows)) (LogsHanded cpu time others R n names) left
+  over_by left held mounted (inl as_before) = inl (still_mounted mounted as_before)
+  over_by left held mounted (inr w) = inr (by w.1) where
+    by : ReplacedOver R s free cpu from to there moved.inode name other time (undone s left) → IsAsMade s (replaced names others time (tree_of R rows)) (LogsHanded cpu time others R n names) left
+    by (inl v) = less_made left held mounted w.0 v.0 v.1
+    by (inr v) = gone_made left held mounted w.0 v.0 v.1
+
+  -- What a stop leaves within the step.
+  pub over_left : (S : Region) (before last : Choices)
+      → ((held : Store) (h g f : Held) → ShowsRow R s held h from free → ShowsRow R s held g to free → ShowsRow R s held f there free → NothingPending R before
+      → LeavesOnly S last (LeavesEither R (fixed_layout s) held (ReplacedOver R s free cpu from to there moved.inode name other time)))
+      → NothingPending R before → LeavesOnly S last (StopLeaves R s rows free.pools (replaced names others time (tree_of R rows)) (LogsHanded cpu time others R n names))
+  over_left S before last step settled left may = ∥∥₁_map (mounted_of_kept kept runs writes) (λ w.
+      let v = shows_row w.1 kept.lists from (stands rows (place_in rows i) from from_there) in
+      let x = shows_row w.1 kept.lists to (stands rows (place_in rows e) to to_there) in
+      let u = shows_row w.1 kept.lists there (stands rows (place_in rows k) there there_there) in
+      over_by left w.0 w.1 (step w.0 v.0 x.0 u.0 v.1 x.1 u.1 settled left may))
