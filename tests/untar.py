@@ -151,7 +151,7 @@ def many_files(program, room, count):
         folder = tree / f"d{k // 100}"
         folder.mkdir(parents=True, exist_ok=True)
         (folder / f"f{k}").write_bytes(k.to_bytes(4, "little") * (BLOCK // 4))
-    made_image(program, image, 8 * count + 1024, tables=count // 32 + 2)
+    made_image(program, image, 3 * count + 1024, tables=count // 30 + 4)
     archive = archive_of(tree)
     began = time.monotonic()
     done = nova(program, "untar", image, given=archive)

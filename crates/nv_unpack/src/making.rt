@@ -28,7 +28,9 @@ pub(crate) fn make_steps<'a>(
     ensures refused { IfErr result (HaltsSteps mount.old.sup base.now cpu steps.now (tree_of mount.old.memory.region mount.old.rows) mount.new) }
 {
     for step in steps {
-        make_step(alloc, mount, base, *step, cpu)?;
+        if let Err(halt) = make_step(alloc, mount, base, *step, cpu) {
+            return Err(halt);
+        }
     }
     Ok(())
 }

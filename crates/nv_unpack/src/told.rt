@@ -8,11 +8,7 @@ use nv_text::push_escaped;
 use std::alloc::AllocError;
 
 /// A path behind its prefix, with its escapes. Errors: `AllocError` where a growth was refused.
-pub(crate) fn push_joined(
-    text: &mut String,
-    prefix: &[u8],
-    path: &[u8],
-) -> Result<(), AllocError>
+pub(crate) fn push_joined(text: &mut String, prefix: &[u8], path: &[u8]) -> Result<(), AllocError>
     ensures { OnOk result (string_bytes text.new ≡ string_bytes text.old ++ escaped (joined prefix.now path.now)) }
 {
     if !prefix.is_empty() {
