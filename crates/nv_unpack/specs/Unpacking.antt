@@ -1,5 +1,5 @@
 -- What unpacking items makes of a region, or why it is refused.
-use Rattle.std.specs.Prelude.{◌≡◌, ℕ, true, false, List, [], ◌++◌, codes}
+use Rattle.std.specs.Prelude.{◌≡◌, ℕ, true, false, List, []}
 use Rattle.nv_region.specs.Region.{Region}
 use Rattle.nv_region.specs.RegionState.{RegionState}
 use Rattle.nv_report.specs.nv_outcome.Outcome.{Outcome, IsOutcome}
@@ -7,8 +7,7 @@ use Rattle.nv_tree.specs.Tree.{Tree}
 use Rattle.nv_tree.specs.Refusals.{refusal_word}
 use Rattle.nv_tree.specs.declared.refusal.Refusal.{Refusal as CallRefusal}
 use Rattle.nv_tree.specs.declared.refusal.Refusal.TheVariants as refusals
-use Rattle.nv_text.specs.Answers.{line, refused_line}
-use Rattle.nv_text.specs.Names.{escaped}
+use Rattle.nv_text.specs.Answers.{refused_line}
 use Rattle.nv_text.specs.Refusals.{refusal_name}
 use Rattle.nv_session.specs.Calls.{LeavesTree, mounted_as}
 use Rattle.nv_session.specs.Sessions.{IsSettled}
@@ -21,6 +20,7 @@ use Rattle.nv_unpack.specs.declared.unpacking.Unpacked.{Unpacked}
 use Rattle.nv_unpack.specs.declared.unpacking.Unpacked.TheVariants as unpacked
 use Rattle.nv_unpack.specs.Making.{AreSteps, RefusesSteps}
 use Rattle.nv_unpack.specs.Steps.{steps_of}
+use Rattle.nv_unpack.specs.Told.{refused_item}
 
 -- All steps were made. The region that is left is as long as the one that came, its own undone region, and has no fault; it shows
 -- the tree that the steps make. Nothing is pending in it.
@@ -54,10 +54,6 @@ IsUnpacked R base items cpu unpacked.Faulty = (o : Outcome) × IsOutcome R o × 
 IsUnpacked R base items cpu (unpacked.Refused item refusal) = (o : Outcome) × IsOutcome R o × IsUnpackedAs R o base items cpu (unpacked.Refused item refusal)
 
 -- ---- what is told
-
--- the refusal of an item of this path
-abbrev pub refused_item : List ℕ → CallRefusal → List ℕ
-refused_item path refusal = refused_line (refusal_word refusal) ++ line (codes "member " ++ escaped path)
 
 -- what is printed of it: nothing, or its refusal
 abbrev pub unpacked_text : Unpacked → List ℕ

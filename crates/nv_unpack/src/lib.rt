@@ -2,7 +2,7 @@
 //!
 //! `step` has the steps, each with the member that it is for, and `places` where the member's path leads. `calls` has the calls of
 //! a step, `making` makes steps of what is mounted, and `halt` says why one is refused. `unpacking` does it all, and `told`
-//! tells a path.
+//! tells of a refusal.
 #![tactic(auto)]
 
 mod calls;

@@ -7,13 +7,12 @@ ghost use Rattle.nv_region.specs.Region.{Region};
 ghost use Rattle.nv_report.specs.nv_outcome.Outcome.{Outcome};
 ghost use Rattle.nv_cli.specs.Cleaning.{CanClean, IsOpenedAs};
 ghost use Rattle.nv_region.specs.RegionState.{is_steady};
-ghost use Rattle.nv_untar.specs.Items.{item_of};
-ghost use Rattle.nv_unpack.specs.Unpacking.{IsUnpacked, IsUnpackedAs, refused_item};
+ghost use Rattle.nv_unpack.specs.Unpacking.{IsUnpacked, IsUnpackedAs};
 
 use crate::halt::Halt;
 use crate::making::make_steps;
 use crate::step::steps_of;
-use crate::told::push_joined;
+use crate::told::refused_item_text;
 use nv_checking::{Answer, recover_alone};
 use nv_region::MemRegion;
 use nv_report::refused_text;
@@ -61,21 +60,6 @@ impl<'a> Unpacked<'a> {
             Unpacked::Unrecovered(_) | Unpacked::Faulty | Unpacked::Refused(..) => REFUSED_STATUS,
         }
     }
-}
-
-// The line of a refusal, and that of the path of its item.
-fn refused_item_text(
-    alloc: Global,
-    item: Item<'_>,
-    refusal: CallRefusal,
-) -> Result<String, AllocError>
-    ensures { IfOk result (λ text. string_bytes text ≡ refused_item (item_of item.entry).path refusal) }
-{
-    let mut text = refused_call_text(alloc, refusal)?;
-    text.push_str("member ")?;
-    push_joined(&mut text, item.prefix, item.path)?;
-    text.push_str("\n")?;
-    Ok(text)
 }
 
 /// Recovers the region that a memory holds, and unpacks items below the directory that a base path leads to, in the name of a CPU.

@@ -17,15 +17,3 @@ returns-in-Ok c = λ R o is.
       subst (λ (left : RegionState). IsMade R o c.args.base.now c.args.items.now c.args.cpu left) (sym c.into_memory.ensures)
           (all_left R o m n is c.args.base.now c.args.items.now c.args.cpu on c.keeps.ensures made (c.nothing_is_pending.ensures on.can.runs)),
     )
-
-pub returns-in-At-in-Err : goal.returns-in-At-in-Err
-returns-in-At-in-Err c = λ R o is.
-    let m = c.args.mount in
-    let n = c.make_steps-answer.new.mount in
-    let on = c.make_steps-answer.ensures.goes in
-    let item = c.in-At.item in
-    let refusal = c.in-At.refusal in
-    let refuses = subst (λ (steps : List Step). RefusesSteps m.sup c.args.base.now c.args.cpu steps (tree m) n item refusal) (c.deref.ensures.value ∙ c.in_ok-steps.ensures) c.in-Err.ensures.refused in (
-      sym is.read_only ∙ c.requires.writes,
-      one_refused R o m n is c.args.base.now c.args.items.now c.args.cpu on c.keeps.ensures item refusal refuses,
-    )
