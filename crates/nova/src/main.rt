@@ -3,7 +3,7 @@
 //! `run` runs a script, on the region of an image or on none, and saves the region that it leaves. `shell` runs the commands that
 //! are typed. `show` shows what is in an image, `listing` names with the numbers of their inodes and counts of blocks, `logs` the
 //! logs of inodes, `blocks` what a block is, and `views` further looks. `cleaning` shortens logs, `changing` changes an image by the calls of one
-//! command, `recovering` rolls its journals back, `names` reads paths in it, and `saving` makes one.
+//! command, `unpacking` by an archive, `recovering` rolls its journals back, `names` reads paths in it, and `saving` makes one.
 //! Checks and maps of images are those of `nova_check`.
 //!
 //! Behind a bad line, and a region that is refused for its length, a line on standard error says more.
@@ -25,6 +25,7 @@ mod run;
 mod saving;
 mod shell;
 mod show;
+mod unpacking;
 mod views;
 
 use archiving::archive;
@@ -49,6 +50,7 @@ use std::process::ExitCode;
 use std::rt::Files;
 use std::thread::Threads;
 use std::time::Clock;
+use unpacking::{Place, untar};
 use views::show_view;
 
 fn main(rt: HostRuntime) -> ExitCode {
@@ -143,6 +145,7 @@ where
             };
             change(rt, &mut errors, image, asked)
         }
+        Todo::Untar { image, path, cpu } => untar(rt, &mut errors, Place { image, path, cpu }),
         Todo::Recover {
             image,
             dry_run: true,

@@ -127,17 +127,21 @@ one_path_app name = change_app name (needed_rule (codes "path") ∷ [])
 abbrev pub two_paths_app : Text → App
 two_paths_app name = change_app name (needed_rule (codes "old") ∷ needed_rule (codes "new") ∷ [])
 
+-- `untar`: an image's file, the directory that members go to, and a CPU
+abbrev pub untar_app : App
+untar_app = command (codes "untar") (needed_rule (codes "image") ∷ place_rule (codes "path") ∷ number_rule (codes "cpu") ∷ [])
+
 -- `recover`: an image's file, and whether it stays as it is
 abbrev pub recover_app : App
 recover_app = command (codes "recover") (needed_rule (codes "image") ∷ flag_rule (codes "dry-run") ∷ [])
 
--- the commands that change an image by one call, and `recover`
+-- the commands that change an image by one call, `untar` and `recover`
 abbrev pub change_apps : List App
 change_apps = one_path_app (codes "mkdir") ∷ one_path_app (codes "rm") ∷ one_path_app (codes "rmdir") ∷ two_paths_app (codes "mv") ∷ two_paths_app (codes "ln")
     ∷ change_app (codes "truncate") (needed_rule (codes "size") ∷ needed_rule (codes "path") ∷ [])
     ∷ change_app (codes "chmod") (needed_rule (codes "mode") ∷ needed_rule (codes "path") ∷ [])
     ∷ change_app (codes "chown") (needed_rule (codes "owner") ∷ needed_rule (codes "path") ∷ [])
-    ∷ change_app (codes "put") (needed_rule (codes "host") ∷ needed_rule (codes "path") ∷ []) ∷ recover_app ∷ []
+    ∷ change_app (codes "put") (needed_rule (codes "host") ∷ needed_rule (codes "path") ∷ []) ∷ untar_app ∷ recover_app ∷ []
 
 -- the program with its commands
 abbrev pub nova_app : App

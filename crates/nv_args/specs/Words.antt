@@ -12,7 +12,7 @@ use Rattle.nv_args.specs.declared.change.NamedChange.{NamedChange}
 use Rattle.nv_args.specs.declared.change.NamedChange.TheVariants.{Mkdir, Rm, Rmdir, Mv, Ln, Truncate, Chmod, Chown, Put}
 use Rattle.nv_args.specs.declared.todo.CheckOutput.TheVariants.{Report, Summary, OnlyFaults, Json, Explained, Journal}
 use Rattle.nv_args.specs.declared.todo.Todo.{Todo}
-use Rattle.nv_args.specs.declared.todo.Todo.TheVariants.{Version, Run, Shell, Check, Mkfs, Clean, Change, Recover, Ls, Stat, Cat, Tar, Log, View, Explain, Map}
+use Rattle.nv_args.specs.declared.todo.Todo.TheVariants.{Version, Run, Shell, Check, Mkfs, Clean, Change, Untar, Recover, Ls, Stat, Cat, Tar, Log, View, Explain, Map}
 use Rattle.nv_args.specs.declared.todo.Which.{Which}
 use Rattle.nv_args.specs.declared.todo.Which.TheVariants.{Path, Number}
 use Rattle.nv_args.specs.declared.views.View.{View as ViewValue}
@@ -167,6 +167,7 @@ command_of (Check paths workers output) = codes "check"
 command_of (Mkfs image blocks cpus tables force) = codes "mkfs"
 command_of (Clean image path) = codes "clean"
 command_of (Change image change cpu time) = change_command change
+command_of (Untar image path cpu) = codes "untar"
 command_of (Recover image dry_run) = codes "recover"
 command_of (Ls image which long) = codes "ls"
 command_of (Stat image which) = codes "stat"
@@ -214,6 +215,9 @@ HasValues values (Mkfs image blocks cpus tables force) = (first_of (codes "image
 HasValues values (Clean image path) = (first_of (codes "image") values ≡ Some image.now) × (first_of (codes "path") values ≡ option_map (λ text. text.now) path)
 HasValues values (Change image change cpu time) = (first_of (codes "image") values ≡ Some image.now) × HasChange values change
     × IsCpu (first_of (codes "cpu") values) cpu × MayBeNumber (first_of (codes "time") values) time
+-- the root, where none is written
+HasValues values (Untar image path cpu) = (first_of (codes "image") values ≡ Some image.now) × (path.now ≡ unwrap_or (first_of (codes "path") values) (codes "/"))
+    × IsCpu (first_of (codes "cpu") values) cpu
 HasValues values (Recover image dry_run) = (first_of (codes "image") values ≡ Some image.now) × (IsTrue dry_run ↔ IsGiven (codes "dry-run") values)
 -- the root, where none is written
 HasValues values (Ls image which long) = (first_of (codes "image") values ≡ Some image.now)

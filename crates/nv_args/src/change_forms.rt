@@ -22,7 +22,7 @@ const TIME: Argument<'static> = Argument {
 };
 
 /// In the order in which help lists them.
-pub(crate) const CHANGES: [CommandForm<'static>; 10] = [
+pub(crate) const CHANGES: [CommandForm<'static>; 11] = [
     CommandForm {
         name: "mkdir",
         about: "Makes a directory in an image",
@@ -186,6 +186,20 @@ pub(crate) const CHANGES: [CommandForm<'static>; 10] = [
             },
             CPU,
             TIME,
+        ],
+    },
+    CommandForm {
+        name: "untar",
+        about: "Puts the members of a tar archive on standard input into an image",
+        notes: NOTES,
+        arguments: &[
+            IMAGE,
+            Argument {
+                written: Written::ByPlace,
+                name: "path",
+                help: "The path of the directory that they go to; / if left out",
+            },
+            CPU,
         ],
     },
     CommandForm {

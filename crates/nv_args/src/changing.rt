@@ -30,6 +30,16 @@ pub(crate) fn change_of<'a>(name: &str, values: &ArgMatches<'a>) -> Option<Todo<
     })
 }
 
+pub(crate) fn untar_of<'a>(values: &ArgMatches<'a>) -> Option<Todo<'a>>
+    ensures some { IfSome result (λ todo. Asks (codes "untar") (rows_of (found_of values.now)) todo) }
+    ensures none { IsNone result → (todo : TodoValue) → ¬ Asks (codes "untar") (rows_of (found_of values.now)) todo }
+{
+    let image = text_of(values, "image")?;
+    let path = text_of(values, "path").unwrap_or("/");
+    let cpu = cpu_of(text_of(values, "cpu"))?;
+    Some(Todo::Untar { image, path, cpu })
+}
+
 pub(crate) fn recover_of<'a>(values: &ArgMatches<'a>) -> Option<Todo<'a>>
     ensures some { IfSome result (λ todo. Asks (codes "recover") (rows_of (found_of values.now)) todo) }
     ensures none { IsNone result → (todo : TodoValue) → ¬ Asks (codes "recover") (rows_of (found_of values.now)) todo }

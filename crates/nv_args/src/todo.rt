@@ -52,6 +52,12 @@ pub enum Todo<'a> {
         cpu: u64,
         time: Option<u64>,
     },
+    /// Put the members of the archive on standard input into an image below a path, in the name of this CPU.
+    Untar {
+        image: &'a str,
+        path: &'a str,
+        cpu: u64,
+    },
     /// Tell the pending records of the journals of an image, and roll them back unless it is a dry run.
     Recover {
         image: &'a str,

@@ -1,0 +1,5 @@
+pub mod Parts
+pub mod Pushed
+pub mod Standing
+pub mod Going
+pub mod Made

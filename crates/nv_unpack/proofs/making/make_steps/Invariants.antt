@@ -1,0 +1,5 @@
+use Rattle.nv_unpack.proofs.Going.{Going}
+use Rattle.nv_unpack.proofs.making.make_steps.Given as goal
+
+abbrev pub invariant-loop-step : goal.invariant-loop-step
+invariant-loop-step l = Going l.base l.cpu l.steps l.fn.mount l.mount l.step-index

@@ -1,0 +1,10 @@
+use Rattle.std.proofs.Common.{◌∙◌, sym}
+use Rattle.nv_cli.proofs.CleanedImage.{faulty, sound}
+use Rattle.nv_unpack.proofs.unpacking.unpack_mount.Goals as goal
+
+pub unpack_sound-requires : goal.unpack_sound-requires
+unpack_sound-requires c = record {
+  runs = c.requires.runs;
+  writes = c.keeps.ensures.writes ∙ sound c.args.mount.faults c.faults.result.now c.faults.ensures (sym c.is_empty.ensures ∙ c.if-is_empty.true);
+  steady = c.requires.steady;
+}
