@@ -2,10 +2,10 @@
 
 use crate::names::path_of;
 use nv_args::Which;
-use nv_checking::{Blocks, BlocksError, READERS, gather_plain, see_unchanged};
+use nv_checking::{Blocks, BlocksError, READERS, gather_plain, see_unchanged, why_plain_refused};
 use nv_images::{
     Failure, Image, ImageFile, Reason, open_image, read_image, refuse_length, tell_faults,
-    tell_length, tell_refused,
+    tell_length, tell_refused, tell_unaccepted,
 };
 use nv_looks::{Answered, Chosen, tar_blocks, tar_gathered};
 use nv_metadata::HeldBytes;
@@ -15,8 +15,8 @@ use std::rt::Files;
 use std::thread::Threads;
 
 /// Recovers the image in a file in memory, and writes an archive of what is chosen there, and with `all` of all else that is in use,
-/// or says among the errors why there is none. Answers the exit status, 0 or 2. Of a plain file whose superblock is accepted the
-/// metadata alone are read, and then the blocks of its files; else the image is read whole.
+/// or says among the errors why there is none. Answers the exit status, 0 or 2. Of a plain file the metadata alone are read, and
+/// then the blocks of its files, or the first block where its superblock isn't accepted; else the image is read whole.
 pub(crate) fn archive<'a, H: Files + AllocGlobal + Print + Eprint + Threads + Sync, E: Write>(
     rt: &H,
     errors: &mut E,
@@ -50,11 +50,13 @@ where
     let alloc = rt.alloc();
     match gather_plain(rt, alloc, &file, READERS)? {
         Some(gathered) => {
+            let why = why_plain_refused(&file, &gathered)?;
             let source = &file.opened.file;
             let mut output = io::writer(rt);
             let told = tar_gathered(alloc, source, gathered, chosen, all, &mut output, errors);
             let answered = answer_of(file.path, told)?;
             see_unchanged(&file)?;
+            tell_unaccepted(rt, why);
             tell_faults(rt, image, answered.faults);
             Ok(answered.status)
         }

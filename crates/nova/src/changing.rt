@@ -1,4 +1,4 @@
-//! Changing the image in a file by one call.
+//! Changing the image in a file by the calls of one command.
 
 ghost use Rattle.std.specs.Prelude.{◌≡◌};
 ghost use Rattle.nova.specs.Changes.{change_said};

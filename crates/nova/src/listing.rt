@@ -5,10 +5,10 @@ ghost use Rattle.nv_metadata.specs.Gathered.{IsOpen};
 
 use crate::logs::inode_of;
 use nv_args::Which;
-use nv_checking::{Answered, Blocks, Gathered, READERS, gather_plain};
+use nv_checking::{Answered, Blocks, Gathered, READERS, gather_plain, why_plain_refused};
 use nv_images::{
     Failure, Image, ImageFile, open_image, read_image, refuse_length, tell_faults, tell_length,
-    tell_refused,
+    tell_refused, tell_unaccepted,
 };
 use nv_logs::{
     Inode, folders_gathered, folders_image, list_long_gathered, list_long_image, usage_gathered,
@@ -33,7 +33,8 @@ pub(crate) enum Told {
 
 /// Recovers the image in a file in memory, and prints what is to be told of an inode there, or says among the errors why that can't
 /// be told. Answers the exit status, 0 or 2. An image with faults is shown all the same, and a line says
-/// that it has some. Of a plain file whose superblock is accepted the metadata alone are read; else the image is read whole.
+/// that it has some. Of a plain file the metadata alone are read, or the first block
+/// where its superblock isn't accepted; else the image is read whole.
 pub(crate) fn tell<'a, H: Files + AllocGlobal + Print + Eprint + Threads + Sync, E: Write>(
     rt: &H,
     errors: &mut E,
@@ -48,7 +49,9 @@ where
     let file = open_image(rt, image)?;
     match gather_plain(rt, rt.alloc(), &file, READERS)? {
         Some(gathered) => {
+            let why = why_plain_refused(&file, &gathered)?;
             let answered = tell_metadata(rt, errors, gathered, &inode, what)?;
+            tell_unaccepted(rt, why);
             tell_faults(rt, image, answered.faults);
             Ok(answered.status)
         }

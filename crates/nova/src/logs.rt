@@ -4,10 +4,10 @@ ghost use Rattle.nv_metadata.specs.Gathered.{IsOpen};
 
 use crate::names::path_of;
 use nv_args::Which;
-use nv_checking::{Answered, Blocks, Gathered, READERS, gather_plain};
+use nv_checking::{Answered, Blocks, Gathered, READERS, gather_plain, why_plain_refused};
 use nv_images::{
     Failure, Image, ImageFile, open_image, read_image, refuse_length, tell_faults, tell_length,
-    tell_refused,
+    tell_refused, tell_unaccepted,
 };
 use nv_logs::{Inode, log_gathered, log_image, logs_gathered, logs_image};
 use nv_stream::ScriptError;
@@ -25,8 +25,10 @@ enum Whose {
 }
 
 /// Recovers the image in a file in memory, and prints the log of an inode there entry by entry, or where none is named those of all
-/// inodes in use; or says among the errors why it can't be shown. Answers the exit status, 0 or 2. An image with faults is shown all the same, and a line says that it has some.
-/// Of a plain file whose superblock is accepted the metadata alone are read; else the image is read whole.
+/// inodes in use; or says among the errors why it can't be shown. Answers the exit status, 0 or 2. An image with faults is shown
+/// all the same, and a line says that it has some.
+/// Of a plain file the metadata alone are read, or the first block where its superblock isn't accepted; else the image is read
+/// whole.
 pub(crate) fn show_log<'a, H: Files + AllocGlobal + Print + Eprint + Threads + Sync, E: Write>(
     rt: &H,
     errors: &mut E,
@@ -40,7 +42,9 @@ where
     let file = open_image(rt, image)?;
     match gather_plain(rt, rt.alloc(), &file, READERS)? {
         Some(gathered) => {
+            let why = why_plain_refused(&file, &gathered)?;
             let answered = show_gathered(rt, errors, gathered, &whose)?;
+            tell_unaccepted(rt, why);
             tell_faults(rt, image, answered.faults);
             Ok(answered.status)
         }

@@ -4,10 +4,12 @@ ghost use Rattle.nv_metadata.specs.Gathered.{IsOpen};
 
 use crate::names::path_of;
 use nv_args::Which;
-use nv_checking::{Blocks, BlocksError, Gathered, READERS, gather_plain, see_unchanged};
+use nv_checking::{
+    Blocks, BlocksError, Gathered, READERS, gather_plain, see_unchanged, why_plain_refused,
+};
 use nv_images::{
     Failure, Image, ImageFile, Reason, open_image, read_image, refuse_length, tell_faults,
-    tell_length, tell_refused,
+    tell_length, tell_refused, tell_unaccepted,
 };
 use nv_looks::{
     Answered, cat_gathered, cat_image, cat_inode_image, list_gathered, list_image,
@@ -41,8 +43,8 @@ enum Inode {
 
 /// Recovers the image in a file in memory, and prints what is to be shown of an inode there, or says among the errors why that
 /// can't be shown. Answers the exit status, 0 or 2. An image with faults is shown all the same, and a line says that it has some.
-/// For a path in a plain file whose superblock is accepted the metadata alone are read, and the blocks of a file whose bytes are
-/// shown; else the image is read whole.
+/// For a path in a plain file the metadata alone are read, and the blocks of a file whose bytes are shown, or the first block where
+/// its superblock isn't accepted; else the image is read whole.
 pub(crate) fn show<'a, H: Files + AllocGlobal + Print + Eprint + Threads + Sync, E: Write>(
     rt: &H,
     errors: &mut E,
@@ -61,7 +63,9 @@ where
     };
     match gather_plain(rt, rt.alloc(), &file, READERS)? {
         Some(gathered) => {
+            let why = why_plain_refused(&file, &gathered)?;
             let answered = show_plain(rt, errors, &file, gathered, path, what)?;
+            tell_unaccepted(rt, why);
             tell_faults(rt, image, answered.faults);
             Ok(answered.status)
         }

@@ -1,4 +1,4 @@
-//! Showing what of an image isn't what one inode holds: `log --all`, `block`, `du` and `ls --recursive`.
+//! Further looks into an image: `log --all`, `block`, `du` and `ls --recursive`.
 
 use crate::blocks::show_block;
 use crate::listing::{Told, tell};

@@ -84,7 +84,7 @@ pub enum Todo<'a> {
         image: &'a str,
         which: Which<'a>,
     },
-    /// Show something of an image that isn't what one inode holds.
+    /// Take a further look into an image.
     View(View<'a>),
     /// Tell what a class of faults means.
     Explain {

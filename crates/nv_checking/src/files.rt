@@ -12,13 +12,13 @@ use crate::explained::explain_region;
 use crate::gathered::check_gathered;
 use crate::mapping::{Mapped, answered, map_cells, map_gathered, write_map};
 use crate::output::Output;
-use crate::plain::{READERS, gather_or_refuse, why_plain_refused};
+use crate::plain::{READERS, gather_plain, why_plain_refused};
 use nv_images::{
     Failure, Held, Image, ImageFile, Lock, Stamp, Target, hold, image_at, open_image, read_image,
     refuse_length, save_file, see_ready, svg_text, tell_explain, tell_faults, tell_length,
     tell_refused, tell_unaccepted,
 };
-use nv_metadata::{Blocks, Gathered};
+use nv_metadata::Blocks;
 use nv_report::Last;
 use nv_stream::ScriptError;
 use nv_super::SuperFault;
@@ -69,35 +69,16 @@ where
     ensures status { IfOk result (λ status. status ≤ 2) }
     ensures error { IfErr result (IsUnchecked file.entry.path) }
 {
-    match gather_or_refuse(rt, rt.alloc(), &file, workers)? {
-        Some(Gathered::Refused(fault)) => check_refused(rt, &file, fault, workers, output),
+    match gather_plain(rt, rt.alloc(), &file, workers)? {
         Some(gathered) => {
+            let why = why_plain_refused(&file, &gathered)?;
             let writer = &mut io::writer(rt);
-            Ok(check_gathered(rt, rt.alloc(), gathered, workers, output, writer)?)
+            let status = check_gathered(rt, rt.alloc(), gathered, workers, output, writer)?;
+            tell_unaccepted(rt, why);
+            Ok(status)
         }
         None => check_whole(rt, file, workers, output),
     }
-}
-
-// Refuses the image in an open plain file for this fault, and says on standard error why.
-fn check_refused<'a, H: Files + AllocGlobal + Print + Eprint + Threads + Sync>(
-    rt: &H,
-    file: &ImageFile<'a, H::File>,
-    fault: SuperFault,
-    workers: u64,
-    output: Output,
-) -> Result<u8, Failure<'a>>
-where
-    H::File: Blocks,
-    ensures status { IfOk result (λ status. status ≤ 2) }
-    ensures error { IfErr result (IsUnchecked file.now.path) }
-{
-    let why = why_plain_refused(file, fault)?;
-    let writer = &mut io::writer(rt);
-    let gathered = Gathered::Refused(fault);
-    let status = check_gathered(rt, rt.alloc(), gathered, workers, output, writer)?;
-    tell_unaccepted(rt, Some(why));
-    Ok(status)
 }
 
 // Checks an image that is read whole.
@@ -212,28 +193,16 @@ where
     H::File: Blocks + Sync,
     ensures error { IfErr result (IsUnread file.entry.path) }
 {
-    match gather_or_refuse(rt, rt.alloc(), &file, READERS)? {
-        Some(Gathered::Refused(fault)) => map_refused(rt, &file, fault),
-        Some(gathered) => Ok(map_gathered(rt.alloc(), gathered, MOST_CELLS)?),
+    match gather_plain(rt, rt.alloc(), &file, READERS)? {
+        Some(gathered) => {
+            let why = why_plain_refused(&file, &gathered)?;
+            let mapped = map_gathered(rt.alloc(), gathered, MOST_CELLS)?;
+            tell_refusal(rt, &mapped);
+            tell_unaccepted(rt, why);
+            Ok(mapped)
+        }
         None => map_whole(rt, file),
     }
-}
-
-// The map of the image in an open plain file that is refused for this fault. Standard error says so, and why.
-fn map_refused<'a, H: Files + AllocGlobal + Eprint>(
-    rt: &H,
-    file: &ImageFile<'a, H::File>,
-    fault: SuperFault,
-) -> Result<Mapped, Failure<'a>>
-where
-    H::File: Blocks,
-    ensures error { IfErr result (IsUnread file.now.path) }
-{
-    let why = why_plain_refused(file, fault)?;
-    let mapped = map_gathered(rt.alloc(), Gathered::Refused(fault), MOST_CELLS)?;
-    tell_refusal(rt, &mapped);
-    tell_unaccepted(rt, Some(why));
-    Ok(mapped)
 }
 
 // Prints the text of a map, unless the drawing goes to standard output, and says on standard error whether the image has faults.

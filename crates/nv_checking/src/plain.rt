@@ -6,6 +6,7 @@ ghost use Rattle.nv_super.specs.Super.{IsRefused};
 ghost use Rattle.nv_images.specs.Images.{IsUnread};
 ghost use Rattle.nv_images.specs.Superblocks.{said_of, known_content};
 ghost use Rattle.nv_metadata.specs.Gathered.{AreGathered, IsOpen};
+ghost use Rattle.nv_checking.specs.Gathered.{TellsWhy};
 
 use nv_images::{Failure, ImageFile, Reason, Unaccepted, why_file_refused};
 use nv_metadata::{Blocks, GatherError, Gathered, gather_on};
@@ -23,32 +24,12 @@ pub const READERS: u64 = 4;
 // The bytes of the first block.
 const FIRST_BLOCK: usize = 4096;
 
-/// Gathers the metadata of the image in an open file, where it is a plain file and the superblock is accepted. Any other file has
-/// to be read whole: of it nothing is answered, and it is read from its first byte on as before. So many threads read the pages
-/// of logs.
+/// Gathers the metadata of the image in an open file, where it is a plain file that tells its length, or the fault for which its
+/// superblock is refused. Any other file has to be read whole: of it nothing is answered, and it is read from its first byte on as
+/// before. So many threads read the pages of logs.
 ///
 /// Errors: a file that can't be read, that ends early, or that was changed meanwhile; want of memory.
 pub fn gather_plain<'a, H: Threads + Sync, F: Blocks + OpenFile + Sync + Drop>(
-    rt: &H,
-    alloc: Global,
-    file: &ImageFile<'a, F>,
-    threads: u64,
-) -> Result<Option<Gathered>, Failure<'a>>
-    ensures open { IfOk result (λ found. IfSome found IsOpen) }
-    ensures gathered { (image : List ℕ) → F.bytes file.now.opened.file ≡ Some image → IfOk result (λ found. IfSome found (AreGathered (region_of image))) }
-    ensures error { IfErr result (IsUnread file.now.path) }
-{
-    match gather_or_refuse(rt, alloc, file, threads)? {
-        Some(Gathered::Refused(_)) => Ok(None),
-        found => Ok(found),
-    }
-}
-
-/// `gather_plain`, which tells too for what the superblock in a plain file is refused. A file that tells no length has to be read
-/// whole, and so has any that is not a plain one.
-///
-/// Errors: those of `gather_plain`.
-pub(crate) fn gather_or_refuse<'a, H: Threads + Sync, F: Blocks + OpenFile + Sync + Drop>(
     rt: &H,
     alloc: Global,
     file: &ImageFile<'a, F>,
@@ -65,21 +46,23 @@ pub(crate) fn gather_or_refuse<'a, H: Threads + Sync, F: Blocks + OpenFile + Syn
     }
 }
 
-/// Why the image in an open plain file isn't accepted, whose superblock has this fault first: by its length and its first block,
-/// which are read for that.
+/// Why the image in an open plain file isn't accepted, of which this was gathered; nothing where it is. Its length and its first
+/// block are read for that.
 ///
 /// Errors: a file that can't be read, or that was changed meanwhile.
-pub(crate) fn why_plain_refused<'a, F: Blocks + OpenFile + Drop>(
+pub fn why_plain_refused<'a, F: Blocks + OpenFile + Drop>(
     file: &ImageFile<'a, F>,
-    fault: SuperFault,
-) -> Result<Unaccepted, Failure<'a>>
-    ensures words { (image : List ℕ) → F.bytes file.now.opened.file ≡ Some image → IsRefused (region_of image) fault → IfOk result (λ why. why.words ≡ said_of (region_of image) fault) }
-    ensures content { (image : List ℕ) → F.bytes file.now.opened.file ≡ Some image → IfOk result (λ why. why.content ≡ known_content image) }
+    gathered: &Gathered,
+) -> Result<Option<Unaccepted>, Failure<'a>>
+    ensures told { (image : List ℕ) → F.bytes file.now.opened.file ≡ Some image → AreGathered (region_of image) gathered.now → IfOk result (TellsWhy image gathered.now) }
     ensures error { IfErr result (IsUnread file.now.path) }
 {
-    match why_unchanged(&file.opened, fault) {
-        Ok(why) => Ok(why),
-        Err(error) => Err(cannot_read(file.path, error)),
+    match gathered {
+        Gathered::Metadata(_, _) => Ok(None),
+        Gathered::Refused(fault) => match why_unchanged(&file.opened, *fault) {
+            Ok(why) => Ok(Some(why)),
+            Err(error) => Err(cannot_read(file.path, error)),
+        },
     }
 }
 

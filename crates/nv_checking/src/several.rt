@@ -12,7 +12,7 @@ use crate::checking::{Checked, check_bytes, refused};
 use crate::files::tell_image_refused;
 use crate::gathered::check_metadata;
 use crate::output::Output;
-use crate::plain::{gather_or_refuse, why_plain_refused};
+use crate::plain::{gather_plain, why_plain_refused};
 use nv_images::{
     Failure, Image, ImageFile, Shown, open_image, read_image, tell_explain, tell_failure,
     tell_unaccepted,
@@ -100,15 +100,13 @@ where
 {
     let name = format!(in rt.alloc(); "{}: ", Shown(path))?;
     let file = open_image(rt, path)?;
-    match gather_or_refuse(rt, rt.alloc(), &file, u64::from(workers))? {
-        Some(Gathered::Refused(fault)) => {
-            let why = why_plain_refused(&file, fault)?;
-            let gathered = Gathered::Refused(fault);
+    match gather_plain(rt, rt.alloc(), &file, u64::from(workers))? {
+        Some(gathered) => {
+            let why = why_plain_refused(&file, &gathered)?;
             let status = check_gathered_named(rt, &name, gathered, workers, output)?;
-            tell_unaccepted(rt, Some(why));
+            tell_unaccepted(rt, why);
             Ok(status)
         }
-        Some(gathered) => Ok(check_gathered_named(rt, &name, gathered, workers, output)?),
         None => check_whole_named(rt, &name, file, workers, output),
     }
 }

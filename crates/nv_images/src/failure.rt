@@ -7,11 +7,12 @@ use crate::reason::{Reason, WriteReason};
 use crate::shown::Shown;
 use nv_stream::{ScriptError, Unread, Unsaved};
 use std::alloc::AllocError;
+use std::error::Error;
 use std::fmt;
 use std::process::ExitCode;
 
 /// What ends a command before its answer.
-#[derive(Clone, Copy)]
+#[derive(Clone, Copy, Debug)]
 pub enum Failure<'a> {
     /// The file at this path can't be read, for this reason, which its text leaves out.
     CannotRead(&'a str, Reason),
@@ -132,3 +133,5 @@ impl fmt::Display for Failure<'_> {
         }
     }
 }
+
+impl Error for Failure<'_> {}

@@ -7,7 +7,7 @@ use std::fmt;
 use std::io::{Error, ErrorKind};
 
 /// Why a file can't be read.
-#[derive(Clone, Copy)]
+#[derive(Clone, Copy, Debug)]
 pub enum Reason {
     /// Its path isn't UTF-8. The kit opens files by text alone.
     PathNotUtf8,

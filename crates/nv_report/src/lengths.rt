@@ -13,7 +13,7 @@ use std::fmt;
 pub const LONGEST_REGION: usize = (MOST_BLOCKS * BLOCK_SIZE) as usize;
 
 /// A length that no region has.
-#[derive(Clone, Copy, PartialEq, Eq)]
+#[derive(Clone, Copy, Debug, PartialEq, Eq)]
 pub enum BadLength {
     /// So many bytes.
     Bytes(u64),
