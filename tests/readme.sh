@@ -29,7 +29,7 @@ cases_of() {
         block == "run" { print > (name ".run"); next }
         block == "out" { print > (name ".out"); next }
         block == "skip" { next }
-        /^    (head [^|]*\| \.\/nova run|\.\/nova (run|shell|check|mkfs|clean|ls|du|stat|cat|tar|log|block|map|explain|recover|mkdir|rm|rmdir|mv|ln|truncate|chmod|chown|put) [a-z<]|od )/ { if (!within) begin("command"); within = 1; sub(/^    /, ""); print > (name ".run"); next }
+        /^    (head [^|]*\| \.\/nova run|\.\/nova (run|shell|check|mkfs|clean|ls|du|stat|cat|tar|log|block|diff|map|explain|recover|mkdir|rm|rmdir|mv|ln|truncate|chmod|chown|put) [a-z<]|od )/ { if (!within) begin("command"); within = 1; sub(/^    /, ""); print > (name ".run"); next }
         { within = 0 }
     ' "$1"
 }

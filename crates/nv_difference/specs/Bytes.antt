@@ -22,3 +22,16 @@ pub record PartWithin (a b : List ℕ) (k : ℕ) : Type 0 where
   pub below : k < length a
   pub differ : slice_index a k ≢ slice_index b k
   pub same : (j : ℕ) → j < k → slice_index a j ≡ slice_index b j
+
+-- ---- within a piece
+
+-- the bytes are the same from a place up to an end
+abbrev pub AreSameFrom : Node → Node → ℕ → ℕ → Type 0
+AreSameFrom a b at end = (x : ℕ) → at ≤ x → x < end → a.bytes x ≡ b.bytes x
+
+-- the first place from one on, and below an end, where the bytes differ
+pub record PartFrom (a b : Node) (at end x : ℕ) : Type 0 where
+  pub from : at ≤ x
+  pub below : x < end
+  pub differ : a.bytes x ≢ b.bytes x
+  pub same : AreSameFrom a b at x

@@ -1,12 +1,13 @@
 //! The names of two directories as one list.
 
-ghost use Rattle.std.specs.Prelude.{◌≡◌, IfOk, MatchOption, map};
+ghost use Rattle.std.specs.Prelude.{◌≡◌, ◌⊎◌, ◌∷◌, [], IfOk, MatchOption, map};
 ghost use Rattle.nv_super.specs.Order.{Rises};
 ghost use Rattle.nv_difference.specs.Names.{by_bytes, name_bytes};
-ghost use Rattle.nv_difference.specs.Merging.{AreMerged, AreNone, IsLeast, behind};
+ghost use Rattle.nv_difference.specs.Merging.{AreMerged, AreNone, IsLeast, IsUpTo, behind};
 
 use nv_names::Named;
 use std::alloc::{AllocError, Global};
+use std::cmp::Ordering;
 
 /// The names of two lists that rise by bytes, each once and rising.
 pub(crate) fn merged<'a>(
@@ -34,10 +35,22 @@ fn least<'a>(left: &[Named<'a>], right: &[Named<'a>]) -> Option<Named<'a>>
     ensures { MatchOption result (AreNone left.now right.now) (IsLeast left.now right.now) }
 {
     match (left, right) {
-        ([x, ..], [y, ..]) => Some(if x.name <= y.name { *x } else { *y }),
+        ([x, ..], [y, ..]) => Some(lesser(*x, *y)),
         ([x, ..], []) => Some(*x),
         ([], [y, ..]) => Some(*y),
         ([], []) => None,
+    }
+}
+
+// The one whose name comes first, or the first of two of one name.
+fn lesser<'a>(x: Named<'a>, y: Named<'a>) -> Named<'a>
+    ensures among { (result ≡ x.entry) ⊎ (result ≡ y.entry) }
+    ensures first { IsUpTo (name_bytes result) (x.entry ∷ []) }
+    ensures second { IsUpTo (name_bytes result) (y.entry ∷ []) }
+{
+    match x.name.cmp(y.name) {
+        Ordering::Less | Ordering::Equal => x,
+        Ordering::Greater => y,
     }
 }
 
