@@ -1,5 +1,7 @@
+pub mod Used
 pub mod Tables
 pub mod Steps
 pub mod Told
+pub mod Sides
 pub mod Merges
 pub mod Parts

@@ -3,6 +3,7 @@ use Rattle.std.proofs.Common.{◌≡◌, ◌≢◌, ◌∙◌, ◌⊎◌, ◌+�
 use Rattle.std.specs.List.{range_with_len}
 use Rattle.std.specs.Prelude.{MatchOption}
 use Rattle.std.proofs.lemmas.List.FromFn.{length-map-range_with_len, get_or-map-range_with_len}
+use Rattle.std.proofs.lemmas.Bool.{cases_lt}
 use Rattle.nv_tree.specs.Tree.{Node}
 use Rattle.nv_difference.specs.Bytes.{AreSameBelow, AreSameFrom, PartBelow, PartFrom, PartWithin}
 
@@ -39,7 +40,7 @@ same_further a b at end before behind x below = elim (le_or_lt at x) [
   | inr less ↦ before x less
 ] where
   le_or_lt : (at x : ℕ) → (at ≤ x) ⊎ (x < at)
-  le_or_lt at x = ?
+  le_or_lt at x = elim (cases_lt x at) [ inl less ↦ inr less | inr from ↦ inl from ]
 
 -- the first place behind what is the same
 pub parts_first : (a b : Node) (at mid end place : ℕ) → mid ≤ end → AreSameBelow a b at → PartFrom a b at mid place → PartBelow a b end place

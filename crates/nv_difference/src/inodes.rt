@@ -41,12 +41,9 @@ pub(crate) fn push_inode<S: Contents, T: Contents>(
 fn side_of<S: Contents>(source: &S, inode: Option<u64>) -> Option<Side>
     ensures { IsSide (option_and_then (S.tree source.now) inode) inode result }
 {
-    match inode {
-        Some(inode) => source
-            .numbers_of(inode)
-            .map(|numbers| Side { inode, numbers }),
-        None => None,
-    }
+    let inode = inode?;
+    let numbers = source.numbers_of(inode)?;
+    Some(Side { inode, numbers })
 }
 
 // The same of two inodes in use.
