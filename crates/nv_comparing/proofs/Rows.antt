@@ -1,9 +1,15 @@
 -- The rows of an outcome lie in the region whose journals are rolled back, and what they show there.
-use Rattle.std.proofs.Common.{false, refl}
+use Rattle.std.proofs.Common.{false, refl, arith}
 use Rattle.nv_region.specs.Region.{Region}
 use Rattle.nv_outcome.specs.nv_journal.Undo.{undone}
 use Rattle.nv_outcome.specs.Outcome.{Outcome, IsOutcome}
 use Rattle.nv_outcome.proofs.Again.{rolled_back, stays}
+use Rattle.nv_outcome.proofs.Fixed.{fixed_outcome}
+use Rattle.nv_outcome.proofs.SuperOf.{layout_of_super}
+use Rattle.nv_outcome.proofs.Tickets.{slot_number}
+use Rattle.nv_rows.proofs.GivenRows.{few_inodes}
+use Rattle.nv_scan.proofs.Only.{slot_in_use}
+use Rattle.nv_usage.specs.Named.{AreLowRows}
 use Rattle.nv_calls.specs.Mount.{IsKept, has_faults}
 use Rattle.nv_calls.proofs.FileBytes.{blocks_inside, row_size}
 use Rattle.nv_comparing.specs.Shown.{AreHeld}
@@ -17,3 +23,11 @@ module _ (S : Region) (o : Outcome) (is : IsOutcome S o) where
     inside = blocks_inside (undone o.sup S) o.sup o.rows (record { sup = o.sup; pools = o.free; room = 0 }) o.faults (has_faults o.faults) false kept refl row c;
     size = row_size (undone o.sup S) o.sup o.rows (record { sup = o.sup; pools = o.free; room = 0 }) o.faults (has_faults o.faults) false kept refl row c;
   }
+
+  pub low_rows : AreLowRows o.rows
+  low_rows row c =
+      let r = (fixed_outcome S o is).rows.each row c in
+      let layout = layout_of_super S o.sup is.sup in
+      let low = (slot_number o.sup row.inode r.0 layout (slot_in_use r.2.inode)).1 in
+      let few = few_inodes o.sup layout.areas in
+      omega (arith, low, few)

@@ -4,4 +4,5 @@ pub mod Steps
 pub mod Told
 pub mod Sides
 pub mod Merges
+pub mod Listed
 pub mod Parts

@@ -68,15 +68,20 @@ module _ (x y : Node) (a b : Numbers) (first : numbers_of x ≡ a) (second : num
   content_as j k is other new told =
       let mine : x.kind ≡ j = ap (λ (n : Numbers). n.kind) first ∙ is in
       let its : y.kind ≡ k = ap (λ (n : Numbers). n.kind) second ∙ other in
-      rw (mine, its) told
+      subst (λ (q : Kind). Adds (IsContentText q y.kind path x y) old new) (sym mine) (subst (λ (q : Kind). Adds (IsContentText j q path x y) old new) (sym its) told)
+
+  numbers_are : numbers_text path a b ≡ numbers_text path (numbers_of x) (numbers_of y)
+  numbers_are = ap (λ (n : Numbers). numbers_text path n b) (sym first) ∙ ap (numbers_text path (numbers_of x)) (sym second)
 
   pub files_told : a.kind ≡ File → b.kind ≡ File → (mid new : List ℕ) → mid ≡ old ++ numbers_text path a b → Adds (IsBytesText path x y) mid new → Adds (IsContentText x.kind y.kind path x y) old new
-  files_told is other mid new numbers bytes = content_as File File is other new
-      (numbers_text path (numbers_of x) (numbers_of y) ++ bytes.0, (bytes.0, bytes.1, refl),
-      bytes.2 ∙ ap (λ l. l ++ bytes.0) (numbers ∙ rw (first, second) refl) ∙ append_assoc old (numbers_text path (numbers_of x) (numbers_of y)) bytes.0)
+  files_told is other mid new numbers bytes = content_as File File is other new (
+    numbers_text path (numbers_of x) (numbers_of y) ++ bytes.0,
+    (bytes.0, bytes.1, refl),
+    bytes.2 ∙ ap (λ l. l ++ bytes.0) (numbers ∙ ap (λ l. old ++ l) numbers_are) ∙ append_assoc old (numbers_text path (numbers_of x) (numbers_of y)) bytes.0,
+  )
 
   pub directories_told : a.kind ≡ Directory → b.kind ≡ Directory → (new : List ℕ) → new ≡ old ++ numbers_text path a b → Adds (IsContentText x.kind y.kind path x y) old new
-  directories_told is other new numbers = content_as Directory Directory is other new (numbers_text path (numbers_of x) (numbers_of y), refl, numbers ∙ rw (first, second) refl)
+  directories_told is other new numbers = content_as Directory Directory is other new (numbers_text path (numbers_of x) (numbers_of y), refl, numbers ∙ ap (λ l. old ++ l) numbers_are)
 
   kinds_are : kinds_line path a.kind b.kind ≡ kinds_line path x.kind y.kind
   kinds_are = ap (λ (k : Kind). kinds_line path k b.kind) (sym (ap (λ (n : Numbers). n.kind) first)) ∙ ap (λ (k : Kind). kinds_line path x.kind k) (sym (ap (λ (n : Numbers). n.kind) second))

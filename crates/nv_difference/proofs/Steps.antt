@@ -1,5 +1,5 @@
 -- One step of the way through two trees.
-use Rattle.std.proofs.Common.{◌≡◌, ◌≢◌, ◌∙◌, ◌<◌, ℕ, Bool, true, false, List, [], ◌∷◌, ◌++◌, map, reverse, flat_map, ◌&&◌, Option, Some, None, length, set, refl, sym, ap, subst, append-nil, append_assoc, true≢false, inl, inr}
+use Rattle.std.proofs.Common.{◌≡◌, ◌≢◌, ◌∙◌, ◌<◌, ℕ, Bool, true, false, List, [], ◌∷◌, ◌++◌, map, reverse, flat_map, ◌&&◌, Option, Some, None, length, replicate, set, refl, sym, ap, subst, append-nil, append_assoc, true≢false, inl, inr}
 use Rattle.std.specs.Prelude.{nat_le}
 use Rattle.std.specs.List.{Contains}
 use Rattle.std.proofs.lemmas.List.{map-append, reverse-append, reverse-reverse}
@@ -13,7 +13,7 @@ use Rattle.nv_difference.specs.Pairs.{AreVisited, none, again, passed, compared,
 use Rattle.nv_difference.specs.Walk.{AreDirectories, AreTables, IsReady, LeadsOn, IsVisitable, AreVisitable, compared_in, seen_in, visit_of, waiting}
 use Rattle.nv_difference.specs.declared.pair.Pair.{Pair}
 use Rattle.nv_difference.specs.declared.pair.Visit.{Visit}
-use Rattle.nv_difference.proofs.Tables.{with_both}
+use Rattle.nv_difference.proofs.Tables.{none_compared, with_both}
 use Rattle.nv_difference.proofs.Used.{in_use}
 
 -- ---- what waits
@@ -120,6 +120,13 @@ module _ (t u : Tree) where
         | inr there ↦ left_are x there
       ];
     }
+
+  pub start_ready : (visits : List Visit) (pending : List Pair) (n m : ℕ) → visits ≡ [] → ((i : ℕ) → IsUsed t i → i < n) → ((j : ℕ) → IsUsed u j → j < m) → AreDirectories t u (waiting pending)
+      → IsReady t u visits pending (replicate n None) (replicate m None)
+  start_ready visits pending n m none_yet first second are = record {
+    tables = subst (λ (l : List Visit). AreTables t u (seen_in l) (replicate n None) (replicate m None)) (sym none_yet) (none_compared t u n m first second);
+    directories = are;
+  }
 
   -- ---- it leads on
 

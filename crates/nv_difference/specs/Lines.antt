@@ -35,9 +35,13 @@ numbers_text path a b = whose_text path a b ++ size_text path a b
 abbrev pub kinds_line : List ℕ → Kind → Kind → List ℕ
 kinds_line path a b = head_text (codes "kind") path ++ line (kind_word a ++ codes ", " ++ kind_word b)
 
+-- from where on they differ
+abbrev pub differ_text : ℕ → List ℕ
+differ_text place = line (codes "differ from byte " ++ decimal place)
+
 -- the first place where the bytes differ
 abbrev pub bytes_line : List ℕ → ℕ → List ℕ
-bytes_line path place = head_text (codes "bytes") path ++ line (codes "differ from byte " ++ decimal place ++ codes " on")
+bytes_line path place = head_text (codes "bytes") path ++ differ_text place
 
 -- there is an inode in A alone
 abbrev pub only_a_line : List ℕ → List ℕ

@@ -1,7 +1,7 @@
 //! The lines of what differs. Each begins with a word for what it is, and the path comes next.
 
 ghost use Rattle.std.specs.Prelude.{◌≡◌, ◌++◌, OnOk, string_bytes};
-ghost use Rattle.nv_difference.specs.Lines.{bytes_line, head_text, kinds_line, number_text, numbers_text, only_a_line, only_b_line, passed_line, path_text, size_text, whose_text};
+ghost use Rattle.nv_difference.specs.Lines.{bytes_line, differ_text, head_text, kinds_line, number_text, numbers_text, only_a_line, only_b_line, passed_line, path_text, size_text, whose_text};
 
 use crate::contents::Numbers;
 use nv_super::Kind;
@@ -38,13 +38,7 @@ fn push_size(out: &mut String, path: &[u8], a: &Numbers, b: &Numbers) -> Result<
     push_number(out, "time", path, a.time, b.time)
 }
 
-fn push_number(
-    out: &mut String,
-    word: &str,
-    path: &[u8],
-    a: u64,
-    b: u64,
-) -> Result<(), AllocError>
+fn push_number(out: &mut String, word: &str, path: &[u8], a: u64, b: u64) -> Result<(), AllocError>
     ensures { OnOk result (string_bytes out.new ≡ string_bytes out.old ++ number_text word.now path.now a b) }
 {
     if a == b {
@@ -88,7 +82,13 @@ pub(crate) fn push_place(out: &mut String, path: &[u8], place: u64) -> Result<()
     ensures { OnOk result (string_bytes out.new ≡ string_bytes out.old ++ bytes_line path.now place) }
 {
     push_head(out, "bytes", path)?;
-    writeln!(out, "differ from byte {place} on")
+    push_differ(out, place)
+}
+
+fn push_differ(out: &mut String, place: u64) -> Result<(), AllocError>
+    ensures { OnOk result (string_bytes out.new ≡ string_bytes out.old ++ differ_text place) }
+{
+    writeln!(out, "differ from byte {place}")
 }
 
 /// There is an inode in the first tree alone.

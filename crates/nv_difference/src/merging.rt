@@ -49,7 +49,8 @@ fn lesser<'a>(x: Named<'a>, y: Named<'a>) -> Named<'a>
     ensures second { IsUpTo (name_bytes result) (y.entry ∷ []) }
 {
     match x.name.cmp(y.name) {
-        Ordering::Less | Ordering::Equal => x,
+        Ordering::Less => x,
+        Ordering::Equal => x,
         Ordering::Greater => y,
     }
 }

@@ -24,7 +24,7 @@ const ROOT: u64 = 1;
 /// - `only in A: PATH`, `only in B: PATH`: it leads to an inode in use in one alone. What lies below a directory isn't told then.
 /// - `kind PATH: KIND, KIND`: to a file and a directory.
 /// - `mode PATH: N, N`, and so `owner`, `group`, `size`, `links`, `time`: a number of the inode in A and in B.
-/// - `bytes PATH: differ from byte N on`: two files differ there, below both sizes. Holes are zeros.
+/// - `bytes PATH: differ from byte N`: two files differ there, below both sizes. Holes are zeros.
 /// - `names PATH: not compared, one directory has an earlier path`: only where a directory has several names.
 ///
 /// It is empty where nothing differs. Errors: `AllocError` where a growth was refused.

@@ -1,7 +1,7 @@
 //! The way through the pairs of directories of two trees, with what waits to be looked at on a stack: what a pair leads to comes
 //! before what waited before it.
 
-ghost use Rattle.std.specs.Prelude.{◌≡◌, ◌↔◌, ◌++◌, ◌∷◌, [], IsTrue, IfOk, OnOk, Some, None, true, map, slice_index_or};
+ghost use Rattle.std.specs.Prelude.{◌≡◌, ◌↔◌, ◌&&◌, ◌++◌, ◌∷◌, [], IsTrue, IfOk, OnOk, Some, None, is_none, true, map, replicate, slice_index_or};
 ghost use Rattle.nv_difference.specs.Pairs.{AreVisited, are_new, both_of};
 ghost use Rattle.nv_difference.specs.Walk.{AreDirectories, IsReady, LeadsOn, seen_in, visit_of, waiting};
 
@@ -20,6 +20,26 @@ struct Walk {
 }
 
 impl Walk {
+    // Some pairs wait, and no directory was compared. There are so many numbers in either tree.
+    fn new(
+        alloc: Global,
+        pending: Vec<Pair>,
+        first: usize,
+        second: usize,
+    ) -> Result<Walk, AllocError>
+        ensures visits { IfOk result (λ walk. walk.visits.items ≡ []) }
+        ensures pending { IfOk result (λ walk. walk.pending.items ≡ pending.items) }
+        ensures partners { IfOk result (λ walk. walk.partners.items ≡ replicate first None) }
+        ensures owners { IfOk result (λ walk. walk.owners.items ≡ replicate second None) }
+    {
+        Ok(Walk {
+            visits: Vec::new(alloc),
+            pending,
+            partners: vec![in alloc; None; first]?,
+            owners: vec![in alloc; None; second]?,
+        })
+    }
+
     // Looks at what waited on top. If neither directory was compared yet, what the two lead to waits then.
     fn enter<S: Contents, T: Contents>(
         &mut self,
@@ -36,13 +56,15 @@ impl Walk {
         if is_number(partner, next.b) {
             return Ok(());
         }
-        if partner.is_none() && number_at(&self.owners, next.b).is_none() {
+        let owner = number_at(&self.owners, next.b);
+        if are_new(partner, owner) {
             return self.compare(alloc, first, second, next);
         }
         self.visits.push(Visit {
             pair: next,
             compared: false,
-        })
+        })?;
+        Ok(())
     }
 
     // The pair is compared, and what it leads to waits.
@@ -66,7 +88,8 @@ impl Walk {
         self.visits.push(Visit {
             pair: next,
             compared: true,
-        })
+        })?;
+        Ok(())
     }
 
     // Looks at all that waits. No turn is the last that can be counted.
@@ -109,6 +132,13 @@ fn is_number(known: Option<u64>, number: u64) -> bool
     }
 }
 
+// Whether neither of two directories was compared with one.
+fn are_new(partner: Option<u64>, owner: Option<u64>) -> bool
+    ensures { result ≡ (is_none partner && is_none owner) }
+{
+    partner.is_none() && owner.is_none()
+}
+
 /// The pairs of directories that some of two trees lead to by the same names, in the order in which they are told of.
 ///
 /// Each directory is compared once, at its first path, so rings of directories end where they come back. The error is a refused growth.
@@ -121,12 +151,7 @@ pub(crate) fn visits_from<S: Contents, T: Contents>(
     requires { AreDirectories (S.tree first.now) (T.tree second.now) (waiting pending.items) }
     ensures { IfOk result (λ visits. AreVisited (S.tree first.now) (T.tree second.now) [] (waiting pending.items) (map visit_of visits.items)) }
 {
-    let mut walk = Walk {
-        visits: Vec::new(alloc),
-        pending,
-        partners: vec![in alloc; None; first.limit()]?,
-        owners: vec![in alloc; None; second.limit()]?,
-    };
+    let mut walk = Walk::new(alloc, pending, first.limit(), second.limit())?;
     walk.finish(alloc, first, second)?;
     Ok(walk.visits)
 }

@@ -3,7 +3,7 @@ use Rattle.std.proofs.lemmas.Result.{IfOk-weaker}
 use Rattle.nv_region.specs.Region.{region_of}
 use Rattle.nv_outcome.specs.Answer.{outcome_of}
 use Rattle.nv_checking.proofs.Found.{as_found}
-use Rattle.nv_logs.proofs.LowRows.{low_rows}
+use Rattle.nv_comparing.proofs.Rows.{low_rows}
 use Rattle.nv_comparing.proofs.Images.{both_compared, held_in, second_refused}
 use Rattle.nv_comparing.proofs.comparing.look_beside.Goals as goal
 

@@ -6,5 +6,5 @@ use Rattle.nv_difference.proofs.names.push_names.Given as goal
 
 -- the names so far were told
 abbrev pub invariant-loop-named : goal.invariant-loop-named
-invariant-loop-named g l = Adds (AreTexts (IsNameText (g.S.Contents.Inodes.tree l.first) (g.T.Contents.Inodes.tree l.second) (both_of l.pair)) (map name_bytes (take l.named-index l.names)))
+invariant-loop-named g l = Adds (AreTexts (IsNameText (g.S.Inodes.tree l.first) (g.T.Inodes.tree l.second) (both_of l.pair)) (map name_bytes (take l.named-index l.names)))
     (string_bytes l.fn.out) (string_bytes l.out)

@@ -6,5 +6,5 @@ use Rattle.nv_difference.proofs.telling.push_visits.Given as goal
 
 -- the pairs so far were told
 abbrev pub invariant-loop-visit : goal.invariant-loop-visit
-invariant-loop-visit g l = Adds (AreTexts (IsVisitText (g.S.Contents.Inodes.tree l.first) (g.T.Contents.Inodes.tree l.second)) (map visit_of (take l.visit-index l.visits)))
+invariant-loop-visit g l = Adds (AreTexts (IsVisitText (g.S.Inodes.tree l.first) (g.T.Inodes.tree l.second)) (map visit_of (take l.visit-index l.visits)))
     (string_bytes l.fn.out) (string_bytes l.out)
