@@ -7,6 +7,7 @@ use Rattle.nv_outcome.specs.nv_journal.Undo.{undone}
 use Rattle.nv_outcome.specs.Answer.{outcome_of}
 use Rattle.nv_outcome.specs.Outcome.{Outcome, IsOutcome}
 use Rattle.nv_outcome.specs.declared.recovered.Recovered.{Recovered}
+use Rattle.nv_rows.specs.RowList.{RowList}
 use Rattle.nv_paths.specs.Seen.{tree_of}
 use Rattle.nv_tree.specs.Tree.{Tree}
 use Rattle.nv_text.specs.Refusals.{refusal_name}
@@ -38,6 +39,10 @@ pub held_in : (bytes : List ℕ) (memory : ImageState) (r : Recovered) → IsRec
 held_in bytes memory r is = subst (λ (Q : Region). AreHeld Q r.rows.items) (sym is.1) (held_rows (region_of bytes) (outcome_of r) is.0)
 
 -- the tree of the rows over the memory is that of the outcome
+pub tree_as : (m n : ImageState) (rows given : RowList) → m ≡ n → rows ≡ given → (Q : Region) → n.region ≡ Q → tree_of m.region rows.items ≡ tree_of Q given.items
+tree_as m n rows given memory same Q region = ap (λ (k : ImageState). tree_of k.region rows.items) memory ∙ ap (λ (l : RowList). tree_of n.region l.items) same ∙ ap (λ (S : Region). tree_of S given.items) region
+
+-- what differs between the trees differs between those of the outcomes
 module _ (R S : Region) (r q : Recovered) (of : IsOutcome R (outcome_of r)) (other : IsOutcome S (outcome_of q)) (t u : Tree) (first : t ≡ tree_of (undone r.sup R) r.rows.items)
     (second : u ≡ tree_of (undone q.sup S) q.rows.items) (m n : ℕ) (faults : m ≡ length r.faults.items) (others : n ≡ length q.faults.items) where
   pub both_compared : {E : Type 0} (result : Result Look E) → IfOk result (λ look. IsDifference t u (string_bytes look.text)) → IfOk result (λ look. look.compared.status ≡ status_of (string_bytes look.text))

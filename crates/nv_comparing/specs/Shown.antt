@@ -1,5 +1,5 @@
 -- Rows over a memory.
-use Rattle.std.specs.Prelude.{ℕ, ◌≤◌, List}
+use Rattle.std.specs.Prelude.{ℕ, ◌<◌, ◌≤◌, List}
 use Rattle.std.specs.List.{Contains}
 use Rattle.nv_region.specs.Region.{Region}
 use Rattle.nv_bytes.specs.Bytes.{LieInside}
@@ -13,3 +13,7 @@ pub record IsHeld (R : Region) (row : Row) : Type 0 where
 -- the same of each row
 abbrev pub AreHeld : Region → List Row → Type 0
 AreHeld R rows = (row : Row) → Contains rows row → IsHeld R row
+
+-- the numbers of rows are below a limit
+abbrev pub AreBelow : List Row → ℕ → Type 0
+AreBelow rows limit = (row : Row) → Contains rows row → row.inode < limit

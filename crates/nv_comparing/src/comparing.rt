@@ -8,9 +8,9 @@ ghost use Rattle.nv_outcome.specs.Answer.{outcome_of};
 ghost use Rattle.nv_outcome.specs.Outcome.{IsOutcome};
 ghost use Rattle.nv_outcome.specs.nv_journal.Undo.{undone};
 ghost use Rattle.nv_text.specs.Refusals.{refusal_name};
-ghost use Rattle.nv_usage.specs.Named.{AreLowRows};
+ghost use Rattle.nv_super.specs.Layout.{HasAreas, inode_limit};
 ghost use Rattle.nv_difference.specs.Difference.{IsDifference};
-ghost use Rattle.nv_comparing.specs.Shown.{AreHeld};
+ghost use Rattle.nv_comparing.specs.Shown.{AreBelow, AreHeld};
 ghost use Rattle.nv_comparing.specs.Comparing.{IsImagesDifference, IsNamedRefusal, status_of};
 
 use crate::shown::shown;
@@ -59,7 +59,8 @@ fn look_beside(
     found: &Recovered,
     b: &[u8],
 ) -> Result<Look, AllocError>
-    requires low { AreLowRows found.now.rows.items }
+    requires areas { HasAreas found.now.sup }
+    requires below { AreBelow found.now.rows.items (inode_limit found.now.sup) }
     requires held { AreHeld memory.now.region found.now.rows.items }
     ensures { (R : Region) → IsOutcome R (outcome_of found.now) → memory.now.region ≡ undone found.now.sup R
         → IfOk result (λ look. IsImagesDifference R (region_of b.now) (string_bytes look.text) look.compared) }
@@ -67,8 +68,8 @@ fn look_beside(
     let image = recover_image(alloc, b)?;
     match image {
         Image::Recovered(other, others) => {
-            let first = shown(memory, &found.rows);
-            let second = shown(&other, &others.rows);
+            let first = shown(memory, &found.rows, &found.sup);
+            let second = shown(&other, &others.rows, &others.sup);
             let faults = (found.faults.len(), others.faults.len());
             compared_look(alloc, &first, &second, faults)
         }
@@ -110,10 +111,11 @@ fn status_of(text: &str) -> u8
 fn refused_look(alloc: Global, letter: &str, refusal: Refusal) -> Result<Look, AllocError>
     ensures { IfOk result (λ look. IsNamedRefusal letter.now (refusal_name refusal) (string_bytes look.text) look.compared) }
 {
+    let told = refused_text(alloc, refusal)?;
     let mut text = String::new(alloc);
     text.push_str(letter)?;
     text.push_str(": ")?;
-    text.push_str(&refused_text(alloc, refusal)?)?;
+    text.push_str(&told)?;
     let compared = Compared {
         status: REFUSED_STATUS,
         first_faults: 0,

@@ -2,8 +2,8 @@
 
 ghost use Rattle.std.specs.Prelude.{◌≡◌};
 ghost use Rattle.nv_paths.specs.Seen.{tree_of};
-ghost use Rattle.nv_usage.specs.Named.{AreLowRows, IsAbove};
-ghost use Rattle.nv_comparing.specs.Shown.{AreHeld};
+ghost use Rattle.nv_super.specs.Layout.{HasAreas, inode_limit};
+ghost use Rattle.nv_comparing.specs.Shown.{AreBelow, AreHeld};
 
 use nv_bytes::fill_bytes;
 use nv_difference::{Contents, Numbers};
@@ -11,8 +11,7 @@ use nv_members::Inodes;
 use nv_names::Named;
 use nv_region::Pmem;
 use nv_rows::Rows;
-use nv_super::Kind;
-use nv_usage::named_rows;
+use nv_super::{Kind, Super};
 use std::alloc::AllocError;
 
 /// Rows, and the memory where the blocks of their files lie.
@@ -22,13 +21,14 @@ pub(crate) struct Shown<'a, P: Pmem> {
     rows: &'a Rows,
     // A number above those of all rows.
     limit: usize,
-    ghost above: { IsAbove rows.now.items limit },
+    ghost below: { AreBelow rows.now.items limit },
     ghost held: { AreHeld (P.region memory.now) rows.now.items },
 }
 
-/// The rows as what is compared.
-pub(crate) fn shown<'a, P: Pmem>(memory: &'a P, rows: &'a Rows) -> Shown<'a, P>
-    requires low { AreLowRows rows.now.items }
+/// The rows of a region with this superblock as what is compared.
+pub(crate) fn shown<'a, P: Pmem>(memory: &'a P, rows: &'a Rows, sup: &Super) -> Shown<'a, P>
+    requires areas { HasAreas sup.now }
+    requires below { AreBelow rows.now.items (inode_limit sup.now) }
     requires held { AreHeld (P.region memory.now) rows.now.items }
     ensures memory { result.memory.now ≡ memory.entry.now }
     ensures rows { result.rows.now ≡ rows.entry.now }
@@ -36,7 +36,7 @@ pub(crate) fn shown<'a, P: Pmem>(memory: &'a P, rows: &'a Rows) -> Shown<'a, P>
     Shown {
         memory,
         rows,
-        limit: named_rows(rows).limit,
+        limit: sup.inode_limit() as usize,
     }
 }
 

@@ -1,4 +1,3 @@
-pub mod Used
 pub mod Tables
 pub mod Steps
 pub mod Told

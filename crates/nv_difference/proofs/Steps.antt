@@ -9,12 +9,13 @@ use Rattle.nv_super.proofs.Rising.{Contains-cons, Contains-head, Contains-tail}
 use Rattle.nv_tree.specs.Tree.{Tree, name_in}
 use Rattle.nv_tree.specs.Refusals.{is_directory_at}
 use Rattle.nv_members.specs.Members.{IsUsed}
-use Rattle.nv_difference.specs.Pairs.{AreVisited, none, again, passed, compared, ArePairsBelow, Both, are_new, both_of, pair_at, pairs_of, partner_of, path_in}
+use Rattle.nv_folders.specs.Folders.{path_in}
+use Rattle.nv_folders.proofs.Steps.{in_use}
+use Rattle.nv_difference.specs.Pairs.{AreVisited, none, again, passed, compared, ArePairsBelow, Both, are_new, both_of, pair_at, pairs_of, partner_of}
 use Rattle.nv_difference.specs.Walk.{AreDirectories, AreTables, IsReady, LeadsOn, IsVisitable, AreVisitable, compared_in, seen_in, visit_of, waiting}
 use Rattle.nv_difference.specs.declared.pair.Pair.{Pair}
 use Rattle.nv_difference.specs.declared.pair.Visit.{Visit}
 use Rattle.nv_difference.proofs.Tables.{none_compared, with_both}
-use Rattle.nv_difference.proofs.Used.{in_use}
 
 -- ---- what waits
 

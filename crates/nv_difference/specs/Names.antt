@@ -5,9 +5,10 @@ use Rattle.std.specs.List.{Contains}
 use Rattle.nv_super.specs.Order.{Lists}
 use Rattle.nv_names.specs.declared.named.Named.{Named}
 use Rattle.nv_tree.specs.Tree.{Node, Tree, name_in}
+use Rattle.nv_folders.specs.Folders.{path_in}
 use Rattle.nv_difference.specs.Inodes.{IsInodeText}
 use Rattle.nv_difference.specs.Lines.{passed_line}
-use Rattle.nv_difference.specs.Pairs.{Both, path_in}
+use Rattle.nv_difference.specs.Pairs.{Both}
 use Rattle.nv_difference.specs.Texts.{AreTexts}
 
 -- the bytes of a name

@@ -3,6 +3,7 @@ use Rattle.std.specs.Prelude.{◌≡◌, ◌≢◌, ℕ, ◌&&◌, ◌==◌, Boo
 use Rattle.nv_super.specs.Order.{Lists}
 use Rattle.nv_tree.specs.Tree.{Tree, name_in}
 use Rattle.nv_tree.specs.Refusals.{is_directory_at}
+use Rattle.nv_folders.specs.Folders.{path_in}
 use Rattle.nv_difference.specs.declared.pair.Pair.{Pair}
 
 -- a path, and the number that it leads to in either tree
@@ -12,10 +13,6 @@ Both = List ℕ × ℕ × ℕ
 -- the same of a pair
 abbrev pub both_of : Pair → Both
 both_of pair = (pair.path.items, pair.a, pair.b)
-
--- the path of a name in a directory
-abbrev pub path_in : List ℕ → List ℕ → List ℕ
-path_in above name = above ++ 47 ∷ name
 
 -- the two numbers, if they are those of directories in use and the path has at most 4,096 bytes
 abbrev pub pair_at : Tree → Tree → List ℕ → ℕ → Option ℕ → List Both

@@ -4,7 +4,8 @@ ghost use Rattle.std.specs.Prelude.{◌≡◌, ◌++◌, ◌&&◌, IfOk, OnOk, S
 ghost use Rattle.std.specs.Option.{option_map};
 ghost use Rattle.nv_members.specs.Members.{kind_of, name_and_inode};
 ghost use Rattle.nv_tree.specs.Refusals.{is_directory_at};
-ghost use Rattle.nv_difference.specs.Pairs.{ArePairsBelow, both_of, pairs_of, path_in};
+ghost use Rattle.nv_folders.specs.Folders.{path_in};
+ghost use Rattle.nv_difference.specs.Pairs.{ArePairsBelow, both_of, pairs_of};
 
 use crate::contents::Contents;
 use crate::pair::Pair;

@@ -1,6 +1,6 @@
 use Rattle.std.proofs.Common.{arith}
 use Rattle.nv_difference.proofs.Steps.{compared_on, compared_ready, first_within, second_within, top_is}
-use Rattle.nv_difference.proofs.Used.{by_kind}
+use Rattle.nv_folders.proofs.Steps.{by_kind}
 use Rattle.nv_difference.proofs.walk.Walk.compare.Goals as goal
 
 pub pairs_below-requires : goal.pairs_below-requires
