@@ -49,6 +49,17 @@ module _ (R S : Region) (r q : Recovered) (of : IsOutcome R (outcome_of r)) (oth
       → IfOk result (λ look. look.compared.first_faults ≡ m) → IfOk result (λ look. look.compared.second_faults ≡ n)
       → IfOk result (λ look. IsImagesDifference R S (string_bytes look.text) look.compared)
   both_compared (Err e) told status a b = tt
-  both_compared (Ok look) told status a b = inr (outcome_of r, of, inr (outcome_of q, other,
-      (subst (λ (x : Tree). IsDifference x (tree_of (undone q.sup S) q.rows.items) (string_bytes look.text)) first (subst (λ (x : Tree). IsDifference t x (string_bytes look.text)) second told),
-      status, a ∙ faults, b ∙ others)))
+  both_compared (Ok look) told status a b = inr (
+    outcome_of r,
+    of,
+    inr (
+      outcome_of q,
+      other,
+      (
+        subst (λ (x : Tree). IsDifference x (tree_of (undone q.sup S) q.rows.items) (string_bytes look.text)) first (subst (λ (x : Tree). IsDifference t x (string_bytes look.text)) second told),
+        status,
+        a ∙ faults,
+        b ∙ others,
+      ),
+    ),
+  )

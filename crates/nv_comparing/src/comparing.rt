@@ -22,7 +22,9 @@ use nv_text::Refusal;
 use std::alloc::{AllocError, Global};
 
 const SAME_STATUS: u8 = 0;
+
 const DIFFERENT_STATUS: u8 = 1;
+
 const REFUSED_STATUS: u8 = 2;
 
 /// What came of comparing two images: the exit status, 0 where nothing differs, 1 where something does and 2 where one is refused,

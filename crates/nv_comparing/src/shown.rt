@@ -16,7 +16,7 @@ use std::alloc::AllocError;
 
 /// Rows, and the memory where the blocks of their files lie.
 #[derive(Drop)]
-pub(crate) struct Shown<'a, P: Pmem> {
+pub(crate) struct HeldRows<'a, P: Pmem> {
     memory: &'a P,
     rows: &'a Rows,
     // A number above those of all rows.
@@ -26,21 +26,21 @@ pub(crate) struct Shown<'a, P: Pmem> {
 }
 
 /// The rows of a region with this superblock as what is compared.
-pub(crate) fn shown<'a, P: Pmem>(memory: &'a P, rows: &'a Rows, sup: &Super) -> Shown<'a, P>
+pub(crate) fn shown<'a, P: Pmem>(memory: &'a P, rows: &'a Rows, sup: &Super) -> HeldRows<'a, P>
     requires areas { HasAreas sup.now }
     requires below { AreBelow rows.now.items (inode_limit sup.now) }
     requires held { AreHeld (P.region memory.now) rows.now.items }
     ensures memory { result.memory.now ≡ memory.entry.now }
     ensures rows { result.rows.now ≡ rows.entry.now }
 {
-    Shown {
+    HeldRows {
         memory,
         rows,
         limit: sup.inode_limit() as usize,
     }
 }
 
-impl<P: Pmem> Inodes for Shown<'_, P> {
+impl<P: Pmem> Inodes for HeldRows<'_, P> {
     ghost tree = { λ s. tree_of (P.region s.memory.now) s.rows.now.items };
 
     fn limit(&self) -> usize {
@@ -59,7 +59,7 @@ impl<P: Pmem> Inodes for Shown<'_, P> {
     }
 }
 
-impl<P: Pmem> Contents for Shown<'_, P> {
+impl<P: Pmem> Contents for HeldRows<'_, P> {
     fn numbers_of(&self, inode: u64) -> Option<Numbers> {
         match self.rows.get(inode) {
             Some(row) => Some(Numbers {

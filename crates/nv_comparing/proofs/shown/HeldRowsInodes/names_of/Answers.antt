@@ -3,7 +3,7 @@ use Rattle.std.specs.Option.{option_map}
 use Rattle.std.proofs.lemmas.Result.{IfOk-weaker}
 use Rattle.nv_calls.proofs.Listed.{lists_row}
 use Rattle.nv_paths.specs.Seen.{node_of, tree_of}
-use Rattle.nv_comparing.proofs.shown.ShownInodes.names_of.Goals as goal
+use Rattle.nv_comparing.proofs.shown.HeldRowsInodes.names_of.Goals as goal
 
 pub returns : goal.returns
 returns g c =
