@@ -3,7 +3,7 @@ _nova() {
     local word=${COMP_WORDS[COMP_CWORD]} before=${COMP_WORDS[COMP_CWORD - 1]} words=
     COMPREPLY=()
     if [ "$COMP_CWORD" -eq 1 ]; then
-        words="run shell check mkfs clean ls stat cat du tar log block explain map mkdir rm rmdir mv ln truncate chmod chown put recover help --help --version"
+        words="run shell check mkfs clean ls stat cat du tar log block diff explain map mkdir rm rmdir mv ln truncate chmod chown put recover help --help --version"
     else
         case ${COMP_WORDS[1]} in
             run) words="--image --save --force --strict --help" ;;
@@ -18,6 +18,7 @@ _nova() {
             tar) words="--lost-found --help" ;;
             log) words="--all --help" ;;
             block) words="--hex --help" ;;
+            diff) words="--help" ;;
             explain) words="J1 J2 H1 H2 I1 I2 I3 L1 L2 L3 L4 E1 E2 E3 E4 C1 C2 C3 C4 C5 B1 S1 S2 S3 S4 S5 S6 S7 --help" ;;
             map) words="--svg --force --help" ;;
             mkdir) words="--cpu --time --help" ;;
@@ -30,7 +31,7 @@ _nova() {
             chown) words="--cpu --time --help" ;;
             put) words="--cpu --time --help" ;;
             recover) words="--dry-run --help" ;;
-            help) words="run shell check mkfs clean ls stat cat du tar log block explain map mkdir rm rmdir mv ln truncate chmod chown put recover" ;;
+            help) words="run shell check mkfs clean ls stat cat du tar log block diff explain map mkdir rm rmdir mv ln truncate chmod chown put recover" ;;
         esac
     fi
     # A number is written by hand, and everything else may be a file.

@@ -29,7 +29,7 @@ cases_of() {
         block == "run" { print > (name ".run"); next }
         block == "out" { print > (name ".out"); next }
         block == "skip" { next }
-        /^    (head [^|]*\| \.\/nova run|\.\/nova (run|shell|check|mkfs|clean|ls|du|stat|cat|tar|log|block|map|explain|recover|mkdir|rm|rmdir|mv|ln|truncate|chmod|chown|put|untar) [a-z<]|od )/ { if (!within) begin("command"); within = 1; sub(/^    /, ""); print > (name ".run"); next }
+        /^    (head [^|]*\| \.\/nova run|\.\/nova (run|shell|check|mkfs|clean|ls|du|stat|cat|tar|log|block|diff|map|explain|recover|mkdir|rm|rmdir|mv|ln|truncate|chmod|chown|put|untar) [a-z<]|od )/ { if (!within) begin("command"); within = 1; sub(/^    /, ""); print > (name ".run"); next }
         { within = 0 }
     ' "$1"
 }
@@ -69,7 +69,7 @@ for words in "check --help" "run --help" "--help" ""; do
     same "status of nova $words" 2 $?
     same "standard output of nova $words" "" "$(cat "$folder/said")"
 done
-for command in run shell check mkfs clean ls du stat cat tar log block map explain mkdir rm rmdir mv ln truncate chmod chown put untar recover; do
+for command in run shell check mkfs clean ls du stat cat tar log block diff map explain mkdir rm rmdir mv ln truncate chmod chown put untar recover; do
     same "usage of nova $command" "Usage: nova $command" "$("$program" $command --help 2>&1 | grep -o "^Usage: nova $command")"
     # The page has what the help says of the command and of its arguments.
     while IFS= read -r line; do

@@ -2,8 +2,9 @@
 //!
 //! `run` runs a script, on the region of an image or on none, and saves the region that it leaves. `shell` runs the commands that
 //! are typed. `show` shows what is in an image, `listing` names with the numbers of their inodes and counts of blocks, `logs` the
-//! logs of inodes, `blocks` what a block is, and `views` further looks. `cleaning` shortens logs, `changing` changes an image by the calls of one
-//! command, `unpacking` by an archive, `recovering` rolls its journals back, `names` reads paths in it, and `saving` makes one.
+//! logs of inodes, `blocks` what a block is, `comparing` what differs between two images, and `views` further looks. `cleaning`
+//! shortens logs, `changing` changes an image by the calls of one command, `unpacking` by an archive, `recovering` rolls its journals
+//! back, `names` reads paths in it, and `saving` makes one.
 //! Checks and maps of images are those of `nova_check`.
 //!
 //! Behind a bad line, and a region that is refused for its length, a line on standard error says more.
@@ -16,6 +17,7 @@ mod archiving;
 mod blocks;
 mod changing;
 mod cleaning;
+mod comparing;
 mod hints;
 mod listing;
 mod logs;

@@ -1,6 +1,7 @@
-//! Further looks into an image: `log --all`, `block`, `du` and `ls --recursive`.
+//! Further looks into images: `log --all`, `block`, `du`, `ls --recursive` and `diff`.
 
 use crate::blocks::show_block;
+use crate::comparing::compare;
 use crate::listing::{Told, tell};
 use crate::logs::show_log;
 use nv_args::View;
@@ -26,5 +27,6 @@ where
         View::Folders { image, which, long } => {
             tell(rt, errors, image, which, Told::Folders { long })
         }
+        View::Difference { image, other } => compare(rt, errors, image, other),
     }
 }

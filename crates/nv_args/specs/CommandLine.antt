@@ -94,6 +94,10 @@ log_app = command (codes "log") (needed_rule (codes "image") ∷ place_rule (cod
 abbrev pub block_app : App
 block_app = command (codes "block") (needed_rule (codes "image") ∷ needed_number_rule (codes "block") ∷ flag_rule (codes "hex") ∷ [])
 
+-- `diff`: the files of two images
+abbrev pub diff_app : App
+diff_app = command (codes "diff") (needed_rule (codes "image") ∷ needed_rule (codes "other") ∷ [])
+
 -- `explain`: a class of faults
 abbrev pub explain_app : App
 explain_app = command (codes "explain") (needed_rule (codes "class") ∷ [])
@@ -113,7 +117,7 @@ with_commands program apps = fold (λ app sub. with_subcommand app sub.top) prog
 -- the commands that read an image, or write one
 abbrev pub image_apps : List App
 image_apps = mkfs_app ∷ may_path_app (codes "clean") ∷ ls_app ∷ path_app (codes "stat") ∷ path_app (codes "cat") ∷ may_path_app (codes
-    "du") ∷ tar_app ∷ log_app ∷ block_app ∷ explain_app ∷ map_app ∷ []
+    "du") ∷ tar_app ∷ log_app ∷ block_app ∷ diff_app ∷ explain_app ∷ map_app ∷ []
 
 -- a command that changes an image: its file, these arguments, a CPU and a time
 abbrev pub change_app : Text → List Rule → App

@@ -16,7 +16,7 @@ use Rattle.nv_args.specs.declared.todo.Todo.TheVariants.{Version, Run, Shell, Ch
 use Rattle.nv_args.specs.declared.todo.Which.{Which}
 use Rattle.nv_args.specs.declared.todo.Which.TheVariants.{Path, Number}
 use Rattle.nv_args.specs.declared.views.View.{View as ViewValue}
-use Rattle.nv_args.specs.declared.views.View.TheVariants.{Logs, Block, Usage, Folders}
+use Rattle.nv_args.specs.declared.views.View.TheVariants.{Logs, Block, Usage, Folders, Difference}
 use Rattle.nv_args.specs.UsageValue.{UsageTold}
 
 -- the written text is a decimal number below 2^64, which may have a plus sign and leading zeros
@@ -157,6 +157,7 @@ view_command (Logs image) = codes "log"
 view_command (Block image block hex) = codes "block"
 view_command (Usage image which) = codes "du"
 view_command (Folders image which long) = codes "ls"
+view_command (Difference image other) = codes "diff"
 
 -- the name of the command that is to be done
 abbrev pub command_of : Todo → Text
@@ -199,6 +200,7 @@ HasView values (Usage image which) = (first_of (codes "image") values ≡ Some i
     × Names (unwrap_or (first_of (codes "path") values) (codes "/")) which
 HasView values (Folders image which long) = (first_of (codes "image") values ≡ Some image.now)
     × Names (unwrap_or (first_of (codes "path") values) (codes "/")) which × (IsTrue long ↔ IsGiven (codes "long") values) × IsGiven (codes "recursive") values
+HasView values (Difference image other) = (first_of (codes "image") values ≡ Some image.now) × (first_of (codes "other") values ≡ Some other.now)
 
 -- what is to be done has the values that are written for a command's arguments
 abbrev pub HasValues : List Row → Todo → Type 0

@@ -37,6 +37,12 @@ Of several images it is the greatest one.
 
 docs/SCRIPT.md has the lines of a report, docs/FAULTS.md what each fault means.";
 
+const DIFF_NOTES: &str = "\
+Exit status:
+  0  nothing differs
+  1  something differs
+  2  an image was refused, or it failed";
+
 pub(crate) const NOTES: &str = "\
 Exit status:
   0  done
@@ -56,7 +62,7 @@ pub(crate) struct CommandForm<'a> {
 }
 
 // In the order in which help lists them.
-const COMMANDS: [CommandForm<'static>; 14] = [
+const COMMANDS: [CommandForm<'static>; 15] = [
     CommandForm {
         name: "run",
         about: "Runs a script and prints its answers",
@@ -343,6 +349,23 @@ const COMMANDS: [CommandForm<'static>; 14] = [
                 written: Written::Flag,
                 name: "hex",
                 help: "Print its bytes too",
+            },
+        ],
+    },
+    CommandForm {
+        name: "diff",
+        about: "Says what differs between two images: names, attributes and bytes",
+        notes: DIFF_NOTES,
+        arguments: &[
+            Argument {
+                written: Written::Needed,
+                name: "image",
+                help: "The file that holds the image A",
+            },
+            Argument {
+                written: Written::Needed,
+                name: "other",
+                help: "The file that holds the image B",
             },
         ],
     },

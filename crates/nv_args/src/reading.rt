@@ -12,7 +12,7 @@ use crate::command_line::nova;
 use crate::sizes::size_of;
 use crate::todo::{CheckOutput, Todo, Which};
 use crate::usage::{Cause, Usage};
-use crate::views::{block_of, du_of, log_of, ls_of};
+use crate::views::{block_of, diff_of, du_of, log_of, ls_of};
 use clap::ArgMatches;
 use std::alloc::{AllocError, Global};
 
@@ -331,6 +331,7 @@ fn command_of<'a>(name: &str, values: &ArgMatches<'a>) -> Option<Todo<'a>>
         "tar" => tar_of(values),
         "log" => log_of(values),
         "block" => block_of(values),
+        "diff" => diff_of(values),
         "explain" => explain_of(values),
         "map" => map_of(values),
         "untar" => untar_of(values),

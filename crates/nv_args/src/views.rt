@@ -1,4 +1,4 @@
-//! What can be shown of an image beside what one inode holds, and the words that ask for it.
+//! What can be shown of images beside what one inode holds, and the words that ask for it.
 
 ghost use Rattle.std.specs.Prelude.{◌≡◌, IfSome, IsNone, codes};
 ghost use Rattle.clap.specs.Walk.{rows_of};
@@ -32,6 +32,11 @@ pub enum View<'a> {
         image: &'a str,
         which: Which<'a>,
         long: bool,
+    },
+    /// What differs between two images.
+    Difference {
+        image: &'a str,
+        other: &'a str,
     },
 }
 
@@ -85,4 +90,14 @@ pub(crate) fn du_of<'a>(values: &ArgMatches<'a>) -> Option<Todo<'a>>
     let image = text_of(values, "image")?;
     let which = which_of(text_of(values, "path").unwrap_or("/"));
     Some(Todo::View(View::Usage { image, which }))
+}
+
+/// What `diff` asks for.
+pub(crate) fn diff_of<'a>(values: &ArgMatches<'a>) -> Option<Todo<'a>>
+    ensures some { IfSome result (λ todo. Asks (codes "diff") (rows_of (found_of values.now)) todo) }
+    ensures none { IsNone result → (todo : Todo) → ¬ Asks (codes "diff") (rows_of (found_of values.now)) todo }
+{
+    let image = text_of(values, "image")?;
+    let other = text_of(values, "other")?;
+    Some(Todo::View(View::Difference { image, other }))
 }

@@ -3,7 +3,7 @@ use Rattle.clap.specs.Matches.{found_of}
 use Rattle.nv_args.specs.Words.{Asks}
 use Rattle.nv_args.specs.declared.todo.Todo.{Todo}
 use Rattle.nv_args.specs.declared.todo.Todo.TheVariants.{Version, Run, Shell, Check, Mkfs, Clean, Change, Untar, Recover, Ls, Stat, Cat, Tar, Log, View, Explain, Map}
-use Rattle.nv_args.specs.declared.views.View.TheVariants.{Logs, Block, Usage, Folders}
+use Rattle.nv_args.specs.declared.views.View.TheVariants.{Logs, Block, Usage, Folders, Difference}
 use Rattle.nv_args.proofs.reading.command_of.Goals as goal
 
 -- what has another name than each of the commands is a change
@@ -29,5 +29,6 @@ returns-in_default-clause-none c none check = other
     other (View (Block image block hex)) asks = c.in_default.not-block asks.0
     other (View (Usage image which)) asks = c.in_default.not-du asks.0
     other (View (Folders image which long)) asks = c.in_default.not-ls asks.0
+    other (View (Difference image second)) asks = c.in_default.not-diff asks.0
     other (Explain class) asks = c.in_default.not-explain asks.0
     other (Map image svg force) asks = c.in_default.not-map asks.0

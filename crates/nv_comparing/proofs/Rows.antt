@@ -1,0 +1,57 @@
+-- The rows of an outcome lie in the region whose journals are rolled back, and what they show there.
+use Rattle.std.proofs.Common.{◌≡◌, ◌∙◌, ◌<◌, ℕ, false, IsTrue, is_some, List, Option, Some, None, refl, sym, ap, subst}
+use Rattle.std.specs.Option.{option_map}
+use Rattle.nv_region.specs.Region.{Region}
+use Rattle.nv_outcome.specs.nv_journal.Undo.{undone}
+use Rattle.nv_outcome.specs.Outcome.{Outcome, IsOutcome}
+use Rattle.nv_outcome.proofs.Again.{rolled_back, stays}
+use Rattle.nv_outcome.proofs.Fixed.{fixed_outcome}
+use Rattle.nv_outcome.proofs.SuperOf.{layout_of_super}
+use Rattle.nv_outcome.proofs.Tickets.{slot_number}
+use Rattle.nv_super.specs.Layout.{HasAreas, inode_limit}
+use Rattle.nv_rows.specs.Rows.{IsInUse, row_of}
+use Rattle.nv_rows.proofs.Places.{numbered}
+use Rattle.nv_scan.specs.declared.piece.Row.{Row}
+use Rattle.nv_tree.specs.Tree.{Node}
+use Rattle.nv_paths.specs.Seen.{node_of, tree_of}
+use Rattle.nv_scan.proofs.Only.{slot_in_use}
+use Rattle.nv_calls.specs.Mount.{IsKept, has_faults}
+use Rattle.nv_calls.proofs.RowChange.{row_there}
+use Rattle.nv_calls.proofs.FileBytes.{blocks_inside, row_size}
+use Rattle.nv_comparing.specs.Shown.{AreBelow, AreHeld}
+
+module _ (S : Region) (o : Outcome) (is : IsOutcome S o) where
+  kept : IsKept (undone o.sup S) o.sup o.rows (record { sup = o.sup; pools = o.free; room = 0 }) o.faults (has_faults o.faults) false
+  kept = record { writes = refl; lists = refl; own = λ runs. stays S o.sup is.sup; shown = λ runs. ∣ (o.doubled, rolled_back S o is) ∣₁ }
+
+  pub held_rows : AreHeld (undone o.sup S) o.rows
+  held_rows row c = record {
+    inside = blocks_inside (undone o.sup S) o.sup o.rows (record { sup = o.sup; pools = o.free; room = 0 }) o.faults (has_faults o.faults) false kept refl row c;
+    size = row_size (undone o.sup S) o.sup o.rows (record { sup = o.sup; pools = o.free; room = 0 }) o.faults (has_faults o.faults) false kept refl row c;
+  }
+
+  pub areas_of : HasAreas o.sup
+  areas_of = (layout_of_super S o.sup is.sup).areas
+
+  pub rows_below : AreBelow o.rows (inode_limit o.sup)
+  rows_below row c =
+      let r = (fixed_outcome S o is).rows.each row c in
+      (slot_number o.sup row.inode r.0 (layout_of_super S o.sup is.sup) (slot_in_use r.2.inode)).1
+
+-- ---- what stands for a row
+
+module _ (R : Region) (rows : List Row) (i : ℕ) where
+  pub used_below : (limit : ℕ) → AreBelow rows limit → IsTrue (is_some (tree_of R rows i)) → i < limit
+  used_below limit below used = by (row_of rows i) refl used where
+    by : (o : Option Row) → row_of rows i ≡ o → IsTrue (is_some (option_map (node_of R) o)) → i < limit
+    by None is used = absurd (cc)
+    by (Some row) is used = subst (λ (j : ℕ). j < limit) (numbered rows i row is) (below row (row_there rows i row is))
+
+  pub used_by_node : (node : Node) → tree_of R rows i ≡ Some node → IsInUse rows i
+  used_by_node node e = by (row_of rows i) refl e where
+    by : (o : Option Row) → row_of rows i ≡ o → option_map (node_of R) o ≡ Some node → IsInUse rows i
+    by None is e = absurd (cc)
+    by (Some row) is e = ap is_some is
+
+  pub node_is : (row : Row) (node : Node) → row_of rows i ≡ Some row → tree_of R rows i ≡ Some node → node_of R row ≡ node
+  node_is row node is e = let s : Some (node_of R row) ≡ Some node = sym (ap (option_map (node_of R)) is) ∙ e in cc
