@@ -1,4 +1,4 @@
-use Rattle.std.proofs.Common.{string_bytes}
+use Rattle.std.proofs.Common.{◌∙◌, string_bytes}
 use Rattle.std.proofs.lemmas.Result.{IfOk-weaker}
 use Rattle.nv_region.specs.Region.{region_of}
 use Rattle.nv_outcome.specs.Answer.{outcome_of}
@@ -28,5 +28,5 @@ returns-in-Recovered c R of undo =
     both_compared R S found others of is.0 _ _
     (tree_as c.shown-first.result.memory.now c.args.memory.now c.shown-first.result.rows.now found.rows c.shown-first.ensures.memory c.shown-first.ensures.rows (undone found.sup R) undo)
     (tree_as c.shown-second.result.memory.now c.in-Recovered.other c.shown-second.result.rows.now others.rows c.shown-second.ensures.memory c.shown-second.ensures.rows (undone others.sup S) is.1)
-    _ _ c.len.ensures c.len-2.ensures
+    _ _ (c.len.ensures ∙ found.faults.ok.0) (c.len-in-Recovered.ensures ∙ others.faults.ok.0)
     c.compared_look.result c.compared_look.ensures.text c.compared_look.ensures.status c.compared_look.ensures.first c.compared_look.ensures.second

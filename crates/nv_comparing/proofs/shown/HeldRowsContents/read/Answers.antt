@@ -1,4 +1,4 @@
-use Rattle.std.proofs.Common.{◌∙◌, ℕ, map, ap, sym, arith}
+use Rattle.std.proofs.Common.{◌∙◌, ℕ, length, map, ap, sym, arith}
 use Rattle.std.specs.List.{range_with_len}
 use Rattle.nv_tree.specs.Tree.{Node}
 use Rattle.nv_calls.proofs.RowChange.{row_there}
@@ -28,5 +28,5 @@ returns g c = record {
   read = λ node there.
       let R = g.P.Pmem.region c.args.self.now.memory.now in
       let rows = c.args.self.now.rows.now.items in
-      c.fill_bytes.ensures ∙ ap (λ (n : Node). map n.bytes (range_with_len c.args.at _)) (node_is R rows c.args.inode c.row.result.now node c.row.ensures there);
+      c.fill_bytes.ensures ∙ ap (λ (n : Node). map n.bytes (range_with_len c.args.at (length c.args.buffer.now))) (node_is R rows c.args.inode c.row.result.now node c.row.ensures there);
 }
