@@ -8,3 +8,6 @@ unpack_sound-requires c = record {
   writes = c.keeps.ensures.writes ∙ sound c.args.mount.faults c.faults.result.now c.faults.ensures (sym c.is_empty.ensures ∙ c.if-is_empty.true);
   steady = c.requires.steady;
 }
+
+pub returns : goal.returns
+returns c = λ R o is. sym is.read_only ∙ c.keeps.ensures.writes ∙ faulty c.args.mount.faults c.faults.result.now c.faults.ensures (sym c.is_empty.ensures ∙ c.if-is_empty.false)
