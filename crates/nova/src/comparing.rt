@@ -1,9 +1,7 @@
 //! Saying what differs between the images in two files: `diff`.
 
 use nv_comparing::{Compared, compare_images};
-use nv_images::{
-    Failure, Image, image_at, tell_faults, tell_length, tell_unaccepted, why_refused,
-};
+use nv_images::{Failure, Image, image_at, tell_faults, tell_length, tell_unaccepted, why_refused};
 use nv_stream::ScriptError;
 use std::io;
 use std::io::Write;

@@ -34,4 +34,3 @@ returns-in-Recovered c =
     let is = subst (λ (R : Region). IsOpenedAs R o c.open.result) c.keep_all-memory.ensures.region
     (opened_as c.keep_all-memory.result.region c.recover_alone.new.memory.region c.in_ok-answer.answer c.in-Recovered.recovered c.open.result c.in_ok-answer.ensures.ok c.in-Recovered.is (λ i. (opens.memory i).region) opens.sup opens.rows opens.read_only) in
     IfOk-weaker c.unpack_mount.result _ _ (λ x came. by_outcome R o c.args.base.now c.args.items.now c.args.cpu is.is x came) (c.unpack_mount.ensures R o is)
-
