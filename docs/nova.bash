@@ -3,7 +3,7 @@ _nova() {
     local word=${COMP_WORDS[COMP_CWORD]} before=${COMP_WORDS[COMP_CWORD - 1]} words=
     COMPREPLY=()
     if [ "$COMP_CWORD" -eq 1 ]; then
-        words="run shell check mkfs clean ls stat cat du tar log block diff explain map mkdir rm rmdir mv ln truncate chmod chown put recover help --help --version"
+        words="run shell check mkfs clean ls stat cat du tar log block diff explain map mkdir rm rmdir mv ln truncate chmod chown put untar recover help --help --version"
     else
         case ${COMP_WORDS[1]} in
             run) words="--image --save --force --strict --help" ;;
@@ -30,8 +30,9 @@ _nova() {
             chmod) words="--cpu --time --help" ;;
             chown) words="--cpu --time --help" ;;
             put) words="--cpu --time --help" ;;
+            untar) words="--cpu --help" ;;
             recover) words="--dry-run --help" ;;
-            help) words="run shell check mkfs clean ls stat cat du tar log block diff explain map mkdir rm rmdir mv ln truncate chmod chown put recover" ;;
+            help) words="run shell check mkfs clean ls stat cat du tar log block diff explain map mkdir rm rmdir mv ln truncate chmod chown put untar recover" ;;
         esac
     fi
     # A number is written by hand, and everything else may be a file.
