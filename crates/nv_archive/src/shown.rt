@@ -26,7 +26,7 @@ pub(crate) struct Shown<'a, B: Blocks> {
 }
 
 /// A number above those of all rows.
-pub(crate) fn limit_of(rows: &Rows) -> usize
+pub fn limit_of(rows: &Rows) -> usize
     requires { AreLowRows rows.now.items }
     ensures { IsAbove rows.now.items result }
 {

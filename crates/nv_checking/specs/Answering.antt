@@ -1,9 +1,10 @@
 -- What a recovery may answer, and what it leaves of the region.
 use Rattle.std.specs.Prelude.{◌≡◌, ◌⊎◌, ℕ, ◌*◌, ◌-◌, ◌^◌, min, Bool, true, false, IsTrue, List, Option, Some, None, ⊤}
+use Rattle.nv_recover.specs.nv_outcome.nv_rows.RowList.{HasNumbersOf}
 use Rattle.nv_region.specs.Fuses.{FuseState}
 use Rattle.nv_region.specs.Region.{Region}
 use Rattle.nv_super.specs.declared.superblock.Super.{Super}
-use Rattle.nv_super.specs.Layout.{system_blocks}
+use Rattle.nv_super.specs.Layout.{system_blocks, fixed_layout}
 use Rattle.nv_super.specs.Super.{IsSuper, IsRefused}
 use Rattle.nv_journal.specs.Undo.{undone}
 use Rattle.nv_recover.specs.nv_outcome.Outcome.{IsOutcome}
@@ -64,7 +65,7 @@ MayEnd old workers schedule None new = (is_worker_count workers ≡ true) × (na
 
 -- the free lists and the rows that were found are those of the superblock that was found
 abbrev pub IsOfItsSuper : Option Answer → Type 0
-IsOfItsSuper (Some (answers.Recovered r)) = (r.free.sup ≡ r.sup) × (r.rows.sup ≡ r.sup)
+IsOfItsSuper (Some (answers.Recovered r)) = (r.free.sup ≡ r.sup) × HasNumbersOf (fixed_layout r.sup) r.rows
 IsOfItsSuper (Some (answers.Refused refusal)) = ⊤
 IsOfItsSuper None = ⊤
 

@@ -32,10 +32,12 @@ use std::thread::Threads;
 /// How many cells a map has at most.
 const MOST_CELLS: u64 = 1024;
 
-/// Recovers the image in the file at a path in memory, on so many threads, prints its report on standard output, or its sums or
-/// faults alone, and answers the exit status: 0 where it has no faults, 1 where it does, and 2 where the image is refused, as
-/// each is that is longer than a region can be. The file is never written. Of a plain file the metadata alone are read, or the
-/// first block where its superblock isn't accepted, and each other one is read whole.
+/// Recovers the image in the file at a path in memory, on so many threads, and prints its report on standard output, or its sums
+/// or faults alone. The file is never written. Of a plain file the metadata alone are read, or the first block where its
+/// superblock isn't accepted; each other one is read whole.
+///
+/// Answers the exit status: 0 where the image has no faults, 1 where it does, and 2 where it is refused, as each is that is longer
+/// than a region can be.
 ///
 /// Errors: a file that can't be read, and want of memory or of a place to write to.
 pub fn check_file<'a, H: Files + AllocGlobal + Print + Eprint + Threads + Sync>(

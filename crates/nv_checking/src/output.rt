@@ -24,7 +24,7 @@ pub enum Output {
     Json,
 }
 
-/// The text of a recovery for such an output. So many threads write a report.
+/// The text of a recovery for such an output. As many threads as asked for write a report.
 ///
 /// Errors: `AllocError` where a growth was refused.
 pub fn output_text<H: Threads + Sync>(

@@ -26,7 +26,7 @@ const FIRST_BLOCK: usize = 4096;
 
 /// Gathers the metadata of the image in an open file, where it is a plain file that tells its length, or the fault for which its
 /// superblock is refused. Any other file has to be read whole: of it nothing is answered, and it is read from its first byte on as
-/// before. So many threads read the pages of logs.
+/// before. As many threads as asked for read the pages of logs.
 ///
 /// Errors: a file that can't be read, that ends early, or that was changed meanwhile; want of memory.
 pub fn gather_plain<'a, H: Threads + Sync, F: Blocks + OpenFile + Sync + Drop>(

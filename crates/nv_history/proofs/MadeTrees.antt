@@ -3,6 +3,7 @@ use Rattle.std.proofs.Common.{◌≡◌, ℕ, Bool, not, nat_eq, ◌&&◌, is_no
 use Rattle.std.specs.List.{find}
 use Rattle.std.specs.Option.{option_map}
 use Rattle.nv_region.specs.Region.{Region}
+use Rattle.nv_super.specs.Layout.{fixed_layout}
 use Rattle.nv_super.specs.declared.superblock.Super.{Super}
 use Rattle.nv_super.specs.declared.kind.Kind.{Kind}
 use Rattle.nv_super.specs.declared.kind.Kind.TheVariants.{File, Directory}
@@ -31,8 +32,8 @@ mapped_none R None = refl
 mapped_none R (Some r) = refl
 
 -- those of the tree of rows are those of the rows
-pub lowest_is : (s : Super) (R : Region) (rows : List Row) (cpu : ℕ) → lowest_unused s (tree_of R rows) cpu ≡ unused_number s rows cpu
-lowest_is s R rows cpu = same_find (is_unused_in (tree_of R rows)) (is_unused rows) (λ i. ap (λ b. not (nat_eq i 0) && b) (mapped_none R (row_of rows i))) (numbers_in_table s cpu)
+pub lowest_is : (s : Super) (R : Region) (rows : List Row) (cpu : ℕ) → lowest_unused s (tree_of R rows) cpu ≡ unused_number (fixed_layout s) rows cpu
+lowest_is s R rows cpu = same_find (is_unused_in (tree_of R rows)) (is_unused rows) (λ i. ap (λ b. not (nat_eq i 0) && b) (mapped_none R (row_of rows i))) (numbers_in_table (fixed_layout s) cpu)
 
 none_alike : (o p : Option Node) → SameNodes o p → is_none o ≡ is_none p
 none_alike None None same = refl
@@ -41,7 +42,7 @@ none_alike None (Some b) same = absurd same
 none_alike (Some a) None same = absurd same
 
 lowest_alike : (s : Super) (t u : Tree) (cpu : ℕ) → SameTree t u → lowest_unused s t cpu ≡ lowest_unused s u cpu
-lowest_alike s t u cpu same = same_find (is_unused_in t) (is_unused_in u) (λ i. ap (λ b. not (nat_eq i 0) && b) (none_alike (t i) (u i) (same i))) (numbers_in_table s cpu)
+lowest_alike s t u cpu same = same_find (is_unused_in t) (is_unused_in u) (λ i. ap (λ b. not (nat_eq i 0) && b) (none_alike (t i) (u i) (same i))) (numbers_in_table (fixed_layout s) cpu)
 
 -- ---- one call
 

@@ -1,6 +1,7 @@
 -- What calls make of a tree, one after the other.
 use Rattle.std.specs.Prelude.{ℕ, Bool, not, nat_eq, ◌&&◌, is_none, List, [], ◌∷◌, Option}
 use Rattle.std.specs.List.{find}
+use Rattle.nv_super.specs.Layout.{fixed_layout}
 use Rattle.nv_super.specs.declared.superblock.Super.{Super}
 use Rattle.nv_super.specs.declared.kind.Kind.TheVariants.{File, Directory}
 use Rattle.nv_rows.specs.Unused.{numbers_in_table}
@@ -16,7 +17,7 @@ is_unused_in t i = not (nat_eq i 0) && is_none (t i)
 
 -- the lowest of a CPU's table
 abbrev pub lowest_unused : Super → Tree → ℕ → Option ℕ
-lowest_unused s t cpu = find (is_unused_in t) (numbers_in_table s cpu)
+lowest_unused s t cpu = find (is_unused_in t) (numbers_in_table (fixed_layout s) cpu)
 
 -- The text says a path, and nobody can tell the tree from the one that is made by its names.
 abbrev pub ByPath : List ℕ → (List (List ℕ) → Tree) → Tree → Type 0

@@ -2,6 +2,7 @@
 
 ghost use Rattle.std.specs.Prelude.{◌≡◌, ℕ, List};
 ghost use Rattle.nv_region.specs.Region.{Region};
+ghost use Rattle.nv_super.specs.Layout.{fixed_layout};
 ghost use Rattle.nv_super.specs.declared.superblock.Super.{Super};
 ghost use Rattle.nv_super.specs.Super.{IsSuper};
 ghost use Rattle.nv_journal.specs.Undo.{undone};
@@ -25,5 +26,5 @@ pub fn calls_make_one_tree()
 
 /// The number that a new inode gets by the tree is the one that it gets by the rows.
 pub fn new_numbers_are_the_same()
-    ensures { (s : Super) (region : Region) (rows : List Row) (cpu : ℕ) → lowest_unused s (tree_of region rows) cpu ≡ unused_number s rows cpu }
+    ensures { (s : Super) (region : Region) (rows : List Row) (cpu : ℕ) → lowest_unused s (tree_of region rows) cpu ≡ unused_number (fixed_layout s) rows cpu }
 {}

@@ -10,13 +10,13 @@ use Rattle.nv_outcome.proofs.Tickets.{slot_number}
 use Rattle.nv_metadata.specs.Memory.{MetadataState}
 use Rattle.nv_metadata.specs.declared.gathering.Gathered.{Gathered}
 use Rattle.nv_metadata.specs.declared.gathering.Gathered.TheVariants as gatherings
-use Rattle.nv_rows.proofs.GivenRows.{few_inodes}
+use Rattle.nv_archive.proofs.FewInodes.{few_inodes}
 use Rattle.nv_rows.specs.Rows.{IsInUse, row_of}
 use Rattle.nv_rows.proofs.Places.{numbered}
 use Rattle.nv_scan.specs.declared.piece.Row.{Row}
 use Rattle.nv_scan.proofs.Only.{slot_in_use}
 use Rattle.nv_tree.specs.Tree.{Tree}
-use Rattle.nv_usage.specs.Named.{AreLowRows}
+use Rattle.nv_archive.specs.Shown.{AreLowRows}
 use Rattle.nv_checking.specs.GatheredImage.{IsFoundIn}
 use Rattle.nv_checking.specs.declared.gathered_image.GatheredImage.TheVariants as images
 use Rattle.nv_logs.specs.declared.inode.Inode.{Inode}

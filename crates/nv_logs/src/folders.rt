@@ -5,7 +5,7 @@ ghost use Rattle.nv_region.specs.Region.{Region, region_of};
 ghost use Rattle.nv_folders.specs.Folders.{spot_of};
 ghost use Rattle.nv_rows.specs.Rows.{row_of};
 ghost use Rattle.nv_tree.specs.Path.{IsPath, spelled};
-ghost use Rattle.nv_usage.specs.Named.{AreLowRows};
+ghost use Rattle.nv_archive.specs.Shown.{AreLowRows};
 ghost use Rattle.nv_paths.specs.Seen.{tree_of};
 ghost use Rattle.nv_metadata.specs.Gathered.{AreGathered, IsOpen};
 ghost use Rattle.nv_logs.specs.Folders.{AreFoldersBelow, IsFoldersLook, IsFoldersText, IsTop, TellsFolders, TellsFoldersOf};

@@ -3,7 +3,7 @@
 ghost use Rattle.std.specs.Prelude.{◌≡◌, ◌≢◌, IfOk, IfErr, length, string_bytes};
 ghost use Rattle.nv_region.specs.Region.{Region, region_of};
 ghost use Rattle.nv_rows.specs.Rows.{IsInUse};
-ghost use Rattle.nv_usage.specs.Named.{AreLowRows};
+ghost use Rattle.nv_archive.specs.Shown.{AreLowRows};
 ghost use Rattle.nv_paths.specs.Seen.{tree_of};
 ghost use Rattle.nv_metadata.specs.Gathered.{AreGathered, IsOpen};
 ghost use Rattle.nv_logs.specs.Usage.{IsUsageLook, TellsCount, TellsUsage};

@@ -12,7 +12,7 @@ use Rattle.nv_metadata.specs.declared.gathering.Gathered.{Gathered}
 use Rattle.nv_metadata.specs.declared.gathering.Gathered.TheVariants as gatherings
 use Rattle.nv_radix.specs.Pages.{block_at}
 use Rattle.nv_rows.specs.Rows.{row_of}
-use Rattle.nv_rows.proofs.GivenRows.{few_inodes}
+use Rattle.nv_archive.proofs.FewInodes.{few_inodes}
 use Rattle.nv_held.specs.Bytes.{byte_in}
 use Rattle.nv_scan.specs.declared.piece.Row.{Row}
 use Rattle.nv_scan.proofs.Only.{slot_in_use}

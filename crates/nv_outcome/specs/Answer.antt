@@ -3,6 +3,7 @@ use Rattle.std.specs.Prelude.{◌≡◌, []}
 use Rattle.nv_region.specs.Region.{Region}
 use Rattle.nv_inode.specs.Chains.{layout_of}
 use Rattle.nv_journal.specs.Undo.{undone}
+use Rattle.nv_rows.specs.RowList.{HasNumbersOf}
 use Rattle.nv_outcome.specs.Outcome.{Outcome, IsOutcome}
 use Rattle.nv_outcome.specs.Shared.{SharesAll}
 use Rattle.nv_outcome.specs.declared.recovered.Recovered.{Recovered}
@@ -21,4 +22,4 @@ pub record IsAnswer (old new : Region) (r : Recovered) : Type 0 where
   pub rolled_back : new ≡ undone r.sup old
   pub once : r.faults.items ≡ [] → SharesBlocks new r
   pub lists : r.free.sup ≡ r.sup
-  pub numbers : r.rows.sup ≡ r.sup
+  pub numbers : HasNumbersOf (layout_of r.sup new) r.rows

@@ -1,7 +1,7 @@
 -- Where a new inode goes.
 use Rattle.std.specs.Prelude.{◌≡◌, ℕ, List, [], ◌∷◌, ◌++◌, slice_get, Option, Some, None, Ok, is_none}
 use Rattle.std.specs.Option.{option_and_then, option_map}
-use Rattle.nv_super.specs.declared.superblock.Super.{Super}
+use Rattle.nv_super.specs.Layout.{Layout}
 use Rattle.nv_super.specs.declared.kind.Kind.TheVariants.{Directory}
 use Rattle.nv_names.specs.Names.{name_at}
 use Rattle.nv_scan.specs.declared.piece.Row.{Row}
@@ -22,8 +22,8 @@ IsNoneNamed rows row name = option_and_then (row_of rows) (option_map (λ (x : �
 
 -- The names' last stands for no inode in use in the directory whose row is at this place, and the number is the lowest
 -- unused one of the CPU's table.
-pub record IsSpot (t : Tree) (rows : List Row) (s : Super) (cpu : ℕ) (names : List (List ℕ)) (place : ℕ) (name : List ℕ) (number : ℕ) : Type 0 where
+pub record IsSpot (t : Tree) (rows : List Row) (l : Layout) (cpu : ℕ) (names : List (List ℕ)) (place : ℕ) (name : List ℕ) (number : ℕ) : Type 0 where
   pub directory : (row : Row) → slice_get rows place ≡ Some row → (walk t 1 names ≡ Ok row.inode) × (row.kind ≡ Directory)
   pub name_is : name ≡ last_name names
   pub absent : (row : Row) → slice_get rows place ≡ Some row → IsNoneNamed rows row name
-  pub unused : unused_number s rows cpu ≡ Some number
+  pub unused : unused_number l rows cpu ≡ Some number

@@ -2,6 +2,8 @@
 
 ghost use Rattle.std.specs.Prelude.{◌≡◌, ◌<◌, ℕ, List, IfOk, IfErr, OnOk, Option};
 ghost use Rattle.nv_region.specs.Region.{Region};
+ghost use Rattle.nv_super.specs.Layout.{Layout};
+ghost use Rattle.nv_rows.specs.RowList.{HasNumbersOf};
 ghost use Rattle.nv_rows.specs.Rows.{IsInUse, place_in};
 ghost use Rattle.nv_rows.specs.Unused.{unused_number};
 ghost use Rattle.nv_tree.specs.Path.{IsPath, IsPathName, Says};
@@ -32,12 +34,12 @@ pub fn spot_for<'a>(rows: &Rows, cpu: u64, path: &'a [u8]) -> Result<Spot<'a>, R
     ensures in_use { IfOk result (λ spot. IsInUse rows.now.items spot.directory) }
     ensures name { IfOk result (λ spot. IsPathName spot.name.now) }
     ensures path { OnOk result ((names : List (List ℕ)) × IsPath path.now names) }
-    ensures spot { (region : Region) (names : List (List ℕ)) → IsPath path.now names
-        → IfOk result (λ spot. IsSpot (tree_of region rows.now.items) rows.now.items rows.now.sup cpu names (place_in rows.now.items spot.directory) spot.name.now spot.inode) }
-    ensures allowed { (region : Region) (p : Path) → Says path.now p
-        → OnOk result (first_refusal (spot_tests (tree_of region rows.now.items) (unused_number rows.now.sup rows.now.items cpu) p) ≡ Option.None) }
-    ensures refused { (region : Region) (p : Path) → Says path.now p
-        → IfErr result (λ e. first_refusal (spot_tests (tree_of region rows.now.items) (unused_number rows.now.sup rows.now.items cpu) p) ≡ Option.Some e) }
+    ensures spot { (l : Layout) → HasNumbersOf l rows.now → (region : Region) (names : List (List ℕ)) → IsPath path.now names
+        → IfOk result (λ spot. IsSpot (tree_of region rows.now.items) rows.now.items l cpu names (place_in rows.now.items spot.directory) spot.name.now spot.inode) }
+    ensures allowed { (l : Layout) → HasNumbersOf l rows.now → (region : Region) (p : Path) → Says path.now p
+        → OnOk result (first_refusal (spot_tests (tree_of region rows.now.items) (unused_number l rows.now.items cpu) p) ≡ Option.None) }
+    ensures refused { (l : Layout) → HasNumbersOf l rows.now → (region : Region) (p : Path) → Says path.now p
+        → IfErr result (λ e. first_refusal (spot_tests (tree_of region rows.now.items) (unused_number l rows.now.items cpu) p) ≡ Option.Some e) }
 {
     if !has_name(path) {
         return Err(Refusal::BadName);

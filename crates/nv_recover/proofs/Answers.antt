@@ -14,12 +14,13 @@ use Rattle.nv_inode.specs.Chains.{chain_faults, layout_of}
 use Rattle.nv_journal.specs.Undo.{undone}
 use Rattle.nv_alloc.specs.FreeLists.{AreOutside}
 use Rattle.nv_scan.specs.declared.piece.Row.{Row}
+use Rattle.nv_outcome.specs.nv_rows.RowList.{HasNumbersOf}
 use Rattle.nv_outcome.specs.nv_rows.Rows.{row_key}
 use Rattle.nv_outcome.specs.nv_check.Doubled.{AreDoubled}
 use Rattle.nv_outcome.specs.Outcome.{IsOutcome}
 use Rattle.nv_outcome.specs.Parts.{ArePieces, AreParts, rows_in, faults_in, double_fault}
 use Rattle.nv_outcome.specs.Shared.{SharesAll}
-use Rattle.nv_outcome.proofs.Fixed.{fixed_now}
+use Rattle.nv_outcome.proofs.Fixed.{to_fixed}
 use Rattle.nv_outcome.proofs.RowsOf.{rows_are}
 use Rattle.nv_outcome.proofs.Whole.{parts_outcome}
 use Rattle.nv_outcome.proofs.Shared.{shares_all}
@@ -68,7 +69,7 @@ told_of journal chained own cross doubled p q r s =
 pub record IsMade (o : Started) (x : Scanned) (r : Recovered) : Type 0 where
   pub sup : r.sup ≡ o.sup
   pub rows : SortedOf row_key x.inodes.rows.items r.rows.items
-  pub numbers : r.rows.sup ≡ o.sup
+  pub numbers : HasNumbersOf o.tables.layout r.rows
   pub outside : AreOutside x.owned.blocks.items o.sup r.free
   pub owned_twice : r.doubled ≡ x.owned.doubled
   pub all : SortedOf fault_key (all_told o.journal.items o.tables.faults x.inodes.faults.items x.cross.items r.doubled.items) r.faults.items
@@ -81,8 +82,8 @@ pub tables_blocks : {old new : Region} {o : Started} → IsStarted old new o →
 tables_blocks {new = new} started = subst (λ (s : Super). HasBlocks new s.blocks) (sym (tables_sup started)) started.blocks
 
 -- in version 1 these are the fixed ones
-pub tables_fixed : {old new : Region} {o : Started} → IsStarted old new o → o.tables.layout ≡ fixed_layout o.sup
-tables_fixed {old} {new} {o} started = started.tables ∙ fixed_now old o.sup started.sup new
+pub numbers_fixed : {old new : Region} {r : Recovered} → IsAnswer old new r → HasNumbersOf (fixed_layout r.sup) r.rows
+numbers_fixed {old} {new} {r} is = to_fixed old r.sup is.ok.sup new (λ (l : Layout). HasNumbersOf l r.rows) is.numbers
 
 module _ {old new : Region} {o : Started} {x : Scanned} {r : Recovered} (started : IsStarted old new o) (scanned : IsScanned new o.tables.layout x) (made : IsMade o x r) where
   chained : o.tables.faults ≡ chain_faults o.sup (undone o.sup old)
@@ -119,5 +120,5 @@ module _ {old new : Region} {o : Started} {x : Scanned} {r : Recovered} (started
     rolled_back = rolled_back;
     once = λ none. subst (λ (R : Region). SharesAll R (layout_of r.sup R) r.free.pools) (sym rolled_back) (shares_all outcome none);
     lists = made.outside.sup ∙ sym made.sup;
-    numbers = made.numbers ∙ sym made.sup;
+    numbers = subst (λ (s : Super). HasNumbersOf (layout_of s new) r.rows) (sym made.sup) (subst (λ (l : Layout). HasNumbersOf l r.rows) started.tables made.numbers);
   }

@@ -2,7 +2,7 @@
 
 ghost use Rattle.std.specs.Prelude.{◌≡◌, ◌++◌, IfOk, OnOk, map};
 ghost use Rattle.nv_region.specs.Region.{Region};
-ghost use Rattle.nv_super.specs.Layout.{IsLayout, fixed_layout};
+ghost use Rattle.nv_super.specs.Layout.{IsLayout};
 ghost use Rattle.nv_super.specs.Order.{fault_key, SortedOf};
 ghost use Rattle.nv_outcome.specs.Parts.{double_fault};
 ghost use Rattle.nv_outcome.specs.Answer.{IsAnswer};
@@ -24,7 +24,7 @@ pub(crate) fn finish(
     scanned: Scanned,
 ) -> Result<Recovered, AllocError>
     requires layout { IsLayout started.sup }
-    requires tables { started.tables.layout ≡ fixed_layout started.sup }
+    requires tables { started.tables.layout.sup ≡ started.sup }
     requires scanned { (R : Region) × IsScanned R started.tables.layout scanned }
     ensures { IfOk result (λ r. (old new : Region) → IsStarted old new started → IsScanned new started.tables.layout scanned → IsAnswer old new r) }
 {
@@ -42,7 +42,7 @@ pub(crate) fn finish(
         &cross,
         &owned.doubled,
     )?;
-    let rows = Rows::from_rows(alloc, inodes.rows, &started.sup)?;
+    let rows = Rows::from_rows(alloc, inodes.rows, &started.tables)?;
     Ok(Recovered {
         sup: started.sup,
         rows,

@@ -1,15 +1,12 @@
 -- Rows that came in any order, and stand in the slots of their numbers then.
-use Rattle.std.proofs.Common.{◌≡◌, ◌↔◌, ℕ, zero, suc, ◌*◌, ◌^◌, ◌<◌, ◌≤◌, List, [], ◌∷◌, length, get_or, slice_get, Option, Some, None, refl, sym, ap, ◌∙◌, zero-add, inl, inr, arith, Contains}
+use Rattle.std.proofs.Common.{◌≡◌, ◌↔◌, ℕ, zero, suc, ◌*◌, ◌^◌, ◌<◌, ◌≤◌, List, [], ◌∷◌, length, get_or, slice_get, Option, Some, None, refl, sym, ap, subst, ◌∙◌, zero-add, inl, inr, arith, Contains}
+use Rattle.std.specs.List.{All}
 use Rattle.std.proofs.lemmas.List.{length-map}
-use Rattle.std.proofs.Math.Nat.{mul-le-mul}
 use Rattle.std.proofs.lemmas.Option.{slice_get-get_or}
-use Rattle.nv_super.specs.declared.superblock.Super.{Super}
-use Rattle.nv_super.specs.Layout.{inode_limit, HasAreas}
 use Rattle.nv_super.specs.Order.{SortedOf}
 use Rattle.nv_super.proofs.Members.{stands}
 use Rattle.nv_super.proofs.Rising.{Contains-cons, Contains-head, Contains-tail}
 use Rattle.nv_scan.specs.declared.piece.Row.{Row}
-use Rattle.nv_numbered.specs.Values.{AreNumbersBelow}
 use Rattle.nv_rows.specs.Rows.{row_key, inodes_of}
 use Rattle.nv_rows.specs.Slots.{rows_in, StandByNumber}
 use Rattle.nv_rows.proofs.SlotRows.{rows_rise}
@@ -25,17 +22,17 @@ number_of [] k row at = absurd (cc)
 number_of (x ∷ rows) zero row at = let same : x ≡ row = cc in ap (λ (r : Row). r.inode) same
 number_of (x ∷ rows) (suc k) row at = number_of rows k row at
 
--- numbers of inodes are small
-pub few_inodes : (s : Super) → HasAreas s → inode_limit s < 2 ^ 32
-few_inodes s areas =
-    let of_cpus : 32 * s.cpus ≤ 2048 = omega (arith, areas.cpus_to) in
-    let most : 32 * s.cpus * s.table_blocks ≤ 2048 * 64 = mul-le-mul of_cpus areas.tables_to in
-    omega (arith, most)
+-- each number is one of the listed ones
+pub number_is : (P : ℕ → Type 0) (rows : List Row) → ((k : ℕ) → k < length (inodes_of rows) → P (get_or (inodes_of rows) k 0)) → (k : ℕ) (d : Row) → k < length rows → P (get_or rows k d).inode
+number_is P rows given k d inside = subst P (number_at rows k d inside) (given k (omega (arith, inside, length-map rows (λ (r : Row). r.inode))))
 
--- each number is below the limit
-pub number_below : (limit : ℕ) (rows : List Row) → AreNumbersBelow limit (inodes_of rows) → (k : ℕ) (d : Row) → k < length rows → (get_or rows k d).inode < limit
-number_below limit rows given k d inside =
-    omega (arith, number_at rows k d inside, given.below k (omega (arith, inside, length-map rows (λ (r : Row). r.inode))))
+-- what holds of each row's number
+pub listed_numbers : (P : ℕ → Type 0) (rows : List Row) → All (λ (row : Row). P row.inode) rows → (k : ℕ) → k < length (inodes_of rows) → P (get_or (inodes_of rows) k 0)
+listed_numbers P [] all k inside = absurd (omega (arith, inside))
+listed_numbers P (x ∷ rows) all k inside = subst P (sym (number_at (x ∷ rows) k x within)) (all k x within)
+  where
+    within : k < length (x ∷ rows)
+    within = omega (arith, inside, length-map (x ∷ rows) (λ (r : Row). r.inode))
 
 -- a listed row stands in a slot
 slot_of_row : (slots : List (Option Row)) (row : Row) → Contains (rows_in slots) row → (k : ℕ) × (get_or slots k None ≡ Some row)

@@ -3,6 +3,9 @@ pub mod GivenRows
 pub mod Numbers
 pub mod InOrder
 pub mod UsedPlaces
+pub mod NewSets
+pub mod UsedRows
+pub mod TableNumbers
 pub mod LowestPlace
 pub mod Places
 pub mod Early

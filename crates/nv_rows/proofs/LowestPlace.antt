@@ -1,37 +1,38 @@
--- The first place of a CPU's table that isn't in the set is that of its lowest unused number.
-use Rattle.std.proofs.Common.{◌≡◌, ◌≢◌, ℕ, ◌+◌, ◌-◌, ◌*◌, ◌<◌, ◌≤◌, max, cond, true, false, is_none, is_some, List, get_or, Option, Some, None, refl, sym, ap, ◌∙◌, inl, inr, arith}
+-- The first place of a CPU's table that isn't in use is that of its lowest unused number.
+use Rattle.std.proofs.Common.{◌≡◌, ◌≢◌, ℕ, ◌+◌, ◌-◌, ◌*◌, ◌/◌, ◌%◌, ◌<◌, ◌≤◌, ◌==◌, cond, true, false, is_none, is_some, List, [], length, get_or, Option, Some, None, refl, sym, ap, ◌∙◌, subst, inl, inr, arith}
 use Rattle.std.proofs.Math.Nat.{mul-le-mul_right}
 use Rattle.std.proofs.lemmas.Bool.{cases_eq}
-use Rattle.nv_blockset.specs.BlockSet.{has}
+use Rattle.std.proofs.lemmas.Nat.{div-mul-add, mod-mul-add}
 use Rattle.nv_super.specs.declared.superblock.Super.{Super}
 use Rattle.nv_scan.specs.declared.piece.Row.{Row}
-use Rattle.nv_rows.specs.InUse.{used_at, AreRows}
+use Rattle.nv_rows.specs.InUse.{has_number, used_at, AreRows, UsedSets}
 use Rattle.nv_rows.specs.Slots.{rows_in}
-use Rattle.nv_rows.specs.Unused.{is_unused, unused_number}
+use Rattle.nv_rows.specs.Unused.{is_unused, lowest_of, IsTableNumber}
 use Rattle.nv_rows.proofs.Numbers.{found_here, from_behind, none_left, free_number, used_number}
 use Rattle.nv_rows.proofs.SlotRows.{row_at_slot}
-use Rattle.nv_rows.proofs.UsedPlaces.{place_in_table, number_in_table}
 
--- the search of a CPU's places begins no later than at that of a number other than 0
-begins_before : (cpu rows k cpus : ℕ) → 0 < rows → 0 < k * cpus + cpu → max (cpu * rows) 1 ≤ cpu * rows + k
-begins_before cpu rows k cpus some number = elim (cases_eq cpu 0) [
+-- Where the search begins: no number but 0 stands before it, and 0 does.
+pub record Begins (cpu from : ℕ) : Type 0 where
+  pub first : cpu ≡ 0 → from ≡ 1
+  pub later : cpu ≢ 0 → from ≡ 0
+
+-- the search begins no later than at the place of a number other than 0
+begins_before : (cpu from k cpus : ℕ) → Begins cpu from → 0 < k * cpus + cpu → from ≤ k
+begins_before cpu from k cpus begins number = elim (cases_eq cpu 0) [
   | inl first ↦
-      let at : cpu * rows ≡ 0 * rows = ap (λ (c : ℕ). c * rows) first in
+      let at = begins.first first in
       elim (cases_eq k 0) [
         | inl none ↦ let product : k * cpus ≡ 0 * cpus = ap (λ (j : ℕ). j * cpus) none in absurd (omega (arith, number, product, first))
         | inr slot ↦ omega (arith, at, slot)
       ]
-  | inr later ↦ let one : 1 * rows ≤ cpu * rows = mul-le-mul_right rows (omega (arith, later)) in omega (arith, one, some)
+  | inr differs ↦ let at = begins.later differs in omega (arith, at)
 ]
 
 -- and no number from there on is 0
-number_some : (cpu rows k cpus : ℕ) → 0 < cpus → max (cpu * rows) 1 ≤ cpu * rows + k → 0 < k * cpus + cpu
-number_some cpu rows k cpus some from = elim (cases_eq cpu 0) [
-  | inl first ↦
-      let at : cpu * rows ≡ 0 * rows = ap (λ (c : ℕ). c * rows) first in
-      let one : 1 * cpus ≤ k * cpus = mul-le-mul_right cpus (omega (arith, at, from)) in
-      omega (arith, one, some)
-  | inr later ↦ omega (arith, later)
+number_some : (cpu from k cpus : ℕ) → Begins cpu from → 0 < cpus → from ≤ k → 0 < k * cpus + cpu
+number_some cpu from k cpus begins some behind = elim (cases_eq cpu 0) [
+  | inl first ↦ let at = begins.first first in let one : 1 * cpus ≤ k * cpus = mul-le-mul_right cpus (omega (arith, at, behind)) in omega (arith, one, some)
+  | inr differs ↦ omega (arith, differs)
 ]
 
 used_one : (slot : Option Row) → ◌≡◌ {A = ℕ} (cond (is_some slot) 1 0) 1 → is_none slot ≡ false
@@ -42,38 +43,40 @@ used_none : (slot : Option Row) → ◌≡◌ {A = ℕ} (cond (is_some slot) 1 0
 used_none None none = refl
 used_none (Some row) none = absurd (omega (arith, none))
 
-module _ (s : Super) (slots : List (Option Row)) (used : List ℕ) (all : AreRows s slots used) (cpu : ℕ) (cpu_below : cpu < s.cpus) where
-  abbrev first : ℕ
-  first = cpu * (32 * s.table_blocks)
+module _ (s : Super) (slots : List (Option Row)) (used : UsedSets) (all : AreRows s slots used) (cpu : ℕ) (cpu_below : cpu < s.cpus) where
+  abbrev size : ℕ
+  size = get_or used.sizes cpu 0
 
-  -- what the set says of a slot of the CPU's table
-  told_at : (k : ℕ) → k < 32 * s.table_blocks → has used (first + k) ≡ used_at slots (k * s.cpus + cpu)
-  told_at k inside =
-      ap (has used) (sym (place_in_table s all.layout k cpu inside cpu_below)) ∙ all.tells.told (k * s.cpus + cpu) (number_in_table s all.layout k cpu inside cpu_below)
+  -- what the sets say of a place of the CPU's table
+  told_at : (k : ℕ) → k < size → has_number used.sets (k * length used.sizes + cpu) ≡ used_at slots (k * s.cpus + cpu)
+  told_at k inside = ap (λ (m : ℕ). has_number used.sets (k * m + cpu)) all.cpus ∙ all.tells.told (k * s.cpus + cpu) number
+    where
+      its_cpu : (k * s.cpus + cpu) % s.cpus ≡ cpu
+      its_cpu = mod-mul-add k s.cpus cpu cpu_below
 
-  module _ (place : ℕ) (low : max first 1 ≤ place) (high : place ≤ first + 32 * s.table_blocks) (set : (b : ℕ) → max first 1 ≤ b → b < place → has used b ≡ 1) where
-    slots_used : (k : ℕ) → k < place - first → is_unused (rows_in slots) (k * s.cpus + cpu) ≡ false
-    slots_used k early =
-        let inside : k < 32 * s.table_blocks = omega (arith, early, high) in
+      its_place : (k * s.cpus + cpu) / s.cpus ≡ k
+      its_place = div-mul-add k s.cpus cpu cpu_below
+
+      number : IsTableNumber s.cpus used.sizes (k * s.cpus + cpu)
+      number = let e = ap (λ (c : ℕ). get_or used.sizes c 0) its_cpu in let f = its_place in omega (arith, e, f, inside)
+
+  module _ (from : ℕ) (begins : Begins cpu from) (place : ℕ) (low : from ≤ place) (high : place ≤ size) (set : (b : ℕ) → from ≤ b → b < place → has_number used.sets (b * length used.sizes + cpu) ≡ 1) where
+    places_used : (k : ℕ) → k < place → is_unused (rows_in slots) (k * s.cpus + cpu) ≡ false
+    places_used k early =
         used_number (rows_in slots) (k * s.cpus + cpu) (λ some.
-        let from = begins_before cpu (32 * s.table_blocks) k s.cpus (omega (arith, inside)) some in
-        let one = sym (told_at k inside) ∙ set (first + k) from (omega (arith, early, low)) in
+        let one = sym (told_at k (omega (arith, early, high))) ∙ set k (begins_before cpu from k s.cpus begins some) early in
         ap is_none (row_at_slot slots (k * s.cpus + cpu) all.stand) ∙ used_one (get_or slots (k * s.cpus + cpu) None) one)
 
     -- all are used where the search came to the end
-    pub all_used : place ≡ first + 32 * s.table_blocks → None ≡ unused_number s (rows_in slots) cpu
-    all_used end =
-        sym (none_left (is_unused (rows_in slots)) (λ k. k * s.cpus + cpu) (32 * s.table_blocks) (place - first) (omega (arith, end)) slots_used)
+    pub all_used : place ≡ size → None ≡ lowest_of s.cpus size (rows_in slots) cpu
+    all_used end = sym (none_left (is_unused (rows_in slots)) (λ k. k * s.cpus + cpu) size place (omega (arith, end)) places_used)
 
     -- and else the number at the place is the lowest
-    pub lowest : (place ≢ first + 32 * s.table_blocks) → (place < first + 32 * s.table_blocks → has used place ≡ 0) → Some ((place - first) * s.cpus + cpu) ≡ unused_number s (rows_in slots) cpu
+    pub lowest : place ≢ size → (place < size → has_number used.sets (place * length used.sizes + cpu) ≡ 0) → Some (place * s.cpus + cpu) ≡ lowest_of s.cpus size (rows_in slots) cpu
     lowest early clear =
-        let before : place < first + 32 * s.table_blocks = omega (arith, early, high) in
-        let inside : place - first < 32 * s.table_blocks = omega (arith, before, low) in
-        let is : first + (place - first) ≡ place = omega (arith, low) in
-        let none = sym (told_at (place - first) inside) ∙ ap (has used) is ∙ clear before in
-        let some_cpu : 0 < s.cpus = omega (arith, cpu_below) in
-        let some = number_some cpu (32 * s.table_blocks) (place - first) s.cpus some_cpu (omega (arith, is, low)) in
-        let free = free_number (rows_in slots) ((place - first) * s.cpus + cpu) some (ap is_none (row_at_slot slots ((place - first) * s.cpus + cpu) all.stand) ∙ used_none (get_or slots ((place - first) * s.cpus + cpu) None) none) in
-        sym (from_behind (is_unused (rows_in slots)) (λ k. k * s.cpus + cpu) (32 * s.table_blocks) (place - first) slots_used
-        ∙ found_here (is_unused (rows_in slots)) (λ k. k * s.cpus + cpu) (32 * s.table_blocks) (place - first) inside free)
+        let inside : place < size = omega (arith, early, high) in
+        let none = sym (told_at place inside) ∙ clear inside in
+        let some = number_some cpu from place s.cpus begins (omega (arith, cpu_below)) low in
+        let free = free_number (rows_in slots) (place * s.cpus + cpu) some (ap is_none (row_at_slot slots (place * s.cpus + cpu) all.stand) ∙ used_none (get_or slots (place * s.cpus + cpu) None) none) in
+        sym (from_behind (is_unused (rows_in slots)) (λ k. k * s.cpus + cpu) size place places_used
+        ∙ found_here (is_unused (rows_in slots)) (λ k. k * s.cpus + cpu) size place inside free)

@@ -158,13 +158,10 @@ slot_within slots n some =
       | inr past ↦ let none = ap is_some (get_or_past slots n None past) in absurd (cc)
     ]
 
--- a row that is taken out has its number
-pub number_out : (slots : List (Option Row)) (n limit : ℕ) (o : Option Row) → o ≡ get_or slots n None → StandByNumber 0 slots → length slots ≡ limit → IfSome o (λ row. (row.inode ≡ n) × (n < limit))
-number_out slots n limit None at stand long = tt
-number_out slots n limit (Some row) at stand long = (
-  stand n row (sym at) ∙ zero-add n,
-  omega (arith, long, slot_within slots n (ap is_some (sym at))),
-)
+-- a row that is taken out has its number, of which holds what holds of each number with a row
+pub number_out : (slots : List (Option Row)) (n : ℕ) (P : ℕ → Type 0) (o : Option Row) → o ≡ get_or slots n None → StandByNumber 0 slots → ((i : ℕ) → is_some (get_or slots i None) ≡ true → P i) → IfSome o (λ row. (row.inode ≡ n) × P n)
+number_out slots n P None at stand each = tt
+number_out slots n P (Some row) at stand each = (stand n row (sym at) ∙ zero-add n, each n (ap is_some (sym at)))
 
 -- the number of an emptied slot has no row
 pub row_gone : (slots : List (Option Row)) (n : ℕ) → StandByNumber 0 slots → row_of (rows_in (set slots n None)) n ≡ None

@@ -1,22 +1,20 @@
--- The set of the numbers in use as rows come and go.
-use Rattle.std.proofs.Common.{◌≡◌, ◌≢◌, ℕ, ◌+◌, ◌*◌, ◌/◌, ◌<◌, ◌≤◌, cond, is_some, List, [], ◌∷◌, ◌++◌, length, get_or, set, slice_get, take, drop, replicate, Option, Some, None, refl, sym, ap, ◌∙◌, inl, inr, arith, length-set}
+-- The sets of the numbers in use as numbers come and go.
+use Rattle.std.proofs.Common.{◌≡◌, ◌≢◌, ℕ, ◌+◌, ◌*◌, ◌/◌, ◌%◌, ◌<◌, ◌≤◌, List, [], ◌∷◌, ◌++◌, length, get_or, set, take, drop, refl, sym, ap, ◌∙◌, subst, inl, inr, arith, length-set}
 use Rattle.std.proofs.lemmas.Bool.{cases_eq, cases_lt}
-use Rattle.std.proofs.lemmas.List.{append-nil, drop_all, take_all, get_or-take, length-take-le, get_or-set_other, get_or_push, get_or_append_left, length_push, length-replicate}
+use Rattle.std.proofs.lemmas.List.{append-nil, drop_all, take_all, get_or-set_other, get_or_push, get_or_append_left, length_push, map-set}
 use Rattle.std.proofs.lemmas.Grind.{get_or-set_at}
-use Rattle.std.proofs.lemmas.Nat.{div-mul-add, mod-mul-add, mul-add-lt}
-use Rattle.std.proofs.lemmas.Option.{slice_get_cases, slice_get_within}
-use Rattle.nv_blockset.specs.BlockSet.{has, with_block, words_for}
+use Rattle.std.specs.Global.{Vec}
+use Rattle.std.specs.Vec.{with_items}
+use Rattle.std.proofs.lemmas.Nat.{div-add-mod', div-mul-add, mod_below, mod-mul-add}
+use Rattle.std.proofs.lemmas.Option.{unwrap_or-slice_get}
+use Rattle.nv_inode.specs.Tables.{lists_of}
+use Rattle.nv_inode.proofs.TicketBlocks.{found_chain, lists_long}
+use Rattle.nv_blockset.specs.BlockSet.{has, with_block}
 use Rattle.nv_blockset.specs.WordRuns.{without_block}
-use Rattle.nv_blockset.proofs.Sets.{has_same, has_other, has_none, with_block_long}
+use Rattle.nv_blockset.proofs.Sets.{has_same, has_other, with_block_long}
 use Rattle.nv_blockset.proofs.TakenOut.{without_same, without_other, without_long}
-use Rattle.nv_inode.proofs.Places.{one_place, place_below}
-use Rattle.nv_super.specs.declared.superblock.Super.{Super}
-use Rattle.nv_super.specs.Layout.{IsLayout, inode_limit}
-use Rattle.nv_scan.specs.declared.piece.Row.{Row}
-use Rattle.nv_numbered.specs.Values.{AreNumbersBelow}
-use Rattle.nv_rows.specs.InUse.{place_of, used_at, HasUsed, TellsUsed}
-use Rattle.nv_rows.specs.Rows.{inodes_of}
-use Rattle.nv_rows.proofs.GivenRows.{SlotsOf}
+use Rattle.nv_rows.specs.InUse.{has_number, set_of, with_number, without_number, HasUsed, HaveRoom}
+use Rattle.nv_rows.specs.Unused.{IsTableNumber}
 
 -- words that were all written
 pub all_written : (n : ℕ) (old new : List ℕ) → n ≡ length old → length new ≡ length old → take n (new ++ drop (length new) old) ≡ new
@@ -25,136 +23,148 @@ all_written n old new count long =
     ∙ ap (take n) (append-nil new)
     ∙ take_all n new (omega (arith, count, long))
 
--- the first numbers are below the limit too
-pub below_front : (limit : ℕ) (numbers : List ℕ) (n : ℕ) → AreNumbersBelow limit numbers → n ≤ length numbers → (k : ℕ) → k < length (take n numbers) → get_or (take n numbers) k 0 < limit
-below_front limit numbers n given le k inside =
-    let short : k < n = omega (arith, inside, length-take-le n numbers le) in
-    omega (arith, get_or-take n numbers k 0 short, given.below k (omega (arith, short, le)))
+-- a number is told by its CPU and its place
+pub same_number : (n i j : ℕ) → i % n ≡ j % n → i / n ≡ j / n → i ≡ j
+same_number n i j cpu place = sym (div-add-mod' i n) ∙ (λ k. place k * n + cpu k) ∙ div-add-mod' j n
 
-module _ (s : Super) (layout : IsLayout s) where
-  -- numbers have places of their own
-  pub apart : (i j : ℕ) → i < inode_limit s → j < inode_limit s → i ≢ j → place_of s i ≢ place_of s j
-  apart i j i_below j_below differ same = differ (one_place s i j layout i_below j_below same)
+-- ---- another set for the CPU of a number
 
-  -- each place has its word
-  pub word_there : (used : List ℕ) (i : ℕ) → inode_limit s ≤ 64 * length used → i < inode_limit s → place_of s i / 64 < length used
-  word_there used i room below = omega (arith, room, place_below s i layout below)
+module _ (sets : List (List ℕ)) (i : ℕ) (some : 0 < length sets) (words : List ℕ) where
+  abbrev n : ℕ
+  n = length sets
 
-  -- ---- as rows are given
+  abbrev changed : List (List ℕ)
+  changed = set sets (i % n) words
 
-  pub HasUsed-none : HasUsed s [] (replicate (words_for (inode_limit s)) 0)
-  HasUsed-none =
-      record {
-        room = omega (arith, length-replicate {A = ℕ} (words_for (inode_limit s)) 0);
-        each = λ k inside. absurd (omega (arith, inside));
-        others = λ i below none. has_none (words_for (inode_limit s)) (place_of s i);
-      }
+  long : length changed ≡ n
+  long = length-set sets (i % n) words
 
-  pub HasUsed-more : (numbers used : List ℕ) (i : ℕ) → i < inode_limit s → ((k : ℕ) → k < length numbers → get_or numbers k 0 < inode_limit s) → HasUsed s numbers used → HasUsed s (numbers ++ i ∷ []) (with_block used (place_of s i))
-  HasUsed-more numbers used i below all had =
-      let there = word_there used i had.room below in
-      let more = length_push numbers i in
-      record {
-        room = omega (arith, had.room, with_block_long used (place_of s i));
-        each = λ k inside. elim (cases_lt k (length numbers)) [
-          | inl early ↦
-              let is : get_or (numbers ++ i ∷ []) k 0 ≡ get_or numbers k 0 = get_or_append_left numbers (i ∷ []) 0 k early in
-              elim (cases_eq (get_or numbers k 0) i) [
-                | inl same ↦ ap (λ (j : ℕ). has (with_block used (place_of s i)) (place_of s j)) (is ∙ same) ∙ has_same used (place_of s i) there
-                | inr differs ↦
-                    ap (λ (j : ℕ). has (with_block used (place_of s i)) (place_of s j)) is
-                    ∙ has_other used (place_of s i) (place_of s (get_or numbers k 0)) there (apart (get_or numbers k 0) i (all k early) below differs)
-                    ∙ had.each k early
-              ]
-          | inr late ↦
-              let last : get_or (numbers ++ i ∷ []) k 0 ≡ i = get_or_push numbers i 0 k (omega (arith, late, inside, more)) in
-              ap (λ (j : ℕ). has (with_block used (place_of s i)) (place_of s j)) last ∙ has_same used (place_of s i) there
-        ];
-        others = λ j j_below none.
-            let differs : j ≢ i = λ e. none (length numbers) (omega (arith, more)) (get_or_push numbers i 0 (length numbers) refl ∙ sym e) in
-            has_other used (place_of s i) (place_of s j) there (apart j i j_below below differs)
-            ∙ had.others j j_below (λ k inside e. none k (omega (arith, inside, more)) (get_or_append_left numbers (i ∷ []) 0 k inside ∙ e));
-      }
+  changed_in : (j : ℕ) → j % n ≡ i % n → has_number changed j ≡ has words (j / n)
+  changed_in j same = ap (λ (m : ℕ). has (get_or changed (j % m) []) (j / m)) long ∙ ap (λ (w : List ℕ). has w (j / n)) (get_or-set_at sets (i % n) (j % n) words [] same (mod_below i n some))
 
-  -- the set of the given rows' numbers tells which slots have one
-  pub TellsUsed-given : (rows : List Row) (slots : List (Option Row)) (used : List ℕ) → length slots ≡ inode_limit s → length (inodes_of rows) ≡ length rows → SlotsOf rows slots → HasUsed s (inodes_of rows) used → TellsUsed s slots used
-  TellsUsed-given rows slots used long many each had =
-      record {
-        long = long;
-        room = had.room;
-        told = λ i below. by i below (get_or slots i None) refl;
-      }
-    where
-      by : (i : ℕ) → i < inode_limit s → (slot : Option Row) → get_or slots i None ≡ slot → has used (place_of s i) ≡ used_at slots i
-      by i below None at =
-          had.others i below (λ k inside e. elim (slice_get_cases rows k).1 [
-            | inl there ↦ let some = (each i there.0).1 (k, e, there.2) in absurd (cc)
-            | inr past ↦ absurd (omega (arith, past.0, inside, many))
-          ])
-          ∙ sym (ap (λ (o : Option Row). cond (is_some o) 1 0) at)
-      by i below (Some row) at =
-          let place = (each i row).0 at in
-          ap (λ (j : ℕ). has used (place_of s j)) (sym place.1) ∙ had.each place.0 (within place.0 row place.2) ∙ sym (ap (λ (o : Option Row). cond (is_some o) 1 0) at)
-        where
-          within : (k : ℕ) (row : Row) → slice_get rows k ≡ Some row → k < length (inodes_of rows)
-          within k row at = omega (arith, many, slice_get_within rows k row at)
+  changed_out : (j : ℕ) → j % n ≢ i % n → has_number changed j ≡ has_number sets j
+  changed_out j apart = ap (λ (m : ℕ). has (get_or changed (j % m) []) (j / m)) long ∙ ap (λ (w : List ℕ). has w (j / n)) (get_or-set_other sets (i % n) (j % n) words [] apart)
 
-  -- ---- as a row comes or goes
-
-  -- the slot of a number gets another row
-  pub TellsUsed-exchanged : (slots : List (Option Row)) (used : List ℕ) (n : ℕ) (was row : Row) → get_or slots n None ≡ Some was → n < length slots → TellsUsed s slots used → TellsUsed s (set slots n (Some row)) used
-  TellsUsed-exchanged slots used n was row at inside tells = record {
-    long = length-set slots n (Some row) ∙ tells.long;
-    room = tells.room;
-    told = λ i i_below. tells.told i i_below ∙ elim (cases_eq i n) [
+  room_kept : (sizes : List ℕ) → length words ≡ length (set_of sets (i % n)) → HaveRoom sizes sets → HaveRoom sizes changed
+  room_kept sizes as_long had = record {
+    as_many = long ∙ had.as_many;
+    cpus = had.cpus;
+    some = had.some;
+    small = had.small;
+    room = λ cpu below. elim (cases_eq cpu (i % n)) [
       | inl same ↦
-          ap (λ (j : ℕ). cond (is_some (get_or slots j None)) 1 0) same ∙ ap (λ (o : Option Row). cond (is_some o) 1 0) at
-          ∙ sym (ap (λ (o : Option Row). cond (is_some o) 1 0) (get_or-set_at slots n i (Some row) None same inside))
-      | inr differs ↦ sym (ap (λ (o : Option Row). cond (is_some o) 1 0) (get_or-set_other slots n i (Some row) None differs))
+          let is = ap (λ (w : List ℕ). length w) (get_or-set_at sets (i % n) cpu words [] same (mod_below i n some)) in
+          let was = ap (λ (c : ℕ). length (set_of sets c)) same in
+          let room = had.room cpu below in
+          omega (arith, is, was, room, as_long)
+      | inr apart ↦ (let is = ap (λ (w : List ℕ). length w) (get_or-set_other sets (i % n) cpu words [] apart) in let room = had.room cpu below in omega (arith, is, room))
     ];
   }
 
-  pub TellsUsed-filled : (slots : List (Option Row)) (used : List ℕ) (n : ℕ) (row : Row) → n < inode_limit s → TellsUsed s slots used → TellsUsed s (set slots n (Some row)) (with_block used (place_of s n))
-  TellsUsed-filled slots used n row below tells =
-      let there = word_there used n tells.room below in
-      record {
-        long = length-set slots n (Some row) ∙ tells.long;
-        room = omega (arith, tells.room, with_block_long used (place_of s n));
-        told = λ i i_below. elim (cases_eq i n) [
-          | inl same ↦
-              ap (λ (j : ℕ). has (with_block used (place_of s n)) (place_of s j)) same ∙ has_same used (place_of s n) there
-              ∙ sym (ap (λ (o : Option Row). cond (is_some o) 1 0) (get_or-set_at slots n i (Some row) None same (omega (arith, below, tells.long))))
-          | inr differs ↦
-              has_other used (place_of s n) (place_of s i) there (apart i n i_below below differs) ∙ tells.told i i_below
-              ∙ sym (ap (λ (o : Option Row). cond (is_some o) 1 0) (get_or-set_other slots n i (Some row) None differs))
-        ];
-      }
+module _ (sizes : List ℕ) (sets : List (List ℕ)) (i : ℕ) (had : HaveRoom sizes sets) (number : IsTableNumber (length sizes) sizes i) where
+  abbrev count : ℕ
+  count = length sets
 
-  pub TellsUsed-emptied : (slots : List (Option Row)) (used : List ℕ) (n : ℕ) → n < inode_limit s → TellsUsed s slots used → TellsUsed s (set slots n None) (without_block used (place_of s n))
-  TellsUsed-emptied slots used n below tells =
-      let there = word_there used n tells.room below in
-      record {
-        long = length-set slots n None ∙ tells.long;
-        room = omega (arith, tells.room, without_long used (place_of s n));
-        told = λ i i_below. elim (cases_eq i n) [
-          | inl same ↦
-              ap (λ (j : ℕ). has (without_block used (place_of s n)) (place_of s j)) same ∙ without_same used (place_of s n) there
-              ∙ sym (ap (λ (o : Option Row). cond (is_some o) 1 0) (get_or-set_at slots n i None None same (omega (arith, below, tells.long))))
-          | inr differs ↦
-              without_other used (place_of s n) (place_of s i) there (apart i n i_below below differs) ∙ tells.told i i_below
-              ∙ sym (ap (λ (o : Option Row). cond (is_some o) 1 0) (get_or-set_other slots n i None None differs))
-        ];
-      }
+  some_sets : 0 < length sets
+  some_sets = let e = had.as_many in let f = had.cpus in omega (arith, e, f)
 
-  -- ---- the slots of a CPU
+  -- the CPU has a set, and the number a word there
+  pub cpu_there : i % length sets < length sets
+  cpu_there = mod_below i (length sets) some_sets
 
-  module _ (k cpu : ℕ) (inside : k < 32 * s.table_blocks) (cpu_below : cpu < s.cpus) where
-    -- the place of the number in a CPU's slot
-    pub place_in_table : place_of s (k * s.cpus + cpu) ≡ cpu * (32 * s.table_blocks) + k
-    place_in_table =
-        let its_cpu = mod-mul-add k s.cpus cpu cpu_below in
-        let its_row = div-mul-add k s.cpus cpu cpu_below in
-        (λ i. its_cpu i * (32 * s.table_blocks) + its_row i)
+  pub word_there : i / length sets / 64 < length (set_of sets (i % length sets))
+  word_there = subst (λ (m : ℕ). i / m / 64 < length (set_of sets (i % m))) (sym had.as_many)
+      (let room = had.room (i % length sizes) (mod_below i (length sizes) had.cpus) in let low = number in omega (arith, room, low))
 
-    pub number_in_table : k * s.cpus + cpu < inode_limit s
-    number_in_table = let low = mul-add-lt k s.cpus cpu (32 * s.table_blocks) inside cpu_below in omega (arith, low)
+  abbrev words : List ℕ
+  words = set_of sets (i % count)
+
+  pub with_same : has_number (with_number sets i) i ≡ 1
+  with_same = changed_in sets i some_sets (with_block words (i / count)) i refl ∙ has_same words (i / count) word_there
+
+  pub with_other : (j : ℕ) → j ≢ i → has_number (with_number sets i) j ≡ has_number sets j
+  with_other j differs = elim (cases_eq (j % count) (i % count)) [
+    | inl same ↦
+        changed_in sets i some_sets (with_block words (i / count)) j same ∙ has_other words (i / count) (j / count) word_there (λ e. differs (same_number count j i same e))
+        ∙ ap (λ (c : ℕ). has (set_of sets c) (j / count)) (sym same)
+    | inr apart ↦ changed_out sets i some_sets (with_block words (i / count)) j apart
+  ]
+
+  pub room_with : HaveRoom sizes (with_number sets i)
+  room_with = room_kept sets i some_sets (with_block words (i / count)) sizes (with_block_long words (i / count)) had
+
+  pub without_number_same : has_number (without_number sets i) i ≡ 0
+  without_number_same = changed_in sets i some_sets (without_block words (i / count)) i refl ∙ without_same words (i / count) word_there
+
+  pub without_number_other : (j : ℕ) → j ≢ i → has_number (without_number sets i) j ≡ has_number sets j
+  without_number_other j differs = elim (cases_eq (j % count) (i % count)) [
+    | inl same ↦
+        changed_in sets i some_sets (without_block words (i / count)) j same ∙ without_other words (i / count) (j / count) word_there (λ e. differs (same_number count j i same e))
+        ∙ ap (λ (c : ℕ). has (set_of sets c) (j / count)) (sym same)
+    | inr apart ↦ changed_out sets i some_sets (without_block words (i / count)) j apart
+  ]
+
+  pub room_without : HaveRoom sizes (without_number sets i)
+  room_without = room_kept sets i some_sets (without_block words (i / count)) sizes (without_long words (i / count)) had
+
+-- ---- sets that are written
+
+-- a set that was written in its vector
+put_back : (sets : List (Vec ℕ)) (k : ℕ) (v : Vec ℕ) (new : List ℕ) → length new ≡ length v.items → lists_of (set sets k (with_items v new)) ≡ set (lists_of sets) k new
+put_back sets k v new long = map-set (λ (w : Vec ℕ). w.items) sets k (with_items v new) ∙ ap (set (lists_of sets) k) (all_written v.len v.items new v.ok.0 long)
+
+module _ (sizes : List ℕ) (sets : List (Vec ℕ)) (had : HaveRoom sizes (lists_of sets)) (cpus number : ℕ) (counted : cpus ≡ length sets) (v : Vec ℕ) (at : v ≡ get_or sets (number % cpus) v) where
+  as_many : cpus ≡ length (lists_of sets)
+  as_many = counted ∙ sym (lists_long sets)
+
+  below : number % cpus < length sets
+  below = (let some = had.cpus in let many = had.as_many in let e = as_many in let f = counted in let inside = mod_below number cpus (omega (arith, some, many, e)) in omega (arith, inside, f))
+
+  here : v.items ≡ set_of (lists_of sets) (number % cpus)
+  here = sym (found_chain sets (number % cpus) v at below) ∙ unwrap_or-slice_get (lists_of sets) (number % cpus) []
+
+  pub put_with : (words new : List ℕ) → words ≡ v.items → new ≡ with_block words (number / cpus) → lists_of (set sets (number % cpus) (with_items v new)) ≡ with_number (lists_of sets) number
+  put_with words new are is =
+      put_back sets (number % cpus) v new (ap length is ∙ with_block_long words (number / cpus) ∙ ap length are)
+      ∙ ap (set (lists_of sets) (number % cpus)) (is ∙ ap (λ (w : List ℕ). with_block w (number / cpus)) (are ∙ here))
+      ∙ ap (λ (m : ℕ). set (lists_of sets) (number % m) (with_block (set_of (lists_of sets) (number % m)) (number / m))) as_many
+
+  pub put_without : (words new : List ℕ) → words ≡ v.items → new ≡ without_block words (number / cpus) → lists_of (set sets (number % cpus) (with_items v new)) ≡ without_number (lists_of sets) number
+  put_without words new are is =
+      put_back sets (number % cpus) v new (ap length is ∙ without_long words (number / cpus) ∙ ap length are)
+      ∙ ap (set (lists_of sets) (number % cpus)) (is ∙ ap (λ (w : List ℕ). without_block w (number / cpus)) (are ∙ here))
+      ∙ ap (λ (m : ℕ). set (lists_of sets) (number % m) (without_block (set_of (lists_of sets) (number % m)) (number / m))) as_many
+
+pub set_found : (sets : List (Vec ℕ)) (cpu : ℕ) (v : Vec ℕ) → v ≡ get_or sets cpu v → cpu < length sets → set_of (lists_of sets) cpu ≡ v.items
+set_found sets cpu v at inside = sym (unwrap_or-slice_get (lists_of sets) cpu []) ∙ found_chain sets cpu v at inside
+
+-- the bit of a number by its CPU and its place
+pub bit_there : (sizes : List ℕ) (sets : List (List ℕ)) (cpu place : ℕ) → length sets ≡ length sizes → cpu < length sizes → has_number sets (place * length sizes + cpu) ≡ has (set_of sets cpu) place
+bit_there sizes sets cpu place as_many below =
+    ap (λ (m : ℕ). has (set_of sets ((place * length sizes + cpu) % m)) ((place * length sizes + cpu) / m)) as_many
+    ∙ ap (λ (c : ℕ). has (set_of sets c) ((place * length sizes + cpu) / length sizes)) (mod-mul-add place (length sizes) cpu below)
+    ∙ ap (has (set_of sets cpu)) (div-mul-add place (length sizes) cpu below)
+
+-- ---- given numbers
+
+pub HasUsed-none : (sets : List (List ℕ)) → ((i : ℕ) → has_number sets i ≡ 0) → HasUsed [] sets
+HasUsed-none sets none = record { each = λ k inside. absurd (omega (arith, inside)); others = λ i other. none i }
+
+-- one given number more
+pub HasUsed-more : (numbers : List ℕ) (i : ℕ) (old new : List (List ℕ)) → has_number new i ≡ 1 → ((j : ℕ) → j ≢ i → has_number new j ≡ has_number old j) → HasUsed numbers old → HasUsed (numbers ++ i ∷ []) new
+HasUsed-more numbers i old new there others used =
+    let more = length_push numbers i in
+    record {
+      each = λ k inside. elim (cases_lt k (length numbers)) [
+        | inl early ↦
+            let is : get_or (numbers ++ i ∷ []) k 0 ≡ get_or numbers k 0 = get_or_append_left numbers (i ∷ []) 0 k early in
+            elim (cases_eq (get_or numbers k 0) i) [
+              | inl same ↦ ap (has_number new) (is ∙ same) ∙ there
+              | inr differs ↦ ap (has_number new) is ∙ others (get_or numbers k 0) differs ∙ used.each k early
+            ]
+        | inr late ↦ ap (has_number new) (get_or_push numbers i 0 k (omega (arith, late, inside, more))) ∙ there
+      ];
+      others = λ j none.
+          let differs : j ≢ i = λ e. none (length numbers) (omega (arith, more)) (get_or_push numbers i 0 (length numbers) refl ∙ sym e) in
+          others j differs ∙ used.others j (λ k inside e. none k (omega (arith, inside, more)) (get_or_append_left numbers (i ∷ []) 0 k inside ∙ e));
+    }

@@ -1,10 +1,19 @@
 -- What a contract sees of `Rows`.
-use Rattle.std.specs.Prelude.{ℕ, List}
+use Rattle.std.specs.Prelude.{◌≡◌, ℕ, List}
 use Rattle.nv_super.specs.declared.superblock.Super.{Super}
+use Rattle.nv_super.specs.Layout.{Layout}
+use Rattle.nv_inode.specs.Numbers.{sizes_of}
 use Rattle.nv_scan.specs.declared.piece.Row.{Row}
 
--- the rows, rising by number, how many more take no memory, and the superblock of the file system
+-- the rows, rising by number, how many more take no memory, the superblock of the file system, and how many numbers the table
+-- of each CPU has
 pub record RowList : Type 0 where
   pub items : List Row
   pub room : ℕ
   pub sup : Super
+  pub sizes : List ℕ
+
+-- The numbers that the rows can have are those of a layout.
+pub record HasNumbersOf (l : Layout) (rows : RowList) : Type 0 where
+  pub sup : rows.sup ≡ l.sup
+  pub sizes : rows.sizes ≡ sizes_of l

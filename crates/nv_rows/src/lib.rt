@@ -2,5 +2,6 @@
 #![tactic(auto)]
 
 mod rows;
+mod used;
 
 pub use rows::Rows;

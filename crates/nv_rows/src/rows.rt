@@ -1,20 +1,20 @@
 //! Rows by the numbers of their inodes, over `Numbered`. Only `from_rows` and `reserve` take memory.
 
-ghost use Rattle.std.specs.Prelude.{◌≡◌, ◌+◌, ◌<◌, ◌≤◌, ◌^◌, ℕ, None, Some, map, IfOk, IfSome, length, IsOk, OnOk, OnSome, option_copied, set};
+ghost use Rattle.std.specs.Prelude.{◌≡◌, ◌+◌, ◌<◌, ◌≤◌, ◌^◌, ℕ, None, Some, map, IfOk, IfSome, length, IsOk, OnOk, OnSome, option_copied, set, slice_index};
 ghost use Rattle.std.specs.List.{All, remove};
 ghost use Rattle.nv_super.specs.Order.{Rises, SortedOf};
-ghost use Rattle.nv_super.specs.Layout.{inode_limit, IsLayout};
-ghost use Rattle.nv_rows.specs.InUse.{place_of, HasUsed};
+ghost use Rattle.nv_inode.specs.Numbers.{sizes_of};
+ghost use Rattle.nv_rows.specs.InUse.{HasUsed};
 ghost use Rattle.nv_scan.specs.declared.piece.Row.{Row as RowValue};
-ghost use Rattle.nv_numbered.specs.Values.{AreNumbersBelow};
 ghost use Rattle.nv_rows.specs.Rows.{row_key, inodes_of, row_of, place_in, IsInUse, IsLent, IsPlaceOf, HasInserted};
-ghost use Rattle.nv_rows.specs.Unused.{unused_number};
+ghost use Rattle.nv_rows.specs.Unused.{HaveSlots, IsTableNumber, lowest_of};
 
-use nv_blockset::{first_clear, words_for};
+use crate::used::UsedNumbers;
+use nv_inode::Tables;
 use nv_names::NameIndex;
 use nv_numbered::{Iter, Numbered};
 use nv_radix::FileIndex;
-use nv_scan::{LogPages, Numbers, Row, RowList, SLOTS};
+use nv_scan::{LogPages, Numbers, Row, RowList};
 use nv_super::{Kind, Super};
 use std::alloc::{AllocError, Global};
 use std::marker::Model;
@@ -24,8 +24,7 @@ use std::mem;
 #[derive(Drop)]
 pub struct Rows {
     rows: Numbered<Row>,
-    // The numbers in use, by the places of their slots.
-    used: Vec<u64>,
+    used: UsedNumbers,
     sup: Super,
 }
 
@@ -41,9 +40,10 @@ impl Model for Rows {
       items = rows_in t.rows.slots;
       room = t.rows.room;
       sup = t.sup;
+      sizes = t.used.sizes;
     } };
 
-    ghost invariant = { λ t. AreRows t.sup t.rows.slots t.used.items };
+    ghost invariant = { λ t. AreRows t.sup t.rows.slots t.used };
 }
 
 // A row of this number that says nothing. It takes no memory.
@@ -75,42 +75,36 @@ fn numbers_of(alloc: Global, rows: &RowList) -> Result<Vec<u32>, AllocError>
     Ok(numbers)
 }
 
-// The place of an inode's slot among all slots of the tables, where those of one CPU stand side by side.
-fn place_of(sup: &Super, inode: u64) -> u64
-    requires layout { IsLayout sup.now }
-    requires inode { inode < inode_limit sup.now }
-    ensures { result ≡ place_of sup.now inode }
+// The numbers in use are these.
+fn used_by(alloc: Global, tables: &Tables, numbers: &[u32]) -> Result<UsedNumbers, AllocError>
+    requires { HaveSlots tables.now.layout numbers.now }
+    ensures sizes { IfOk result (λ used. used.sizes ≡ sizes_of tables.now.layout) }
+    ensures numbers { IfOk result (λ used. HasUsed numbers.now used.sets) }
 {
-    inode % sup.cpus * (SLOTS * sup.table_blocks) + inode / sup.cpus
-}
-
-// The numbers as a set, by the places of their slots.
-fn used_by(alloc: Global, sup: &Super, numbers: &[u32]) -> Result<Vec<u64>, AllocError>
-    requires layout { IsLayout sup.now }
-    requires numbers { AreNumbersBelow (inode_limit sup.now) numbers.now }
-    ensures { IfOk result (λ used. HasUsed sup.now numbers.now used.items) }
-{
-    let mut used = vec![in alloc; 0; words_for(sup.inode_limit())]?;
+    tables.are_laid();
+    let mut used = UsedNumbers::new(alloc, tables)?;
     for number in numbers {
-        nv_blockset::insert(&mut used, place_of(sup, u64::from(*number)));
+        used.insert(u64::from(*number));
     }
     Ok(used)
 }
 
 impl Rows {
     /// Rows that came in any order, for the inodes of a file system. It moves none of them, and reads their heads alone.
-    pub fn from_rows(alloc: Global, rows: RowList, sup: &Super) -> Result<Rows, AllocError>
-        requires layout { IsLayout sup.now }
-        requires numbers { AreNumbersBelow (inode_limit sup.now) (inodes_of rows.items) }
+    pub fn from_rows(alloc: Global, rows: RowList, tables: &Tables) -> Result<Rows, AllocError>
+        requires { HaveSlots tables.now.layout (inodes_of rows.items) }
         ensures rows { IfOk result (λ r. SortedOf row_key rows.items r.items) }
-        ensures sup { IfOk result (λ r. r.sup ≡ sup.now) }
+        ensures sup { IfOk result (λ r. r.sup ≡ tables.now.layout.sup) }
+        ensures sizes { IfOk result (λ r. r.sizes ≡ sizes_of tables.now.layout) }
     {
+        tables.are_laid();
+        let end = tables.number_end();
         let numbers = numbers_of(alloc, &rows)?;
-        let used = used_by(alloc, sup, &numbers)?;
+        let used = used_by(alloc, tables, &numbers)?;
         Ok(Rows {
-            rows: Numbered::from_values(alloc, rows.into_rows(), numbers, sup.inode_limit())?,
+            rows: Numbered::from_values(alloc, rows.into_rows(), numbers, end)?,
             used,
-            sup: *sup,
+            sup: *tables.sup(),
         })
     }
 
@@ -153,6 +147,7 @@ impl Rows {
     pub fn reserve(&mut self, more: usize) -> Result<(), AllocError>
         ensures rows { self.new.items ≡ self.old.items }
         ensures sup { self.new.sup ≡ self.old.sup }
+        ensures sizes { self.new.sizes ≡ self.old.sizes }
         ensures ready { OnOk result (more ≤ self.new.room) }
         ensures succeeds { more ≤ self.old.room → IsOk result }
         ensures room { self.old.room ≤ self.new.room }
@@ -162,31 +157,33 @@ impl Rows {
 
     /// Puts in the row of an inode that has none, where there is room for it.
     pub fn insert(&mut self, row: Row)
-        requires within { row.inode < inode_limit self.old.sup }
+        requires within { IsTableNumber self.old.sup.cpus self.old.sizes row.inode }
         requires vacant { row_of self.old.items row.inode ≡ None }
         requires room { 0 < self.old.room }
         ensures rows { HasInserted self.old.items self.new.items row }
         ensures sup { self.new.sup ≡ self.old.sup }
+        ensures sizes { self.new.sizes ≡ self.old.sizes }
         ensures room { self.old.room ≡ self.new.room + 1 }
     {
-        nv_blockset::insert(&mut self.used, place_of(&self.sup, row.inode));
+        self.used.insert(row.inode);
         self.rows.insert(row.inode, row);
     }
 
     /// Takes the row of an inode out, if it is in use. There is room to put it in again.
     pub fn remove(&mut self, inode: u64) -> Option<Row>
         ensures row { result ≡ row_of self.old.items inode }
-        ensures number { IfSome result (λ row. (row.inode ≡ inode) × (inode < inode_limit self.new.sup)) }
+        ensures number { IfSome result (λ row. (row.inode ≡ inode) × IsTableNumber self.new.sup.cpus self.new.sizes inode) }
         ensures gone { row_of self.new.items inode ≡ None }
         ensures rows { (place : ℕ) → IsPlaceOf self.old.items inode place → self.new.items ≡ remove self.old.items place }
         ensures unchanged { row_of self.old.items inode ≡ None → self.new.items ≡ self.old.items }
         ensures sup { self.new.sup ≡ self.old.sup }
+        ensures sizes { self.new.sizes ≡ self.old.sizes }
         ensures room { self.old.room ≤ self.new.room }
         ensures freed { OnSome result (self.new.room ≡ self.old.room + 1) }
     {
         let row = self.rows.remove(inode);
         if row.is_some() {
-            nv_blockset::remove(&mut self.used, place_of(&self.sup, inode));
+            self.used.remove(inode);
         }
         row
     }
@@ -196,11 +193,12 @@ impl Rows {
         requires { IsInUse self.old.items inode }
         ensures row { row_of self.old.items inode ≡ Some result }
         ensures number { result.inode ≡ inode }
-        ensures within { inode < inode_limit self.new.sup }
+        ensures within { IsTableNumber self.new.sup.cpus self.new.sizes inode }
         ensures gone { row_of self.new.items inode ≡ None }
         ensures rows { self.new.items ≡ remove self.old.items (place_in self.old.items inode) }
         ensures rising { Rises row_key self.old.items }
         ensures sup { self.new.sup ≡ self.old.sup }
+        ensures sizes { self.new.sizes ≡ self.old.sizes }
         ensures room { self.new.room ≡ self.old.room + 1 }
     {
         // Rows say of themselves that they rise.
@@ -221,6 +219,7 @@ impl Rows {
         ensures lent { IsLent self.old.items self.new.items inode }
         ensures rising { Rises row_key self.old.items }
         ensures sup { self.new.sup ≡ self.old.sup }
+        ensures sizes { self.new.sizes ≡ self.old.sizes }
         ensures room { self.new.room ≡ self.old.room }
     {
         let mut row = blank_row(alloc, inode);
@@ -234,6 +233,7 @@ impl Rows {
         requires { IsInUse self.old.items row.inode }
         ensures rows { self.new.items ≡ set self.old.items (place_in self.old.items row.inode) row }
         ensures sup { self.new.sup ≡ self.old.sup }
+        ensures sizes { self.new.sizes ≡ self.old.sizes }
         ensures room { self.new.room ≡ self.old.room }
     {
         self.exchange(&mut row);
@@ -247,6 +247,7 @@ impl Rows {
         ensures rows { self.new.items ≡ set self.old.items (place_in self.old.items row.old.inode) row.old }
         ensures rising { Rises row_key self.old.items }
         ensures sup { self.new.sup ≡ self.old.sup }
+        ensures sizes { self.new.sizes ≡ self.old.sizes }
         ensures room { self.new.room ≡ self.old.room }
     {
         // Rows say of themselves that they rise.
@@ -260,16 +261,16 @@ impl Rows {
     /// The lowest number of a CPU's table that no inode in use has, 0 left out. It looks at one word for 64 numbers.
     pub fn lowest_unused(&self, cpu: u64) -> Option<u64>
         requires { cpu < self.now.sup.cpus }
-        ensures { result ≡ unused_number self.now.sup self.now.items cpu }
+        ensures { result ≡ lowest_of self.now.sup.cpus (slice_index self.now.sizes cpu) self.now.items cpu }
     {
-        let slots = SLOTS * self.sup.table_blocks;
-        let first = cpu * slots;
         // Number 0 is no inode's.
-        let place = first_clear(&self.used, first.max(1), first + slots);
-        if place == first + slots {
+        let from = if cpu == 0 { 1 } else { 0 };
+        let size = self.used.size(cpu);
+        let place = self.used.first_unused(cpu, from);
+        if place == size {
             return None;
         }
-        Some((place - first) * self.sup.cpus + cpu)
+        Some(place * self.sup.cpus + cpu)
     }
 }
 

@@ -183,7 +183,7 @@ module _ (m : Mount RegionState) (answer : Result (Unit {0}) Refusal) (cpu : ℕ
 
 module _ (S T : Region) (m : Mount ⊤) (names : List (List ℕ)) where
   pub inode_logged : (kind : Kind) (cpu mode time : ℕ) (answer : Result (Unit {0}) Refusal)
-      → ((d j : ℕ) (held : Store) (h : Held) → walk (tree_of S m.rows) 1 names ≡ Ok d → unused_number m.sup m.rows cpu ≡ Some j → ShowsSound S m.sup held → held d ≡ Some h → OnOk answer (ShowsCreated T m.sup m.free.pools cpu held kind mode time j d h (last_name names)))
+      → ((d j : ℕ) (held : Store) (h : Held) → walk (tree_of S m.rows) 1 names ≡ Ok d → unused_number (fixed_layout m.sup) m.rows cpu ≡ Some j → ShowsSound S m.sup held → held d ≡ Some h → OnOk answer (ShowsCreated T m.sup m.free.pools cpu held kind mode time j d h (last_name names)))
       → OnOk answer (logs_inode kind cpu mode time S m names T)
   inode_logged kind cpu mode time (Ok done) log = log
   inode_logged kind cpu mode time (Err e) log = tt

@@ -1,5 +1,6 @@
 -- A call that writes prints one text: its tests are those of the region and of what came to the recovery.
 use Rattle.std.proofs.Common.{◌≡◌, inl, inr, ℕ, ◌+◌, ◌%◌, ◌<◌, Bool, true, false, not, cond, nat_lt, nat_le, nat_eq, ◌&&◌, is_none, is_some, List, [], ◌∷◌, ◌++◌, append_assoc, length, Option, Some, None, Result, Ok, Err, refl, sym, ap, subst, ◌∙◌, arith}
+use Rattle.nv_super.specs.Layout.{fixed_layout}
 use Rattle.std.specs.Prelude.{⊤, eqb}
 use Rattle.std.specs.List.{list_any}
 use Rattle.std.specs.Option.{option_and_then, option_map, option_map_or}
@@ -71,7 +72,7 @@ on_target f g same (Some i) = same i
 module _ (S U : Region) (m k : Mount ⊤) (same : SameSeen m k) (alike : Alike (tree_of S m.rows) (tree_of U k.rows)) where
   -- ---- what stands beside the tree
 
-  number_same : (cpu : ℕ) → unused_number k.sup k.rows cpu ≡ unused_number m.sup m.rows cpu
+  number_same : (cpu : ℕ) → unused_number (fixed_layout k.sup) k.rows cpu ≡ unused_number (fixed_layout m.sup) m.rows cpu
   number_same cpu = unused_same m.sup k.sup m.rows k.rows same.sup same.rows cpu
 
   world_same : world_of k ≡ world_of m

@@ -1,5 +1,7 @@
 -- The states that a session may stand for, and how a command leads from one to the next.
 use Rattle.std.specs.Prelude.{◌≡◌, ◌≢◌, ◌⊎◌, ℕ, Bool, not, false, List, Option, Some, None, Result, Ok, Err, ⊤}
+use Rattle.nv_super.specs.Layout.{fixed_layout}
+use Rattle.nv_rows.specs.RowList.{HasNumbersOf}
 use Rattle.nv_region.specs.Region.{Region}
 use Rattle.nv_region.specs.RegionState.{RegionState, fenced_or_last, is_off}
 use Rattle.nv_region.specs.Stops.{MayBeLeft, NothingPending}
@@ -94,7 +96,7 @@ Moves step old text new = Leads (λ state next. step state text next) old new
 abbrev pub CanMount : Region → Option Answer → Type 0
 CanMount R None = ⊤
 CanMount R (Some (answers.Refused refusal)) = ⊤
-CanMount R (Some (answers.Recovered r)) = IsOutcome R (lasting_outcome (outcome_of r)) × (undone r.sup R ≡ R) × (r.free.sup ≡ r.sup) × (r.rows.sup ≡ r.sup)
+CanMount R (Some (answers.Recovered r)) = IsOutcome R (lasting_outcome (outcome_of r)) × (undone r.sup R ≡ R) × (r.free.sup ≡ r.sup) × HasNumbersOf (fixed_layout r.sup) r.rows
 
 -- ---- calls that write
 

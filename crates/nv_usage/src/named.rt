@@ -1,8 +1,10 @@
 //! Rows as inodes with names.
 
 ghost use Rattle.std.specs.Prelude.{◌≡◌};
-ghost use Rattle.nv_usage.specs.Named.{AreLowRows, IsAbove, names_tree};
+ghost use Rattle.nv_archive.specs.Shown.{AreLowRows, IsAbove};
+ghost use Rattle.nv_usage.specs.Named.{names_tree};
 
+use nv_archive::limit_of;
 use nv_members::Inodes;
 use nv_names::Named;
 use nv_rows::Rows;
@@ -26,18 +28,6 @@ pub fn named_rows<'a>(rows: &'a Rows) -> NamedRows<'a>
         rows,
         limit: limit_of(rows),
     }
-}
-
-/// A number above those of all rows.
-pub(crate) fn limit_of(rows: &Rows) -> usize
-    requires { AreLowRows rows.now.items }
-    ensures { IsAbove rows.now.items result }
-{
-    let mut limit: usize = 0;
-    for (_, row) in rows.iter() {
-        limit = limit.max(row.inode as usize + 1);
-    }
-    limit
 }
 
 impl Inodes for NamedRows<'_> {

@@ -2,10 +2,11 @@
 
 ghost use Rattle.std.specs.Prelude.{◌≡◌, ◌+◌, ◌<◌, ◌++◌, IfOk, OnOk, Some, length, slice_get, string_bytes};
 ghost use Rattle.nv_rows.specs.Rows.{IsInUse};
-ghost use Rattle.nv_usage.specs.Named.{AreLowRows};
+ghost use Rattle.nv_archive.specs.Shown.{AreLowRows};
 ghost use Rattle.nv_usage.specs.Usage.{AreUsed, Counts, IsAdded, IsCount, IsRowBlocks, IsUsage, blocks_in, usage_line};
 
-use crate::named::{NamedRows, limit_of};
+use crate::named::NamedRows;
+use nv_archive::limit_of;
 use nv_members::{Member, members_of};
 use nv_radix::Extent;
 use nv_rows::Rows;

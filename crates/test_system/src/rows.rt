@@ -1,17 +1,20 @@
 //! Rows by number, each call on its happy path with ample memory. Inodes have the numbers 1 to 31.
 
 ghost use Rattle.std.specs.Prelude.{◌≡◌, ◌<◌, IfOk};
-ghost use Rattle.nv_super.specs.Layout.{inode_limit};
+ghost use Rattle.nv_super.specs.Layout.{fixed_layout};
+ghost use Rattle.nv_recover.specs.nv_outcome.nv_rows.RowList.{HasNumbersOf};
 
-use crate::small::SMALL;
+use crate::small::{SMALL, small_tables};
 use nv_names::NameIndex;
 use nv_numbered::Chunks;
 use nv_radix::FileIndex;
 use nv_recover::Rows;
+use nv_region::RegionRefusal;
 use nv_scan::{LogPages, Numbers, Row, RowList};
 use nv_super::Kind;
 use std::alloc::{AllocError, Global};
 use std::process::Abort;
+use std::test::Fail;
 
 /// The row of an inode with so many links and these names, and nothing else.
 pub fn row(alloc: Global, inode: u64, kind: Kind, links: u32, names: NameIndex) -> Row
@@ -43,19 +46,21 @@ fn file(alloc: Global, inode: u64) -> Row
 }
 
 /// The inodes 4 and 2, given in this order.
-fn two_files(alloc: Global) -> Result<Rows, AllocError>
-    ensures { IfOk result (λ rows. rows.sup ≡ SMALL) }
+fn two_files(alloc: Global) -> Result<Rows, RegionRefusal>
+    ensures { IfOk result (HasNumbersOf (fixed_layout SMALL)) }
 {
     let mut rows = Chunks::new(alloc);
     rows.push(file(alloc, 4))?;
     rows.push(file(alloc, 2))?;
-    Rows::from_rows(alloc, RowList::of(alloc, rows)?, &SMALL)
+    let tables = small_tables(alloc)?;
+    Ok(Rows::from_rows(alloc, RowList::of(alloc, rows)?, &tables)?)
 }
 
 /// Puts in the row of a file, where its number has none.
 fn insert_new(alloc: Global, rows: &mut Rows, inode: u64) -> Result<(), AllocError>
-    requires { inode < inode_limit rows.old.sup }
-    ensures { rows.new.sup ≡ rows.old.sup }
+    requires numbers { HasNumbersOf (fixed_layout SMALL) rows.old }
+    requires inode { inode < 32 }
+    ensures { HasNumbersOf (fixed_layout SMALL) rows.new }
 {
     rows.reserve(1)?;
     if rows.get(inode).is_none() {
@@ -66,7 +71,8 @@ fn insert_new(alloc: Global, rows: &mut Rows, inode: u64) -> Result<(), AllocErr
 
 /// Takes out the row of an inode, and answers the inode that it tells.
 fn take_out(rows: &mut Rows, inode: u64) -> Option<u64>
-    ensures { rows.new.sup ≡ rows.old.sup }
+    requires { HasNumbersOf (fixed_layout SMALL) rows.old }
+    ensures { HasNumbersOf (fixed_layout SMALL) rows.new }
 {
     let row = rows.remove(inode)?;
     Some(row.inode)
@@ -74,7 +80,8 @@ fn take_out(rows: &mut Rows, inode: u64) -> Option<u64>
 
 /// Takes out the row of an inode, which has one.
 fn remove_once(rt: &impl Abort, rows: &mut Rows, inode: u64)
-    ensures { rows.new.sup ≡ rows.old.sup }
+    requires { HasNumbersOf (fixed_layout SMALL) rows.old }
+    ensures { HasNumbersOf (fixed_layout SMALL) rows.new }
 {
     assert!(rt; take_out(rows, inode) == Some(inode));
     assert!(rt; take_out(rows, inode) == None);
@@ -115,13 +122,13 @@ fn assert_numbers(rt: &impl Abort, rows: &Rows, numbers: &[u64]) {
 
 /// The lowest number without a row.
 fn assert_unused(rt: &impl Abort, rows: &Rows, number: Option<u64>)
-    requires { rows.now.sup ≡ SMALL }
+    requires { HasNumbersOf (fixed_layout SMALL) rows.now }
 {
     assert!(rt; rows.lowest_unused(0) == number);
 }
 
 fn come_and_go(rt: &impl Abort, alloc: Global, rows: &mut Rows) -> Result<(), AllocError>
-    requires { rows.old.sup ≡ SMALL }
+    requires { HasNumbersOf (fixed_layout SMALL) rows.old }
 {
     assert_numbers(rt, rows, &[2, 4]);
     assert_unused(rt, rows, Some(1));
@@ -136,16 +143,15 @@ fn come_and_go(rt: &impl Abort, alloc: Global, rows: &mut Rows) -> Result<(), Al
 }
 
 #[test]
-fn given_rows_are_found_by_their_numbers_and_come_and_go(
-    rt: HostRuntime,
-) -> Result<(), AllocError> {
+fn given_rows_are_found_by_their_numbers_and_come_and_go(rt: HostRuntime) -> Result<(), Fail> {
     let mut rows = two_files(rt.alloc())?;
-    come_and_go(&rt, rt.alloc(), &mut rows)
+    Ok(come_and_go(&rt, rt.alloc(), &mut rows)?)
 }
 
 /// Takes a row out, if there is one, and puts it in again with so many links.
 fn relink(rows: &mut Rows, inode: u64, links: u32)
-    ensures { rows.new.sup ≡ rows.old.sup }
+    requires { HasNumbersOf (fixed_layout SMALL) rows.old }
+    ensures { HasNumbersOf (fixed_layout SMALL) rows.new }
 {
     if rows.get(inode).is_some() {
         let mut row = rows.take(inode);
@@ -165,8 +171,8 @@ fn assert_links(rt: &impl Abort, rows: &Rows, number: u64, links: u32) {
 
 /// Puts in the rows of all numbers that have none.
 fn fill(alloc: Global, rows: &mut Rows) -> Result<(), AllocError>
-    requires { rows.old.sup ≡ SMALL }
-    ensures { rows.new.sup ≡ SMALL }
+    requires { HasNumbersOf (fixed_layout SMALL) rows.old }
+    ensures { HasNumbersOf (fixed_layout SMALL) rows.new }
 {
     for number in 1..32 {
         insert_new(alloc, rows, number)?;
@@ -175,7 +181,8 @@ fn fill(alloc: Global, rows: &mut Rows) -> Result<(), AllocError>
 }
 
 fn assert_relinked(rt: &impl Abort, rows: &mut Rows)
-    ensures { rows.new.sup ≡ rows.old.sup }
+    requires { HasNumbersOf (fixed_layout SMALL) rows.old }
+    ensures { HasNumbersOf (fixed_layout SMALL) rows.new }
 {
     relink(rows, 2, 7);
     relink(rows, 3, 7);
@@ -185,7 +192,7 @@ fn assert_relinked(rt: &impl Abort, rows: &mut Rows)
 }
 
 fn change_and_fill(rt: &impl Abort, alloc: Global, rows: &mut Rows) -> Result<(), AllocError>
-    requires { rows.old.sup ≡ SMALL }
+    requires { HasNumbersOf (fixed_layout SMALL) rows.old }
 {
     assert_relinked(rt, rows);
     fill(alloc, rows)?;
@@ -195,7 +202,7 @@ fn change_and_fill(rt: &impl Abort, alloc: Global, rows: &mut Rows) -> Result<()
 }
 
 #[test]
-fn a_row_is_changed_and_at_last_no_number_is_unused(rt: HostRuntime) -> Result<(), AllocError> {
+fn a_row_is_changed_and_at_last_no_number_is_unused(rt: HostRuntime) -> Result<(), Fail> {
     let mut rows = two_files(rt.alloc())?;
-    change_and_fill(&rt, rt.alloc(), &mut rows)
+    Ok(change_and_fill(&rt, rt.alloc(), &mut rows)?)
 }

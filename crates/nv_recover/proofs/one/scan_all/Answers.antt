@@ -1,5 +1,6 @@
 use Rattle.std.proofs.Common.{refl}
-use Rattle.nv_recover.proofs.Inodes.{rows_below}
+use Rattle.nv_outcome.proofs.nv_rows.UsedRows.{slots_below}
+use Rattle.nv_recover.proofs.Inodes.{rows_slotted}
 use Rattle.nv_recover.proofs.Owned.{owned_moved}
 use Rattle.nv_recover.proofs.one.scan_all.Goals as goal
 
@@ -7,7 +8,7 @@ pub owned-requires : goal.owned-requires
 owned-requires g c = let is = c.in_ok-inodes.ensures in (g.P.Pmem.region c.args.memory.now, is.1, rw c.as_rows.ensures is.4)
 
 pub cross_faults-requires : goal.cross_faults-requires
-cross_faults-requires g c = rows_below c.are_laid.ensures c.in_ok-inodes.ensures.2 _ refl
+cross_faults-requires g c = slots_below c.args.tables.now.layout c.are_laid.ensures (rows_slotted c.are_laid.ensures c.in_ok-inodes.ensures.2 _ refl)
 
 pub returns : goal.returns
 returns g c = let is = c.in_ok-inodes.ensures in record {

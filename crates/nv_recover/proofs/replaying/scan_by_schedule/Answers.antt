@@ -1,8 +1,9 @@
 use Rattle.std.proofs.Common.{refl, subst, sym}
 use Rattle.nv_super.specs.declared.superblock.Super.{Super}
 use Rattle.nv_claimcore.specs.Replay.{Inside, lists}
+use Rattle.nv_outcome.proofs.nv_rows.UsedRows.{slots_below}
 use Rattle.nv_recover.proofs.Claims.{work_inside, claims_covered, claimed_by_sets}
-use Rattle.nv_recover.proofs.Inodes.{rows_below}
+use Rattle.nv_recover.proofs.Inodes.{rows_slotted}
 use Rattle.nv_recover.proofs.Owned.{owned_claimed}
 use Rattle.nv_recover.specs.Scanned.{AreClaimedSets}
 use Rattle.nv_recover.proofs.replaying.scan_by_schedule.Goals as goal
@@ -12,7 +13,7 @@ claim_all-requires-clause-inside g c = let is = c.in_ok-inodes.ensures.inodes in
     subst (λ (s : Super). Inside s.blocks (lists c.in_ok-inodes.work.items)) (sym c.sup.ensures) (work_inside c.args.tables.now.layout is.0 c.are_laid.ensures is.1.pieces_are c.in_ok-inodes.work.items is.2)
 
 pub cross_faults-requires : goal.cross_faults-requires
-cross_faults-requires g c = rows_below c.are_laid.ensures c.in_ok-inodes.ensures.inodes.1 _ refl
+cross_faults-requires g c = slots_below c.args.tables.now.layout c.are_laid.ensures (rows_slotted c.are_laid.ensures c.in_ok-inodes.ensures.inodes.1 _ refl)
 
 pub owned_of-requires : goal.owned_of-requires
 owned_of-requires g c =

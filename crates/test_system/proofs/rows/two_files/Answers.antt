@@ -1,12 +1,19 @@
-use Rattle.std.proofs.Common.{◌≡◌, ◌≢◌, ℕ, zero, suc, ◌<◌, [], ◌∷◌, get_or, arith}
+use Rattle.std.proofs.Common.{◌≡◌, ◌≢◌, ℕ, zero, suc, ◌<◌, [], ◌∷◌, get_or, ap, sym, subst, IsTrue, arith}
 use Rattle.nv_scan.specs.declared.piece.Row.{Row}
+use Rattle.nv_super.specs.declared.superblock.Super.{Super}
+use Rattle.nv_super.specs.Layout.{Layout, fixed_layout}
+use Rattle.nv_inode.specs.Numbers.{has_slot}
 use Rattle.nv_recover.specs.nv_outcome.nv_rows.Rows.{inodes_of}
+use Rattle.nv_recover.specs.nv_outcome.nv_rows.Unused.{HaveSlots}
 use Rattle.test_system.proofs.rows.two_files.Goals as goal
 
-below : (a b : Row) → a.inode ≡ 4 → b.inode ≡ 2 → (k : ℕ) → k < 2 → get_or (inodes_of (a ∷ b ∷ [])) k 0 < 32
-below a b first second zero inside = omega (arith, first)
-below a b first second (suc zero) inside = omega (arith, second)
-below a b first second (suc (suc k)) inside = absurd (omega (arith, inside))
+abbrev small : Super
+small = record { version = 1; cpus = 1; blocks = 16; table_blocks = 1; state = 0 }
+
+slots : (a b : Row) → a.inode ≡ 4 → b.inode ≡ 2 → (k : ℕ) → k < 2 → IsTrue (has_slot (fixed_layout small) (get_or (inodes_of (a ∷ b ∷ [])) k 0))
+slots a b first second zero inside = ap (has_slot (fixed_layout small)) first
+slots a b first second (suc zero) inside = ap (has_slot (fixed_layout small)) second
+slots a b first second (suc (suc k)) inside = absurd (omega (arith, inside))
 
 once : (a b : Row) → a.inode ≡ 4 → b.inode ≡ 2 → (j k : ℕ) → j < k → k < 2 → get_or (inodes_of (a ∷ b ∷ [])) j 0 ≢ get_or (inodes_of (a ∷ b ∷ [])) k 0
 once a b first second j zero order inside same = absurd (omega (arith, order))
@@ -14,10 +21,11 @@ once a b first second zero (suc zero) order inside same = absurd (omega (arith, 
 once a b first second (suc j) (suc zero) order inside same = absurd (omega (arith, order))
 once a b first second j (suc (suc k)) order inside same = absurd (omega (arith, inside))
 
-pub from_rows-requires-clause-numbers : goal.from_rows-requires-clause-numbers
-from_rows-requires-clause-numbers c =
-    rw (c.in_ok-of.ensures, c.in_ok-push-2.ensures.ok, c.in_ok-push.ensures.ok, c.new-rows.ensures)
+pub from_rows-requires : goal.from_rows-requires
+from_rows-requires c =
+    subst (λ (l : Layout). HaveSlots l (inodes_of c.in_ok-of.field-0.items)) (sym c.in_ok-tables.ensures)
+    (rw (c.in_ok-of.ensures, c.in_ok-push-2.ensures.ok, c.in_ok-push.ensures.ok, c.new-rows.ensures)
     (record {
-      below = below c.file.result c.file-2.result c.file.ensures c.file-2.ensures;
+      each = slots c.file.result c.file-2.result c.file.ensures c.file-2.ensures;
       once = once c.file.result c.file-2.result c.file.ensures c.file-2.ensures;
-    })
+    }))

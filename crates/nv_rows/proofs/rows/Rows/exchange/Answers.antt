@@ -3,7 +3,7 @@ use Rattle.nv_scan.specs.declared.piece.Row.{Row}
 use Rattle.nv_rows.specs.Rows.{place_in, row_of}
 use Rattle.nv_rows.specs.Slots.{rows_in}
 use Rattle.nv_rows.proofs.SlotRows.{row_at_slot, slot_exchanged, slot_within, stand-set}
-use Rattle.nv_rows.proofs.UsedPlaces.{TellsUsed-exchanged}
+use Rattle.nv_rows.proofs.UsedRows.{TellsUsed-exchanged}
 use Rattle.nv_rows.proofs.rows.Rows.exchange.Goals as goal
 
 pub unreachable-requires : goal.unreachable-requires
@@ -22,8 +22,9 @@ invariant_of-self c =
     rw c.swap.ensures.x_after
     (record {
       layout = c.self.invariant.layout;
+      cpus = c.self.invariant.cpus;
       stand = stand-set 0 slots n (Some c.args.row.now) inside (λ row is. (let same : c.args.row.now ≡ row = cc in ap (λ (r : Row). r.inode) (sym same) ∙ sym (zero-add n))) c.self.invariant.stand;
-      tells = TellsUsed-exchanged c.self.inside.sup c.self.invariant.layout slots c.self.inside.used.items n c.in-Some.held.now c.args.row.now at inside c.self.invariant.tells;
+      tells = TellsUsed-exchanged c.self.inside.sup.cpus c.self.inside.used.sizes slots c.self.inside.used.sets n c.self.invariant.tells c.in-Some.held.now c.args.row.now at inside;
     })
 
 pub returns-clause-row : goal.returns-clause-row

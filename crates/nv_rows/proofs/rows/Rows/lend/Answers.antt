@@ -18,5 +18,6 @@ returns c =
       lent = record { blank = blank; number = number; all = c.exchange.ensures.rows ∙ ap (λ k. set rows (place_in rows k) blank) number };
       rising = c.exchange.ensures.rising;
       sup = c.exchange.ensures.sup;
+      sizes = c.exchange.ensures.sizes;
       room = c.exchange.ensures.room;
     }

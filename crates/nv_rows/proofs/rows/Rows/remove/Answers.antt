@@ -1,13 +1,12 @@
 use Rattle.std.proofs.Common.{◌≡◌, ◌+◌, ◌<◌, ◌≤◌, OnSome, ℕ, List, Option, length, is_some, sym, subst, ◌∙◌, ap, arith, zero-add}
-use Rattle.nv_super.specs.Layout.{inode_limit}
-use Rattle.nv_blockset.proofs.TakenOut.{without_long}
 use Rattle.nv_numbered.proofs.SlotLemmas.{set_none}
 use Rattle.nv_scan.specs.declared.piece.Row.{Row}
-use Rattle.nv_rows.specs.InUse.{AreRows, place_of}
+use Rattle.nv_rows.specs.InUse.{AreRows}
 use Rattle.nv_rows.specs.RowList.{RowList}
 use Rattle.nv_rows.specs.Slots.{rows_in}
-use Rattle.nv_rows.proofs.SlotRows.{row_at_slot, slot_emptied, slot_within, stand-emptied, number_out, row_gone}
-use Rattle.nv_rows.proofs.UsedPlaces.{all_written, word_there, TellsUsed-emptied}
+use Rattle.nv_rows.proofs.SlotRows.{row_at_slot, slot_emptied, stand-emptied, number_out, row_gone}
+use Rattle.nv_rows.specs.Unused.{IsTableNumber}
+use Rattle.nv_rows.proofs.UsedRows.{TellsUsed-emptied}
 use Rattle.nv_rows.proofs.Early.{none_there}
 use Rattle.nv_rows.proofs.rows.Rows.remove.Goals as goal
 
@@ -15,15 +14,13 @@ pub invariant_of-self : goal.invariant_of-self
 invariant_of-self c =
     let t = c.self.inside in
     let n = c.args.inode in
-    let inside = slot_within t.rows.slots n (ap is_some (sym c.remove-row.ensures.value) ∙ sym c.if-is_some.ensures) in
-    let below : n < inode_limit t.sup = omega (arith, inside, c.self.invariant.tells.long) in
-    let put = rw (c.deref_mut.ensures.value, c.place_of.ensures) at c.remove.ensures in
-    let long = ap length put ∙ without_long t.used.items (place_of t.sup n) in
-    rw (all_written t.used.len t.used.items c.remove.new.words t.used.ok.0 long, put, c.remove-row.ensures.values)
+    let number = c.self.invariant.tells.within n (ap is_some (sym c.remove-row.ensures.value) ∙ sym c.if-is_some.ensures) in
+    rw (c.remove-row.ensures.values)
     (record {
       layout = c.self.invariant.layout;
+      cpus = ap length c.remove.ensures.sizes ∙ c.self.invariant.cpus;
       stand = stand-emptied 0 t.rows.slots n c.self.invariant.stand;
-      tells = TellsUsed-emptied t.sup c.self.invariant.layout t.rows.slots t.used.items n below c.self.invariant.tells;
+      tells = rw (c.remove.ensures.sizes) (TellsUsed-emptied t.sup.cpus t.used.sizes t.rows.slots t.used.sets n c.self.invariant.tells c.remove.new.self.sets number c.remove.ensures.others c.remove.ensures.gone);
     })
 
 pub returns-then-is_some-clause-row : goal.returns-then-is_some-clause-row
@@ -55,7 +52,8 @@ returns-else-is_some-clause-rows c place at =
 pub returns-then-is_some-clause-number : goal.returns-then-is_some-clause-number
 returns-then-is_some-clause-number c =
     let t = c.self.inside in
-    number_out t.rows.slots c.args.inode (inode_limit t.sup) c.remove-row.result c.remove-row.ensures.value c.self.invariant.stand c.self.invariant.tells.long
+    rw (c.remove.ensures.sizes)
+    (number_out t.rows.slots c.args.inode (IsTableNumber t.sup.cpus t.used.sizes) c.remove-row.result c.remove-row.ensures.value c.self.invariant.stand c.self.invariant.tells.within)
 
 pub returns-then-is_some-clause-gone : goal.returns-then-is_some-clause-gone
 returns-then-is_some-clause-gone c =
@@ -65,30 +63,22 @@ pub returns-else-is_some-clause-gone : goal.returns-else-is_some-clause-gone
 returns-else-is_some-clause-gone c =
     rw c.remove-row.ensures.values (row_gone c.self.inside.rows.slots c.args.inode c.self.invariant.stand)
 
-pub place_of-requires-clause-layout : goal.place_of-requires-clause-layout
-place_of-requires-clause-layout c = c.self.invariant.layout
-
-pub place_of-requires-clause-inode : goal.place_of-requires-clause-inode
-place_of-requires-clause-inode c =
-    let t = c.self.inside in
-    let inside = slot_within t.rows.slots c.args.inode (ap is_some (sym c.remove-row.ensures.value) ∙ sym c.if-is_some.ensures) in
-    subst (λ (limit : ℕ). c.args.inode < limit) c.self.invariant.tells.long inside
-
 pub remove-requires : goal.remove-requires
 remove-requires c =
     let t = c.self.inside in
-    let inside = slot_within t.rows.slots c.args.inode (ap is_some (sym c.remove-row.ensures.value) ∙ sym c.if-is_some.ensures) in
-    let below : c.args.inode < inode_limit t.sup = subst (λ (limit : ℕ). c.args.inode < limit) c.self.invariant.tells.long inside in
-    rw (c.deref_mut.ensures.value, c.place_of.ensures) (word_there t.sup c.self.invariant.layout t.used.items c.args.inode c.self.invariant.tells.room below)
+    subst (λ (cpus : ℕ). IsTableNumber cpus t.used.sizes c.args.inode) (sym c.self.invariant.cpus) (c.self.invariant.tells.within c.args.inode (ap is_some (sym c.remove-row.ensures.value) ∙ sym c.if-is_some.ensures))
 
 pub invariant_of-self-else-is_some : goal.invariant_of-self-else-is_some
 invariant_of-self-else-is_some c =
     let t = c.self.inside in
     let vacant = sym c.remove-row.ensures.value ∙ none_there c.remove-row.result c.if-is_some.ensures in
-    subst (λ (slots : List (Option Row)). AreRows t.sup slots t.used.items) (set_none t.rows.slots c.args.inode vacant ∙ sym c.remove-row.ensures.values) c.self.invariant
+    subst (λ (slots : List (Option Row)). AreRows t.sup slots t.used) (set_none t.rows.slots c.args.inode vacant ∙ sym c.remove-row.ensures.values) c.self.invariant
 
 pub returns-then-is_some-clause-sup : goal.returns-then-is_some-clause-sup
 returns-then-is_some-clause-sup c = ap (λ (l : RowList). l.sup) c.self.view_is
+
+pub returns-then-is_some-clause-sizes : goal.returns-then-is_some-clause-sizes
+returns-then-is_some-clause-sizes c = c.remove.ensures.sizes ∙ ap (λ (l : RowList). l.sizes) c.self.view_is
 
 pub returns-then-is_some-clause-room : goal.returns-then-is_some-clause-room
 returns-then-is_some-clause-room c = subst (λ (l : RowList). l.room ≤ c.remove-row.new.self.room) c.self.view_is c.remove-row.ensures.room
@@ -99,7 +89,7 @@ returns-then-is_some-clause-freed c = subst (λ (l : RowList). OnSome c.remove-r
 pub returns-else-is_some-clause-number : goal.returns-else-is_some-clause-number
 returns-else-is_some-clause-number c =
     let t = c.self.inside in
-    number_out t.rows.slots c.args.inode (inode_limit t.sup) c.remove-row.result c.remove-row.ensures.value c.self.invariant.stand c.self.invariant.tells.long
+    number_out t.rows.slots c.args.inode (IsTableNumber t.sup.cpus t.used.sizes) c.remove-row.result c.remove-row.ensures.value c.self.invariant.stand c.self.invariant.tells.within
 
 pub returns-else-is_some-clause-unchanged : goal.returns-else-is_some-clause-unchanged
 returns-else-is_some-clause-unchanged c none =
@@ -109,6 +99,9 @@ returns-else-is_some-clause-unchanged c none =
 
 pub returns-else-is_some-clause-sup : goal.returns-else-is_some-clause-sup
 returns-else-is_some-clause-sup c = ap (λ (l : RowList). l.sup) c.self.view_is
+
+pub returns-else-is_some-clause-sizes : goal.returns-else-is_some-clause-sizes
+returns-else-is_some-clause-sizes c = ap (λ (l : RowList). l.sizes) c.self.view_is
 
 pub returns-else-is_some-clause-room : goal.returns-else-is_some-clause-room
 returns-else-is_some-clause-room c = subst (λ (l : RowList). l.room ≤ c.remove-row.new.self.room) c.self.view_is c.remove-row.ensures.room

@@ -25,5 +25,8 @@ returns-clause-gone c = c.in-Some.ensures.gone
 pub returns-clause-sup : goal.returns-clause-sup
 returns-clause-sup c = c.in-Some.ensures.sup
 
+pub returns-clause-sizes : goal.returns-clause-sizes
+returns-clause-sizes c = c.in-Some.ensures.sizes
+
 pub returns-clause-room : goal.returns-clause-room
 returns-clause-room c = c.in-Some.ensures.freed
