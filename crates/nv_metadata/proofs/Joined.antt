@@ -1,13 +1,13 @@
 -- What is fetched by several threads is put together.
-use Rattle.std.proofs.Common.{Result, Err, IsTrue, ◌≡◌, ◌≢◌, ◌≤◌, ◌<◌, inl, inr, ◌+◌, ◌*◌, ◌/◌, ◌%◌, ℕ, List, ◌++◌, length, drop, refl, sym, ap, ◌∙◌, subst, arith}
-use Rattle.std.proofs.lemmas.Bool.{cases_eq, cases_lt}
+use Rattle.std.proofs.Common.{Result, Err, IsTrue, ◌≡◌, ◌⊎◌, ◌≤◌, ◌<◌, inl, inr, ◌*◌, ◌/◌, ◌%◌, ℕ, List, ◌++◌, length, refl, sym, ap, ◌∙◌, subst, arith}
+use Rattle.std.proofs.lemmas.Bool.{cases_lt}
 use Rattle.std.specs.List.{Contains}
 use Rattle.std.proofs.lemmas.List.Elements.{Contains-append_left, Contains-append_right, Contains-append_cases}
-use Rattle.byteorder.specs.Endian.{little_number}
 use Rattle.nv_region.specs.Region.{Region, word}
 use Rattle.nv_super.specs.declared.superblock.Super.{Super}
 use Rattle.nv_super.specs.Layout.{system_blocks}
 use Rattle.nv_inode.specs.Slot.{is_right_log}
+use Rattle.nv_journal.specs.Undone.{SameBefore}
 use Rattle.nv_logpage.proofs.Steps.{start_inside}
 use Rattle.nv_metadata.specs.Linked.{IsLinked, first, next, link_in}
 use Rattle.nv_metadata.specs.Memory.{MetadataState, held}
@@ -18,58 +18,48 @@ use Rattle.nv_metadata.specs.declared.errors.GatherError.TheVariants.{Memory}
 use Rattle.nv_metadata.specs.declared.logs.LogEnds.{LogEnds}
 use Rattle.nv_metadata.proofs.Same.{start_behind}
 use Rattle.nv_metadata.proofs.SameLogs.{right_start}
-use Rattle.nv_metadata.proofs.Shown.{shows_more}
 
--- nothing is put together of no blocks
-pub joined_none : (from to : ℕ) (old other : MetadataState) → to ≤ from → IsJoined from to old other old
-joined_none from to old other few = record { shows = λ R a b. a; keeps = λ b. omega arith; more = λ b high low. absurd (omega (arith, high, low, few)); only = λ b. inl refl }
+-- a block has the same words in both
+abbrev pub SameWords : ℕ → Region → Region → Type 0
+SameWords b R S = (at : ℕ) → at % 8 ≡ 0 → at / 4096 ≡ b → word S at ≡ word R at
 
--- of a block of which no more is held there
-pub joined_kept : (block : ℕ) (old other : MetadataState) → held other block ≤ held old block → IsJoined block (block + 1) old other old
-joined_kept block old other less = record {
-  shows = λ R a b. a;
-  keeps = λ b. omega arith;
-  more = λ b high low. (let is : b ≡ block = omega (arith, high, low) in subst (λ (x : ℕ). held other x ≤ held old x) (sym is) less);
-  only = λ b. inl refl;
-}
-
--- of a block of which more is held there
-pub joined_more : (block : ℕ) (piece : List ℕ) (old other new : MetadataState) → other.memory.front ≤ 4096 * block → old.memory.front ≤ 4096 * block → new.memory.front ≡ old.memory.front → held old block ≤ held other block
-    → ((at : ℕ) → at % 8 ≡ 0 → at / 4096 ≡ block → at % 4096 < length piece → little_number 8 (drop (at % 4096) piece) ≡ word other.memory.region at)
-    → ((at : ℕ) → at % 8 ≡ 0 → at / 4096 ≡ block → length piece ≤ at % 4096 → word other.memory.region at ≡ 0)
-    → ((at : ℕ) → at % 8 ≡ 0 → at / 4096 ≡ block → at % 4096 < length piece → word new.memory.region at ≡ little_number 8 (drop (at % 4096) piece))
-    → ((at : ℕ) → at % 8 ≡ 0 → at / 4096 ≡ block → length piece ≤ at % 4096 → word new.memory.region at ≡ 0)
-    → ((at : ℕ) → at % 8 ≡ 0 → at / 4096 ≢ block → word new.memory.region at ≡ word old.memory.region at)
-    → held new block ≡ held other block → ((b : ℕ) → b ≢ block → held new b ≡ held old b) → length new.memory.region.words ≡ length old.memory.region.words → new.memory.region.rest ≡ old.memory.region.rest
-    → IsJoined block (block + 1) old other new
-joined_more block piece old other new there behind front more says none words zeros others here elsewhere long rest = record {
-  shows = λ R a b. shows_more R block old new a
-      (λ at aligned is within. alike at aligned is ∙ b.pieces at aligned (omega (arith, is, there)) (let n = ap (held other) is in omega (arith, n, here, within))) behind front
-      (λ at aligned is past. alike at aligned is ∙ b.zeros at aligned (omega (arith, is, there)) (let n = ap (held other) is in omega (arith, n, here, past))) others elsewhere long rest;
-  keeps = λ b. elim (cases_eq b block) [
-    | inl is ↦ (let n = ap (held new) is in let o = ap (held old) is in omega (arith, n, o, here, more))
-    | inr apart ↦ (let n = elsewhere b apart in omega (arith, n))
+-- A memory is put together where each block from one on is as it was or as it is in the other memory, of which so much more is held
+-- there, and where all before is as it was.
+pub joined_by : (from to : ℕ) (old other new : MetadataState) → new.memory.front ≡ old.memory.front → old.memory.front ≤ 4096 * from → other.memory.front ≤ 4096 * from
+    → length new.memory.region.words ≡ length old.memory.region.words → new.memory.region.rest ≡ old.memory.region.rest
+    → SameBefore (4096 * from) old.memory.region new.memory.region → ((b : ℕ) → b < from → held new b ≡ held old b)
+    → ((b : ℕ) → from ≤ b → ((held new b ≡ held old b) × (held other b ≤ held old b) × SameWords b old.memory.region new.memory.region)
+    ⊎ ((held new b ≡ held other b) × (held old b ≤ held other b) × SameWords b other.memory.region new.memory.region))
+    → IsJoined from to old other new
+joined_by from to old other new front behind there long rest before early each = record {
+  shows = λ R a b. record {
+    as_long = long ∙ a.as_long;
+    rest_as_long = ap length rest ∙ a.rest_as_long;
+    front = λ at aligned low. before at aligned (omega (arith, low, front, behind)) ∙ a.front at aligned (omega (arith, low, front));
+    pieces = λ at aligned high some. elim (cases_lt (at / 4096) from) [
+      | inl is ↦ before at aligned (omega (arith, is)) ∙ a.pieces at aligned (omega (arith, high, front)) (let n = early (at / 4096) is in omega (arith, n, some))
+      | inr late ↦ elim (each (at / 4096) late) [
+        | inl kept ↦ kept.2 at aligned refl ∙ a.pieces at aligned (omega (arith, high, front)) (let n = kept.0 in omega (arith, n, some))
+        | inr taken ↦ taken.2 at aligned refl ∙ b.pieces at aligned (omega (arith, late, there)) (let n = taken.0 in omega (arith, n, some))
+      ]
+    ];
+    zeros = λ at aligned high past. elim (cases_lt (at / 4096) from) [
+      | inl is ↦ before at aligned (omega (arith, is)) ∙ a.zeros at aligned (omega (arith, high, front)) (let n = early (at / 4096) is in omega (arith, n, past))
+      | inr late ↦ elim (each (at / 4096) late) [
+        | inl kept ↦ kept.2 at aligned refl ∙ a.zeros at aligned (omega (arith, high, front)) (let n = kept.0 in omega (arith, n, past))
+        | inr taken ↦ taken.2 at aligned refl ∙ b.zeros at aligned (omega (arith, late, there)) (let n = taken.0 in omega (arith, n, past))
+      ]
+    ];
+  };
+  keeps = λ b. elim (cases_lt b from) [
+    | inl is ↦ (let n = early b is in omega (arith, n))
+    | inr late ↦ elim (each b late) [ inl kept ↦ (let n = kept.0 in omega (arith, n)) | inr taken ↦ (let n = taken.0 in let less = taken.1 in omega (arith, n, less)) ]
   ];
-  more = λ b high low. (let is : b ≡ block = omega (arith, high, low) in let n = ap (held new) is in let o = ap (held other) is in omega (arith, n, o, here));
-  only = λ b. elim (cases_eq b block) [ inl is ↦ inr (ap (held new) is ∙ here ∙ sym (ap (held other) is)) | inr apart ↦ inl (elsewhere b apart) ];
-} where
-  -- the block has the words that it has there
-  alike : (at : ℕ) → at % 8 ≡ 0 → at / 4096 ≡ block → word new.memory.region at ≡ word other.memory.region at
-  alike at aligned is = elim (cases_lt (at % 4096) (length piece)) [
-    | inl within ↦ words at aligned is within ∙ says at aligned is within
-    | inr past ↦ zeros at aligned is past ∙ sym (none at aligned is past)
-  ]
-
--- and one block after another
-pub joined_on : (from block to : ℕ) (old other m new : MetadataState) → IsJoined from block old other m → IsJoined block to m other new → IsJoined from to old other new
-joined_on from block to old other m new before this = record {
-  shows = λ R a b. this.shows R (before.shows R a b) b;
-  keeps = λ b. (let was = before.keeps b in let now = this.keeps b in omega (arith, was, now));
-  more = λ b high low. elim (cases_lt b block) [
-    | inl earlier ↦ (let was = before.more b high earlier in let now = this.keeps b in omega (arith, was, now))
-    | inr later ↦ this.more b later low
+  more = λ b late _. elim (each b late) [ inl kept ↦ (let n = kept.0 in let less = kept.1 in omega (arith, n, less)) | inr taken ↦ (let n = taken.0 in omega (arith, n)) ];
+  only = λ b. elim (cases_lt b from) [
+    | inl is ↦ inl (early b is)
+    | inr late ↦ elim (each b late) [ inl kept ↦ inl kept.0 | inr taken ↦ inr taken.0 ]
   ];
-  only = λ b. elim (this.only b) [ inl same ↦ elim (before.only b) [ inl old ↦ inl (same ∙ old) | inr more ↦ inr (same ∙ more) ] | inr more ↦ inr more ];
 }
 
 -- a memory that held nothing has what was fetched

@@ -7,7 +7,9 @@ use Rattle.nv_super.specs.declared.superblock.Super.{Super}
 use Rattle.nv_super.specs.Layout.{IsLayout, most_blocks, system_blocks}
 use Rattle.nv_super.specs.Super.{IsSuper}
 use Rattle.nv_super.proofs.Accepted.{super_stays}
+use Rattle.nv_journal.specs.Undone.{SameBefore}
 use Rattle.nv_metadata.specs.Memory.{MetadataState, CanHold, IsReady, SameFront}
+use Rattle.nv_metadata.specs.Holding.{SameShape}
 use Rattle.nv_metadata.specs.Blocks.{AreBytesAt}
 use Rattle.nv_metadata.specs.Gathered.{SaysSuper}
 use Rattle.nv_metadata.specs.Parts.{IsFront}
@@ -30,6 +32,17 @@ hold_more s m new block ready behind others long rest same = record {
 } where
   blocks : HasBlocks new.memory.region s.blocks
   blocks = (long ∙ ready.blocks.0, ap length rest ∙ ready.blocks.1)
+
+-- with more blocks, all of them data blocks
+pub can_still : (s : Super) (m new : MetadataState) → CanHold s m → SameBefore (4096 * system_blocks s) m.memory.region new.memory.region → SameShape m new → CanHold s new
+can_still s m new can before shape = record {
+  blocks = blocks;
+  few = can.few;
+  superblock = super_stays m.memory.region new.memory.region (same_size m.memory.region new.memory.region s.blocks can.blocks blocks) (λ at aligned low. before at aligned (omega (arith, low))) s can.superblock;
+  front = (let is = shape.open.0 in let high = can.front in omega (arith, is, high));
+} where
+  blocks : HasBlocks new.memory.region s.blocks
+  blocks = (shape.as_long ∙ can.blocks.0, ap length shape.rest ∙ can.blocks.1)
 
 -- at first
 pub ready_first : (s : Super) (first rest front : List ℕ) (m : MetadataState) → SaysSuper first s → s.blocks ≤ most_blocks → front ≡ first ++ rest → length front ≡ 4096 * system_blocks s → length first ≤ length front → HasBlocks m.memory.region s.blocks

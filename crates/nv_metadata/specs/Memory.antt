@@ -1,5 +1,5 @@
 -- The memory of an image's metadata, as its contracts see it.
-use Rattle.std.specs.Prelude.{◌≡◌, ◌≤◌, ◌<◌, ◌+◌, ◌*◌, ◌/◌, ◌%◌, ℕ, if◌then◌else◌, List, [], drop, get_or, length, map, false, nat_lt}
+use Rattle.std.specs.Prelude.{◌≡◌, ◌≤◌, ◌<◌, ◌+◌, ◌*◌, ◌/◌, ◌%◌, ◌&&◌, ℕ, if◌then◌else◌, List, [], take, drop, get_or, length, map, false, nat_le, nat_lt, vec_items}
 use Rattle.std.specs.List.{range_with_len}
 use Rattle.byteorder.specs.Endian.{little_number}
 use Rattle.nv_region.specs.Region.{Region, word, words_of, HasBlocks}
@@ -9,6 +9,7 @@ use Rattle.nv_super.specs.Super.{IsSuper}
 use Rattle.nv_region.specs.ImageState.{ImageState}
 use Rattle.nv_journal.specs.Undone.{SameBefore}
 use Rattle.nv_metadata.specs.declared.memory.MetadataRegion.TheInside.{Inside}
+use Rattle.nv_metadata.specs.declared.memory.Place.{Place}
 
 -- The region as it reads, of which only the front takes stores, and of each block how many bytes of it are held, from its first on.
 pub record MetadataState : Type 0 where
@@ -19,26 +20,44 @@ pub record MetadataState : Type 0 where
 abbrev pub held : MetadataState → ℕ → ℕ
 held m b = get_or m.counts b 0
 
--- a word of blocks of which the tables say where their bytes begin and how many are there: 0 behind them
-abbrev pub piece_word : List ℕ → List ℕ → List ℕ → ℕ → ℕ
-piece_word starts counts bytes i =
-    if nat_lt (8 * (i % 512)) (get_or counts (i / 512) 0) then little_number 8 (drop (get_or starts (i / 512) 0 + 8 * (i % 512)) bytes) else 0
+-- the place of a block of which nothing is held
+abbrev pub nowhere : Place
+nowhere = record { part = 0; start = 0; count = 0; known = 0 }
 
--- the region of so many blocks that has these pieces, and else zeros
-abbrev pub pieced : ℕ → List ℕ → List ℕ → List ℕ → Region
-pieced blocks starts counts bytes = record { words = map (λ i. piece_word starts counts bytes i) (range_with_len 0 (512 * blocks)); rest = [] }
+-- the bytes that have this place in parts
+abbrev pub piece_at : List (List ℕ) → Place → List ℕ
+piece_at parts p = take p.count (drop p.start (get_or parts p.part []))
 
--- The front is whole words within the region, and the piece of each block is whole words among the bytes that are kept. Behind it are
--- zeros.
+-- and those of a block, of which the table says its place
+abbrev pub piece_of : List Place → List (List ℕ) → ℕ → List ℕ
+piece_of places parts b = piece_at parts (get_or places b nowhere)
+
+-- a word of blocks that begin with these bytes each: 0 behind them
+abbrev pub piece_word : (ℕ → List ℕ) → ℕ → ℕ
+piece_word piece i = if nat_lt (8 * (i % 512)) (length (piece (i / 512))) then little_number 8 (drop (8 * (i % 512)) (piece (i / 512))) else 0
+
+-- the region of so many blocks that begin with these bytes each, and else has zeros
+abbrev pub pieced : ℕ → (ℕ → List ℕ) → Region
+pieced blocks piece = record { words = map (λ i. piece_word piece i) (range_with_len 0 (512 * blocks)); rest = [] }
+
+-- a place has whole words, among the bytes of a part that there is
+pub record IsPlaced (parts : List (List ℕ)) (p : Place) : Type 0 where
+  pub whole : p.count % 8 ≡ 0
+  pub among : p.part < length parts
+  pub inside : p.start + p.count ≤ length (get_or parts p.part [])
+
+-- The front is whole words within the region, and each block has a place. Behind what stands there are zeros.
 pub record HasPieces (m : Inside) : Type 0 where
   pub front : length (words_of m.front.items) ≤ 512 * m.blocks
   pub front_whole : length m.front.items % 8 ≡ 0
   pub blocks : m.blocks ≤ most_blocks
-  pub starts : length m.starts.items ≡ m.blocks
-  pub counts : length m.counts.items ≡ m.blocks
-  pub known : length m.known.items ≡ m.blocks
-  pub whole : (b : ℕ) → get_or m.counts.items b 0 % 8 ≡ 0
-  pub inside : (b : ℕ) → get_or m.starts.items b 0 + get_or m.counts.items b 0 ≤ length m.bytes.items
+  pub places : length m.places.items ≡ m.blocks
+  pub placed : (b : ℕ) → IsPlaced (map vec_items m.parts.items) (get_or m.places.items b nowhere)
+
+-- Of two places of a block from one on that of which more is held: the other one's part stands behind so many parts here. A block
+-- before keeps its place.
+abbrev pub taken : ℕ → ℕ → ℕ → Place → Place → Place
+taken from before b here there = if nat_le from b && nat_lt here.known there.known then record there { part = before + there.part } else here
 
 -- The memory shows another region: it is as long, and has the same words in its front and in what it holds of other blocks.
 -- Elsewhere it has zeros.

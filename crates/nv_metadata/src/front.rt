@@ -31,7 +31,7 @@ impl<'a> Model for FrontRegion<'a> {
 
     ghost Value = { ImageState };
 
-    ghost view = { λ m. record { region = with_front (words_of m.bytes.now) (pieced m.blocks [] [] []); front = 0; burnt = m.burnt } };
+    ghost view = { λ m. record { region = with_front (words_of m.bytes.now) (pieced m.blocks (λ _. [])); front = 0; burnt = m.burnt } };
 
     ghost invariant = { λ m. (length m.bytes.now ≤ 4096 * m.blocks) × (length m.bytes.now % 8 ≡ 0) × (m.blocks ≤ most_blocks) };
 }

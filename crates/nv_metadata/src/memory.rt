@@ -1,10 +1,10 @@
 //! A region of which the front and some blocks are held, and which has zeros elsewhere.
 //!
-//! The front is held as the bytes that were read, and takes stores. Of the other blocks tables say how many bytes of each are
-//! held and where these begin: they stand one piece behind another, in the order in which they came, each without the zeros at
-//! its end. A store behind the front is refused as if a fuse had burnt.
+//! The front is held as the bytes that were read, and takes stores. Of the other blocks a table says how many bytes of each are
+//! held and where these stand: one piece behind another, in the order in which they came, each without the zeros at its end.
+//! Where memories are put together, the bytes of each stay as a part. A store behind the front is refused as if a fuse had burnt.
 
-ghost use Rattle.std.specs.Prelude.{◌≡◌, ◌≢◌, ◌≤◌, ◌<◌, ◌+◌, ◌*◌, ◌/◌, ◌%◌, ◌||◌, ℕ, false, IfOk, OnOk, OnErr, is_err, length, drop, set, refl};
+ghost use Rattle.std.specs.Prelude.{◌≡◌, ◌≢◌, ◌≤◌, ◌<◌, ◌+◌, ◌*◌, ◌/◌, ◌%◌, ◌^◌, ◌||◌, ℕ, false, IfOk, OnOk, OnErr, is_err, [], ◌∷◌, length, map, drop, get_or, set, replicate, vec_items, refl};
 ghost use Rattle.std.proofs.lemmas.Bool.{false≢true};
 ghost use Rattle.byteorder.specs.Endian.{little_number};
 ghost use Rattle.nv_region.specs.Region.{HasBlocks, size, word, put, words_of};
@@ -12,8 +12,10 @@ ghost use Rattle.nv_region.specs.Stops.{NothingPending, NoneAdded, Adds, One};
 ghost use Rattle.nv_region.specs.Fuses.{KeepsFuse};
 ghost use Rattle.nv_region.specs.ImageState.{as_it_reads, fuse_state, open_not_burnt};
 ghost use Rattle.nv_super.specs.Layout.{most_blocks};
-ghost use Rattle.nv_metadata.specs.Memory.{held};
+ghost use Rattle.nv_journal.specs.Undone.{SameBefore};
+ghost use Rattle.nv_metadata.specs.Memory.{held, nowhere, taken};
 ghost use Rattle.nv_metadata.specs.Holding.{BeginsWith, SameShape, StoresInFront};
+ghost use Rattle.nv_metadata.specs.Parts.{IsJoined};
 
 use byteorder::{ByteOrder, LittleEndian};
 use nv_region::{Pmem, Stopped};
@@ -21,31 +23,49 @@ use nv_super::BLOCK_SIZE;
 use std::alloc::{AllocError, Global};
 use std::marker::Model;
 
+// Where the bytes of a block stand: in which part, from where on, and how many. So many are known of it: those behind what stands
+// there are zeros.
+#[derive(Clone, Copy)]
+struct Place {
+    part: u32,
+    start: u32,
+    count: u32,
+    known: u32,
+}
+
+// The place of a block of which nothing is held.
+const NOWHERE: Place = Place {
+    part: 0,
+    start: 0,
+    count: 0,
+    known: 0,
+};
+
 /// A region whose front and some of whose blocks are held, each from its first byte on. Contracts see it as a region over
 /// bytes, with how many bytes it holds of each block behind the front.
 #[derive(Drop)]
 pub struct MetadataRegion {
     blocks: u64,
     front: Vec<u8>,
-    // For each block where its bytes begin, how many stand there, and how many are held: those behind are zeros.
-    starts: Vec<u32>,
-    counts: Vec<u32>,
-    known: Vec<u32>,
-    bytes: Vec<u8>,
+    // For each block where its bytes stand.
+    places: Vec<Place>,
+    // What is held here itself is the first.
+    parts: Vec<Vec<u8>>,
     burnt: bool,
 }
 
 impl Model for MetadataRegion {
-    ghost use Rattle.std.specs.Prelude.{length};
+    ghost use Rattle.std.specs.Prelude.{length, map, vec_items};
     ghost use Rattle.nv_region.specs.Region.{words_of};
     ghost use Rattle.nv_region.specs.ImageState.{with_front};
-    ghost use Rattle.nv_metadata.specs.Memory.{MetadataState, pieced};
+    ghost use Rattle.nv_metadata.specs.Memory.{MetadataState, pieced, piece_of};
+    ghost use Rattle.nv_metadata.specs.declared.memory.Place.{Place as PlaceValue};
 
     ghost Value = { MetadataState };
 
     ghost view = { λ m. record {
-      memory = record { region = with_front (words_of m.front.items) (pieced m.blocks m.starts.items m.counts.items m.bytes.items); front = length m.front.items; burnt = m.burnt };
-      counts = m.known.items;
+      memory = record { region = with_front (words_of m.front.items) (pieced m.blocks (piece_of m.places.items (map vec_items m.parts.items))); front = length m.front.items; burnt = m.burnt };
+      counts = map (λ (p : PlaceValue). p.known) m.places.items;
     } };
 
     ghost use Rattle.nv_metadata.specs.Memory.{HasPieces};
@@ -95,10 +115,8 @@ impl MetadataRegion {
         Ok(MetadataRegion {
             blocks,
             front,
-            starts: vec![in alloc; 0; blocks as usize]?,
-            counts: vec![in alloc; 0; blocks as usize]?,
-            known: vec![in alloc; 0; blocks as usize]?,
-            bytes: Vec::with_capacity(alloc, (room.min(blocks) * BLOCK_SIZE) as usize)?,
+            places: no_places(alloc, blocks as usize)?,
+            parts: one_part(alloc, (room.min(blocks) * BLOCK_SIZE) as usize)?,
             burnt: false,
         })
     }
@@ -108,7 +126,7 @@ impl MetadataRegion {
         requires { 4096 * block < size self.now.memory.region }
         ensures { result ≡ held self.now block }
     {
-        self.known[block as usize] as usize
+        self.places[block as usize].known as usize
     }
 
     /// Holds these bytes as the first of a block behind the front, whose other words are 0.
@@ -129,15 +147,10 @@ impl MetadataRegion {
         Ok(())
     }
 
-    /// Holds so many bytes of a block behind the front: first these, and zeros behind them.
-    ///
-    /// Errors: `AllocError` where a growth was refused; all stays as it was.
-    pub(crate) fn hold_piece(
-        &mut self,
-        block: u64,
-        piece: &[u8],
-        known: usize,
-    ) -> Result<(), AllocError>
+    // Holds so many bytes of a block behind the front: first these, and zeros behind them.
+    //
+    // Errors: `AllocError` where a growth was refused; all stays as it was.
+    fn hold_piece(&mut self, block: u64, piece: &[u8], known: usize) -> Result<(), AllocError>
         requires behind { self.old.memory.front ≤ 4096 * block }
         requires within { 4096 * block < size self.old.memory.region }
         requires whole { length piece.now % 8 ≡ 0 }
@@ -146,28 +159,43 @@ impl MetadataRegion {
         ensures same { SameShape self.old self.new }
         ensures refused { OnErr result (self.new ≡ self.old) }
     {
-        let start = narrow(self.bytes.len())?;
+        let start = narrow(self.parts[0].len())?;
         let count = narrow(piece.len())?;
         let known = narrow(known)?;
-        self.bytes.extend_from_slice(piece)?;
-        self.starts[block as usize] = start;
-        self.counts[block as usize] = count;
-        self.known[block as usize] = known;
+        self.parts[0].extend_from_slice(piece)?;
+        self.places[block as usize] = Place {
+            part: 0,
+            start,
+            count,
+            known,
+        };
         Ok(())
     }
 
-    /// The bytes that are held of a block behind the front, from its first on, without the zeros at their end: none where it
-    /// isn't.
-    pub(crate) fn piece(&self, block: u64) -> &[u8]
-        requires { 4096 * block < size self.now.memory.region }
-        ensures whole { length result.now % 8 ≡ 0 }
-        ensures words { self.now.memory.front ≤ 4096 * block → (at : ℕ) → at % 8 ≡ 0 → at / 4096 ≡ block → at % 4096 < length result.now
-            → little_number 8 (drop (at % 4096) result.now) ≡ word self.now.memory.region at }
-        ensures zeros { self.now.memory.front ≤ 4096 * block → (at : ℕ) → at % 8 ≡ 0 → at / 4096 ≡ block → length result.now ≤ at % 4096
-            → word self.now.memory.region at ≡ 0 }
+    /// Holds what another memory holds more of the blocks from one on. No byte is copied: its parts come behind these.
+    ///
+    /// Errors: `AllocError` where a growth was refused; all stays as it was.
+    pub(crate) fn join(&mut self, other: MetadataRegion, from: u64) -> Result<(), AllocError>
+        requires as_long { size other.memory.region ≡ size self.old.memory.region }
+        requires within { 4096 * from ≤ size self.old.memory.region }
+        requires behind { (self.old.memory.front ≤ 4096 * from) × (other.memory.front ≤ 4096 * from) }
+        ensures joined { OnOk result ((to : ℕ) → IsJoined from to self.old other self.new) }
+        ensures before { OnOk result (SameBefore (4096 * from) self.old.memory.region self.new.memory.region) }
+        ensures same { SameShape self.old self.new }
+        ensures refused { OnErr result (self.new ≡ self.old) }
     {
-        let start = self.starts[block as usize] as usize;
-        &self.bytes[start..start + self.counts[block as usize] as usize]
+        let MetadataRegion {
+            blocks: _,
+            front: _,
+            places,
+            mut parts,
+            burnt: _,
+        } = other;
+        let before = narrow(self.parts.len())?;
+        let _all = narrow(self.parts.len() + parts.len())?;
+        self.parts.append(&mut parts)?;
+        take_more(&mut self.places, &places, from as usize, before);
+        Ok(())
     }
 
     // The word at a byte address of a block that may be held.
@@ -177,12 +205,63 @@ impl MetadataRegion {
         requires behind { self.now.memory.front ≤ at }
         ensures { result ≡ word self.now.memory.region at }
     {
-        let block = (at / BLOCK_SIZE) as usize;
+        let place = self.places[(at / BLOCK_SIZE) as usize];
         let offset = (at % BLOCK_SIZE) as usize;
-        if offset >= self.counts[block] as usize {
+        if offset >= place.count as usize {
             return 0;
         }
-        word_at(&self.bytes, self.starts[block] as usize + offset)
+        word_at(
+            &self.parts[place.part as usize],
+            place.start as usize + offset,
+        )
+    }
+}
+
+// A table of so many blocks of which nothing is held.
+fn no_places(alloc: Global, blocks: usize) -> Result<Vec<Place>, AllocError>
+    ensures { IfOk result (λ places. places.items ≡ replicate blocks nowhere) }
+{
+    let mut places = Vec::with_capacity(alloc, blocks)?;
+    places.resize(blocks, NOWHERE)?;
+    Ok(places)
+}
+
+// One part, with no bytes and room for so many.
+fn one_part(alloc: Global, room: usize) -> Result<Vec<Vec<u8>>, AllocError>
+    ensures { IfOk result (λ parts. map vec_items parts.items ≡ [] ∷ []) }
+{
+    let mut parts = Vec::with_capacity(alloc, 1)?;
+    parts.push(Vec::with_capacity(alloc, room)?)?;
+    Ok(parts)
+}
+
+// Gives each block from one on the place that it has in another table, where more of it is held there. The parts of that one
+// stand behind so many now.
+fn take_more(places: &mut [Place], others: &[Place], from: usize, before: u32)
+    requires as_many { length others.now ≡ length places.old }
+    requires from { from ≤ length places.old }
+    requires few { (b : ℕ) → before + (get_or others.now b nowhere).part < 2 ^ 32 }
+    ensures as_many { length places.new ≡ length places.old }
+    ensures taken { (b : ℕ) → get_or places.new b nowhere ≡ taken from before b (get_or places.old b nowhere) (get_or others.now b nowhere) }
+{
+    for block in from..places.len() {
+        places[block] = more_of(places[block], others[block], before);
+    }
+}
+
+// Of two places of a block that of which more is held: the second one's part stands behind so many now.
+fn more_of(here: Place, there: Place, before: u32) -> Place
+    requires { before + there.part < 2 ^ 32 }
+    ensures { result ≡ taken 0 before 0 here there }
+{
+    if there.known <= here.known {
+        return here;
+    }
+    Place {
+        part: before + there.part,
+        start: there.start,
+        count: there.count,
+        known: there.known,
     }
 }
 

@@ -19,6 +19,9 @@ use nv_super::{BLOCK_SIZE, Super};
 use std::alloc::{AllocError, Global};
 use std::thread::{Threads, join};
 
+// Room for so many blocks at least. What isn't used of it is never touched, and bytes that have room are never moved.
+const LEAST_ROOM: u64 = 4096;
+
 /// Fetches the pages of these logs up to their tails, by so many threads, into a memory with this front, the first block of
 /// which has the superblock. The front isn't copied: the memories of other threads have its first block alone.
 ///
@@ -55,7 +58,7 @@ pub(crate) fn fetch_apart<B: Blocks + Sync, H: Threads + Sync>(
     );
     let mut memory = left?;
     let other = right?;
-    hold_all(&mut memory, &other, sup)?;
+    hold_all(&mut memory, other, sup)?;
     Ok(memory)
 }
 
@@ -92,7 +95,8 @@ pub(crate) fn fetch_alone<B: Blocks>(
     requires right { (log : LogEndsValue) → Contains logs.now log → IsTrue (is_right_log sup.now log.head log.tail) }
     ensures { IsPart (λ image. B.bytes source.now ≡ Some image) sup.now front.items logs.now result }
 {
-    let mut memory = MetadataRegion::of_front(alloc, sup.blocks, front, logs.len() as u64)?;
+    let room = LEAST_ROOM.max(logs.len() as u64);
+    let mut memory = MetadataRegion::of_front(alloc, sup.blocks, front, room)?;
     fetch_logs(alloc, &mut memory, source, sup, logs)?;
     Ok(memory)
 }
@@ -100,41 +104,16 @@ pub(crate) fn fetch_alone<B: Blocks>(
 // Holds what another memory holds more of any data block.
 fn hold_all(
     memory: &mut MetadataRegion,
-    other: &MetadataRegion,
+    other: MetadataRegion,
     sup: &Super,
 ) -> Result<(), AllocError>
     requires areas { HasAreas sup.now }
     requires can { CanHold sup.now memory.old }
-    requires other { CanHold sup.now other.now }
+    requires other { CanHold sup.now other }
     ensures can { CanHold sup.now memory.new }
     ensures front { SameFront memory.old memory.new }
-    ensures joined { OnOk result (IsJoined (system_blocks sup.now) sup.now.blocks memory.old other.now memory.new) }
+    ensures joined { OnOk result (IsJoined (system_blocks sup.now) sup.now.blocks memory.old other memory.new) }
 {
-    for block in sup.system_blocks()..sup.blocks {
-        hold_more(memory, other, sup, block)?;
-    }
-    Ok(())
-}
-
-// Holds what another memory holds of a data block, where it is more.
-fn hold_more(
-    memory: &mut MetadataRegion,
-    other: &MetadataRegion,
-    sup: &Super,
-    block: u64,
-) -> Result<(), AllocError>
-    requires can { CanHold sup.now memory.old }
-    requires other { CanHold sup.now other.now }
-    requires behind { system_blocks sup.now ≤ block }
-    requires inside { block < sup.now.blocks }
-    ensures can { CanHold sup.now memory.new }
-    ensures front { SameFront memory.old memory.new }
-    ensures joined { OnOk result (IsJoined block (block + 1) memory.old other.now memory.new) }
-{
-    let known = other.held(block);
-    if known <= memory.held(block) {
-        return Ok(());
-    }
-    memory.hold_piece(block, other.piece(block), known)?;
+    memory.join(other, sup.system_blocks())?;
     Ok(())
 }

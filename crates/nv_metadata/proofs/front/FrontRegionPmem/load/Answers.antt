@@ -7,10 +7,10 @@ use Rattle.nv_metadata.proofs.front.FrontRegionPmem.load.Goals as goal
 
 pub returns-then-at-self : goal.returns-then-at-self
 returns-then-at-self c =
-    c.word_at.ensures ∙ sym (front_first (words_of c.self.inside.bytes.now) c.self.inside.bytes.now c.self.inside.blocks [] [] [] refl c.args.at c.requires.aligned (omega (arith, c.requires.aligned, c.self.invariant.1, c.if-at-self.true)))
+    c.word_at.ensures ∙ sym (front_first (words_of c.self.inside.bytes.now) c.self.inside.bytes.now c.self.inside.blocks (λ _. []) refl c.args.at c.requires.aligned (omega (arith, c.requires.aligned, c.self.invariant.1, c.if-at-self.true)))
     ∙ ap (λ (m : ImageState). word m.region c.args.at) c.self.view_is
 
 pub returns-else-at-self : goal.returns-else-at-self
 returns-else-at-self c =
-    sym (zeros_first (words_of c.self.inside.bytes.now) c.self.inside.blocks [] [] [] 0 refl (omega (arith, count_of_words c.self.inside.bytes.now, c.self.invariant.0)) (c.args.at / 8) (omega (arith, count_of_words c.self.inside.bytes.now, c.if-at-self.false)))
+    sym (zeros_first (words_of c.self.inside.bytes.now) c.self.inside.blocks (λ _. []) (λ b. refl) (omega (arith, count_of_words c.self.inside.bytes.now, c.self.invariant.0)) (c.args.at / 8) (omega (arith, count_of_words c.self.inside.bytes.now, c.if-at-self.false)))
     ∙ ap (λ (m : ImageState). word m.region c.args.at) c.self.view_is

@@ -1,48 +1,53 @@
-use Rattle.std.proofs.Common.{◌≡◌, ◌<◌, ◌≤◌, ◌*◌, length, set, ap, ◌∙◌, arith, get_or-set_same, get_or-set_other}
-use Rattle.nv_region.specs.Region.{size, word, words_of}
-use Rattle.nv_region.proofs.Fronted.{count_of_words}
-use Rattle.nv_metadata.specs.Memory.{MetadataState, held}
-use Rattle.nv_metadata.proofs.Held.{shown, size_shown, piece_held, zeros_behind, others_stay}
+use Rattle.std.proofs.Common.{◌≡◌, ◌<◌, ◌≤◌, ◌*◌, ℕ, List, [], length, map, vec_items, get_or, set, sym, ap, ◌∙◌, subst, arith}
+use Rattle.std.proofs.lemmas.List.{length-map}
+use Rattle.nv_region.specs.Region.{size, words_of}
+use Rattle.nv_metadata.specs.Memory.{MetadataState, piece_of, held}
+use Rattle.nv_metadata.specs.Holding.{BeginsWith}
+use Rattle.nv_metadata.proofs.Pieces.{grown, place_behind}
+use Rattle.nv_metadata.proofs.Held.{size_shown}
+use Rattle.nv_metadata.proofs.Together.{seen}
+use Rattle.nv_metadata.proofs.OneMore.{on_err, first_part, parts_grown, parts_kept, news, begins, held_here, held_elsewhere}
 use Rattle.nv_metadata.proofs.memory.MetadataRegion.hold_piece.Goals as goal
 
-pub index_mut-requires : goal.index_mut-requires
-index_mut-requires c = omega (arith, c.requires.within, ap (λ (m : MetadataState). size m.memory.region) c.self.view_is, size_shown (words_of c.self.inside.front.items) c.self.inside.blocks c.self.inside.starts.items c.self.inside.counts.items c.self.inside.bytes.items c.self.invariant.front, c.self.invariant.starts)
-
 pub index_mut-requires-2 : goal.index_mut-requires-2
-index_mut-requires-2 c = omega (arith, c.requires.within, ap (λ (m : MetadataState). size m.memory.region) c.self.view_is, size_shown (words_of c.self.inside.front.items) c.self.inside.blocks c.self.inside.starts.items c.self.inside.counts.items c.self.inside.bytes.items c.self.invariant.front, c.self.invariant.counts)
+index_mut-requires-2 c = omega (arith, c.requires.within, ap (λ (m : MetadataState). size m.memory.region) c.self.view_is, size_shown (words_of c.self.inside.front.items) c.self.inside.blocks (piece_of c.self.inside.places.items (map vec_items c.self.inside.parts.items)) c.self.invariant.front, c.self.invariant.places)
 
 pub returns-clause-begins : goal.returns-clause-begins
-returns-clause-begins c = record {
-  piece = λ at aligned here within. let inside : c.args.block < c.self.inside.blocks = omega (arith, c.requires.within, ap (λ (m : MetadataState). size m.memory.region) c.self.view_is, size_shown (words_of c.self.inside.front.items) c.self.inside.blocks c.self.inside.starts.items c.self.inside.counts.items c.self.inside.bytes.items c.self.invariant.front) in
-      let behind : 8 * length (words_of c.self.inside.front.items) ≤ 4096 * c.args.block = omega (arith, c.requires.behind, ap (λ (m : MetadataState). m.memory.front) c.self.view_is, count_of_words c.self.inside.front.items) in
-      let start : c.in_ok-start.start ≡ length c.self.inside.bytes.items = omega (arith, c.in_ok-start.ensures, c.len.ensures) in
-      let count : c.in_ok-count.count ≡ length c.args.piece.now = c.in_ok-count.ensures in
-      let items = c.in_ok-extend_from_slice.ensures.items in
-      (λ i. word (shown (words_of c.self.inside.front.items) c.self.inside.blocks (set c.self.inside.starts.items c.args.block (start i)) (set c.self.inside.counts.items c.args.block (count i)) (items i)) at)
-      ∙ piece_held (words_of c.self.inside.front.items) c.self.inside.blocks c.self.inside.starts.items c.self.inside.counts.items c.self.inside.bytes.items c.args.piece.now c.args.block c.self.invariant.front c.self.invariant.starts c.self.invariant.counts inside behind at aligned here within;
-  zeros = λ at aligned here past. let inside : c.args.block < c.self.inside.blocks = omega (arith, c.requires.within, ap (λ (m : MetadataState). size m.memory.region) c.self.view_is, size_shown (words_of c.self.inside.front.items) c.self.inside.blocks c.self.inside.starts.items c.self.inside.counts.items c.self.inside.bytes.items c.self.invariant.front) in
-      let behind : 8 * length (words_of c.self.inside.front.items) ≤ 4096 * c.args.block = omega (arith, c.requires.behind, ap (λ (m : MetadataState). m.memory.front) c.self.view_is, count_of_words c.self.inside.front.items) in
-      let start : c.in_ok-start.start ≡ length c.self.inside.bytes.items = omega (arith, c.in_ok-start.ensures, c.len.ensures) in
-      let count : c.in_ok-count.count ≡ length c.args.piece.now = c.in_ok-count.ensures in
-      let items = c.in_ok-extend_from_slice.ensures.items in
-      (λ i. word (shown (words_of c.self.inside.front.items) c.self.inside.blocks (set c.self.inside.starts.items c.args.block (start i)) (set c.self.inside.counts.items c.args.block (count i)) (items i)) at)
-      ∙ zeros_behind (words_of c.self.inside.front.items) c.self.inside.blocks c.self.inside.starts.items c.self.inside.counts.items c.self.inside.bytes.items c.args.piece.now c.args.block c.self.invariant.front c.self.invariant.starts c.self.invariant.counts inside behind at aligned here past;
-  others = λ at aligned other. let inside : c.args.block < c.self.inside.blocks = omega (arith, c.requires.within, ap (λ (m : MetadataState). size m.memory.region) c.self.view_is, size_shown (words_of c.self.inside.front.items) c.self.inside.blocks c.self.inside.starts.items c.self.inside.counts.items c.self.inside.bytes.items c.self.invariant.front) in
-      let behind : 8 * length (words_of c.self.inside.front.items) ≤ 4096 * c.args.block = omega (arith, c.requires.behind, ap (λ (m : MetadataState). m.memory.front) c.self.view_is, count_of_words c.self.inside.front.items) in
-      let start : c.in_ok-start.start ≡ length c.self.inside.bytes.items = omega (arith, c.in_ok-start.ensures, c.len.ensures) in
-      let count : c.in_ok-count.count ≡ length c.args.piece.now = c.in_ok-count.ensures in
-      let items = c.in_ok-extend_from_slice.ensures.items in
-      (λ i. word (shown (words_of c.self.inside.front.items) c.self.inside.blocks (set c.self.inside.starts.items c.args.block (start i)) (set c.self.inside.counts.items c.args.block (count i)) (items i)) at)
-      ∙ others_stay (words_of c.self.inside.front.items) c.self.inside.blocks c.self.inside.starts.items c.self.inside.counts.items c.self.inside.bytes.items c.args.piece.now c.args.block c.self.invariant.front c.self.invariant.starts c.self.invariant.counts inside behind c.self.invariant.whole c.self.invariant.inside at other
-      ∙ ap (λ (m : MetadataState). word m.memory.region at) c.self.view_is;
-}
-
-pub index_mut-requires-3 : goal.index_mut-requires-3
-index_mut-requires-3 c = omega (arith, c.requires.within, ap (λ (m : MetadataState). size m.memory.region) c.self.view_is, size_shown (words_of c.self.inside.front.items) c.self.inside.blocks c.self.inside.starts.items c.self.inside.counts.items c.self.inside.bytes.items c.self.invariant.front, c.self.invariant.known)
+returns-clause-begins c =
+    let some : 0 < length c.self.inside.parts.items = (let placed = c.self.invariant.placed 0 in let n = placed.among in omega (arith, n, length-map c.self.inside.parts.items vec_items)) in
+    let some_parts : 0 < length (map vec_items c.self.inside.parts.items) = omega (arith, some, length-map c.self.inside.parts.items vec_items) in
+    let inside : c.args.block < c.self.inside.blocks = omega (arith, c.requires.within, ap (λ (m : MetadataState). size m.memory.region) c.self.view_is, size_shown (words_of c.self.inside.front.items) c.self.inside.blocks (piece_of c.self.inside.places.items (map vec_items c.self.inside.parts.items)) c.self.invariant.front) in
+    let behind : length c.self.inside.front.items ≤ 4096 * c.args.block = omega (arith, c.requires.behind, ap (λ (m : MetadataState). m.memory.front) c.self.view_is) in
+    let first = first_part c.self.inside.parts.items c.index_mut.result.now c.extend_from_slice.new.self some c.index_mut.ensures.value in
+    let same : c.index.result.now.items ≡ c.index_mut.result.now.items = sym (first_part c.self.inside.parts.items c.index.result.now c.extend_from_slice.new.self some c.index.ensures) ∙ first in
+    let start : c.in_ok-start.start ≡ length (get_or (map vec_items c.self.inside.parts.items) 0 []) = omega (arith, c.in_ok-start.ensures, c.len.ensures, ap length same, ap length first, c.index.result.now.ok) in
+    let parts : map vec_items (set c.self.inside.parts.items 0 c.extend_from_slice.new.self) ≡ grown (map vec_items c.self.inside.parts.items) c.args.piece.now some_parts = parts_grown c.self.inside.parts.items c.index_mut.result.now c.extend_from_slice.new.self some c.index_mut.ensures.value c.args.piece.now some_parts c.in_ok-extend_from_slice.ensures.items in
+    let place : record { part = 0; start = c.in_ok-start.start; count = c.in_ok-count.count; known = c.in_ok-known.known } ≡ place_behind (map vec_items c.self.inside.parts.items) c.args.piece.now some_parts c.args.known =
+    (λ i. record { part = 0; start = start i; count = c.in_ok-count.ensures i; known = c.in_ok-known.ensures i }) in
+    let new : seen c.self.inside.front.items c.self.inside.blocks c.self.inside.burnt (set c.self.inside.places.items c.args.block (record { part = 0; start = c.in_ok-start.start; count = c.in_ok-count.count; known = c.in_ok-known.known })) (map vec_items (set c.self.inside.parts.items 0 c.extend_from_slice.new.self)) ≡ seen c.self.inside.front.items c.self.inside.blocks c.self.inside.burnt (news c.self.inside.front.items c.self.inside.blocks c.self.inside.burnt c.self.inside.places.items (map vec_items c.self.inside.parts.items) c.args.piece.now c.args.block c.args.known c.self.invariant.front some_parts c.self.invariant.placed c.self.invariant.places inside behind) (grown (map vec_items c.self.inside.parts.items) c.args.piece.now some_parts) = (λ i. seen c.self.inside.front.items c.self.inside.blocks c.self.inside.burnt (set c.self.inside.places.items c.args.block (place i)) (parts i)) in
+    subst (λ (n : MetadataState). BeginsWith c.args.self.now.memory.region c.args.block c.args.piece.now n.memory.region) (sym new)
+    (subst (λ (m : MetadataState). BeginsWith m.memory.region c.args.block c.args.piece.now (seen c.self.inside.front.items c.self.inside.blocks c.self.inside.burnt (news c.self.inside.front.items c.self.inside.blocks c.self.inside.burnt c.self.inside.places.items (map vec_items c.self.inside.parts.items) c.args.piece.now c.args.block c.args.known c.self.invariant.front some_parts c.self.invariant.placed c.self.invariant.places inside behind) (grown (map vec_items c.self.inside.parts.items) c.args.piece.now some_parts)).memory.region) c.self.view_is (begins c.self.inside.front.items c.self.inside.blocks c.self.inside.burnt c.self.inside.places.items (map vec_items c.self.inside.parts.items) c.args.piece.now c.args.block c.args.known c.self.invariant.front some_parts c.self.invariant.placed c.self.invariant.places inside behind))
 
 pub returns-clause-held : goal.returns-clause-held
 returns-clause-held c =
-    let inside : c.args.block < c.self.inside.blocks = omega (arith, c.requires.within, ap (λ (m : MetadataState). size m.memory.region) c.self.view_is, size_shown (words_of c.self.inside.front.items) c.self.inside.blocks c.self.inside.starts.items c.self.inside.counts.items c.self.inside.bytes.items c.self.invariant.front) in (
-      get_or-set_same c.self.inside.known.items c.args.block c.in_ok-known.known 0 (omega (arith, inside, c.self.invariant.known)) ∙ c.in_ok-known.ensures,
-      λ b other. get_or-set_other c.self.inside.known.items c.args.block b c.in_ok-known.known 0 other ∙ ap (λ (m : MetadataState). held m b) c.self.view_is,
+    let some : 0 < length c.self.inside.parts.items = (let placed = c.self.invariant.placed 0 in let n = placed.among in omega (arith, n, length-map c.self.inside.parts.items vec_items)) in
+    let some_parts : 0 < length (map vec_items c.self.inside.parts.items) = omega (arith, some, length-map c.self.inside.parts.items vec_items) in
+    let inside : c.args.block < c.self.inside.blocks = omega (arith, c.requires.within, ap (λ (m : MetadataState). size m.memory.region) c.self.view_is, size_shown (words_of c.self.inside.front.items) c.self.inside.blocks (piece_of c.self.inside.places.items (map vec_items c.self.inside.parts.items)) c.self.invariant.front) in
+    let behind : length c.self.inside.front.items ≤ 4096 * c.args.block = omega (arith, c.requires.behind, ap (λ (m : MetadataState). m.memory.front) c.self.view_is) in
+    let first = first_part c.self.inside.parts.items c.index_mut.result.now c.extend_from_slice.new.self some c.index_mut.ensures.value in
+    let same : c.index.result.now.items ≡ c.index_mut.result.now.items = sym (first_part c.self.inside.parts.items c.index.result.now c.extend_from_slice.new.self some c.index.ensures) ∙ first in
+    let start : c.in_ok-start.start ≡ length (get_or (map vec_items c.self.inside.parts.items) 0 []) = omega (arith, c.in_ok-start.ensures, c.len.ensures, ap length same, ap length first, c.index.result.now.ok) in
+    let parts : map vec_items (set c.self.inside.parts.items 0 c.extend_from_slice.new.self) ≡ grown (map vec_items c.self.inside.parts.items) c.args.piece.now some_parts = parts_grown c.self.inside.parts.items c.index_mut.result.now c.extend_from_slice.new.self some c.index_mut.ensures.value c.args.piece.now some_parts c.in_ok-extend_from_slice.ensures.items in
+    let place : record { part = 0; start = c.in_ok-start.start; count = c.in_ok-count.count; known = c.in_ok-known.known } ≡ place_behind (map vec_items c.self.inside.parts.items) c.args.piece.now some_parts c.args.known =
+    (λ i. record { part = 0; start = start i; count = c.in_ok-count.ensures i; known = c.in_ok-known.ensures i }) in
+    let new : seen c.self.inside.front.items c.self.inside.blocks c.self.inside.burnt (set c.self.inside.places.items c.args.block (record { part = 0; start = c.in_ok-start.start; count = c.in_ok-count.count; known = c.in_ok-known.known })) (map vec_items (set c.self.inside.parts.items 0 c.extend_from_slice.new.self)) ≡ seen c.self.inside.front.items c.self.inside.blocks c.self.inside.burnt (news c.self.inside.front.items c.self.inside.blocks c.self.inside.burnt c.self.inside.places.items (map vec_items c.self.inside.parts.items) c.args.piece.now c.args.block c.args.known c.self.invariant.front some_parts c.self.invariant.placed c.self.invariant.places inside behind) (grown (map vec_items c.self.inside.parts.items) c.args.piece.now some_parts) = (λ i. seen c.self.inside.front.items c.self.inside.blocks c.self.inside.burnt (set c.self.inside.places.items c.args.block (place i)) (parts i)) in (
+      ap (λ (n : MetadataState). held n c.args.block) new ∙ held_here c.self.inside.front.items c.self.inside.blocks c.self.inside.burnt c.self.inside.places.items (map vec_items c.self.inside.parts.items) c.args.piece.now c.args.block c.args.known c.self.invariant.front some_parts c.self.invariant.placed c.self.invariant.places inside behind,
+      λ b other. ap (λ (n : MetadataState). held n b) new ∙ held_elsewhere c.self.inside.front.items c.self.inside.blocks c.self.inside.burnt c.self.inside.places.items (map vec_items c.self.inside.parts.items) c.args.piece.now c.args.block c.args.known c.self.invariant.front some_parts c.self.invariant.placed c.self.invariant.places inside behind b other ∙ ap (λ (m : MetadataState). held m b) c.self.view_is,
     )
+
+pub returns-in_err-extend_from_slice-clause-refused : goal.returns-in_err-extend_from_slice-clause-refused
+returns-in_err-extend_from_slice-clause-refused c =
+    let some : 0 < length c.self.inside.parts.items = (let placed = c.self.invariant.placed 0 in let n = placed.among in omega (arith, n, length-map c.self.inside.parts.items vec_items)) in
+    let some_parts : 0 < length (map vec_items c.self.inside.parts.items) = omega (arith, some, length-map c.self.inside.parts.items vec_items) in
+    let kept = parts_kept c.self.inside.parts.items c.index_mut.result.now c.extend_from_slice.new.self some c.index_mut.ensures.value c.in_err-extend_from_slice.ensures.items in
+    on_err _ (ap (λ (l : List (List ℕ)). seen c.self.inside.front.items c.self.inside.blocks c.self.inside.burnt c.self.inside.places.items l) kept ∙ c.self.view_is)
