@@ -1,6 +1,7 @@
 pub mod CleanedLog
 pub mod RowOf
 pub mod Refusals
+pub mod Kept
 pub mod OneByOne
 pub mod Singles
 pub mod TakenBlocks

@@ -5,7 +5,7 @@ use Rattle.nv_region.specs.Stops.{Choices, IsMixed, LeavesOnly, MayBeLeft, Nothi
 use Rattle.nv_region.specs.Stored.{StoresOnly}
 use Rattle.nv_region.proofs.Stops.{mixed_left}
 use Rattle.nv_super.specs.declared.superblock.Super.{Super}
-use Rattle.nv_super.specs.Layout.{fixed_layout, is_number, slot_address, slot_of}
+use Rattle.nv_super.specs.Layout.{fixed_layout, is_number, slot_address}
 use Rattle.nv_scan.proofs.Pieces.{slot_is as number_slot}
 use Rattle.nv_journal.specs.Undo.{journal, undone}
 use Rattle.nv_journal.specs.InOrder.{ThreeInOrder}

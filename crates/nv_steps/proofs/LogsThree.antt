@@ -5,7 +5,7 @@ use Rattle.nv_region.specs.Stops.{Choices, IsMixed, LeavesOnly, MayBeLeft, Nothi
 use Rattle.nv_region.specs.Stored.{StoresOnly}
 use Rattle.nv_region.proofs.Stops.{mixed_left}
 use Rattle.nv_super.specs.declared.superblock.Super.{Super}
-use Rattle.nv_super.specs.Layout.{fixed_layout, slot_address}
+use Rattle.nv_super.specs.Layout.{fixed_layout}
 use Rattle.nv_journal.specs.Undo.{undone}
 use Rattle.nv_journal.specs.InOrder.{ThreeInOrder}
 use Rattle.nv_alloc.specs.FreeValue.{FreeLists}

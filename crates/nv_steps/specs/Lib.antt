@@ -1,6 +1,7 @@
 pub mod Taken
 pub mod Grown
 pub mod Steps
+pub mod Keeping
 pub mod InOrder
 pub mod Stores
 pub mod Attributes

@@ -2,10 +2,7 @@
 
 ghost use Rattle.std.specs.Prelude.{◌≡◌, ◌≢◌, ◌+◌, ◌-◌, ◌%◌, ◌<◌, ◌≤◌, IsTrue, IfErr, OnOk};
 ghost use Rattle.nv_super.specs.Layout.{fixed_layout, is_number, slot_address};
-ghost use Rattle.nv_region.specs.Region.{size};
 ghost use Rattle.nv_region.specs.Stops.{LeavesOnly, NothingPending};
-ghost use Rattle.nv_region.specs.Fuses.{KeepsFuse};
-ghost use Rattle.nv_alloc.specs.Taking.{all_blocks};
 ghost use Rattle.nv_entry.specs.declared.entry.Operation.TheVariants.{Remove};
 ghost use Rattle.nv_logpage.specs.Append.{needed};
 ghost use Rattle.nv_names.specs.Names.{IsName};
@@ -17,9 +14,10 @@ ghost use Rattle.nv_steps.specs.Across.{LessenedAcross, LessensAcross, TakesAcro
 ghost use Rattle.nv_steps.specs.Grown.{StandsRight};
 ghost use Rattle.nv_steps.specs.NameEntries.{links_entries, name_entries};
 ghost use Rattle.nv_steps.specs.NewNames.{CanName};
-ghost use Rattle.nv_steps.specs.Steps.{LeavesStep, RefusesStep, ShowsRow};
+ghost use Rattle.nv_steps.specs.Steps.{LeavesStep, ShowsRow};
 ghost use Rattle.nv_steps.specs.InOrder.{TailIsFirst, TailIsNext, tail_address};
 ghost use Rattle.nv_steps.specs.Stores.{StoresIn, three_logs, two_less};
+ghost use Rattle.nv_steps.specs.Keeping.{NeedsFree, SettlesStep};
 
 use crate::growing::Growth;
 use crate::growing_less::append_logs_less;
@@ -62,18 +60,11 @@ pub fn take_across<P: Pmem>(
     ensures taken { OnOk result (TakesAcross (P.region memory.old) (P.region memory.new) sup.now free.old free.new cpu from.old from.new to.old to.new moved.now.inode gone.inode moved.now.name.now
         moved.now.other.now moved.now.time) }
     ensures room { OnOk result (gone.blocks ≤ free.new.room) }
-    ensures enough { OnOk result (needed (from.old.tail % 4096) (name_entries Remove moved.now.inode moved.now.name.now moved.now.time)
-        + needed (to.old.tail % 4096) (handed_entries moved.now.inode gone.inode moved.now.other.now moved.now.time) ≤ all_blocks free.old.pools) }
-    ensures settled { OnOk result (NothingPending (P.region memory.new) (P.may_hold memory.new)) }
-    ensures refused { IfErr result (λ e. RefusesStep e (needed (from.old.tail % 4096) (name_entries Remove moved.now.inode moved.now.name.now moved.now.time)
-        + needed (to.old.tail % 4096) (handed_entries moved.now.inode gone.inode moved.now.other.now moved.now.time)) free.old) }
+    ensures needs { NeedsFree (needed (from.old.tail % 4096) (name_entries Remove moved.now.inode moved.now.name.now moved.now.time)
+        + needed (to.old.tail % 4096) (handed_entries moved.now.inode gone.inode moved.now.other.now moved.now.time)) free.old result }
+    ensures kept { SettlesStep P.region P.may_hold P.fuse memory.old memory.new free.old free.new result }
     ensures unchanged { IfErr result (λ e. (e ≡ RefusalValue.Stopped → ⊥) → LeavesStep memory.old memory.new free.old free.new from.old from.new × SameRow to.old to.new) }
-    ensures stopped { IfErr result (λ e. e ≡ RefusalValue.Stopped → IsTrue (P.fuse memory.new).has_burnt) }
-    ensures inode { from.new.inode ≡ from.old.inode }
-    ensures to_inode { to.new.inode ≡ to.old.inode }
-    ensures lists { free.new.sup ≡ free.old.sup }
-    ensures length { size (P.region memory.new) ≡ size (P.region memory.old) }
-    ensures keeps_fuse { KeepsFuse (λ limit. size (P.region memory.old) ≤ limit) (P.fuse memory.old) (P.fuse memory.new) }
+    ensures inodes { (from.new.inode ≡ from.old.inode) × (to.new.inode ≡ to.old.inode) }
     // Every word outside these places is as it was.
     ensures wrote { (held : Store) (h g : Held) → ShowsRow (P.region memory.old) sup.now held h from.old free.old → ShowsRow (P.region memory.old) sup.now held g to.old free.old
         → StoresIn sup.now held (two_less sup.now cpu from.old.inode to.old.inode gone.inode) (P.region memory.old) (P.region memory.new) }
@@ -138,19 +129,12 @@ pub fn lessen_across<P: Pmem>(
     requires other { IsName moved.now.other.now }
     ensures lessened { OnOk result (LessensAcross (P.region memory.old) (P.region memory.new) sup.now free.old free.new cpu from.old from.new to.old to.new file.old file.new moved.now.inode
         moved.now.name.now moved.now.other.now moved.now.time) }
-    ensures enough { OnOk result (needed (from.old.tail % 4096) (name_entries Remove moved.now.inode moved.now.name.now moved.now.time)
+    ensures needs { NeedsFree (needed (from.old.tail % 4096) (name_entries Remove moved.now.inode moved.now.name.now moved.now.time)
         + needed (to.old.tail % 4096) (handed_entries moved.now.inode file.old.inode moved.now.other.now moved.now.time)
-        + needed (file.old.tail % 4096) (links_entries (file.old.numbers.links - 1) moved.now.time) ≤ all_blocks free.old.pools) }
-    ensures settled { OnOk result (NothingPending (P.region memory.new) (P.may_hold memory.new)) }
-    ensures refused { IfErr result (λ e. RefusesStep e (needed (from.old.tail % 4096) (name_entries Remove moved.now.inode moved.now.name.now moved.now.time)
-        + needed (to.old.tail % 4096) (handed_entries moved.now.inode file.old.inode moved.now.other.now moved.now.time)
-        + needed (file.old.tail % 4096) (links_entries (file.old.numbers.links - 1) moved.now.time)) free.old) }
+        + needed (file.old.tail % 4096) (links_entries (file.old.numbers.links - 1) moved.now.time)) free.old result }
+    ensures kept { SettlesStep P.region P.may_hold P.fuse memory.old memory.new free.old free.new result }
     ensures unchanged { IfErr result (λ e. (e ≡ RefusalValue.Stopped → ⊥) → LeavesStep memory.old memory.new free.old free.new from.old from.new × SameRow to.old to.new × SameRow file.old file.new) }
-    ensures stopped { IfErr result (λ e. e ≡ RefusalValue.Stopped → IsTrue (P.fuse memory.new).has_burnt) }
     ensures inodes { (from.new.inode ≡ from.old.inode) × (to.new.inode ≡ to.old.inode) × (file.new.inode ≡ file.old.inode) }
-    ensures lists { free.new.sup ≡ free.old.sup }
-    ensures length { size (P.region memory.new) ≡ size (P.region memory.old) }
-    ensures keeps_fuse { KeepsFuse (λ limit. size (P.region memory.old) ≤ limit) (P.fuse memory.old) (P.fuse memory.new) }
     // Every word outside these places is as it was.
     ensures wrote { (held : Store) (h g f : Held) → ShowsRow (P.region memory.old) sup.now held h from.old free.old → ShowsRow (P.region memory.old) sup.now held g to.old free.old
         → ShowsRow (P.region memory.old) sup.now held f file.old free.old

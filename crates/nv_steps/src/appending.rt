@@ -1,19 +1,17 @@
 //! Entries written behind the log of a row: all growths first, then the commit, then the row.
 
-ghost use Rattle.std.specs.Prelude.{◌≡◌, ◌<◌, ◌≤◌, ◌%◌, length, IsTrue, IfErr, OnOk};
+ghost use Rattle.std.specs.Prelude.{◌≡◌, ◌<◌, ◌≤◌, ◌%◌, length, IfErr, OnOk};
 ghost use Rattle.nv_super.specs.Layout.{fixed_layout};
-ghost use Rattle.nv_region.specs.Region.{size};
 ghost use Rattle.nv_region.specs.Stops.{LeavesOnly, NothingPending};
-ghost use Rattle.nv_region.specs.Fuses.{KeepsFuse};
-ghost use Rattle.nv_alloc.specs.Taking.{all_blocks};
 ghost use Rattle.nv_logpage.specs.Append.{AreGiven, needed};
 ghost use Rattle.nv_held.specs.Held.{Held, Store};
 ghost use Rattle.nv_commit.specs.Stopped.{LeavesEither};
 ghost use Rattle.nv_tree.specs.declared.refusal.Refusal.{Refusal as RefusalValue};
 ghost use Rattle.nv_steps.specs.Grown.{StandsRight};
-ghost use Rattle.nv_steps.specs.Steps.{AppendsLog, LeavesStep, RefusesStep, ShowsRow};
+ghost use Rattle.nv_steps.specs.Steps.{AppendsLog, LeavesStep, ShowsRow};
 ghost use Rattle.nv_steps.specs.Stopped.{Appended};
 ghost use Rattle.nv_steps.specs.Stores.{StoresIn, one_log};
+ghost use Rattle.nv_steps.specs.Keeping.{NeedsFree, SettlesStep};
 
 use crate::preparing::prepare_log;
 use crate::settling::settle_log;
@@ -44,16 +42,11 @@ pub(crate) fn append_log<P: Pmem>(
     requires stands { StandsRight (P.region memory.old) sup.now free.old row.old }
     requires given { AreGiven entries.now }
     ensures appended { OnOk result (AppendsLog (P.region memory.old) (P.region memory.new) sup.now free.old free.new cpu row.old row.new entries.now) }
-    ensures enough { OnOk result (needed (row.old.tail % 4096) entries.now ≤ all_blocks free.old.pools) }
+    ensures needs { NeedsFree (needed (row.old.tail % 4096) entries.now) free.old result }
     ensures room { OnOk result (free.old.room ≤ free.new.room) }
-    ensures settled { OnOk result (NothingPending (P.region memory.new) (P.may_hold memory.new)) }
-    ensures refused { IfErr result (λ e. RefusesStep e (needed (row.old.tail % 4096) entries.now) free.old) }
+    ensures kept { SettlesStep P.region P.may_hold P.fuse memory.old memory.new free.old free.new result }
     ensures unchanged { IfErr result (λ e. (e ≡ RefusalValue.Stopped → ⊥) → LeavesStep memory.old memory.new free.old free.new row.old row.new) }
-    ensures stopped { IfErr result (λ e. e ≡ RefusalValue.Stopped → IsTrue (P.fuse memory.new).has_burnt) }
     ensures inode { row.new.inode ≡ row.old.inode }
-    ensures lists { free.new.sup ≡ free.old.sup }
-    ensures length { size (P.region memory.new) ≡ size (P.region memory.old) }
-    ensures keeps_fuse { KeepsFuse (λ limit. size (P.region memory.old) ≤ limit) (P.fuse memory.old) (P.fuse memory.new) }
     // Every word outside these places is as it was.
     ensures wrote { (held : Store) (h : Held) → ShowsRow (P.region memory.old) sup.now held h row.old free.old → 0 < length entries.now
         → StoresIn sup.now held (one_log sup.now row.old.inode) (P.region memory.old) (P.region memory.new) }

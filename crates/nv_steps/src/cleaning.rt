@@ -1,9 +1,8 @@
 //! The first page that the log of a row can do without, taken out of it, and such pages that follow one another.
 
-ghost use Rattle.std.specs.Prelude.{◌≡◌, ◌⊎◌, ◌+◌, ◌%◌, ◌<◌, ◌≤◌, ℕ, List, length, true, Option, IsTrue, IfOk, IfErr, IfSome, OnOk};
+ghost use Rattle.std.specs.Prelude.{◌≡◌, ◌⊎◌, ◌+◌, ◌%◌, ◌<◌, ◌≤◌, ℕ, List, length, true, Option, IfOk, IfErr, IfSome, OnOk};
 ghost use Rattle.nv_region.specs.Region.{HasBlocks, size};
 ghost use Rattle.nv_region.specs.Stops.{LeavesOnly, NothingPending};
-ghost use Rattle.nv_region.specs.Fuses.{KeepsFuse};
 ghost use Rattle.nv_super.specs.Layout.{fixed_layout, HasAreas, IsLayout, inode_limit, slot_address};
 ghost use Rattle.nv_alloc.specs.FreeValue.{FreeLists};
 ghost use Rattle.nv_inode.specs.Slot.{is_right_log};
@@ -22,6 +21,7 @@ ghost use Rattle.nv_steps.specs.Steps.{LeavesStep, ShowsRow};
 ghost use Rattle.nv_steps.specs.Stopped.{PageLess};
 ghost use Rattle.nv_steps.specs.Stores.{StoresIn, one_page_less};
 ghost use Rattle.nv_steps.specs.Taken.{SamePools};
+ghost use Rattle.nv_steps.specs.Keeping.{KeepsStep};
 
 use crate::giving::give_block;
 use nv_alloc::Allocators;
@@ -88,7 +88,7 @@ pub fn clean_log<P: Pmem>(
     // A block is given back once no log leads to it.
     ensures not_given { IfErr result (λ e. SamePools free.old free.new) }
     ensures unchanged { IfErr result (λ e. (e ≡ RefusalValue.Stopped → ⊥) → LeavesStep memory.old memory.new free.old free.new row.old row.new) }
-    ensures stopped { IfErr result (λ e. e ≡ RefusalValue.Stopped → IsTrue (P.fuse memory.new).has_burnt) }
+    ensures kept { KeepsStep P.region P.fuse memory.old memory.new free.old free.new result }
     // Every word outside these places is as it was.
     ensures wrote { (held : Store) (h : Held) (o : Option ℕ) → ShowsRow (P.region memory.old) sup.now held h row.old free.old
         → IsKnownDead sup.now h.kind row.old.inode h.created h.entries h.pages known → IsFirstDead sup.now h.kind row.old.inode h.created h.entries h.pages o
@@ -98,9 +98,6 @@ pub fn clean_log<P: Pmem>(
         → IsKnownDead sup.now h.kind row.old.inode h.created h.entries h.pages known → NothingPending (P.region memory.old) (P.may_hold memory.old)
         → LeavesOnly (P.region memory.new) (P.may_hold memory.new) (LeavesEither (P.region memory.old) (fixed_layout sup.now) held (PageLess (P.region memory.old) sup.now free.old row.old)) }
     ensures file { KeepsFile row.old row.new }
-    ensures lists { free.new.sup ≡ free.old.sup }
-    ensures length { size (P.region memory.new) ≡ size (P.region memory.old) }
-    ensures keeps_fuse { KeepsFuse (λ limit. size (P.region memory.old) ≤ limit) (P.fuse memory.old) (P.fuse memory.new) }
 {
     // The region's length is a u64, and so is each address up to it.
     let _end = memory.len();

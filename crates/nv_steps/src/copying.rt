@@ -1,6 +1,6 @@
 //! A file that gets longer, and ends in a page that has a block: that page goes to a fresh block, with zeros behind the end.
 
-ghost use Rattle.std.specs.Prelude.{◌≡◌, ℕ, ◌<◌, ◌≤◌, ◌+◌, ◌*◌, ◌/◌, ◌%◌, ◌∷◌, [], ◌^◌, length, IfOk, IfErr, OnOk, OnErr, Option, IsTrue, is_err, suc};
+ghost use Rattle.std.specs.Prelude.{◌≡◌, ℕ, ◌<◌, ◌≤◌, ◌+◌, ◌*◌, ◌/◌, ◌%◌, ◌∷◌, [], ◌^◌, length, IfOk, IfErr, OnOk, OnErr, Option, is_err, suc};
 ghost use Rattle.smallvec.specs.SmallVec.{HasRoomFor};
 ghost use Rattle.nv_region.specs.Region.{size};
 ghost use Rattle.nv_region.specs.Stops.{LeavesOnly, NothingPending};
@@ -21,10 +21,11 @@ ghost use Rattle.nv_commit.specs.Extends.{CanExtend};
 ghost use Rattle.nv_commit.specs.Stopped.{LeavesEither};
 ghost use Rattle.nv_tree.specs.declared.refusal.Refusal.{Refusal as RefusalValue};
 ghost use Rattle.nv_steps.specs.Sizes.{CanResize, CopiesEnd, Resizes, blocks_from, end_block, resizing};
-ghost use Rattle.nv_steps.specs.Steps.{LeavesStep, RefusesStep, ShowsRow};
+ghost use Rattle.nv_steps.specs.Steps.{LeavesStep, ShowsRow};
 ghost use Rattle.nv_steps.specs.Stopped.{Resized};
 ghost use Rattle.nv_steps.specs.Stores.{StoresIn, one_log};
 ghost use Rattle.nv_steps.specs.Taken.{SamePools, TakesEach};
+ghost use Rattle.nv_steps.specs.Keeping.{NeedsFree, SettlesStep};
 
 use crate::blocks::take_blocks;
 use crate::giving::give_block;
@@ -56,15 +57,10 @@ pub(crate) fn resize_with_copy<P: Pmem>(
     requires can { CanResize (P.region memory.old) sup.now free.old row.old attributes }
     requires ends { end_block (block_at row.old.index) row.old.numbers.size attributes.size ≡ Option.Some from }
     ensures resized { OnOk result (Resizes (P.region memory.old) (P.region memory.new) sup.now free.old cpu row.old attributes row.new free.new) }
-    ensures enough { OnOk result (blocks_from row.old.tail attributes (Option.Some from) ≤ all_blocks free.old.pools) }
-    ensures settled { OnOk result (NothingPending (P.region memory.new) (P.may_hold memory.new)) }
-    ensures refused { IfErr result (λ e. RefusesStep e (blocks_from row.old.tail attributes (Option.Some from)) free.old) }
+    ensures needs { NeedsFree (blocks_from row.old.tail attributes (Option.Some from)) free.old result }
+    ensures kept { SettlesStep P.region P.may_hold P.fuse memory.old memory.new free.old free.new result }
     ensures unchanged { IfErr result (λ e. (e ≡ RefusalValue.Stopped → ⊥) → LeavesStep memory.old memory.new free.old free.new row.old row.new) }
-    ensures stopped { IfErr result (λ e. e ≡ RefusalValue.Stopped → IsTrue (P.fuse memory.new).has_burnt) }
     ensures inode { row.new.inode ≡ row.old.inode }
-    ensures lists { free.new.sup ≡ free.old.sup }
-    ensures length { size (P.region memory.new) ≡ size (P.region memory.old) }
-    ensures keeps_fuse { KeepsFuse (λ limit. size (P.region memory.old) ≤ limit) (P.fuse memory.old) (P.fuse memory.new) }
     // Every word outside these places is as it was.
     ensures wrote { (held : Store) (h : Held) → ShowsRow (P.region memory.old) sup.now held h row.old free.old
         → StoresIn sup.now held (one_log sup.now row.old.inode) (P.region memory.old) (P.region memory.new) }

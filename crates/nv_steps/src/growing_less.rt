@@ -2,11 +2,8 @@
 //! rows.
 
 ghost use Rattle.std.specs.Prelude.{◌≡◌, ◌≢◌, ◌+◌, ◌%◌, ◌<◌, ◌≤◌, length, IsTrue, IfOk, IfErr, OnOk, OnErr};
-ghost use Rattle.nv_region.specs.Region.{size};
 ghost use Rattle.nv_region.specs.Stops.{LeavesOnly, NothingPending};
-ghost use Rattle.nv_region.specs.Fuses.{KeepsFuse};
 ghost use Rattle.nv_super.specs.Layout.{fixed_layout, is_number, slot_address};
-ghost use Rattle.nv_alloc.specs.Taking.{all_blocks};
 ghost use Rattle.nv_logpage.specs.Append.{needed};
 ghost use Rattle.nv_held.specs.nv_outcome.Same.{SameRow};
 ghost use Rattle.nv_held.specs.Held.{Held, Store};
@@ -16,10 +13,11 @@ ghost use Rattle.nv_steps.specs.Across.{AppendedLogsLess, AppendsLogsLess};
 ghost use Rattle.nv_steps.specs.Grown.{StandsRight};
 ghost use Rattle.nv_steps.specs.MoreNames.{AreFew, ReadiesRow};
 ghost use Rattle.nv_steps.specs.NewNames.{CanName};
-ghost use Rattle.nv_steps.specs.Steps.{LeavesStep, RefusesStep, ShowsRow};
+ghost use Rattle.nv_steps.specs.Steps.{LeavesStep, ShowsRow};
 ghost use Rattle.nv_steps.specs.InOrder.{TailIsFirst, TailIsNext, tail_address};
 ghost use Rattle.nv_steps.specs.Taken.{SamePools, TakesEach};
 ghost use Rattle.nv_steps.specs.Stores.{StoresIn, two_less};
+ghost use Rattle.nv_steps.specs.Keeping.{NeedsFree, SettlesStep};
 
 use crate::growing::{Growth, blocks_for, extension, prepare_logs};
 use crate::settling::settle_log;
@@ -59,18 +57,11 @@ pub(crate) fn append_logs_less<P: Pmem>(
     requires other_differs { other.old.inode ≢ gone.inode }
     ensures appended { OnOk result (AppendsLogsLess (P.region memory.old) (P.region memory.new) sup.now free.old free.new cpu row.old row.new first.now.entries.now other.old other.new
         second.now.entries.now gone.inode) }
-    ensures room { OnOk result (second.now.names ≤ other.new.names.room) }
-    ensures blocks_room { OnOk result (gone.blocks ≤ free.new.room) }
-    ensures enough { OnOk result (needed (row.old.tail % 4096) first.now.entries.now + needed (other.old.tail % 4096) second.now.entries.now ≤ all_blocks free.old.pools) }
-    ensures settled { OnOk result (NothingPending (P.region memory.new) (P.may_hold memory.new)) }
-    ensures refused { IfErr result (λ e. RefusesStep e (needed (row.old.tail % 4096) first.now.entries.now + needed (other.old.tail % 4096) second.now.entries.now) free.old) }
+    ensures rooms { OnOk result ((second.now.names ≤ other.new.names.room) × (gone.blocks ≤ free.new.room)) }
+    ensures needs { NeedsFree (needed (row.old.tail % 4096) first.now.entries.now + needed (other.old.tail % 4096) second.now.entries.now) free.old result }
+    ensures kept { SettlesStep P.region P.may_hold P.fuse memory.old memory.new free.old free.new result }
     ensures unchanged { IfErr result (λ e. (e ≡ RefusalValue.Stopped → ⊥) → LeavesStep memory.old memory.new free.old free.new row.old row.new × SameRow other.old other.new) }
-    ensures stopped { IfErr result (λ e. e ≡ RefusalValue.Stopped → IsTrue (P.fuse memory.new).has_burnt) }
-    ensures inode { row.new.inode ≡ row.old.inode }
-    ensures other_inode { other.new.inode ≡ other.old.inode }
-    ensures lists { free.new.sup ≡ free.old.sup }
-    ensures length { size (P.region memory.new) ≡ size (P.region memory.old) }
-    ensures keeps_fuse { KeepsFuse (λ limit. size (P.region memory.old) ≤ limit) (P.fuse memory.old) (P.fuse memory.new) }
+    ensures inodes { (row.new.inode ≡ row.old.inode) × (other.new.inode ≡ other.old.inode) }
     // Every word outside these places is as it was.
     ensures wrote { (held : Store) (h g : Held) → ShowsRow (P.region memory.old) sup.now held h row.old free.old → ShowsRow (P.region memory.old) sup.now held g other.old free.old
         → StoresIn sup.now held (two_less sup.now cpu row.old.inode other.old.inode gone.inode) (P.region memory.old) (P.region memory.new) }
@@ -118,13 +109,11 @@ fn prepare_logs_less(
     requires more_few { length second.now.entries.now < 4096 }
     ensures taken { IfOk result (λ blocks. TakesEach free.old cpu blocks.items free.new) }
     ensures count { IfOk result (λ blocks. length blocks.items ≡ needed (row.old.tail % 4096) first.now.entries.now + needed (other.old.tail % 4096) second.now.entries.now) }
-    ensures enough { OnOk result (needed (row.old.tail % 4096) first.now.entries.now + needed (other.old.tail % 4096) second.now.entries.now ≤ all_blocks free.old.pools) }
+    ensures needs { NeedsFree (needed (row.old.tail % 4096) first.now.entries.now + needed (other.old.tail % 4096) second.now.entries.now) free.old result }
     ensures room { OnOk result (coming ≤ free.new.room) }
-    ensures refused { IfErr result (λ e. RefusesStep e (needed (row.old.tail % 4096) first.now.entries.now + needed (other.old.tail % 4096) second.now.entries.now) free.old) }
     ensures goes_on { IfErr result (λ e. e ≡ RefusalValue.Stopped → ⊥) }
     ensures unchanged { OnErr result (SamePools free.old free.new) }
-    ensures row { SameRow row.old row.new }
-    ensures other { SameRow other.old other.new }
+    ensures rows { SameRow row.old row.new × SameRow other.old other.new }
     ensures ready { OnOk result (ReadiesRow row.old row.new first.now.entries.now first.now.names) }
     ensures other_ready { OnOk result (ReadiesRow other.old other.new second.now.entries.now second.now.names) }
 {

@@ -1,11 +1,8 @@
 //! Three logs that grow together, and the rows that stand for them: all growths first, then the commit, then the rows.
 
-ghost use Rattle.std.specs.Prelude.{◌≡◌, ◌≢◌, ◌+◌, ◌%◌, ◌<◌, ◌≤◌, length, IsTrue, IfOk, IfErr, OnOk, OnErr};
-ghost use Rattle.nv_region.specs.Region.{size};
+ghost use Rattle.std.specs.Prelude.{◌≡◌, ◌≢◌, ◌+◌, ◌%◌, ◌<◌, ◌≤◌, length, IfOk, IfErr, OnOk, OnErr};
 ghost use Rattle.nv_region.specs.Stops.{LeavesOnly, NothingPending};
-ghost use Rattle.nv_region.specs.Fuses.{KeepsFuse};
 ghost use Rattle.nv_super.specs.Layout.{fixed_layout};
-ghost use Rattle.nv_alloc.specs.Taking.{all_blocks};
 ghost use Rattle.nv_logpage.specs.Append.{needed};
 ghost use Rattle.nv_held.specs.nv_outcome.Same.{SameRow};
 ghost use Rattle.nv_held.specs.Held.{Held, Store};
@@ -15,10 +12,11 @@ ghost use Rattle.nv_steps.specs.Across.{AppendedThreeLogs, AppendsThreeLogs};
 ghost use Rattle.nv_steps.specs.Grown.{StandsRight};
 ghost use Rattle.nv_steps.specs.MoreNames.{AreFew, ReadiesRow};
 ghost use Rattle.nv_steps.specs.NewNames.{CanName};
-ghost use Rattle.nv_steps.specs.Steps.{LeavesStep, RefusesStep, ShowsRow};
+ghost use Rattle.nv_steps.specs.Steps.{LeavesStep, ShowsRow};
 ghost use Rattle.nv_steps.specs.InOrder.{TailIsFirst, TailIsNext, tail_address};
 ghost use Rattle.nv_steps.specs.Taken.{SamePools, TakesEach};
 ghost use Rattle.nv_steps.specs.Stores.{StoresIn, three_logs};
+ghost use Rattle.nv_steps.specs.Keeping.{NeedsFree, SettlesStep};
 
 use crate::blocks::{are_enough, take_blocks};
 use crate::growing::{Growth, blocks_for, extension, make_room};
@@ -59,18 +57,12 @@ pub(crate) fn append_three_logs<P: Pmem>(
     ensures appended { OnOk result (AppendsThreeLogs (P.region memory.old) (P.region memory.new) sup.now free.old free.new cpu row.old row.new first.now.entries.now other.old other.new
         second.now.entries.now last.old last.new third.now.entries.now) }
     ensures room { OnOk result (second.now.names ≤ other.new.names.room) }
-    ensures enough { OnOk result (needed (row.old.tail % 4096) first.now.entries.now + needed (other.old.tail % 4096) second.now.entries.now
-        + needed (last.old.tail % 4096) third.now.entries.now ≤ all_blocks free.old.pools) }
-    ensures settled { OnOk result (NothingPending (P.region memory.new) (P.may_hold memory.new)) }
-    ensures refused { IfErr result (λ e. RefusesStep e (needed (row.old.tail % 4096) first.now.entries.now + needed (other.old.tail % 4096) second.now.entries.now
-        + needed (last.old.tail % 4096) third.now.entries.now) free.old) }
+    ensures needs { NeedsFree (needed (row.old.tail % 4096) first.now.entries.now + needed (other.old.tail % 4096) second.now.entries.now
+        + needed (last.old.tail % 4096) third.now.entries.now) free.old result }
+    ensures kept { SettlesStep P.region P.may_hold P.fuse memory.old memory.new free.old free.new result }
     ensures unchanged { IfErr result (λ e. (e ≡ RefusalValue.Stopped → ⊥) → LeavesStep memory.old memory.new free.old free.new row.old row.new × SameRow other.old other.new
         × SameRow last.old last.new) }
-    ensures stopped { IfErr result (λ e. e ≡ RefusalValue.Stopped → IsTrue (P.fuse memory.new).has_burnt) }
     ensures inodes { (row.new.inode ≡ row.old.inode) × (other.new.inode ≡ other.old.inode) × (last.new.inode ≡ last.old.inode) }
-    ensures lists { free.new.sup ≡ free.old.sup }
-    ensures length { size (P.region memory.new) ≡ size (P.region memory.old) }
-    ensures keeps_fuse { KeepsFuse (λ limit. size (P.region memory.old) ≤ limit) (P.fuse memory.old) (P.fuse memory.new) }
     // Every word outside these places is as it was.
     ensures wrote { (held : Store) (h g f : Held) → ShowsRow (P.region memory.old) sup.now held h row.old free.old → ShowsRow (P.region memory.old) sup.now held g other.old free.old
         → ShowsRow (P.region memory.old) sup.now held f last.old free.old
@@ -126,10 +118,8 @@ fn prepare_three(
     ensures taken { IfOk result (λ blocks. TakesEach free.old cpu blocks.items free.new) }
     ensures count { IfOk result (λ blocks. length blocks.items ≡ needed (row.old.tail % 4096) first.now.entries.now + needed (other.old.tail % 4096) second.now.entries.now
         + needed (last.old.tail % 4096) third.now.entries.now) }
-    ensures enough { OnOk result (needed (row.old.tail % 4096) first.now.entries.now + needed (other.old.tail % 4096) second.now.entries.now
-        + needed (last.old.tail % 4096) third.now.entries.now ≤ all_blocks free.old.pools) }
-    ensures refused { IfErr result (λ e. RefusesStep e (needed (row.old.tail % 4096) first.now.entries.now + needed (other.old.tail % 4096) second.now.entries.now
-        + needed (last.old.tail % 4096) third.now.entries.now) free.old) }
+    ensures needs { NeedsFree (needed (row.old.tail % 4096) first.now.entries.now + needed (other.old.tail % 4096) second.now.entries.now
+        + needed (last.old.tail % 4096) third.now.entries.now) free.old result }
     ensures goes_on { IfErr result (λ e. e ≡ RefusalValue.Stopped → ⊥) }
     ensures unchanged { OnErr result (SamePools free.old free.new) }
     ensures rows { SameRow row.old row.new × SameRow other.old other.new × SameRow last.old last.new }

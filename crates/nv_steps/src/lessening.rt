@@ -1,12 +1,9 @@
 //! A log that grows while another inode goes, and the row that stands for it: all growths first, then the commit, then the row.
 
-ghost use Rattle.std.specs.Prelude.{◌≡◌, ◌≢◌, ◌%◌, ◌<◌, ◌≤◌, length, IsTrue, IfOk, IfErr, OnOk, OnErr};
+ghost use Rattle.std.specs.Prelude.{◌≡◌, ◌≢◌, ◌%◌, ◌<◌, ◌≤◌, length, IfOk, IfErr, OnOk, OnErr};
 ghost use Rattle.nv_super.specs.Layout.{fixed_layout, slot_address};
 ghost use Rattle.smallvec.specs.SmallVec.{HasRoomFor};
-ghost use Rattle.nv_region.specs.Region.{size};
 ghost use Rattle.nv_region.specs.Stops.{LeavesOnly, NothingPending};
-ghost use Rattle.nv_region.specs.Fuses.{KeepsFuse};
-ghost use Rattle.nv_alloc.specs.Taking.{all_blocks};
 ghost use Rattle.nv_logpage.specs.Append.{AreGiven, needed};
 ghost use Rattle.nv_names.specs.Names.{EachOnce};
 ghost use Rattle.nv_held.specs.nv_outcome.Same.{SameRow};
@@ -15,11 +12,12 @@ ghost use Rattle.nv_commit.specs.Stopped.{LeavesEither};
 ghost use Rattle.nv_tree.specs.declared.refusal.Refusal.{Refusal as RefusalValue};
 ghost use Rattle.nv_steps.specs.Grown.{HasGrown, StandsRight};
 ghost use Rattle.nv_steps.specs.NewNames.{CanName};
-ghost use Rattle.nv_steps.specs.Steps.{LeavesStep, RefusesStep, ShowsRow};
+ghost use Rattle.nv_steps.specs.Steps.{LeavesStep, ShowsRow};
 ghost use Rattle.nv_steps.specs.InOrder.{TailIsFirst};
 ghost use Rattle.nv_steps.specs.Stores.{StoresIn, one_less};
 ghost use Rattle.nv_steps.specs.Takes.{AppendedLess, AppendsLess};
 ghost use Rattle.nv_steps.specs.Taken.{SamePools, TakesEach};
+ghost use Rattle.nv_steps.specs.Keeping.{NeedsFree, SettlesStep};
 
 use crate::preparing::prepare_log;
 use crate::settling::settle_log;
@@ -55,16 +53,10 @@ pub fn append_less<P: Pmem>(
     requires some { 0 < length entries.now }
     ensures appended { OnOk result (AppendsLess (P.region memory.old) (P.region memory.new) sup.now free.old free.new cpu row.old row.new gone entries.now) }
     ensures room { OnOk result (coming ≤ free.new.room) }
-    ensures enough { OnOk result (needed (row.old.tail % 4096) entries.now ≤ all_blocks free.old.pools) }
-    ensures settled { OnOk result (NothingPending (P.region memory.new) (P.may_hold memory.new)) }
-    ensures refused { IfErr result (λ e. RefusesStep e (needed (row.old.tail % 4096) entries.now) free.old) }
+    ensures needs { NeedsFree (needed (row.old.tail % 4096) entries.now) free.old result }
+    ensures kept { SettlesStep P.region P.may_hold P.fuse memory.old memory.new free.old free.new result }
     ensures unchanged { IfErr result (λ e. (e ≡ RefusalValue.Stopped → ⊥) → LeavesStep memory.old memory.new free.old free.new row.old row.new) }
-    ensures stopped { IfErr result (λ e. e ≡ RefusalValue.Stopped → IsTrue (P.fuse memory.new).has_burnt) }
-    ensures inode { row.new.inode ≡ row.old.inode }
-    ensures names_room { row.new.names.room ≡ row.old.names.room }
-    ensures lists { free.new.sup ≡ free.old.sup }
-    ensures length { size (P.region memory.new) ≡ size (P.region memory.old) }
-    ensures keeps_fuse { KeepsFuse (λ limit. size (P.region memory.old) ≤ limit) (P.fuse memory.old) (P.fuse memory.new) }
+    ensures row { (row.new.inode ≡ row.old.inode) × (row.new.names.room ≡ row.old.names.room) }
     // Every word outside these places is as it was.
     ensures wrote { (held : Store) (h : Held) → ShowsRow (P.region memory.old) sup.now held h row.old free.old
         → StoresIn sup.now held (one_less sup.now cpu row.old.inode gone) (P.region memory.old) (P.region memory.new) }
@@ -107,11 +99,9 @@ fn prepare_cut(
     ensures count { IfOk result (λ blocks. length blocks.items ≡ needed (row.old.tail % 4096) entries.now) }
     ensures pages_room { IfOk result (λ blocks. HasRoomFor row.new.pages (length blocks.items)) }
     ensures room { OnOk result (coming ≤ free.new.room) }
-    ensures enough { OnOk result (needed (row.old.tail % 4096) entries.now ≤ all_blocks free.old.pools) }
+    ensures needs { NeedsFree (needed (row.old.tail % 4096) entries.now) free.old result }
     ensures once { EachOnce row.old.names }
-    ensures row { SameRow row.old row.new }
-    ensures names_room { row.new.names.room ≡ row.old.names.room }
-    ensures refused { IfErr result (λ e. RefusesStep e (needed (row.old.tail % 4096) entries.now) free.old) }
+    ensures row { SameRow row.old row.new × (row.new.names.room ≡ row.old.names.room) }
     ensures goes_on { IfErr result (λ e. e ≡ RefusalValue.Stopped → ⊥) }
     ensures unchanged { OnErr result (SamePools free.old free.new) }
 {

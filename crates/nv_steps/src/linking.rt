@@ -1,11 +1,8 @@
 //! One more name of a file, by the rows of the file and of the directory.
 
-ghost use Rattle.std.specs.Prelude.{◌≡◌, ◌≢◌, ◌+◌, ◌%◌, ◌<◌, ◌≤◌, [], ◌∷◌, Option, Result, IsTrue, IfErr, OnOk};
+ghost use Rattle.std.specs.Prelude.{◌≡◌, ◌≢◌, ◌+◌, ◌%◌, ◌<◌, [], ◌∷◌, Option, Result, IfErr, OnOk};
 ghost use Rattle.nv_super.specs.Layout.{fixed_layout};
-ghost use Rattle.nv_region.specs.Region.{size};
 ghost use Rattle.nv_region.specs.Stops.{LeavesOnly, NothingPending};
-ghost use Rattle.nv_region.specs.Fuses.{KeepsFuse};
-ghost use Rattle.nv_alloc.specs.Taking.{all_blocks};
 ghost use Rattle.nv_entry.specs.declared.entry.Operation.TheVariants.{Add};
 ghost use Rattle.nv_logpage.specs.Append.{needed};
 ghost use Rattle.nv_names.specs.Names.{IsName, name_at};
@@ -18,10 +15,11 @@ ghost use Rattle.nv_steps.specs.Grown.{StandsRight};
 ghost use Rattle.nv_steps.specs.NameEntries.{links_entries, name_entries};
 ghost use Rattle.nv_steps.specs.MoreNames.{LinksAt};
 ghost use Rattle.nv_steps.specs.NewNames.{CanName};
-ghost use Rattle.nv_steps.specs.Steps.{LeavesStep, RefusesStep, ShowsRow};
+ghost use Rattle.nv_steps.specs.Steps.{LeavesStep, ShowsRow};
 ghost use Rattle.nv_steps.specs.Stopped.{Linked};
 ghost use Rattle.nv_steps.specs.InOrder.{TailIsFirst, tail_address};
 ghost use Rattle.nv_steps.specs.Stores.{StoresIn, two_logs};
+ghost use Rattle.nv_steps.specs.Keeping.{NeedsFree, SettlesStep};
 
 use crate::growing::{Growth, append_logs};
 use crate::settling_names::{add_name, set_links};
@@ -54,18 +52,12 @@ pub fn link_both<P: Pmem>(
     requires few { file.old.numbers.links < 1000 }
     requires name { IsName name.now }
     ensures linked { OnOk result (LinksAt (P.region memory.old) (P.region memory.new) sup.now free.old free.new cpu (file.old ∷ directory.old ∷ []) (file.new ∷ directory.new ∷ []) 0 1 name.now time) }
-    ensures enough { OnOk result (needed (file.old.tail % 4096) (links_entries (file.old.numbers.links + 1) time)
-        + needed (directory.old.tail % 4096) (name_entries Add file.old.inode name.now time) ≤ all_blocks free.old.pools) }
-    ensures settled { OnOk result (NothingPending (P.region memory.new) (P.may_hold memory.new)) }
-    ensures refused { IfErr result (λ e. RefusesStep e (needed (file.old.tail % 4096) (links_entries (file.old.numbers.links + 1) time)
-        + needed (directory.old.tail % 4096) (name_entries Add file.old.inode name.now time)) free.old) }
+    ensures needs { NeedsFree (needed (file.old.tail % 4096) (links_entries (file.old.numbers.links + 1) time)
+        + needed (directory.old.tail % 4096) (name_entries Add file.old.inode name.now time)) free.old result }
+    ensures kept { SettlesStep P.region P.may_hold P.fuse memory.old memory.new free.old free.new result }
     ensures unchanged { IfErr result (λ e. (e ≡ RefusalValue.Stopped → ⊥) → LeavesStep memory.old memory.new free.old free.new file.old file.new × SameRow directory.old directory.new) }
-    ensures stopped { IfErr result (λ e. e ≡ RefusalValue.Stopped → IsTrue (P.fuse memory.new).has_burnt) }
     ensures inode { file.new.inode ≡ file.old.inode }
     ensures directory_inode { directory.new.inode ≡ directory.old.inode }
-    ensures lists { free.new.sup ≡ free.old.sup }
-    ensures length { size (P.region memory.new) ≡ size (P.region memory.old) }
-    ensures keeps_fuse { KeepsFuse (λ limit. size (P.region memory.old) ≤ limit) (P.fuse memory.old) (P.fuse memory.new) }
     // Every word outside these places is as it was.
     ensures wrote { (held : Store) (h g : Held) → ShowsRow (P.region memory.old) sup.now held h file.old free.old → ShowsRow (P.region memory.old) sup.now held g directory.old free.old
         → StoresIn sup.now held (two_logs sup.now cpu file.old.inode directory.old.inode) (P.region memory.old) (P.region memory.new) }

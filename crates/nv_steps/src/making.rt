@@ -1,13 +1,11 @@
 //! A new inode and its name, over blocks that are taken for both logs: all growths first, then the commit, then the rows.
 
-ghost use Rattle.std.specs.Prelude.{◌≡◌, ◌+◌, ◌*◌, ◌<◌, ◌≤◌, ◌%◌, ◌^◌, [], ◌∷◌, length, IsTrue, IfOk, IfErr, OnOk, OnErr, None};
+ghost use Rattle.std.specs.Prelude.{◌≡◌, ◌+◌, ◌*◌, ◌<◌, ◌≤◌, ◌%◌, ◌^◌, [], ◌∷◌, length, IfOk, IfErr, OnOk, OnErr, None};
 ghost use Rattle.nv_super.specs.Layout.{fixed_layout, slot_address};
 ghost use Rattle.nv_journal.specs.InOrder.{FirstIsFirst};
 ghost use Rattle.smallvec.specs.SmallVec.{HasRoomFor};
 ghost use Rattle.nv_region.specs.Region.{size};
 ghost use Rattle.nv_region.specs.Stops.{LeavesOnly, NothingPending};
-ghost use Rattle.nv_region.specs.Fuses.{KeepsFuse};
-ghost use Rattle.nv_alloc.specs.Taking.{all_blocks};
 ghost use Rattle.nv_entry.specs.declared.entry.Operation.{Operation as OperationValue};
 ghost use Rattle.nv_entry.specs.declared.entry.Entry.TheVariants.{Attr};
 ghost use Rattle.nv_logpage.specs.Append.{needed};
@@ -19,11 +17,12 @@ ghost use Rattle.nv_tree.specs.declared.refusal.Refusal.{Refusal as RefusalValue
 ghost use Rattle.nv_steps.specs.Grown.{StandsRight};
 ghost use Rattle.nv_steps.specs.NameEntries.{first_entries, name_entries};
 ghost use Rattle.nv_steps.specs.NewNames.{CanName, HasNamed, IsNewRow, MakesNamed};
-ghost use Rattle.nv_steps.specs.Steps.{LeavesStep, RefusesStep, ShowsRow};
+ghost use Rattle.nv_steps.specs.Steps.{LeavesStep, ShowsRow};
 ghost use Rattle.nv_steps.specs.Stopped.{Named};
 ghost use Rattle.nv_steps.specs.InOrder.{tail_address};
 ghost use Rattle.nv_steps.specs.Taken.{SamePools, TakesEach};
 ghost use Rattle.nv_steps.specs.Stores.{StoresIn, one_more};
+ghost use Rattle.nv_steps.specs.Keeping.{NeedsFree, SettlesStep};
 
 use crate::blocks::take_blocks;
 use crate::settling::settle_log;
@@ -70,15 +69,10 @@ pub fn make_named<P: Pmem>(
     requires name { IsName new.now.name.now }
     ensures made { IfOk result (λ row. MakesNamed (P.region memory.old) (P.region memory.new) sup.now free.old free.new cpu directory.old directory.new new.now.kind new.now.mode new.now.time
         new.now.inode new.now.name.now row) }
-    ensures enough { OnOk result (1 + needed (directory.old.tail % 4096) (name_entries OperationValue.Add new.now.inode new.now.name.now new.now.time) ≤ all_blocks free.old.pools) }
-    ensures settled { OnOk result (NothingPending (P.region memory.new) (P.may_hold memory.new)) }
-    ensures refused { IfErr result (λ e. RefusesStep e (1 + needed (directory.old.tail % 4096) (name_entries OperationValue.Add new.now.inode new.now.name.now new.now.time)) free.old) }
+    ensures needs { NeedsFree (1 + needed (directory.old.tail % 4096) (name_entries OperationValue.Add new.now.inode new.now.name.now new.now.time)) free.old result }
+    ensures kept { SettlesStep P.region P.may_hold P.fuse memory.old memory.new free.old free.new result }
     ensures unchanged { IfErr result (λ e. (e ≡ RefusalValue.Stopped → ⊥) → LeavesStep memory.old memory.new free.old free.new directory.old directory.new) }
-    ensures stopped { IfErr result (λ e. e ≡ RefusalValue.Stopped → IsTrue (P.fuse memory.new).has_burnt) }
     ensures inode { directory.new.inode ≡ directory.old.inode }
-    ensures lists { free.new.sup ≡ free.old.sup }
-    ensures length { size (P.region memory.new) ≡ size (P.region memory.old) }
-    ensures keeps_fuse { KeepsFuse (λ limit. size (P.region memory.old) ≤ limit) (P.fuse memory.old) (P.fuse memory.new) }
     // Every word outside these places is as it was.
     ensures wrote { (held : Store) (h : Held) → ShowsRow (P.region memory.old) sup.now held h directory.old free.old → held new.now.inode ≡ None
         → StoresIn sup.now held (one_more sup.now cpu new.now.inode directory.old.inode) (P.region memory.old) (P.region memory.new) }
@@ -131,10 +125,9 @@ fn prepare_name(
     ensures count { IfOk result (λ blocks. length blocks.items ≡ 1 + needed (directory.old.tail % 4096) entries.now) }
     ensures room { IfOk result (λ blocks. HasRoomFor directory.new.pages (length blocks.items)) }
     ensures names_room { OnOk result (0 < directory.new.names.room) }
-    ensures enough { OnOk result (1 + needed (directory.old.tail % 4096) entries.now ≤ all_blocks free.old.pools) }
+    ensures needs { NeedsFree (1 + needed (directory.old.tail % 4096) entries.now) free.old result }
     ensures once { EachOnce directory.old.names }
     ensures row { SameRow directory.old directory.new }
-    ensures refused { IfErr result (λ e. RefusesStep e (1 + needed (directory.old.tail % 4096) entries.now) free.old) }
     ensures goes_on { IfErr result (λ e. e ≡ RefusalValue.Stopped → ⊥) }
     ensures unchanged { OnErr result (SamePools free.old free.new) }
 {

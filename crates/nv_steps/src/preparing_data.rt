@@ -57,13 +57,11 @@ pub(crate) fn prepare_data(
     ensures replaced { IfOk result (λ ready. ready.replaced.items ≡ replaced_blocks row.old.index plan.now) }
     ensures room { IfOk result (λ ready. length ready.replaced.items ≤ free.new.room) }
     ensures pages { IfOk result (λ ready. HasRoomFor row.new.pages (length ready.log.fresh.items)) }
-    ensures first { OnOk result (AreReady row.new.index plan.now.first plan.now.pages) }
-    ensures last { OnOk result (IfSome plan.now.ending (λ p. AreReady row.new.index p 1)) }
+    ensures ready { OnOk result (AreReady row.new.index plan.now.first plan.now.pages × IfSome plan.now.ending (λ p. AreReady row.new.index p 1)) }
     ensures enough { OnOk result ((count : ℕ) → NeedsBlocks free.old.pools cpu row.old.tail plan.now count → count ≤ all_blocks free.old.pools) }
     ensures refused { IfErr result (λ e. e ≡ NoSpace → (count : ℕ) → NeedsBlocks free.old.pools cpu row.old.tail plan.now count → all_blocks free.old.pools < count) }
     ensures unchanged { OnErr result (SamePools free.old free.new) }
-    ensures row { SameRow row.old row.new }
-    ensures names { row.new.names ≡ row.old.names }
+    ensures row { SameRow row.old row.new × (row.new.names ≡ row.old.names) }
 {
     if free.free_blocks() < plan.blocks() {
         return Err(AllocRefusal::NoSpace);
@@ -133,9 +131,7 @@ fn prepare_entries(
     ensures refused { IfErr result (λ e. e ≡ NoSpace → all_blocks free.old.pools < needed (row.old.tail % 4096) (data_entries plan.now runs.now)) }
     ensures unchanged { OnErr result (SamePools free.old free.new) }
     ensures room { free.old.room ≤ free.new.room + data_blocks plan.now }
-    ensures row { SameRow row.old row.new }
-    ensures index { row.new.index ≡ row.old.index }
-    ensures names { row.new.names ≡ row.old.names }
+    ensures row { SameRow row.old row.new × (row.new.index ≡ row.old.index) × (row.new.names ≡ row.old.names) }
 {
     let Ok(entries) = data_entries(alloc, plan, runs) else {
         return Err(AllocRefusal::Memory);

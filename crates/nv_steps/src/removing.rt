@@ -1,11 +1,8 @@
 //! A name that goes with its inode, by its directory's row.
 
-ghost use Rattle.std.specs.Prelude.{◌≡◌, ◌≢◌, ◌%◌, ◌≤◌, IsTrue, IfErr, OnOk};
+ghost use Rattle.std.specs.Prelude.{◌≡◌, ◌≢◌, ◌%◌, ◌≤◌, IfErr, OnOk};
 ghost use Rattle.nv_super.specs.Layout.{fixed_layout, slot_address};
-ghost use Rattle.nv_region.specs.Region.{size};
 ghost use Rattle.nv_region.specs.Stops.{LeavesOnly, NothingPending};
-ghost use Rattle.nv_region.specs.Fuses.{KeepsFuse};
-ghost use Rattle.nv_alloc.specs.Taking.{all_blocks};
 ghost use Rattle.nv_entry.specs.declared.entry.Operation.{Operation as OperationValue};
 ghost use Rattle.nv_logpage.specs.Append.{needed};
 ghost use Rattle.nv_names.specs.Names.{IsName};
@@ -16,10 +13,11 @@ ghost use Rattle.nv_steps.specs.Grown.{StandsRight};
 ghost use Rattle.nv_steps.specs.LessNames.{CutsName};
 ghost use Rattle.nv_steps.specs.NameEntries.{name_entries};
 ghost use Rattle.nv_steps.specs.NewNames.{CanName};
-ghost use Rattle.nv_steps.specs.Steps.{LeavesStep, RefusesStep, ShowsRow};
+ghost use Rattle.nv_steps.specs.Steps.{LeavesStep, ShowsRow};
 ghost use Rattle.nv_steps.specs.Stopped.{Cut};
 ghost use Rattle.nv_steps.specs.InOrder.{TailIsFirst};
 ghost use Rattle.nv_steps.specs.Stores.{StoresIn, one_less};
+ghost use Rattle.nv_steps.specs.Keeping.{NeedsFree, SettlesStep};
 
 use crate::lessening::append_less;
 use crate::settling_names::remove_name;
@@ -61,15 +59,10 @@ pub fn cut_name<P: Pmem>(
     requires name { IsName gone.now.name.now }
     ensures cut { OnOk result (CutsName (P.region memory.old) (P.region memory.new) sup.now free.old free.new cpu directory.old directory.new gone.now.inode gone.now.time gone.now.name.now) }
     ensures room { OnOk result (gone.now.blocks ≤ free.new.room) }
-    ensures enough { OnOk result (needed (directory.old.tail % 4096) (name_entries OperationValue.Remove gone.now.inode gone.now.name.now gone.now.time) ≤ all_blocks free.old.pools) }
-    ensures settled { OnOk result (NothingPending (P.region memory.new) (P.may_hold memory.new)) }
-    ensures refused { IfErr result (λ e. RefusesStep e (needed (directory.old.tail % 4096) (name_entries OperationValue.Remove gone.now.inode gone.now.name.now gone.now.time)) free.old) }
+    ensures needs { NeedsFree (needed (directory.old.tail % 4096) (name_entries OperationValue.Remove gone.now.inode gone.now.name.now gone.now.time)) free.old result }
+    ensures kept { SettlesStep P.region P.may_hold P.fuse memory.old memory.new free.old free.new result }
     ensures unchanged { IfErr result (λ e. (e ≡ RefusalValue.Stopped → ⊥) → LeavesStep memory.old memory.new free.old free.new directory.old directory.new) }
-    ensures stopped { IfErr result (λ e. e ≡ RefusalValue.Stopped → IsTrue (P.fuse memory.new).has_burnt) }
     ensures inode { directory.new.inode ≡ directory.old.inode }
-    ensures lists { free.new.sup ≡ free.old.sup }
-    ensures length { size (P.region memory.new) ≡ size (P.region memory.old) }
-    ensures keeps_fuse { KeepsFuse (λ limit. size (P.region memory.old) ≤ limit) (P.fuse memory.old) (P.fuse memory.new) }
     // Every word outside these places is as it was.
     ensures wrote { (held : Store) (h : Held) → ShowsRow (P.region memory.old) sup.now held h directory.old free.old
         → StoresIn sup.now held (one_less sup.now cpu directory.old.inode gone.now.inode) (P.region memory.old) (P.region memory.new) }

@@ -1,19 +1,18 @@
 //! A file's new size: its log grows by the attributes, and the pages behind the new end are cut.
 
-ghost use Rattle.std.specs.Prelude.{◌≡◌, ◌<◌, ◌≤◌, IfErr, OnOk, Option, IsTrue};
+ghost use Rattle.std.specs.Prelude.{◌≡◌, ◌<◌, IfErr, OnOk, Option};
 ghost use Rattle.nv_super.specs.Layout.{fixed_layout};
 ghost use Rattle.nv_region.specs.Region.{size};
 ghost use Rattle.nv_region.specs.Stops.{LeavesOnly, NothingPending};
-ghost use Rattle.nv_region.specs.Fuses.{KeepsFuse};
-ghost use Rattle.nv_alloc.specs.Taking.{all_blocks};
 ghost use Rattle.nv_radix.specs.Pages.{block_at};
 ghost use Rattle.nv_held.specs.Held.{Held, Store};
 ghost use Rattle.nv_commit.specs.Stopped.{LeavesEither};
 ghost use Rattle.nv_tree.specs.declared.refusal.Refusal.{Refusal as RefusalValue};
 ghost use Rattle.nv_steps.specs.Sizes.{CanResize, Resizes, blocks_from, end_block};
-ghost use Rattle.nv_steps.specs.Steps.{LeavesStep, RefusesStep, ShowsRow};
+ghost use Rattle.nv_steps.specs.Steps.{LeavesStep, ShowsRow};
 ghost use Rattle.nv_steps.specs.Stopped.{Resized};
 ghost use Rattle.nv_steps.specs.Stores.{StoresIn, one_log};
+ghost use Rattle.nv_steps.specs.Keeping.{NeedsFree, SettlesStep};
 
 use crate::appending::append_log;
 use crate::copying::resize_with_copy;
@@ -43,15 +42,10 @@ pub fn resize<P: Pmem>(
     requires cpu { cpu < free.old.sup.cpus }
     requires can { CanResize (P.region memory.old) sup.now free.old row.old attributes }
     ensures resized { OnOk result (Resizes (P.region memory.old) (P.region memory.new) sup.now free.old cpu row.old attributes row.new free.new) }
-    ensures enough { OnOk result (blocks_from row.old.tail attributes (end_block (block_at row.old.index) row.old.numbers.size attributes.size) ≤ all_blocks free.old.pools) }
-    ensures settled { OnOk result (NothingPending (P.region memory.new) (P.may_hold memory.new)) }
-    ensures refused { IfErr result (λ e. RefusesStep e (blocks_from row.old.tail attributes (end_block (block_at row.old.index) row.old.numbers.size attributes.size)) free.old) }
+    ensures needs { NeedsFree (blocks_from row.old.tail attributes (end_block (block_at row.old.index) row.old.numbers.size attributes.size)) free.old result }
+    ensures kept { SettlesStep P.region P.may_hold P.fuse memory.old memory.new free.old free.new result }
     ensures unchanged { IfErr result (λ e. (e ≡ RefusalValue.Stopped → ⊥) → LeavesStep memory.old memory.new free.old free.new row.old row.new) }
-    ensures stopped { IfErr result (λ e. e ≡ RefusalValue.Stopped → IsTrue (P.fuse memory.new).has_burnt) }
     ensures inode { row.new.inode ≡ row.old.inode }
-    ensures lists { free.new.sup ≡ free.old.sup }
-    ensures length { size (P.region memory.new) ≡ size (P.region memory.old) }
-    ensures keeps_fuse { KeepsFuse (λ limit. size (P.region memory.old) ≤ limit) (P.fuse memory.old) (P.fuse memory.new) }
     // Every word outside these places is as it was.
     ensures wrote { (held : Store) (h : Held) → ShowsRow (P.region memory.old) sup.now held h row.old free.old
         → StoresIn sup.now held (one_log sup.now row.old.inode) (P.region memory.old) (P.region memory.new) }
@@ -93,15 +87,10 @@ fn resize_in_place<P: Pmem>(
     requires can { CanResize (P.region memory.old) sup.now free.old row.old attributes }
     requires stays { end_block (block_at row.old.index) row.old.numbers.size attributes.size ≡ Option.None }
     ensures resized { OnOk result (Resizes (P.region memory.old) (P.region memory.new) sup.now free.old cpu row.old attributes row.new free.new) }
-    ensures enough { OnOk result (blocks_from row.old.tail attributes Option.None ≤ all_blocks free.old.pools) }
-    ensures settled { OnOk result (NothingPending (P.region memory.new) (P.may_hold memory.new)) }
-    ensures refused { IfErr result (λ e. RefusesStep e (blocks_from row.old.tail attributes Option.None) free.old) }
+    ensures needs { NeedsFree (blocks_from row.old.tail attributes Option.None) free.old result }
+    ensures kept { SettlesStep P.region P.may_hold P.fuse memory.old memory.new free.old free.new result }
     ensures unchanged { IfErr result (λ e. (e ≡ RefusalValue.Stopped → ⊥) → LeavesStep memory.old memory.new free.old free.new row.old row.new) }
-    ensures stopped { IfErr result (λ e. e ≡ RefusalValue.Stopped → IsTrue (P.fuse memory.new).has_burnt) }
     ensures inode { row.new.inode ≡ row.old.inode }
-    ensures lists { free.new.sup ≡ free.old.sup }
-    ensures length { size (P.region memory.new) ≡ size (P.region memory.old) }
-    ensures keeps_fuse { KeepsFuse (λ limit. size (P.region memory.old) ≤ limit) (P.fuse memory.old) (P.fuse memory.new) }
     // Every word outside these places is as it was.
     ensures wrote { (held : Store) (h : Held) → ShowsRow (P.region memory.old) sup.now held h row.old free.old
         → StoresIn sup.now held (one_log sup.now row.old.inode) (P.region memory.old) (P.region memory.new) }

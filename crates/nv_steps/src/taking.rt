@@ -1,11 +1,8 @@
 //! A name of one inode that is given to another in its directory: the first inode goes, or counts a link less.
 
-ghost use Rattle.std.specs.Prelude.{◌≡◌, ◌≢◌, ◌+◌, ◌-◌, ◌%◌, ◌<◌, ◌≤◌, [], ◌∷◌, IsTrue, IfErr, OnOk};
+ghost use Rattle.std.specs.Prelude.{◌≡◌, ◌≢◌, ◌+◌, ◌-◌, ◌%◌, ◌<◌, ◌≤◌, [], ◌∷◌, IfErr, OnOk};
 ghost use Rattle.nv_super.specs.Layout.{fixed_layout, slot_address};
-ghost use Rattle.nv_region.specs.Region.{size};
 ghost use Rattle.nv_region.specs.Stops.{LeavesOnly, NothingPending};
-ghost use Rattle.nv_region.specs.Fuses.{KeepsFuse};
-ghost use Rattle.nv_alloc.specs.Taking.{all_blocks};
 ghost use Rattle.nv_logpage.specs.Append.{needed};
 ghost use Rattle.nv_names.specs.Names.{IsName};
 ghost use Rattle.nv_held.specs.nv_outcome.Same.{SameRow};
@@ -15,11 +12,12 @@ ghost use Rattle.nv_tree.specs.declared.refusal.Refusal.{Refusal as RefusalValue
 ghost use Rattle.nv_steps.specs.Grown.{StandsRight};
 ghost use Rattle.nv_steps.specs.NameEntries.{links_entries};
 ghost use Rattle.nv_steps.specs.NewNames.{CanName};
-ghost use Rattle.nv_steps.specs.Steps.{LeavesStep, RefusesStep, ShowsRow};
+ghost use Rattle.nv_steps.specs.Steps.{LeavesStep, ShowsRow};
 ghost use Rattle.nv_steps.specs.InOrder.{TailIsFirst, tail_address};
 ghost use Rattle.nv_steps.specs.Lessens.{Lessened, LessensAt};
 ghost use Rattle.nv_steps.specs.Stores.{StoresIn, one_less, two_logs};
 ghost use Rattle.nv_steps.specs.Takes.{TakesWithin, TookWithin, take_entries};
+ghost use Rattle.nv_steps.specs.Keeping.{NeedsFree, SettlesStep};
 
 use crate::growing::{Growth, append_logs};
 use crate::lessening::append_less;
@@ -65,15 +63,10 @@ pub fn take_within<P: Pmem>(
     ensures taken { OnOk result (TakesWithin (P.region memory.old) (P.region memory.new) sup.now free.old free.new cpu directory.old directory.new moved.now.inode gone.inode moved.now.name.now
         moved.now.other.now moved.now.time) }
     ensures room { OnOk result (gone.blocks ≤ free.new.room) }
-    ensures enough { OnOk result (needed (directory.old.tail % 4096) (take_entries moved.now.inode gone.inode moved.now.name.now moved.now.other.now moved.now.time) ≤ all_blocks free.old.pools) }
-    ensures settled { OnOk result (NothingPending (P.region memory.new) (P.may_hold memory.new)) }
-    ensures refused { IfErr result (λ e. RefusesStep e (needed (directory.old.tail % 4096) (take_entries moved.now.inode gone.inode moved.now.name.now moved.now.other.now moved.now.time)) free.old) }
+    ensures needs { NeedsFree (needed (directory.old.tail % 4096) (take_entries moved.now.inode gone.inode moved.now.name.now moved.now.other.now moved.now.time)) free.old result }
+    ensures kept { SettlesStep P.region P.may_hold P.fuse memory.old memory.new free.old free.new result }
     ensures unchanged { IfErr result (λ e. (e ≡ RefusalValue.Stopped → ⊥) → LeavesStep memory.old memory.new free.old free.new directory.old directory.new) }
-    ensures stopped { IfErr result (λ e. e ≡ RefusalValue.Stopped → IsTrue (P.fuse memory.new).has_burnt) }
     ensures inode { directory.new.inode ≡ directory.old.inode }
-    ensures lists { free.new.sup ≡ free.old.sup }
-    ensures length { size (P.region memory.new) ≡ size (P.region memory.old) }
-    ensures keeps_fuse { KeepsFuse (λ limit. size (P.region memory.old) ≤ limit) (P.fuse memory.old) (P.fuse memory.new) }
     // Every word outside these places is as it was.
     ensures wrote { (held : Store) (h : Held) → ShowsRow (P.region memory.old) sup.now held h directory.old free.old
         → StoresIn sup.now held (one_less sup.now cpu directory.old.inode gone.inode) (P.region memory.old) (P.region memory.new) }
@@ -136,18 +129,12 @@ pub fn lessen_within<P: Pmem>(
     requires other { IsName moved.now.other.now }
     ensures lessened { OnOk result (LessensAt (P.region memory.old) (P.region memory.new) sup.now free.old free.new cpu (directory.old ∷ file.old ∷ [])
         (directory.new ∷ file.new ∷ []) 0 1 moved.now.inode moved.now.name.now moved.now.other.now moved.now.time) }
-    ensures enough { OnOk result (needed (directory.old.tail % 4096) (take_entries moved.now.inode file.old.inode moved.now.name.now moved.now.other.now moved.now.time)
-        + needed (file.old.tail % 4096) (links_entries (file.old.numbers.links - 1) moved.now.time) ≤ all_blocks free.old.pools) }
-    ensures settled { OnOk result (NothingPending (P.region memory.new) (P.may_hold memory.new)) }
-    ensures refused { IfErr result (λ e. RefusesStep e (needed (directory.old.tail % 4096) (take_entries moved.now.inode file.old.inode moved.now.name.now moved.now.other.now moved.now.time)
-        + needed (file.old.tail % 4096) (links_entries (file.old.numbers.links - 1) moved.now.time)) free.old) }
+    ensures needs { NeedsFree (needed (directory.old.tail % 4096) (take_entries moved.now.inode file.old.inode moved.now.name.now moved.now.other.now moved.now.time)
+        + needed (file.old.tail % 4096) (links_entries (file.old.numbers.links - 1) moved.now.time)) free.old result }
+    ensures kept { SettlesStep P.region P.may_hold P.fuse memory.old memory.new free.old free.new result }
     ensures unchanged { IfErr result (λ e. (e ≡ RefusalValue.Stopped → ⊥) → LeavesStep memory.old memory.new free.old free.new directory.old directory.new × SameRow file.old file.new) }
-    ensures stopped { IfErr result (λ e. e ≡ RefusalValue.Stopped → IsTrue (P.fuse memory.new).has_burnt) }
     ensures inode { directory.new.inode ≡ directory.old.inode }
     ensures file_inode { file.new.inode ≡ file.old.inode }
-    ensures lists { free.new.sup ≡ free.old.sup }
-    ensures length { size (P.region memory.new) ≡ size (P.region memory.old) }
-    ensures keeps_fuse { KeepsFuse (λ limit. size (P.region memory.old) ≤ limit) (P.fuse memory.old) (P.fuse memory.new) }
     // Every word outside these places is as it was.
     ensures wrote { (held : Store) (h f : Held) → ShowsRow (P.region memory.old) sup.now held h directory.old free.old → ShowsRow (P.region memory.old) sup.now held f file.old free.old
         → StoresIn sup.now held (two_logs sup.now cpu directory.old.inode file.old.inode) (P.region memory.old) (P.region memory.new) }

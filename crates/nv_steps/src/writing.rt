@@ -1,10 +1,9 @@
 //! New bytes of a file, by its row: all growths first, then the commit, then the row and the free lists.
 
-ghost use Rattle.std.specs.Prelude.{◌≡◌, ◌<◌, ◌≤◌, ◌+◌, ℕ, Result, length, IsTrue, IfErr, OnOk};
+ghost use Rattle.std.specs.Prelude.{◌≡◌, ◌<◌, ◌≤◌, ◌+◌, ℕ, Result, length, IfErr, OnOk};
 ghost use Rattle.nv_super.specs.Layout.{fixed_layout};
 ghost use Rattle.nv_region.specs.Region.{size};
 ghost use Rattle.nv_region.specs.Stops.{LeavesOnly, NothingPending};
-ghost use Rattle.nv_region.specs.Fuses.{KeepsFuse};
 ghost use Rattle.nv_super.specs.declared.kind.Kind.{Kind as KindValue};
 ghost use Rattle.nv_alloc.specs.Taking.{all_blocks};
 ghost use Rattle.nv_radix.specs.Pages.{block_at};
@@ -17,6 +16,7 @@ ghost use Rattle.nv_steps.specs.Stopped.{Wrote};
 ghost use Rattle.nv_steps.specs.Stores.{StoresIn, one_log};
 ghost use Rattle.nv_steps.specs.Writes.{NeedsBlocks, plan_of};
 ghost use Rattle.nv_steps.specs.Written.{FileStands, RefusesWrite, WritesFile};
+ghost use Rattle.nv_steps.specs.Keeping.{SettlesStep};
 ghost use Rattle.nv_bytes.specs.Data.{data_bytes};
 
 use crate::giving::give_all;
@@ -57,14 +57,10 @@ pub fn change_bytes<P: Pmem>(
     requires plan { plan.now ≡ plan_of (block_at row.old.index) row.old.numbers.size change.now.offset (length (data_bytes change.now.content)) plan.now.time }
     ensures writes { OnOk result (WritesFile (P.region memory.old) (P.region memory.new) sup.now free.old free.new cpu plan.now change.now.offset (data_bytes change.now.content) row.old row.new) }
     ensures enough { OnOk result ((count : ℕ) → NeedsBlocks free.old.pools cpu row.old.tail plan.now count → count ≤ all_blocks free.old.pools) }
-    ensures settled { OnOk result (NothingPending (P.region memory.new) (P.may_hold memory.new)) }
+    ensures kept { SettlesStep P.region P.may_hold P.fuse memory.old memory.new free.old free.new result }
     ensures refused { IfErr result (λ e. RefusesWrite e free.old cpu row.old.tail plan.now) }
     ensures unchanged { IfErr result (λ e. (e ≡ RefusalValue.Stopped → ⊥) → LeavesStep memory.old memory.new free.old free.new row.old row.new) }
-    ensures stopped { IfErr result (λ e. e ≡ RefusalValue.Stopped → IsTrue (P.fuse memory.new).has_burnt) }
     ensures inode { row.new.inode ≡ row.old.inode }
-    ensures lists { free.new.sup ≡ free.old.sup }
-    ensures length { size (P.region memory.new) ≡ size (P.region memory.old) }
-    ensures keeps_fuse { KeepsFuse (λ limit. size (P.region memory.old) ≤ limit) (P.fuse memory.old) (P.fuse memory.new) }
     // Every word outside these places is as it was.
     ensures wrote { (held : Store) (h : Held) → ShowsRow (P.region memory.old) sup.now held h row.old free.old
         → StoresIn sup.now held (one_log sup.now row.old.inode) (P.region memory.old) (P.region memory.new) }

@@ -1,4 +1,4 @@
-use Rattle.std.proofs.Common.{◌∙◌, ◌+◌, ◌-◌, ◌%◌, ◌∷◌, [], ap, subst, ◌≡◌, ◌≤◌, sym, refl, IsTrue, List, arith}
+use Rattle.std.proofs.Common.{◌∙◌, ◌+◌, ◌-◌, ◌%◌, ◌∷◌, [], ap, subst, ◌≡◌, ◌≤◌, sym, refl, List, arith}
 use Rattle.nv_super.specs.Layout.{fixed_layout}
 use Rattle.std.proofs.lemmas.Result.{err_from_is_err_and, IfOk-from_err}
 use Rattle.nv_entry.specs.declared.entry.Entry.{Entry}
@@ -18,6 +18,7 @@ use Rattle.nv_steps.specs.NameEntries.{links_entries, name_entries}
 use Rattle.nv_steps.specs.Steps.{LeavesStep, RefusesStep}
 use Rattle.nv_steps.proofs.AppendedLogs.{few_one}
 use Rattle.nv_steps.proofs.LessenedAcross.{left_lessened, lessens_across}
+use Rattle.nv_steps.proofs.Kept.{kept_done, kept_refused}
 use Rattle.nv_steps.proofs.TookAcross.{both_as, few_two}
 use Rattle.nv_steps.proofs.across.lessen_across.Goals as goal
 
@@ -61,23 +62,20 @@ returns-clause-lessened g c =
     (both_as (λ (es fs : List Entry). AppendsThreeLogs (g.P.Pmem.region c.args.memory.now) (g.P.Pmem.region c.append_three_logs.new.memory) c.args.sup.now c.args.free.now c.append_three_logs.new.free c.args.cpu c.args.from.now c.append_three_logs.new.row es c.args.to.now c.append_three_logs.new.other fs c.args.file.now c.append_three_logs.new.last (links_entries (c.args.file.now.numbers.links - 1) c.args.moved.now.time)) one two c.in_ok-append_three_logs.ensures.appended)
     (c.length.ensures.value ∙ ap entry_length c.name_entry-3.ensures) c.remove_name.ensures.row c.remove_name.ensures.once c.remove_name-2.ensures.row c.remove_name-2.ensures.once c.add_name.ensures.row c.add_name.ensures.once c.set_links.ensures
 
-pub returns-clause-enough : goal.returns-clause-enough
-returns-clause-enough g c =
-    let one : c.name_entry.result ∷ [] ≡ name_entries Remove c.args.moved.now.inode c.args.moved.now.name.now c.args.moved.now.time = (λ t. c.name_entry.ensures t ∷ []) in
-    let two : c.name_entry-2.result ∷ c.name_entry-3.result ∷ [] ≡ handed_entries c.args.moved.now.inode c.args.file.now.inode c.args.moved.now.other.now c.args.moved.now.time = (λ t. c.name_entry-2.ensures t ∷ c.name_entry-3.ensures t ∷ []) in
-    both_as (λ (es fs : List Entry). needed (c.args.from.now.tail % 4096) es + needed (c.args.to.now.tail % 4096) fs + needed (c.args.file.now.tail % 4096) (links_entries (c.args.file.now.numbers.links - 1) c.args.moved.now.time) ≤ all_blocks c.args.free.now.pools) one two c.in_ok-append_three_logs.ensures.enough
+pub returns-clause-needs : goal.returns-clause-needs
+returns-clause-needs g c =
+    record {
+      enough = let one : c.name_entry.result ∷ [] ≡ name_entries Remove c.args.moved.now.inode c.args.moved.now.name.now c.args.moved.now.time = (λ t. c.name_entry.ensures t ∷ []) in
+          let two : c.name_entry-2.result ∷ c.name_entry-3.result ∷ [] ≡ handed_entries c.args.moved.now.inode c.args.file.now.inode c.args.moved.now.other.now c.args.moved.now.time = (λ t. c.name_entry-2.ensures t ∷ c.name_entry-3.ensures t ∷ []) in
+          both_as (λ (es fs : List Entry). needed (c.args.from.now.tail % 4096) es + needed (c.args.to.now.tail % 4096) fs + needed (c.args.file.now.tail % 4096) (links_entries (c.args.file.now.numbers.links - 1) c.args.moved.now.time) ≤ all_blocks c.args.free.now.pools) one two c.in_ok-append_three_logs.ensures.needs.enough;
+      refused = tt;
+    }
 
-pub returns-clause-settled : goal.returns-clause-settled
-returns-clause-settled g c = c.in_ok-append_three_logs.ensures.settled
-
-pub returns-clause-refused : goal.returns-clause-refused
-returns-clause-refused g c = tt
+pub returns-clause-kept : goal.returns-clause-kept
+returns-clause-kept g c = kept_done c.in_ok-append_three_logs.ensures.kept
 
 pub returns-clause-unchanged : goal.returns-clause-unchanged
 returns-clause-unchanged g c = tt
-
-pub returns-clause-stopped : goal.returns-clause-stopped
-returns-clause-stopped g c = tt
 
 pub returns-clause-inodes : goal.returns-clause-inodes
 returns-clause-inodes g c = let same = c.in_ok-append_three_logs.ensures.inodes in (c.remove_name.ensures.row.rest.inode ∙ same.0, c.add_name.ensures.row.rest.inode ∙ c.remove_name-2.ensures.row.rest.inode ∙ same.1, c.set_links.ensures.rest.inode ∙ same.2)
@@ -85,50 +83,29 @@ returns-clause-inodes g c = let same = c.in_ok-append_three_logs.ensures.inodes 
 pub returns-in_err-append_three_logs-clause-inodes : goal.returns-in_err-append_three_logs-clause-inodes
 returns-in_err-append_three_logs-clause-inodes g c = c.in_err-append_three_logs.ensures.inodes
 
-pub returns-clause-lists : goal.returns-clause-lists
-returns-clause-lists g c = c.in_ok-append_three_logs.ensures.lists
-
-pub returns-in_err-append_three_logs-clause-lists : goal.returns-in_err-append_three_logs-clause-lists
-returns-in_err-append_three_logs-clause-lists g c = c.in_err-append_three_logs.ensures.lists
-
-pub returns-clause-length : goal.returns-clause-length
-returns-clause-length g c = c.in_ok-append_three_logs.ensures.length
-
-pub returns-in_err-append_three_logs-clause-length : goal.returns-in_err-append_three_logs-clause-length
-returns-in_err-append_three_logs-clause-length g c = c.in_err-append_three_logs.ensures.length
-
-pub returns-clause-keeps_fuse : goal.returns-clause-keeps_fuse
-returns-clause-keeps_fuse g c = c.in_ok-append_three_logs.ensures.keeps_fuse
-
-pub returns-in_err-append_three_logs-clause-keeps_fuse : goal.returns-in_err-append_three_logs-clause-keeps_fuse
-returns-in_err-append_three_logs-clause-keeps_fuse g c = c.in_err-append_three_logs.ensures.keeps_fuse
+pub returns-in_err-append_three_logs-clause-kept : goal.returns-in_err-append_three_logs-clause-kept
+returns-in_err-append_three_logs-clause-kept g c =
+    let w = err_from_is_err_and c.from_residual.result c.from_residual.ensures.1 in
+    kept_refused c.from_residual.result c.in_err-append_three_logs.field-0.0 w.0 w.1 w.2 c.in_err-append_three_logs.ensures.kept
 
 pub returns-in_err-append_three_logs-clause-lessened : goal.returns-in_err-append_three_logs-clause-lessened
 returns-in_err-append_three_logs-clause-lessened g c = IfOk-from_err c.from_residual.result _ c.from_residual.ensures.0
 
-pub returns-in_err-append_three_logs-clause-enough : goal.returns-in_err-append_three_logs-clause-enough
-returns-in_err-append_three_logs-clause-enough g c = IfOk-from_err c.from_residual.result _ c.from_residual.ensures.0
-
-pub returns-in_err-append_three_logs-clause-settled : goal.returns-in_err-append_three_logs-clause-settled
-returns-in_err-append_three_logs-clause-settled g c = IfOk-from_err c.from_residual.result _ c.from_residual.ensures.0
-
-pub returns-in_err-append_three_logs-clause-refused : goal.returns-in_err-append_three_logs-clause-refused
-returns-in_err-append_three_logs-clause-refused g c =
-    let w = err_from_is_err_and c.from_residual.result c.from_residual.ensures.1 in
-    let one : c.name_entry.result ∷ [] ≡ name_entries Remove c.args.moved.now.inode c.args.moved.now.name.now c.args.moved.now.time = (λ t. c.name_entry.ensures t ∷ []) in
-    let two : c.name_entry-2.result ∷ c.name_entry-3.result ∷ [] ≡ handed_entries c.args.moved.now.inode c.args.file.now.inode c.args.moved.now.other.now c.args.moved.now.time = (λ t. c.name_entry-2.ensures t ∷ c.name_entry-3.ensures t ∷ []) in
-    refused_by c.from_residual.result c.in_err-append_three_logs.field-0.0 w.0 (λ (e : Refusal). RefusesStep e (needed (c.args.from.now.tail % 4096) (name_entries Remove c.args.moved.now.inode c.args.moved.now.name.now c.args.moved.now.time) + needed (c.args.to.now.tail % 4096) (handed_entries c.args.moved.now.inode c.args.file.now.inode c.args.moved.now.other.now c.args.moved.now.time) + needed (c.args.file.now.tail % 4096) (links_entries (c.args.file.now.numbers.links - 1) c.args.moved.now.time)) c.args.free.now) w.1 w.2
-    (both_as (λ (es fs : List Entry). RefusesStep c.in_err-append_three_logs.field-0.0 (needed (c.args.from.now.tail % 4096) es + needed (c.args.to.now.tail % 4096) fs + needed (c.args.file.now.tail % 4096) (links_entries (c.args.file.now.numbers.links - 1) c.args.moved.now.time)) c.args.free.now) one two c.in_err-append_three_logs.ensures.refused)
+pub returns-in_err-append_three_logs-clause-needs : goal.returns-in_err-append_three_logs-clause-needs
+returns-in_err-append_three_logs-clause-needs g c =
+    record {
+      enough = IfOk-from_err c.from_residual.result _ c.from_residual.ensures.0;
+      refused = let w = err_from_is_err_and c.from_residual.result c.from_residual.ensures.1 in
+          let one : c.name_entry.result ∷ [] ≡ name_entries Remove c.args.moved.now.inode c.args.moved.now.name.now c.args.moved.now.time = (λ t. c.name_entry.ensures t ∷ []) in
+          let two : c.name_entry-2.result ∷ c.name_entry-3.result ∷ [] ≡ handed_entries c.args.moved.now.inode c.args.file.now.inode c.args.moved.now.other.now c.args.moved.now.time = (λ t. c.name_entry-2.ensures t ∷ c.name_entry-3.ensures t ∷ []) in
+          refused_by c.from_residual.result c.in_err-append_three_logs.field-0.0 w.0 (λ (e : Refusal). RefusesStep e (needed (c.args.from.now.tail % 4096) (name_entries Remove c.args.moved.now.inode c.args.moved.now.name.now c.args.moved.now.time) + needed (c.args.to.now.tail % 4096) (handed_entries c.args.moved.now.inode c.args.file.now.inode c.args.moved.now.other.now c.args.moved.now.time) + needed (c.args.file.now.tail % 4096) (links_entries (c.args.file.now.numbers.links - 1) c.args.moved.now.time)) c.args.free.now) w.1 w.2
+          (both_as (λ (es fs : List Entry). RefusesStep c.in_err-append_three_logs.field-0.0 (needed (c.args.from.now.tail % 4096) es + needed (c.args.to.now.tail % 4096) fs + needed (c.args.file.now.tail % 4096) (links_entries (c.args.file.now.numbers.links - 1) c.args.moved.now.time)) c.args.free.now) one two c.in_err-append_three_logs.ensures.needs.refused);
+    }
 
 pub returns-in_err-append_three_logs-clause-unchanged : goal.returns-in_err-append_three_logs-clause-unchanged
 returns-in_err-append_three_logs-clause-unchanged g c =
     let w = err_from_is_err_and c.from_residual.result c.from_residual.ensures.1 in
     refused_by c.from_residual.result c.in_err-append_three_logs.field-0.0 w.0 (λ (e : Refusal). (e ≡ Stopped → ⊥) → LeavesStep c.args.memory.now c.append_three_logs.new.memory c.args.free.now c.append_three_logs.new.free c.args.from.now c.append_three_logs.new.row × SameRow c.args.to.now c.append_three_logs.new.other × SameRow c.args.file.now c.append_three_logs.new.last) w.1 w.2 c.in_err-append_three_logs.ensures.unchanged
-
-pub returns-in_err-append_three_logs-clause-stopped : goal.returns-in_err-append_three_logs-clause-stopped
-returns-in_err-append_three_logs-clause-stopped g c =
-    let w = err_from_is_err_and c.from_residual.result c.from_residual.ensures.1 in
-    refused_by c.from_residual.result c.in_err-append_three_logs.field-0.0 w.0 (λ (e : Refusal). e ≡ Stopped → IsTrue (g.P.Pmem.fuse c.append_three_logs.new.memory).has_burnt) w.1 w.2 c.in_err-append_three_logs.ensures.stopped
 
 pub returns-clause-wrote : goal.returns-clause-wrote
 returns-clause-wrote g c held h k f here there also = c.append_three_logs.ensures.wrote held h k f here there also

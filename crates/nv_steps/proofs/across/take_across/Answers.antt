@@ -1,4 +1,4 @@
-use Rattle.std.proofs.Common.{◌∙◌, ◌+◌, ◌%◌, ◌∷◌, [], ap, subst, ◌≡◌, ◌≤◌, sym, refl, IsTrue, List, arith}
+use Rattle.std.proofs.Common.{◌∙◌, ◌+◌, ◌%◌, ◌∷◌, [], ap, subst, ◌≡◌, ◌≤◌, sym, refl, List, arith}
 use Rattle.nv_super.specs.Layout.{fixed_layout, slot_address}
 use Rattle.std.proofs.lemmas.Result.{err_from_is_err_and, IfOk-from_err}
 use Rattle.nv_entry.specs.declared.entry.Entry.{Entry}
@@ -17,6 +17,7 @@ use Rattle.nv_steps.specs.MoreNames.{AreFew}
 use Rattle.nv_steps.specs.NameEntries.{name_entries}
 use Rattle.nv_steps.specs.Steps.{LeavesStep, RefusesStep}
 use Rattle.nv_steps.proofs.AppendedLogs.{few_one}
+use Rattle.nv_steps.proofs.Kept.{kept_done, kept_refused}
 use Rattle.nv_steps.proofs.TookAcross.{both_as, few_two, left_across, takes_across}
 use Rattle.nv_steps.proofs.across.take_across.Goals as goal
 
@@ -64,55 +65,33 @@ returns-clause-taken g c =
     (c.length.ensures.value ∙ ap entry_length c.name_entry-3.ensures) c.remove_name.ensures.row c.remove_name.ensures.once c.remove_name-2.ensures.row c.remove_name-2.ensures.once c.add_name.ensures.row c.add_name.ensures.once
 
 pub returns-clause-room : goal.returns-clause-room
-returns-clause-room g c = c.in_ok-append_logs_less.ensures.blocks_room
+returns-clause-room g c = c.in_ok-append_logs_less.ensures.rooms.1
 
-pub returns-clause-enough : goal.returns-clause-enough
-returns-clause-enough g c =
-    let one : c.name_entry.result ∷ [] ≡ name_entries Remove c.args.moved.now.inode c.args.moved.now.name.now c.args.moved.now.time = (λ t. c.name_entry.ensures t ∷ []) in
-    let two : c.name_entry-2.result ∷ c.name_entry-3.result ∷ [] ≡ handed_entries c.args.moved.now.inode c.args.gone.inode c.args.moved.now.other.now c.args.moved.now.time = (λ t. c.name_entry-2.ensures t ∷ c.name_entry-3.ensures t ∷ []) in
-    both_as (λ (es fs : List Entry). needed (c.args.from.now.tail % 4096) es + needed (c.args.to.now.tail % 4096) fs ≤ all_blocks c.args.free.now.pools) one two c.in_ok-append_logs_less.ensures.enough
+pub returns-clause-needs : goal.returns-clause-needs
+returns-clause-needs g c =
+    record {
+      enough = let one : c.name_entry.result ∷ [] ≡ name_entries Remove c.args.moved.now.inode c.args.moved.now.name.now c.args.moved.now.time = (λ t. c.name_entry.ensures t ∷ []) in
+          let two : c.name_entry-2.result ∷ c.name_entry-3.result ∷ [] ≡ handed_entries c.args.moved.now.inode c.args.gone.inode c.args.moved.now.other.now c.args.moved.now.time = (λ t. c.name_entry-2.ensures t ∷ c.name_entry-3.ensures t ∷ []) in
+          both_as (λ (es fs : List Entry). needed (c.args.from.now.tail % 4096) es + needed (c.args.to.now.tail % 4096) fs ≤ all_blocks c.args.free.now.pools) one two c.in_ok-append_logs_less.ensures.needs.enough;
+      refused = tt;
+    }
 
-pub returns-clause-settled : goal.returns-clause-settled
-returns-clause-settled g c = c.in_ok-append_logs_less.ensures.settled
-
-pub returns-clause-refused : goal.returns-clause-refused
-returns-clause-refused g c = tt
+pub returns-clause-kept : goal.returns-clause-kept
+returns-clause-kept g c = kept_done c.in_ok-append_logs_less.ensures.kept
 
 pub returns-clause-unchanged : goal.returns-clause-unchanged
 returns-clause-unchanged g c = tt
 
-pub returns-clause-stopped : goal.returns-clause-stopped
-returns-clause-stopped g c = tt
+pub returns-clause-inodes : goal.returns-clause-inodes
+returns-clause-inodes g c = (c.remove_name.ensures.row.rest.inode ∙ c.in_ok-append_logs_less.ensures.inodes.0, c.add_name.ensures.row.rest.inode ∙ c.remove_name-2.ensures.row.rest.inode ∙ c.in_ok-append_logs_less.ensures.inodes.1)
 
-pub returns-clause-inode : goal.returns-clause-inode
-returns-clause-inode g c = c.remove_name.ensures.row.rest.inode ∙ c.in_ok-append_logs_less.ensures.inode
+pub returns-in_err-append_logs_less-clause-kept : goal.returns-in_err-append_logs_less-clause-kept
+returns-in_err-append_logs_less-clause-kept g c =
+    let w = err_from_is_err_and c.from_residual.result c.from_residual.ensures.1 in
+    kept_refused c.from_residual.result c.in_err-append_logs_less.field-0.0 w.0 w.1 w.2 c.in_err-append_logs_less.ensures.kept
 
-pub returns-clause-to_inode : goal.returns-clause-to_inode
-returns-clause-to_inode g c = c.add_name.ensures.row.rest.inode ∙ c.remove_name-2.ensures.row.rest.inode ∙ c.in_ok-append_logs_less.ensures.other_inode
-
-pub returns-clause-lists : goal.returns-clause-lists
-returns-clause-lists g c = c.in_ok-append_logs_less.ensures.lists
-
-pub returns-in_err-append_logs_less-clause-lists : goal.returns-in_err-append_logs_less-clause-lists
-returns-in_err-append_logs_less-clause-lists g c = c.in_err-append_logs_less.ensures.lists
-
-pub returns-clause-length : goal.returns-clause-length
-returns-clause-length g c = c.in_ok-append_logs_less.ensures.length
-
-pub returns-in_err-append_logs_less-clause-length : goal.returns-in_err-append_logs_less-clause-length
-returns-in_err-append_logs_less-clause-length g c = c.in_err-append_logs_less.ensures.length
-
-pub returns-clause-keeps_fuse : goal.returns-clause-keeps_fuse
-returns-clause-keeps_fuse g c = c.in_ok-append_logs_less.ensures.keeps_fuse
-
-pub returns-in_err-append_logs_less-clause-keeps_fuse : goal.returns-in_err-append_logs_less-clause-keeps_fuse
-returns-in_err-append_logs_less-clause-keeps_fuse g c = c.in_err-append_logs_less.ensures.keeps_fuse
-
-pub returns-in_err-append_logs_less-clause-inode : goal.returns-in_err-append_logs_less-clause-inode
-returns-in_err-append_logs_less-clause-inode g c = c.in_err-append_logs_less.ensures.inode
-
-pub returns-in_err-append_logs_less-clause-to_inode : goal.returns-in_err-append_logs_less-clause-to_inode
-returns-in_err-append_logs_less-clause-to_inode g c = c.in_err-append_logs_less.ensures.other_inode
+pub returns-in_err-append_logs_less-clause-inodes : goal.returns-in_err-append_logs_less-clause-inodes
+returns-in_err-append_logs_less-clause-inodes g c = (c.in_err-append_logs_less.ensures.inodes.0, c.in_err-append_logs_less.ensures.inodes.1)
 
 pub returns-in_err-append_logs_less-clause-taken : goal.returns-in_err-append_logs_less-clause-taken
 returns-in_err-append_logs_less-clause-taken g c = IfOk-from_err c.from_residual.result _ c.from_residual.ensures.0
@@ -120,29 +99,21 @@ returns-in_err-append_logs_less-clause-taken g c = IfOk-from_err c.from_residual
 pub returns-in_err-append_logs_less-clause-room : goal.returns-in_err-append_logs_less-clause-room
 returns-in_err-append_logs_less-clause-room g c = IfOk-from_err c.from_residual.result _ c.from_residual.ensures.0
 
-pub returns-in_err-append_logs_less-clause-enough : goal.returns-in_err-append_logs_less-clause-enough
-returns-in_err-append_logs_less-clause-enough g c = IfOk-from_err c.from_residual.result _ c.from_residual.ensures.0
-
-pub returns-in_err-append_logs_less-clause-settled : goal.returns-in_err-append_logs_less-clause-settled
-returns-in_err-append_logs_less-clause-settled g c = IfOk-from_err c.from_residual.result _ c.from_residual.ensures.0
-
-pub returns-in_err-append_logs_less-clause-refused : goal.returns-in_err-append_logs_less-clause-refused
-returns-in_err-append_logs_less-clause-refused g c =
-    let w = err_from_is_err_and c.from_residual.result c.from_residual.ensures.1 in
-    let one : c.name_entry.result ∷ [] ≡ name_entries Remove c.args.moved.now.inode c.args.moved.now.name.now c.args.moved.now.time = (λ t. c.name_entry.ensures t ∷ []) in
-    let two : c.name_entry-2.result ∷ c.name_entry-3.result ∷ [] ≡ handed_entries c.args.moved.now.inode c.args.gone.inode c.args.moved.now.other.now c.args.moved.now.time = (λ t. c.name_entry-2.ensures t ∷ c.name_entry-3.ensures t ∷ []) in
-    refused_by c.from_residual.result c.in_err-append_logs_less.field-0.0 w.0 (λ (e : Refusal). RefusesStep e (needed (c.args.from.now.tail % 4096) (name_entries Remove c.args.moved.now.inode c.args.moved.now.name.now c.args.moved.now.time) + needed (c.args.to.now.tail % 4096) (handed_entries c.args.moved.now.inode c.args.gone.inode c.args.moved.now.other.now c.args.moved.now.time)) c.args.free.now) w.1 w.2
-    (both_as (λ (es fs : List Entry). RefusesStep c.in_err-append_logs_less.field-0.0 (needed (c.args.from.now.tail % 4096) es + needed (c.args.to.now.tail % 4096) fs) c.args.free.now) one two c.in_err-append_logs_less.ensures.refused)
+pub returns-in_err-append_logs_less-clause-needs : goal.returns-in_err-append_logs_less-clause-needs
+returns-in_err-append_logs_less-clause-needs g c =
+    record {
+      enough = IfOk-from_err c.from_residual.result _ c.from_residual.ensures.0;
+      refused = let w = err_from_is_err_and c.from_residual.result c.from_residual.ensures.1 in
+          let one : c.name_entry.result ∷ [] ≡ name_entries Remove c.args.moved.now.inode c.args.moved.now.name.now c.args.moved.now.time = (λ t. c.name_entry.ensures t ∷ []) in
+          let two : c.name_entry-2.result ∷ c.name_entry-3.result ∷ [] ≡ handed_entries c.args.moved.now.inode c.args.gone.inode c.args.moved.now.other.now c.args.moved.now.time = (λ t. c.name_entry-2.ensures t ∷ c.name_entry-3.ensures t ∷ []) in
+          refused_by c.from_residual.result c.in_err-append_logs_less.field-0.0 w.0 (λ (e : Refusal). RefusesStep e (needed (c.args.from.now.tail % 4096) (name_entries Remove c.args.moved.now.inode c.args.moved.now.name.now c.args.moved.now.time) + needed (c.args.to.now.tail % 4096) (handed_entries c.args.moved.now.inode c.args.gone.inode c.args.moved.now.other.now c.args.moved.now.time)) c.args.free.now) w.1 w.2
+          (both_as (λ (es fs : List Entry). RefusesStep c.in_err-append_logs_less.field-0.0 (needed (c.args.from.now.tail % 4096) es + needed (c.args.to.now.tail % 4096) fs) c.args.free.now) one two c.in_err-append_logs_less.ensures.needs.refused);
+    }
 
 pub returns-in_err-append_logs_less-clause-unchanged : goal.returns-in_err-append_logs_less-clause-unchanged
 returns-in_err-append_logs_less-clause-unchanged g c =
     let w = err_from_is_err_and c.from_residual.result c.from_residual.ensures.1 in
     refused_by c.from_residual.result c.in_err-append_logs_less.field-0.0 w.0 (λ (e : Refusal). (e ≡ Stopped → ⊥) → LeavesStep c.args.memory.now c.append_logs_less.new.memory c.args.free.now c.append_logs_less.new.free c.args.from.now c.append_logs_less.new.row × SameRow c.args.to.now c.append_logs_less.new.other) w.1 w.2 c.in_err-append_logs_less.ensures.unchanged
-
-pub returns-in_err-append_logs_less-clause-stopped : goal.returns-in_err-append_logs_less-clause-stopped
-returns-in_err-append_logs_less-clause-stopped g c =
-    let w = err_from_is_err_and c.from_residual.result c.from_residual.ensures.1 in
-    refused_by c.from_residual.result c.in_err-append_logs_less.field-0.0 w.0 (λ (e : Refusal). e ≡ Stopped → IsTrue (g.P.Pmem.fuse c.append_logs_less.new.memory).has_burnt) w.1 w.2 c.in_err-append_logs_less.ensures.stopped
 
 pub returns-clause-wrote : goal.returns-clause-wrote
 returns-clause-wrote g c held h k here there = c.append_logs_less.ensures.wrote held h k here there
@@ -179,4 +150,4 @@ returns-in_err-append_logs_less-clause-any_stop g c held h k here there settled 
     (both_as (λ (es fs : List Entry). LeavesEither (g.P.Pmem.region c.args.memory.now) (fixed_layout c.args.sup.now) held (AppendedLogsLess (g.P.Pmem.region c.args.memory.now) c.args.sup.now c.args.free.now c.args.cpu c.args.from.now es c.args.to.now fs c.args.gone.inode) left) one two (c.append_logs_less.ensures.any_stop held h k here there settled left may))
 
 pub add_name-requires-clause-room : goal.add_name-requires-clause-room
-add_name-requires-clause-room g c = omega (arith, c.in_ok-append_logs_less.ensures.room, c.remove_name-2.ensures.room)
+add_name-requires-clause-room g c = omega (arith, c.in_ok-append_logs_less.ensures.rooms.0, c.remove_name-2.ensures.room)

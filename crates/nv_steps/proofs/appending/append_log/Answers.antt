@@ -1,4 +1,5 @@
-use Rattle.std.proofs.Common.{◌++◌, ◌∙◌, List, ℕ, ap, inl, inr, length, refl, subst, sym}
+use Rattle.std.proofs.lemmas.Grind.{common_steps}
+use Rattle.std.proofs.Common.{arith, ◌++◌, ◌∙◌, List, ℕ, ap, inl, inr, length, refl, subst, sym}
 use Rattle.smallvec.specs.SmallVec.{HasRoomFor}
 use Rattle.nv_region.proofs.Fuses.{keeps_within}
 use Rattle.nv_held.proofs.BytesKept.{mixed_size}
@@ -8,6 +9,7 @@ use Rattle.nv_steps.proofs.LogGrows.{appends_log, can_append, stores_within_regi
 use Rattle.nv_steps.proofs.NumbersOwed.{slot_word_inside, slot_word_whole}
 use Rattle.nv_steps.proofs.Refusals.{no_space, memory_goes_on, no_space_goes_on}
 use Rattle.nv_steps.proofs.Stopped.{left_log, log_stores}
+use Rattle.nv_steps.proofs.Kept.{nothing_stored}
 use Rattle.nv_steps.proofs.TakenBlocks.{taken_sup}
 use Rattle.nv_steps.proofs.appending.append_log.Goals as goal
 
@@ -30,25 +32,29 @@ returns-in-Ok-extend_log-clause-appended g c =
     })
     (λ held h can. c.in-Ok-extend_log.ensures.shows c.args.sup.now held c.args.row.now.inode h can) c.in-Ok-extend_log.ensures.kept.wrote.mixed
 
-pub returns-in-Ok-extend_log-clause-lists : goal.returns-in-Ok-extend_log-clause-lists
-returns-in-Ok-extend_log-clause-lists g c = taken_sup c.in-Ok.ensures.taken
+pub returns-in-Ok-extend_log-clause-kept : goal.returns-in-Ok-extend_log-clause-kept
+returns-in-Ok-extend_log-clause-kept g c =
+    record {
+      keeps = record {
+        stopped = tt;
+        lists = taken_sup c.in-Ok.ensures.taken;
+        length = mixed_size c.extend_log.ensures.kept.wrote.mixed;
+        keeps_fuse = keeps_within (stores_within_region c.args.entries.now c.deref.result.now c.slot_address-slot.result c.requires.stands c.in-Ok.ensures.taken c.in-Ok.ensures.count c.requires.given c.deref.ensures.value c.slot_address-slot.ensures) c.extend_log.ensures.kept.keeps_fuse;
+      };
+      settled = c.in-Ok-extend_log.ensures.kept.settled;
+    }
 
-pub returns-in-Ok-extend_log-clause-keeps_fuse : goal.returns-in-Ok-extend_log-clause-keeps_fuse
-returns-in-Ok-extend_log-clause-keeps_fuse g c =
-    keeps_within (stores_within_region c.args.entries.now c.deref.result.now c.slot_address-slot.result c.requires.stands c.in-Ok.ensures.taken c.in-Ok.ensures.count c.requires.given c.deref.ensures.value c.slot_address-slot.ensures) c.extend_log.ensures.kept.keeps_fuse
-
-pub returns-clause-lists : goal.returns-clause-lists
-returns-clause-lists g c = taken_sup c.in-Ok.ensures.taken
-
-pub returns-clause-keeps_fuse : goal.returns-clause-keeps_fuse
-returns-clause-keeps_fuse g c =
-    keeps_within (stores_within_region c.args.entries.now c.deref.result.now c.slot_address-slot.result c.requires.stands c.in-Ok.ensures.taken c.in-Ok.ensures.count c.requires.given c.deref.ensures.value c.slot_address-slot.ensures) c.extend_log.ensures.kept.keeps_fuse
-
-pub returns-in-Ok-extend_log-clause-length : goal.returns-in-Ok-extend_log-clause-length
-returns-in-Ok-extend_log-clause-length g c = mixed_size c.extend_log.ensures.kept.wrote.mixed
-
-pub returns-clause-length : goal.returns-clause-length
-returns-clause-length g c = mixed_size c.extend_log.ensures.kept.wrote.mixed
+pub returns-clause-kept : goal.returns-clause-kept
+returns-clause-kept g c =
+    record {
+      keeps = record {
+        stopped = grind (arith, common_steps);
+        lists = taken_sup c.in-Ok.ensures.taken;
+        length = mixed_size c.extend_log.ensures.kept.wrote.mixed;
+        keeps_fuse = keeps_within (stores_within_region c.args.entries.now c.deref.result.now c.slot_address-slot.result c.requires.stands c.in-Ok.ensures.taken c.in-Ok.ensures.count c.requires.given c.deref.ensures.value c.slot_address-slot.ensures) c.extend_log.ensures.kept.keeps_fuse;
+      };
+      settled = tt;
+    }
 
 pub slot_address-slot-requires-clause-layout : goal.slot_address-slot-requires-clause-layout
 slot_address-slot-requires-clause-layout g c = c.requires.stands.layout
@@ -65,17 +71,19 @@ settle_log-requires g c = subst (λ (blocks : List ℕ). HasRoomFor c.prepare_lo
 pub returns-in-Err-NoSpace-clause-appended : goal.returns-in-Err-NoSpace-clause-appended
 returns-in-Err-NoSpace-clause-appended g c = tt
 
-pub returns-in-Err-NoSpace-clause-enough : goal.returns-in-Err-NoSpace-clause-enough
-returns-in-Err-NoSpace-clause-enough g c = tt
+pub returns-in-Err-NoSpace-clause-needs : goal.returns-in-Err-NoSpace-clause-needs
+returns-in-Err-NoSpace-clause-needs g c =
+    record {
+      enough = tt;
+      refused = inr (inr (refl, no_space _ _ _ c.in-Err-NoSpace.ensures.err c.in-Err-NoSpace.field-0-is));
+    }
 
 pub returns-in-Err-NoSpace-clause-room : goal.returns-in-Err-NoSpace-clause-room
 returns-in-Err-NoSpace-clause-room g c = tt
 
-pub returns-in-Err-NoSpace-clause-settled : goal.returns-in-Err-NoSpace-clause-settled
-returns-in-Err-NoSpace-clause-settled g c = tt
-
-pub returns-in-Err-NoSpace-clause-refused : goal.returns-in-Err-NoSpace-clause-refused
-returns-in-Err-NoSpace-clause-refused g c = inr (inr (refl, no_space _ _ _ c.in-Err-NoSpace.ensures.err c.in-Err-NoSpace.field-0-is))
+pub returns-in-Err-NoSpace-clause-kept : goal.returns-in-Err-NoSpace-clause-kept
+returns-in-Err-NoSpace-clause-kept g c =
+    nothing_stored tt (λ is. absurd (no_space_goes_on is)) (c.in-Err-NoSpace.ensures.unchanged.sup)
 
 pub returns-in-Err-NoSpace-clause-unchanged : goal.returns-in-Err-NoSpace-clause-unchanged
 returns-in-Err-NoSpace-clause-unchanged g c = λ _. record { memory = refl; free = c.in-Err-NoSpace.ensures.unchanged; row = record { inode = refl; kind = refl; numbers = refl; head = refl; tail = refl; pages = c.in-Err-NoSpace.ensures.pages; index = λ p. refl; names = λ q. refl } }
@@ -83,29 +91,22 @@ returns-in-Err-NoSpace-clause-unchanged g c = λ _. record { memory = refl; free
 pub returns-in-Err-NoSpace-clause-inode : goal.returns-in-Err-NoSpace-clause-inode
 returns-in-Err-NoSpace-clause-inode g c = refl
 
-pub returns-in-Err-NoSpace-clause-lists : goal.returns-in-Err-NoSpace-clause-lists
-returns-in-Err-NoSpace-clause-lists g c = c.in-Err-NoSpace.ensures.unchanged.sup
-
-pub returns-in-Err-NoSpace-clause-length : goal.returns-in-Err-NoSpace-clause-length
-returns-in-Err-NoSpace-clause-length g c = refl
-
-pub returns-in-Err-NoSpace-clause-keeps_fuse : goal.returns-in-Err-NoSpace-clause-keeps_fuse
-returns-in-Err-NoSpace-clause-keeps_fuse g c = record { burnt = λ was. was; steady = λ was. was; stays_open = λ limit past was. was }
-
 pub returns-in-Err-Memory-clause-appended : goal.returns-in-Err-Memory-clause-appended
 returns-in-Err-Memory-clause-appended g c = tt
 
-pub returns-in-Err-Memory-clause-enough : goal.returns-in-Err-Memory-clause-enough
-returns-in-Err-Memory-clause-enough g c = tt
+pub returns-in-Err-Memory-clause-needs : goal.returns-in-Err-Memory-clause-needs
+returns-in-Err-Memory-clause-needs g c =
+    record {
+      enough = tt;
+      refused = inl refl;
+    }
 
 pub returns-in-Err-Memory-clause-room : goal.returns-in-Err-Memory-clause-room
 returns-in-Err-Memory-clause-room g c = tt
 
-pub returns-in-Err-Memory-clause-settled : goal.returns-in-Err-Memory-clause-settled
-returns-in-Err-Memory-clause-settled g c = tt
-
-pub returns-in-Err-Memory-clause-refused : goal.returns-in-Err-Memory-clause-refused
-returns-in-Err-Memory-clause-refused g c = inl refl
+pub returns-in-Err-Memory-clause-kept : goal.returns-in-Err-Memory-clause-kept
+returns-in-Err-Memory-clause-kept g c =
+    nothing_stored tt (λ is. absurd (memory_goes_on is)) (c.in-Err-Memory.ensures.unchanged.sup)
 
 pub returns-in-Err-Memory-clause-unchanged : goal.returns-in-Err-Memory-clause-unchanged
 returns-in-Err-Memory-clause-unchanged g c = λ _. record { memory = refl; free = c.in-Err-Memory.ensures.unchanged; row = record { inode = refl; kind = refl; numbers = refl; head = refl; tail = refl; pages = c.in-Err-Memory.ensures.pages; index = λ p. refl; names = λ q. refl } }
@@ -113,32 +114,18 @@ returns-in-Err-Memory-clause-unchanged g c = λ _. record { memory = refl; free 
 pub returns-in-Err-Memory-clause-inode : goal.returns-in-Err-Memory-clause-inode
 returns-in-Err-Memory-clause-inode g c = refl
 
-pub returns-in-Err-Memory-clause-lists : goal.returns-in-Err-Memory-clause-lists
-returns-in-Err-Memory-clause-lists g c = c.in-Err-Memory.ensures.unchanged.sup
-
-pub returns-in-Err-Memory-clause-length : goal.returns-in-Err-Memory-clause-length
-returns-in-Err-Memory-clause-length g c = refl
-
-pub returns-in-Err-Memory-clause-keeps_fuse : goal.returns-in-Err-Memory-clause-keeps_fuse
-returns-in-Err-Memory-clause-keeps_fuse g c = record { burnt = λ was. was; steady = λ was. was; stays_open = λ limit past was. was }
-
-pub returns-in-Ok-extend_log-clause-enough : goal.returns-in-Ok-extend_log-clause-enough
-returns-in-Ok-extend_log-clause-enough g c = c.in-Ok.ensures.enough
+pub returns-in-Ok-extend_log-clause-needs : goal.returns-in-Ok-extend_log-clause-needs
+returns-in-Ok-extend_log-clause-needs g c =
+    record {
+      enough = c.in-Ok.ensures.enough;
+      refused = tt;
+    }
 
 pub returns-in-Ok-extend_log-clause-room : goal.returns-in-Ok-extend_log-clause-room
 returns-in-Ok-extend_log-clause-room g c = c.in-Ok.ensures.given_back
 
-pub returns-in-Ok-extend_log-clause-settled : goal.returns-in-Ok-extend_log-clause-settled
-returns-in-Ok-extend_log-clause-settled g c = c.in-Ok-extend_log.ensures.kept.settled
-
-pub returns-in-Ok-extend_log-clause-refused : goal.returns-in-Ok-extend_log-clause-refused
-returns-in-Ok-extend_log-clause-refused g c = tt
-
 pub returns-in-Ok-extend_log-clause-unchanged : goal.returns-in-Ok-extend_log-clause-unchanged
 returns-in-Ok-extend_log-clause-unchanged g c = tt
-
-pub returns-in-Ok-extend_log-clause-stopped : goal.returns-in-Ok-extend_log-clause-stopped
-returns-in-Ok-extend_log-clause-stopped g c = tt
 
 pub returns-in-Ok-extend_log-clause-inode : goal.returns-in-Ok-extend_log-clause-inode
 returns-in-Ok-extend_log-clause-inode g c = c.settle_log.ensures.inode
@@ -146,29 +133,21 @@ returns-in-Ok-extend_log-clause-inode g c = c.settle_log.ensures.inode
 pub returns-clause-appended : goal.returns-clause-appended
 returns-clause-appended g c = tt
 
-pub returns-clause-enough : goal.returns-clause-enough
-returns-clause-enough g c = tt
+pub returns-clause-needs : goal.returns-clause-needs
+returns-clause-needs g c =
+    record {
+      enough = tt;
+      refused = inr (inl refl);
+    }
 
 pub returns-clause-room : goal.returns-clause-room
 returns-clause-room g c = tt
-
-pub returns-clause-settled : goal.returns-clause-settled
-returns-clause-settled g c = tt
-
-pub returns-clause-refused : goal.returns-clause-refused
-returns-clause-refused g c = inr (inl refl)
 
 pub returns-clause-unchanged : goal.returns-clause-unchanged
 returns-clause-unchanged g c = λ goes_on. absurd (goes_on refl)
 
 pub returns-clause-inode : goal.returns-clause-inode
 returns-clause-inode g c = refl
-
-pub returns-in-Err-NoSpace-clause-stopped : goal.returns-in-Err-NoSpace-clause-stopped
-returns-in-Err-NoSpace-clause-stopped g c = λ is. absurd (no_space_goes_on is)
-
-pub returns-in-Err-Memory-clause-stopped : goal.returns-in-Err-Memory-clause-stopped
-returns-in-Err-Memory-clause-stopped g c = λ is. absurd (memory_goes_on is)
 
 pub extend_log-requires-clause-whole : goal.extend_log-requires-clause-whole
 extend_log-requires-clause-whole g c = slot_word_whole c.slot_address-slot.result _ c.slot_address-slot.ensures c.requires.stands.whole

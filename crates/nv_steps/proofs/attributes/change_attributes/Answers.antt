@@ -1,4 +1,4 @@
-use Rattle.std.proofs.Common.{◌≡◌, ◌%◌, [], ◌∷◌, refl, IsTrue, arith}
+use Rattle.std.proofs.Common.{◌≡◌, ◌%◌, [], ◌∷◌, refl, arith}
 use Rattle.std.proofs.lemmas.Result.{IfOk-from_err, err_from_is_err_and}
 use Rattle.nv_entry.specs.declared.entry.Entry.TheVariants.{Attr}
 use Rattle.nv_logpage.specs.Append.{needed}
@@ -7,6 +7,7 @@ use Rattle.nv_tree.specs.declared.refusal.Refusal.TheVariants.{Stopped}
 use Rattle.nv_tree.proofs.Replies.{refused_by}
 use Rattle.nv_steps.specs.Steps.{LeavesStep, RefusesStep}
 use Rattle.nv_steps.proofs.Attributed.{attributes_follow, has_attributes}
+use Rattle.nv_steps.proofs.Kept.{kept_done, kept_refused}
 use Rattle.nv_steps.proofs.Stopped.{left_attributes}
 use Rattle.nv_steps.proofs.attributes.change_attributes.Goals as goal
 
@@ -28,68 +29,45 @@ returns-in_err-append_log-clause-log g c held h shows = IfOk-from_err c.from_res
 pub returns-in_err-append_log-clause-row : goal.returns-in_err-append_log-clause-row
 returns-in_err-append_log-clause-row g c = IfOk-from_err c.from_residual.result _ c.from_residual.ensures.0
 
-pub returns-in_err-append_log-clause-enough : goal.returns-in_err-append_log-clause-enough
-returns-in_err-append_log-clause-enough g c = IfOk-from_err c.from_residual.result _ c.from_residual.ensures.0
+pub returns-in_err-append_log-clause-needs : goal.returns-in_err-append_log-clause-needs
+returns-in_err-append_log-clause-needs g c =
+    record {
+      enough = IfOk-from_err c.from_residual.result _ c.from_residual.ensures.0;
+      refused = let w = err_from_is_err_and c.from_residual.result c.from_residual.ensures.1 in
+          refused_by c.from_residual.result c.in_err-append_log.field-0.0 w.0 (λ (e : Refusal). RefusesStep e (needed (c.args.row.now.tail % 4096) (Attr c.args.attributes ∷ [])) c.args.free.now) w.1 w.2 c.in_err-append_log.ensures.needs.refused;
+    }
 
-pub returns-in_err-append_log-clause-settled : goal.returns-in_err-append_log-clause-settled
-returns-in_err-append_log-clause-settled g c = IfOk-from_err c.from_residual.result _ c.from_residual.ensures.0
-
-pub returns-in_err-append_log-clause-refused : goal.returns-in_err-append_log-clause-refused
-returns-in_err-append_log-clause-refused g c =
+pub returns-in_err-append_log-clause-kept : goal.returns-in_err-append_log-clause-kept
+returns-in_err-append_log-clause-kept g c =
     let w = err_from_is_err_and c.from_residual.result c.from_residual.ensures.1 in
-    refused_by c.from_residual.result c.in_err-append_log.field-0.0 w.0 (λ (e : Refusal). RefusesStep e (needed (c.args.row.now.tail % 4096) (Attr c.args.attributes ∷ [])) c.args.free.now) w.1 w.2 c.in_err-append_log.ensures.refused
+    kept_refused c.from_residual.result c.in_err-append_log.field-0.0 w.0 w.1 w.2 c.in_err-append_log.ensures.kept
 
 pub returns-in_err-append_log-clause-unchanged : goal.returns-in_err-append_log-clause-unchanged
 returns-in_err-append_log-clause-unchanged g c =
     let w = err_from_is_err_and c.from_residual.result c.from_residual.ensures.1 in
     refused_by c.from_residual.result c.in_err-append_log.field-0.0 w.0 (λ (e : Refusal). (e ≡ Stopped → ⊥) → LeavesStep c.args.memory.now c.append_log.new.memory c.args.free.now c.append_log.new.free c.args.row.now c.append_log.new.row) w.1 w.2 c.in_err-append_log.ensures.unchanged
 
-pub returns-in_err-append_log-clause-stopped : goal.returns-in_err-append_log-clause-stopped
-returns-in_err-append_log-clause-stopped g c =
-    let w = err_from_is_err_and c.from_residual.result c.from_residual.ensures.1 in
-    refused_by c.from_residual.result c.in_err-append_log.field-0.0 w.0 (λ (e : Refusal). e ≡ Stopped → IsTrue (g.P.Pmem.fuse c.append_log.new.memory).has_burnt) w.1 w.2 c.in_err-append_log.ensures.stopped
-
 pub returns-in_err-append_log-clause-inode : goal.returns-in_err-append_log-clause-inode
 returns-in_err-append_log-clause-inode g c = c.in_err-append_log.ensures.inode
-
-pub returns-in_err-append_log-clause-lists : goal.returns-in_err-append_log-clause-lists
-returns-in_err-append_log-clause-lists g c = c.in_err-append_log.ensures.lists
-
-pub returns-in_err-append_log-clause-length : goal.returns-in_err-append_log-clause-length
-returns-in_err-append_log-clause-length g c = c.in_err-append_log.ensures.length
-
-pub returns-in_err-append_log-clause-keeps_fuse : goal.returns-in_err-append_log-clause-keeps_fuse
-returns-in_err-append_log-clause-keeps_fuse g c = c.in_err-append_log.ensures.keeps_fuse
 
 pub returns-clause-row : goal.returns-clause-row
 returns-clause-row g c = has_attributes c.args.attributes c.in_ok-append_log.ensures.appended.row c.numbers_with-row.ensures c.requires.size
 
-pub returns-clause-enough : goal.returns-clause-enough
-returns-clause-enough g c = c.in_ok-append_log.ensures.enough
+pub returns-clause-needs : goal.returns-clause-needs
+returns-clause-needs g c =
+    record {
+      enough = c.in_ok-append_log.ensures.needs.enough;
+      refused = tt;
+    }
 
-pub returns-clause-settled : goal.returns-clause-settled
-returns-clause-settled g c = c.in_ok-append_log.ensures.settled
-
-pub returns-clause-refused : goal.returns-clause-refused
-returns-clause-refused g c = tt
+pub returns-clause-kept : goal.returns-clause-kept
+returns-clause-kept g c = kept_done c.in_ok-append_log.ensures.kept
 
 pub returns-clause-unchanged : goal.returns-clause-unchanged
 returns-clause-unchanged g c = tt
 
-pub returns-clause-stopped : goal.returns-clause-stopped
-returns-clause-stopped g c = tt
-
 pub returns-clause-inode : goal.returns-clause-inode
 returns-clause-inode g c = c.in_ok-append_log.ensures.inode
-
-pub returns-clause-lists : goal.returns-clause-lists
-returns-clause-lists g c = c.in_ok-append_log.ensures.lists
-
-pub returns-clause-length : goal.returns-clause-length
-returns-clause-length g c = c.in_ok-append_log.ensures.length
-
-pub returns-clause-keeps_fuse : goal.returns-clause-keeps_fuse
-returns-clause-keeps_fuse g c = c.in_ok-append_log.ensures.keeps_fuse
 
 pub returns-in_err-append_log-clause-any_stop : goal.returns-in_err-append_log-clause-any_stop
 returns-in_err-append_log-clause-any_stop g c held h shows settled left may =

@@ -1,3 +1,4 @@
+use Rattle.std.proofs.lemmas.Grind.{common_steps}
 use Rattle.std.proofs.Common.{◌≡◌, ◌⊎◌, refl, ◌+◌, ◌<◌, ap, sym, ◌∙◌, subst, arith, get_or, length, List, ℕ, Option}
 use Rattle.nv_region.specs.Region.{put}
 use Rattle.nv_region.specs.Stops.{LeavesOnly}
@@ -18,11 +19,23 @@ returns-in-None-clause-log g c held h shows dead = (
   made.nothing_lost _ _ _,
 )
 
-pub returns-in_default-unlink_page-clause-keeps_fuse : goal.returns-in_default-unlink_page-clause-keeps_fuse
-returns-in_default-unlink_page-clause-keeps_fuse g c = keeps_within (λ limit long. made.within_region _ c.slot_address-slot.result limit c.requires.stands c.requires.inside c.deref-3.ensures c.slot_address-slot.ensures long) c.unlink_page.ensures.kept.keeps_fuse
+pub returns-in_default-unlink_page-clause-kept : goal.returns-in_default-unlink_page-clause-kept
+returns-in_default-unlink_page-clause-kept g c =
+    record {
+      stopped = grind (arith, common_steps);
+      lists = grind (arith, common_steps);
+      length = grind (arith, common_steps);
+      keeps_fuse = keeps_within (λ limit long. made.within_region _ c.slot_address-slot.result limit c.requires.stands c.requires.inside c.deref-3.ensures c.slot_address-slot.ensures long) c.unlink_page.ensures.kept.keeps_fuse;
+    }
 
-pub returns-clause-keeps_fuse : goal.returns-clause-keeps_fuse
-returns-clause-keeps_fuse g c = keeps_within (λ limit long. made.within_region _ c.slot_address-slot.result limit c.requires.stands c.requires.inside c.deref-3.ensures c.slot_address-slot.ensures long) c.unlink_page.ensures.kept.keeps_fuse
+pub returns-clause-kept : goal.returns-clause-kept
+returns-clause-kept g c =
+    record {
+      stopped = tt;
+      lists = grind (arith, common_steps);
+      length = grind (arith, common_steps);
+      keeps_fuse = keeps_within (λ limit long. made.within_region _ c.slot_address-slot.result limit c.requires.stands c.requires.inside c.deref-3.ensures c.slot_address-slot.ensures long) c.unlink_page.ensures.kept.keeps_fuse;
+    }
 
 pub give_block-requires-clause-can : goal.give_block-requires-clause-can
 give_block-requires-clause-can g c =

@@ -1,3 +1,4 @@
+use Rattle.std.proofs.lemmas.Grind.{common_steps}
 use Rattle.std.proofs.Common.{◌++◌, ◌∙◌, List, ℕ, ap, arith, refl, inl, inr}
 use Rattle.nv_commit.proofs.Left.{still}
 use Rattle.nv_steps.specs.Stopped.{Resized}
@@ -5,6 +6,7 @@ use Rattle.nv_steps.proofs.CopiedEnd.{copy_resizes}
 use Rattle.nv_steps.proofs.CopyStops.{copied_stores, left_copied}
 use Rattle.nv_steps.proofs.CopyOwed.{copies_as, copy_appends, end_ready, ends_as, from_joins, numbered, to_differs, to_inside}
 use Rattle.nv_steps.proofs.Refusals.{memory_goes_on, no_space_goes_on}
+use Rattle.nv_steps.proofs.Kept.{nothing_stored}
 use Rattle.nv_steps.proofs.TakenBlocks.{taken_sup}
 use Rattle.nv_steps.proofs.copying.resize_with_copy.Goals as goal
 
@@ -40,44 +42,52 @@ returns-in-Ok-copy_end-clause-resized g c =
       names = settled.names;
     }) (record { has = numbered c.numbers_with-row.ensures; head = refl; tail = refl; pages = refl }) c.set_run.ensures.blocks c.give_block.ensures.given
 
-pub returns-in-Ok-copy_end-clause-lists : goal.returns-in-Ok-copy_end-clause-lists
-returns-in-Ok-copy_end-clause-lists g c = c.give_block.ensures.lists ∙ taken_sup c.in-Ok.ensures.taken
+pub returns-in-Ok-copy_end-clause-kept : goal.returns-in-Ok-copy_end-clause-kept
+returns-in-Ok-copy_end-clause-kept g c =
+    record {
+      keeps = record {
+        stopped = tt;
+        lists = c.give_block.ensures.lists ∙ taken_sup c.in-Ok.ensures.taken;
+        length = c.in-Ok-copy_end.ensures.length;
+        keeps_fuse = c.in-Ok-copy_end.ensures.keeps_fuse;
+      };
+      settled = c.in-Ok-copy_end.ensures.settled;
+    }
 
-pub returns-clause-lists : goal.returns-clause-lists
-returns-clause-lists g c = taken_sup c.in-Ok.ensures.taken
+pub returns-clause-kept : goal.returns-clause-kept
+returns-clause-kept g c =
+    record {
+      keeps = record {
+        stopped = grind (arith, common_steps);
+        lists = taken_sup c.in-Ok.ensures.taken;
+        length = c.copy_end.ensures.length;
+        keeps_fuse = c.copy_end.ensures.keeps_fuse;
+      };
+      settled = tt;
+    }
 
-pub returns-in-Ok-copy_end-clause-settled : goal.returns-in-Ok-copy_end-clause-settled
-returns-in-Ok-copy_end-clause-settled g c = c.in-Ok-copy_end.ensures.settled
-
-pub returns-in-Ok-copy_end-clause-refused : goal.returns-in-Ok-copy_end-clause-refused
-returns-in-Ok-copy_end-clause-refused g c = tt
+pub returns-in-Ok-copy_end-clause-needs : goal.returns-in-Ok-copy_end-clause-needs
+returns-in-Ok-copy_end-clause-needs g c =
+    record {
+      enough = grind (arith, common_steps);
+      refused = tt;
+    }
 
 pub returns-in-Ok-copy_end-clause-unchanged : goal.returns-in-Ok-copy_end-clause-unchanged
 returns-in-Ok-copy_end-clause-unchanged g c = tt
 
-pub returns-in-Ok-copy_end-clause-stopped : goal.returns-in-Ok-copy_end-clause-stopped
-returns-in-Ok-copy_end-clause-stopped g c = tt
-
 pub returns-in-Ok-copy_end-clause-inode : goal.returns-in-Ok-copy_end-clause-inode
 returns-in-Ok-copy_end-clause-inode g c = c.settle_log.ensures.inode
-
-pub returns-in-Ok-copy_end-clause-length : goal.returns-in-Ok-copy_end-clause-length
-returns-in-Ok-copy_end-clause-length g c = c.in-Ok-copy_end.ensures.length
-
-pub returns-in-Ok-copy_end-clause-keeps_fuse : goal.returns-in-Ok-copy_end-clause-keeps_fuse
-returns-in-Ok-copy_end-clause-keeps_fuse g c = c.in-Ok-copy_end.ensures.keeps_fuse
 
 pub returns-clause-resized : goal.returns-clause-resized
 returns-clause-resized g c = tt
 
-pub returns-clause-enough : goal.returns-clause-enough
-returns-clause-enough g c = tt
-
-pub returns-clause-settled : goal.returns-clause-settled
-returns-clause-settled g c = tt
-
-pub returns-clause-refused : goal.returns-clause-refused
-returns-clause-refused g c = inr (inl refl)
+pub returns-clause-needs : goal.returns-clause-needs
+returns-clause-needs g c =
+    record {
+      enough = tt;
+      refused = inr (inl refl);
+    }
 
 pub returns-clause-unchanged : goal.returns-clause-unchanged
 returns-clause-unchanged g c = λ goes_on. absurd (goes_on refl)
@@ -85,20 +95,19 @@ returns-clause-unchanged g c = λ goes_on. absurd (goes_on refl)
 pub returns-clause-inode : goal.returns-clause-inode
 returns-clause-inode g c = refl
 
-pub returns-clause-length : goal.returns-clause-length
-returns-clause-length g c = c.copy_end.ensures.length
-
-pub returns-clause-keeps_fuse : goal.returns-clause-keeps_fuse
-returns-clause-keeps_fuse g c = c.copy_end.ensures.keeps_fuse
-
 pub returns-in-Err-NoSpace-clause-resized : goal.returns-in-Err-NoSpace-clause-resized
 returns-in-Err-NoSpace-clause-resized g c = tt
 
-pub returns-in-Err-NoSpace-clause-enough : goal.returns-in-Err-NoSpace-clause-enough
-returns-in-Err-NoSpace-clause-enough g c = tt
+pub returns-in-Err-NoSpace-clause-needs : goal.returns-in-Err-NoSpace-clause-needs
+returns-in-Err-NoSpace-clause-needs g c =
+    record {
+      enough = tt;
+      refused = grind (arith, common_steps);
+    }
 
-pub returns-in-Err-NoSpace-clause-settled : goal.returns-in-Err-NoSpace-clause-settled
-returns-in-Err-NoSpace-clause-settled g c = tt
+pub returns-in-Err-NoSpace-clause-kept : goal.returns-in-Err-NoSpace-clause-kept
+returns-in-Err-NoSpace-clause-kept g c =
+    nothing_stored tt (λ is. absurd (no_space_goes_on is)) (c.in-Err-NoSpace.ensures.unchanged.sup)
 
 pub returns-in-Err-NoSpace-clause-unchanged : goal.returns-in-Err-NoSpace-clause-unchanged
 returns-in-Err-NoSpace-clause-unchanged g c = λ _. record { memory = refl; free = c.in-Err-NoSpace.ensures.unchanged; row = record { inode = refl; kind = refl; numbers = refl; head = refl; tail = refl; pages = c.in-Err-NoSpace.ensures.pages; index = λ p. refl; names = λ q. refl } }
@@ -106,26 +115,19 @@ returns-in-Err-NoSpace-clause-unchanged g c = λ _. record { memory = refl; free
 pub returns-in-Err-NoSpace-clause-inode : goal.returns-in-Err-NoSpace-clause-inode
 returns-in-Err-NoSpace-clause-inode g c = refl
 
-pub returns-in-Err-NoSpace-clause-length : goal.returns-in-Err-NoSpace-clause-length
-returns-in-Err-NoSpace-clause-length g c = refl
-
-pub returns-in-Err-NoSpace-clause-keeps_fuse : goal.returns-in-Err-NoSpace-clause-keeps_fuse
-returns-in-Err-NoSpace-clause-keeps_fuse g c = record { burnt = λ was. was; steady = λ was. was; stays_open = λ limit past was. was }
-
-pub returns-in-Err-NoSpace-clause-lists : goal.returns-in-Err-NoSpace-clause-lists
-returns-in-Err-NoSpace-clause-lists g c = c.in-Err-NoSpace.ensures.unchanged.sup
-
 pub returns-in-Err-Memory-clause-resized : goal.returns-in-Err-Memory-clause-resized
 returns-in-Err-Memory-clause-resized g c = tt
 
-pub returns-in-Err-Memory-clause-enough : goal.returns-in-Err-Memory-clause-enough
-returns-in-Err-Memory-clause-enough g c = tt
+pub returns-in-Err-Memory-clause-needs : goal.returns-in-Err-Memory-clause-needs
+returns-in-Err-Memory-clause-needs g c =
+    record {
+      enough = tt;
+      refused = inl refl;
+    }
 
-pub returns-in-Err-Memory-clause-settled : goal.returns-in-Err-Memory-clause-settled
-returns-in-Err-Memory-clause-settled g c = tt
-
-pub returns-in-Err-Memory-clause-refused : goal.returns-in-Err-Memory-clause-refused
-returns-in-Err-Memory-clause-refused g c = inl refl
+pub returns-in-Err-Memory-clause-kept : goal.returns-in-Err-Memory-clause-kept
+returns-in-Err-Memory-clause-kept g c =
+    nothing_stored tt (λ is. absurd (memory_goes_on is)) (c.in-Err-Memory.ensures.unchanged.sup)
 
 pub returns-in-Err-Memory-clause-unchanged : goal.returns-in-Err-Memory-clause-unchanged
 returns-in-Err-Memory-clause-unchanged g c = λ _. record { memory = refl; free = c.in-Err-Memory.ensures.unchanged; row = record { inode = refl; kind = refl; numbers = refl; head = refl; tail = refl; pages = c.in-Err-Memory.ensures.pages; index = λ p. refl; names = λ q. refl } }
@@ -133,26 +135,11 @@ returns-in-Err-Memory-clause-unchanged g c = λ _. record { memory = refl; free 
 pub returns-in-Err-Memory-clause-inode : goal.returns-in-Err-Memory-clause-inode
 returns-in-Err-Memory-clause-inode g c = refl
 
-pub returns-in-Err-Memory-clause-length : goal.returns-in-Err-Memory-clause-length
-returns-in-Err-Memory-clause-length g c = refl
-
-pub returns-in-Err-Memory-clause-keeps_fuse : goal.returns-in-Err-Memory-clause-keeps_fuse
-returns-in-Err-Memory-clause-keeps_fuse g c = record { burnt = λ was. was; steady = λ was. was; stays_open = λ limit past was. was }
-
-pub returns-in-Err-Memory-clause-lists : goal.returns-in-Err-Memory-clause-lists
-returns-in-Err-Memory-clause-lists g c = c.in-Err-Memory.ensures.unchanged.sup
-
 pub slot_address-slot-requires-clause-layout : goal.slot_address-slot-requires-clause-layout
 slot_address-slot-requires-clause-layout g c = c.requires.can.stands.layout
 
 pub slot_address-slot-requires-clause-inode : goal.slot_address-slot-requires-clause-inode
 slot_address-slot-requires-clause-inode g c = c.requires.can.stands.number
-
-pub returns-in-Err-NoSpace-clause-stopped : goal.returns-in-Err-NoSpace-clause-stopped
-returns-in-Err-NoSpace-clause-stopped g c = λ is. absurd (no_space_goes_on is)
-
-pub returns-in-Err-Memory-clause-stopped : goal.returns-in-Err-Memory-clause-stopped
-returns-in-Err-Memory-clause-stopped g c = λ is. absurd (memory_goes_on is)
 
 pub returns-in-Err-NoSpace-clause-any_stop : goal.returns-in-Err-NoSpace-clause-any_stop
 returns-in-Err-NoSpace-clause-any_stop g c held h shows settled = still _ _ c.args.sup.now held (Resized (g.P.Pmem.region c.args.memory.now) c.args.sup.now c.args.free.now c.args.cpu c.args.row.now c.args.attributes) shows.sound settled

@@ -1,4 +1,5 @@
-use Rattle.std.proofs.Common.{◌∙◌, ◌+◌, ◌<◌, ◌≤◌, subst, sym, ◌≡◌, ◌%◌, refl, inl, inr, IsTrue}
+use Rattle.std.proofs.lemmas.Grind.{common_steps}
+use Rattle.std.proofs.Common.{arith, ◌∙◌, ◌+◌, ◌<◌, ◌≤◌, subst, sym, ◌≡◌, ◌%◌, refl, inl, inr, IsTrue}
 use Rattle.std.proofs.lemmas.Result.{err_from_is_err_and, IfOk-from_err}
 use Rattle.nv_logpage.specs.Append.{needed}
 use Rattle.nv_held.specs.nv_outcome.Same.{SameRow}
@@ -16,6 +17,7 @@ use Rattle.nv_steps.proofs.AppendedLogs.{appends_logs, both_within, first_commit
 use Rattle.nv_steps.proofs.TakenBlocks.{taken_sup}
 use Rattle.nv_steps.proofs.growing.append_logs.Goals as goal
 use Rattle.nv_steps.specs.Stores.{two_logs}
+use Rattle.nv_steps.proofs.Kept.{nothing_stored}
 use Rattle.nv_steps.proofs.Stores.{stores_nothing}
 
 pub prepare_logs-requires-clause-cpu : goal.prepare_logs-requires-clause-cpu
@@ -32,19 +34,29 @@ pub extend_two-requires-clause-second : goal.extend_two-requires-clause-second
 extend_two-requires-clause-second g c =
     second_commits c.in_ok-blocks.ensures.ready c.in_ok-blocks.ensures.other_ready c.requires.stands c.requires.other_stands c.in_ok-blocks.ensures.taken c.in_ok-blocks.ensures.count c.requires.apart c.requires.given.given c.requires.more_given.given c.requires.given.some c.requires.more_given.some c.blocks_for-count.ensures c.deref.ensures.value c.split_at.ensures.front c.split_at.ensures.back c.extension-one.result c.extension-two.result c.extension-one.ensures.slot c.extension-one.ensures.tail c.extension-one.ensures.entries c.extension-one.ensures.fresh c.extension-two.ensures.slot c.extension-two.ensures.tail c.extension-two.ensures.entries c.extension-two.ensures.fresh
 
-pub returns-in_default-clause-lists : goal.returns-in_default-clause-lists
-returns-in_default-clause-lists g c = taken_sup c.in_ok-blocks.ensures.taken
+pub returns-in_default-clause-kept : goal.returns-in_default-clause-kept
+returns-in_default-clause-kept g c =
+    record {
+      keeps = record {
+        stopped = grind (arith, common_steps);
+        lists = taken_sup c.in_ok-blocks.ensures.taken;
+        length = mixed_size c.extend_two.ensures.kept.wrote.mixed;
+        keeps_fuse = keeps_within (both_within c.in_ok-blocks.ensures.ready c.in_ok-blocks.ensures.other_ready c.requires.stands c.requires.other_stands c.in_ok-blocks.ensures.taken c.in_ok-blocks.ensures.count c.requires.apart c.requires.given.given c.requires.more_given.given c.requires.given.some c.requires.more_given.some c.blocks_for-count.ensures c.deref.ensures.value c.split_at.ensures.front c.split_at.ensures.back c.extension-one.result c.extension-two.result c.extension-one.ensures.slot c.extension-one.ensures.tail c.extension-one.ensures.entries c.extension-one.ensures.fresh c.extension-two.ensures.slot c.extension-two.ensures.tail c.extension-two.ensures.entries c.extension-two.ensures.fresh) c.extend_two.ensures.kept.keeps_fuse;
+      };
+      settled = tt;
+    }
 
-pub returns-clause-lists : goal.returns-clause-lists
-returns-clause-lists g c = taken_sup c.in_ok-blocks.ensures.taken
-
-pub returns-in_default-clause-keeps_fuse : goal.returns-in_default-clause-keeps_fuse
-returns-in_default-clause-keeps_fuse g c =
-    keeps_within (both_within c.in_ok-blocks.ensures.ready c.in_ok-blocks.ensures.other_ready c.requires.stands c.requires.other_stands c.in_ok-blocks.ensures.taken c.in_ok-blocks.ensures.count c.requires.apart c.requires.given.given c.requires.more_given.given c.requires.given.some c.requires.more_given.some c.blocks_for-count.ensures c.deref.ensures.value c.split_at.ensures.front c.split_at.ensures.back c.extension-one.result c.extension-two.result c.extension-one.ensures.slot c.extension-one.ensures.tail c.extension-one.ensures.entries c.extension-one.ensures.fresh c.extension-two.ensures.slot c.extension-two.ensures.tail c.extension-two.ensures.entries c.extension-two.ensures.fresh) c.extend_two.ensures.kept.keeps_fuse
-
-pub returns-clause-keeps_fuse : goal.returns-clause-keeps_fuse
-returns-clause-keeps_fuse g c =
-    keeps_within (both_within c.in_ok-blocks.ensures.ready c.in_ok-blocks.ensures.other_ready c.requires.stands c.requires.other_stands c.in_ok-blocks.ensures.taken c.in_ok-blocks.ensures.count c.requires.apart c.requires.given.given c.requires.more_given.given c.requires.given.some c.requires.more_given.some c.blocks_for-count.ensures c.deref.ensures.value c.split_at.ensures.front c.split_at.ensures.back c.extension-one.result c.extension-two.result c.extension-one.ensures.slot c.extension-one.ensures.tail c.extension-one.ensures.entries c.extension-one.ensures.fresh c.extension-two.ensures.slot c.extension-two.ensures.tail c.extension-two.ensures.entries c.extension-two.ensures.fresh) c.extend_two.ensures.kept.keeps_fuse
+pub returns-clause-kept : goal.returns-clause-kept
+returns-clause-kept g c =
+    record {
+      keeps = record {
+        stopped = tt;
+        lists = taken_sup c.in_ok-blocks.ensures.taken;
+        length = mixed_size c.extend_two.ensures.kept.wrote.mixed;
+        keeps_fuse = keeps_within (both_within c.in_ok-blocks.ensures.ready c.in_ok-blocks.ensures.other_ready c.requires.stands c.requires.other_stands c.in_ok-blocks.ensures.taken c.in_ok-blocks.ensures.count c.requires.apart c.requires.given.given c.requires.more_given.given c.requires.given.some c.requires.more_given.some c.blocks_for-count.ensures c.deref.ensures.value c.split_at.ensures.front c.split_at.ensures.back c.extension-one.result c.extension-two.result c.extension-one.ensures.slot c.extension-one.ensures.tail c.extension-one.ensures.entries c.extension-one.ensures.fresh c.extension-two.ensures.slot c.extension-two.ensures.tail c.extension-two.ensures.entries c.extension-two.ensures.fresh) c.extend_two.ensures.kept.keeps_fuse;
+      };
+      settled = c.in-Ok.ensures.kept.settled;
+    }
 
 pub settle_log-requires : goal.settle_log-requires
 settle_log-requires g c =
@@ -60,17 +72,15 @@ returns-clause-appended g c =
     appends_logs c.in_ok-blocks.ensures.ready c.in_ok-blocks.ensures.other_ready c.requires.stands c.requires.other_stands c.in_ok-blocks.ensures.taken c.in_ok-blocks.ensures.count c.requires.apart c.requires.given.given c.requires.more_given.given c.requires.given.some c.requires.more_given.some c.blocks_for-count.ensures c.deref.ensures.value c.split_at.ensures.front c.split_at.ensures.back c.extension-one.result c.extension-two.result c.extension-one.ensures.slot c.extension-one.ensures.tail c.extension-one.ensures.entries c.extension-one.ensures.fresh c.extension-two.ensures.slot c.extension-two.ensures.tail c.extension-two.ensures.entries c.extension-two.ensures.fresh ends.0 ends.1 c.settle_log.ensures c.settle_log-2.ensures
     (λ held a b h k can. c.in-Ok.ensures.shows c.args.sup.now held a b h k can) c.extend_two.ensures.kept.wrote.mixed
 
-pub returns-clause-first_room : goal.returns-clause-first_room
-returns-clause-first_room g c =
-    let ready = c.in_ok-blocks.ensures.ready in
-    let grown = c.settle_log.ensures in
-    subst (λ (names : Names). c.args.first.now.names ≤ names.room) (sym grown.names) ready.names_room
-
-pub returns-clause-room : goal.returns-clause-room
-returns-clause-room g c =
-    let ready = c.in_ok-blocks.ensures.other_ready in
-    let grown = c.settle_log-2.ensures in
-    subst (λ (names : Names). c.args.second.now.names ≤ names.room) (sym grown.names) ready.names_room
+pub returns-clause-rooms : goal.returns-clause-rooms
+returns-clause-rooms g c = (
+  let ready = c.in_ok-blocks.ensures.ready in
+      let grown = c.settle_log.ensures in
+      subst (λ (names : Names). c.args.first.now.names ≤ names.room) (sym grown.names) ready.names_room,
+  let ready = c.in_ok-blocks.ensures.other_ready in
+      let grown = c.settle_log-2.ensures in
+      subst (λ (names : Names). c.args.second.now.names ≤ names.room) (sym grown.names) ready.names_room,
+)
 
 pub prepare_logs-requires-clause-few : goal.prepare_logs-requires-clause-few
 prepare_logs-requires-clause-few g c = c.requires.given.few
@@ -78,105 +88,65 @@ prepare_logs-requires-clause-few g c = c.requires.given.few
 pub prepare_logs-requires-clause-more_few : goal.prepare_logs-requires-clause-more_few
 prepare_logs-requires-clause-more_few g c = c.requires.more_given.few
 
-pub returns-in_err-blocks-clause-refused : goal.returns-in_err-blocks-clause-refused
-returns-in_err-blocks-clause-refused g c =
-    let w = err_from_is_err_and c.from_residual.result c.from_residual.ensures.1 in
-    refused_by c.from_residual.result c.in_err-blocks.field-0.0 w.0 (λ (e : Refusal). RefusesStep e (needed (c.args.row.now.tail % 4096) c.args.first.now.entries.now + needed (c.args.other.now.tail % 4096) c.args.second.now.entries.now) c.args.free.now) w.1 w.2 c.in_err-blocks.ensures.refused
+pub returns-in_err-blocks-clause-needs : goal.returns-in_err-blocks-clause-needs
+returns-in_err-blocks-clause-needs g c =
+    record {
+      enough = IfOk-from_err c.from_residual.result _ c.from_residual.ensures.0;
+      refused = let w = err_from_is_err_and c.from_residual.result c.from_residual.ensures.1 in
+          refused_by c.from_residual.result c.in_err-blocks.field-0.0 w.0 (λ (e : Refusal). RefusesStep e (needed (c.args.row.now.tail % 4096) c.args.first.now.entries.now + needed (c.args.other.now.tail % 4096) c.args.second.now.entries.now) c.args.free.now) w.1 w.2 c.in_err-blocks.ensures.needs.refused;
+    }
 
 pub returns-in_err-blocks-clause-unchanged : goal.returns-in_err-blocks-clause-unchanged
 returns-in_err-blocks-clause-unchanged g c =
     let w = err_from_is_err_and c.from_residual.result c.from_residual.ensures.1 in
     refused_by c.from_residual.result c.in_err-blocks.field-0.0 w.0 (λ (e : Refusal). (e ≡ Stopped → ⊥) → LeavesStep c.args.memory.now c.args.memory.now c.args.free.now c.prepare_logs.new.free c.args.row.now c.prepare_logs.new.row × SameRow c.args.other.now c.prepare_logs.new.other) w.1 w.2
-    (λ _. (record { memory = refl; free = c.in_err-blocks.ensures.unchanged; row = c.in_err-blocks.ensures.row }, c.in_err-blocks.ensures.other))
+    (λ _. (record { memory = refl; free = c.in_err-blocks.ensures.unchanged; row = c.in_err-blocks.ensures.rows.0 }, c.in_err-blocks.ensures.rows.1))
 
-pub returns-in_err-blocks-clause-stopped : goal.returns-in_err-blocks-clause-stopped
-returns-in_err-blocks-clause-stopped g c =
-    let w = err_from_is_err_and c.from_residual.result c.from_residual.ensures.1 in
-    refused_by c.from_residual.result c.in_err-blocks.field-0.0 w.0 (λ (e : Refusal). e ≡ Stopped → IsTrue (g.P.Pmem.fuse c.args.memory.now).has_burnt) w.1 w.2 (λ is. absurd (c.in_err-blocks.ensures.goes_on is))
+pub returns-in_err-blocks-clause-kept : goal.returns-in_err-blocks-clause-kept
+returns-in_err-blocks-clause-kept g c =
+    nothing_stored (IfOk-from_err c.from_residual.result _ c.from_residual.ensures.0) (let w = err_from_is_err_and c.from_residual.result c.from_residual.ensures.1 in
+    refused_by c.from_residual.result c.in_err-blocks.field-0.0 w.0 (λ (e : Refusal). e ≡ Stopped → IsTrue (g.P.Pmem.fuse c.args.memory.now).has_burnt) w.1 w.2 (λ is. absurd (c.in_err-blocks.ensures.goes_on is))) (c.in_err-blocks.ensures.unchanged.sup)
 
-pub returns-in_err-blocks-clause-inode : goal.returns-in_err-blocks-clause-inode
-returns-in_err-blocks-clause-inode g c = c.in_err-blocks.ensures.row.inode
-
-pub returns-in_err-blocks-clause-other_inode : goal.returns-in_err-blocks-clause-other_inode
-returns-in_err-blocks-clause-other_inode g c = c.in_err-blocks.ensures.other.inode
-
-pub returns-in_err-blocks-clause-lists : goal.returns-in_err-blocks-clause-lists
-returns-in_err-blocks-clause-lists g c = c.in_err-blocks.ensures.unchanged.sup
-
-pub returns-in_err-blocks-clause-length : goal.returns-in_err-blocks-clause-length
-returns-in_err-blocks-clause-length g c = refl
+pub returns-in_err-blocks-clause-inodes : goal.returns-in_err-blocks-clause-inodes
+returns-in_err-blocks-clause-inodes g c = (c.in_err-blocks.ensures.rows.0.inode, c.in_err-blocks.ensures.rows.1.inode)
 
 pub returns-in_default-clause-appended : goal.returns-in_default-clause-appended
 returns-in_default-clause-appended g c = tt
 
-pub returns-in_default-clause-first_room : goal.returns-in_default-clause-first_room
-returns-in_default-clause-first_room g c = tt
+pub returns-in_default-clause-rooms : goal.returns-in_default-clause-rooms
+returns-in_default-clause-rooms g c = tt
 
-pub returns-in_default-clause-room : goal.returns-in_default-clause-room
-returns-in_default-clause-room g c = tt
-
-pub returns-in_default-clause-enough : goal.returns-in_default-clause-enough
-returns-in_default-clause-enough g c = tt
-
-pub returns-in_default-clause-settled : goal.returns-in_default-clause-settled
-returns-in_default-clause-settled g c = tt
-
-pub returns-in_default-clause-refused : goal.returns-in_default-clause-refused
-returns-in_default-clause-refused g c = inr (inl refl)
+pub returns-in_default-clause-needs : goal.returns-in_default-clause-needs
+returns-in_default-clause-needs g c =
+    record {
+      enough = tt;
+      refused = inr (inl refl);
+    }
 
 pub returns-in_default-clause-unchanged : goal.returns-in_default-clause-unchanged
 returns-in_default-clause-unchanged g c = λ goes_on. absurd (goes_on refl)
 
-pub returns-in_default-clause-inode : goal.returns-in_default-clause-inode
-returns-in_default-clause-inode g c = c.in_ok-blocks.ensures.row.inode
+pub returns-in_default-clause-inodes : goal.returns-in_default-clause-inodes
+returns-in_default-clause-inodes g c = (c.in_ok-blocks.ensures.rows.0.inode, c.in_ok-blocks.ensures.rows.1.inode)
 
-pub returns-in_default-clause-other_inode : goal.returns-in_default-clause-other_inode
-returns-in_default-clause-other_inode g c = c.in_ok-blocks.ensures.other.inode
-
-pub returns-in_default-clause-length : goal.returns-in_default-clause-length
-returns-in_default-clause-length g c = mixed_size c.extend_two.ensures.kept.wrote.mixed
-
-pub returns-clause-enough : goal.returns-clause-enough
-returns-clause-enough g c = c.in_ok-blocks.ensures.enough
-
-pub returns-clause-settled : goal.returns-clause-settled
-returns-clause-settled g c = c.in-Ok.ensures.kept.settled
-
-pub returns-clause-refused : goal.returns-clause-refused
-returns-clause-refused g c = tt
+pub returns-clause-needs : goal.returns-clause-needs
+returns-clause-needs g c =
+    record {
+      enough = c.in_ok-blocks.ensures.needs.enough;
+      refused = tt;
+    }
 
 pub returns-clause-unchanged : goal.returns-clause-unchanged
 returns-clause-unchanged g c = tt
 
-pub returns-clause-stopped : goal.returns-clause-stopped
-returns-clause-stopped g c = tt
-
-pub returns-clause-inode : goal.returns-clause-inode
-returns-clause-inode g c = c.settle_log.ensures.inode ∙ c.in_ok-blocks.ensures.row.inode
-
-pub returns-clause-other_inode : goal.returns-clause-other_inode
-returns-clause-other_inode g c = c.settle_log-2.ensures.inode ∙ c.in_ok-blocks.ensures.other.inode
-
-pub returns-clause-length : goal.returns-clause-length
-returns-clause-length g c = mixed_size c.extend_two.ensures.kept.wrote.mixed
+pub returns-clause-inodes : goal.returns-clause-inodes
+returns-clause-inodes g c = (c.settle_log.ensures.inode ∙ c.in_ok-blocks.ensures.rows.0.inode, c.settle_log-2.ensures.inode ∙ c.in_ok-blocks.ensures.rows.1.inode)
 
 pub returns-in_err-blocks-clause-appended : goal.returns-in_err-blocks-clause-appended
 returns-in_err-blocks-clause-appended g c = IfOk-from_err c.from_residual.result _ c.from_residual.ensures.0
 
-pub returns-in_err-blocks-clause-first_room : goal.returns-in_err-blocks-clause-first_room
-returns-in_err-blocks-clause-first_room g c = IfOk-from_err c.from_residual.result _ c.from_residual.ensures.0
-
-pub returns-in_err-blocks-clause-room : goal.returns-in_err-blocks-clause-room
-returns-in_err-blocks-clause-room g c = IfOk-from_err c.from_residual.result _ c.from_residual.ensures.0
-
-pub returns-in_err-blocks-clause-enough : goal.returns-in_err-blocks-clause-enough
-returns-in_err-blocks-clause-enough g c = IfOk-from_err c.from_residual.result _ c.from_residual.ensures.0
-
-pub returns-in_err-blocks-clause-settled : goal.returns-in_err-blocks-clause-settled
-returns-in_err-blocks-clause-settled g c = IfOk-from_err c.from_residual.result _ c.from_residual.ensures.0
-
-pub returns-in_err-blocks-clause-keeps_fuse : goal.returns-in_err-blocks-clause-keeps_fuse
-returns-in_err-blocks-clause-keeps_fuse g c = record { burnt = λ was. was; steady = λ was. was; stays_open = λ limit past was. was }
+pub returns-in_err-blocks-clause-rooms : goal.returns-in_err-blocks-clause-rooms
+returns-in_err-blocks-clause-rooms g c = IfOk-from_err c.from_residual.result _ c.from_residual.ensures.0
 
 pub returns-in_err-blocks-clause-any_stop : goal.returns-in_err-blocks-clause-any_stop
 returns-in_err-blocks-clause-any_stop g c held h k here there settled = still _ _ c.args.sup.now held (AppendedBoth (g.P.Pmem.region c.args.memory.now) c.args.sup.now c.args.free.now c.args.cpu c.args.row.now c.args.first.now.entries.now c.args.other.now c.args.second.now.entries.now) here.sound settled

@@ -36,11 +36,12 @@ returns-in-Ok-take_blocks-clause-taken c = c.in-Ok-take_blocks.ensures.taken
 pub returns-in-Ok-take_blocks-clause-count : goal.returns-in-Ok-take_blocks-clause-count
 returns-in-Ok-take_blocks-clause-count c = c.in-Ok-take_blocks.ensures.count ∙ (λ t. c.blocks_for-count.ensures t + c.blocks_for-more.ensures t)
 
-pub returns-in-Ok-take_blocks-clause-enough : goal.returns-in-Ok-take_blocks-clause-enough
-returns-in-Ok-take_blocks-clause-enough c = subst (λ (m : ℕ). m ≤ all_blocks c.args.free.now.pools) (λ t. c.blocks_for-count.ensures t + c.blocks_for-more.ensures t) c.in-Ok-take_blocks.ensures.enough
-
-pub returns-in-Ok-take_blocks-clause-refused : goal.returns-in-Ok-take_blocks-clause-refused
-returns-in-Ok-take_blocks-clause-refused c = tt
+pub returns-in-Ok-take_blocks-clause-needs : goal.returns-in-Ok-take_blocks-clause-needs
+returns-in-Ok-take_blocks-clause-needs c =
+    record {
+      enough = subst (λ (m : ℕ). m ≤ all_blocks c.args.free.now.pools) (λ t. c.blocks_for-count.ensures t + c.blocks_for-more.ensures t) c.in-Ok-take_blocks.ensures.enough;
+      refused = tt;
+    }
 
 pub returns-in-Ok-take_blocks-clause-room : goal.returns-in-Ok-take_blocks-clause-room
 returns-in-Ok-take_blocks-clause-room c = c.in-Ok-take_blocks.ensures.room
@@ -51,11 +52,8 @@ returns-in-Ok-take_blocks-clause-goes_on c = tt
 pub returns-in-Ok-take_blocks-clause-unchanged : goal.returns-in-Ok-take_blocks-clause-unchanged
 returns-in-Ok-take_blocks-clause-unchanged c = tt
 
-pub returns-in-Ok-take_blocks-clause-row : goal.returns-in-Ok-take_blocks-clause-row
-returns-in-Ok-take_blocks-clause-row c = c.make_room.ensures.row
-
-pub returns-in-Ok-take_blocks-clause-other : goal.returns-in-Ok-take_blocks-clause-other
-returns-in-Ok-take_blocks-clause-other c = c.make_room-2.ensures.row
+pub returns-in-Ok-take_blocks-clause-rows : goal.returns-in-Ok-take_blocks-clause-rows
+returns-in-Ok-take_blocks-clause-rows c = (c.make_room.ensures.row, c.make_room-2.ensures.row)
 
 pub take_blocks-requires : goal.take_blocks-requires
 take_blocks-requires c = record { cpu = c.requires.cpu }
@@ -66,8 +64,12 @@ returns-in-Err-NoSpace-clause-taken c = tt
 pub returns-in-Err-NoSpace-clause-count : goal.returns-in-Err-NoSpace-clause-count
 returns-in-Err-NoSpace-clause-count c = tt
 
-pub returns-in-Err-NoSpace-clause-enough : goal.returns-in-Err-NoSpace-clause-enough
-returns-in-Err-NoSpace-clause-enough c = tt
+pub returns-in-Err-NoSpace-clause-needs : goal.returns-in-Err-NoSpace-clause-needs
+returns-in-Err-NoSpace-clause-needs c =
+    record {
+      enough = tt;
+      refused = inr (inr (refl, subst (λ (m : ℕ). all_blocks c.args.free.now.pools < m) (λ t. c.blocks_for-count.ensures t + c.blocks_for-more.ensures t) (no_space _ _ _ c.in-Err-NoSpace.ensures.err c.in-Err-NoSpace.field-0-is)));
+    }
 
 pub returns-in-Err-NoSpace-clause-ready : goal.returns-in-Err-NoSpace-clause-ready
 returns-in-Err-NoSpace-clause-ready c = tt
@@ -81,17 +83,11 @@ returns-in-Err-NoSpace-clause-room c = tt
 pub returns-in-Err-NoSpace-clause-goes_on : goal.returns-in-Err-NoSpace-clause-goes_on
 returns-in-Err-NoSpace-clause-goes_on c = no_space_goes_on
 
-pub returns-in-Err-NoSpace-clause-refused : goal.returns-in-Err-NoSpace-clause-refused
-returns-in-Err-NoSpace-clause-refused c = inr (inr (refl, subst (λ (m : ℕ). all_blocks c.args.free.now.pools < m) (λ t. c.blocks_for-count.ensures t + c.blocks_for-more.ensures t) (no_space _ _ _ c.in-Err-NoSpace.ensures.err c.in-Err-NoSpace.field-0-is)))
-
 pub returns-in-Err-NoSpace-clause-unchanged : goal.returns-in-Err-NoSpace-clause-unchanged
 returns-in-Err-NoSpace-clause-unchanged c = c.in-Err-NoSpace.ensures.unchanged
 
-pub returns-in-Err-NoSpace-clause-row : goal.returns-in-Err-NoSpace-clause-row
-returns-in-Err-NoSpace-clause-row c = c.make_room.ensures.row
-
-pub returns-in-Err-NoSpace-clause-other : goal.returns-in-Err-NoSpace-clause-other
-returns-in-Err-NoSpace-clause-other c = c.make_room-2.ensures.row
+pub returns-in-Err-NoSpace-clause-rows : goal.returns-in-Err-NoSpace-clause-rows
+returns-in-Err-NoSpace-clause-rows c = (c.make_room.ensures.row, c.make_room-2.ensures.row)
 
 pub returns-in-Err-Memory-clause-taken : goal.returns-in-Err-Memory-clause-taken
 returns-in-Err-Memory-clause-taken c = tt
@@ -99,8 +95,12 @@ returns-in-Err-Memory-clause-taken c = tt
 pub returns-in-Err-Memory-clause-count : goal.returns-in-Err-Memory-clause-count
 returns-in-Err-Memory-clause-count c = tt
 
-pub returns-in-Err-Memory-clause-enough : goal.returns-in-Err-Memory-clause-enough
-returns-in-Err-Memory-clause-enough c = tt
+pub returns-in-Err-Memory-clause-needs : goal.returns-in-Err-Memory-clause-needs
+returns-in-Err-Memory-clause-needs c =
+    record {
+      enough = tt;
+      refused = inl refl;
+    }
 
 pub returns-in-Err-Memory-clause-ready : goal.returns-in-Err-Memory-clause-ready
 returns-in-Err-Memory-clause-ready c = tt
@@ -114,17 +114,11 @@ returns-in-Err-Memory-clause-room c = tt
 pub returns-in-Err-Memory-clause-goes_on : goal.returns-in-Err-Memory-clause-goes_on
 returns-in-Err-Memory-clause-goes_on c = memory_goes_on
 
-pub returns-in-Err-Memory-clause-refused : goal.returns-in-Err-Memory-clause-refused
-returns-in-Err-Memory-clause-refused c = inl refl
-
 pub returns-in-Err-Memory-clause-unchanged : goal.returns-in-Err-Memory-clause-unchanged
 returns-in-Err-Memory-clause-unchanged c = c.in-Err-Memory.ensures.unchanged
 
-pub returns-in-Err-Memory-clause-row : goal.returns-in-Err-Memory-clause-row
-returns-in-Err-Memory-clause-row c = c.make_room.ensures.row
-
-pub returns-in-Err-Memory-clause-other : goal.returns-in-Err-Memory-clause-other
-returns-in-Err-Memory-clause-other c = c.make_room-2.ensures.row
+pub returns-in-Err-Memory-clause-rows : goal.returns-in-Err-Memory-clause-rows
+returns-in-Err-Memory-clause-rows c = (c.make_room.ensures.row, c.make_room-2.ensures.row)
 
 pub returns-in_default-clause-taken : goal.returns-in_default-clause-taken
 returns-in_default-clause-taken c = tt
@@ -132,8 +126,12 @@ returns-in_default-clause-taken c = tt
 pub returns-in_default-clause-count : goal.returns-in_default-clause-count
 returns-in_default-clause-count c = tt
 
-pub returns-in_default-clause-enough : goal.returns-in_default-clause-enough
-returns-in_default-clause-enough c = tt
+pub returns-in_default-clause-needs : goal.returns-in_default-clause-needs
+returns-in_default-clause-needs c =
+    record {
+      enough = tt;
+      refused = inl refl;
+    }
 
 pub returns-in_default-clause-ready : goal.returns-in_default-clause-ready
 returns-in_default-clause-ready c = tt
@@ -147,17 +145,11 @@ returns-in_default-clause-room c = tt
 pub returns-in_default-clause-goes_on : goal.returns-in_default-clause-goes_on
 returns-in_default-clause-goes_on c = memory_goes_on
 
-pub returns-in_default-clause-refused : goal.returns-in_default-clause-refused
-returns-in_default-clause-refused c = inl refl
-
 pub returns-in_default-clause-unchanged : goal.returns-in_default-clause-unchanged
 returns-in_default-clause-unchanged c = record { sup = refl; pools = refl }
 
-pub returns-in_default-clause-row : goal.returns-in_default-clause-row
-returns-in_default-clause-row c = c.make_room.ensures.row
-
-pub returns-in_default-clause-other : goal.returns-in_default-clause-other
-returns-in_default-clause-other c = record { inode = refl; kind = refl; numbers = refl; head = refl; tail = refl; pages = refl; index = λ p. refl; names = λ q. refl }
+pub returns-in_default-clause-rows : goal.returns-in_default-clause-rows
+returns-in_default-clause-rows c = (c.make_room.ensures.row, record { inode = refl; kind = refl; numbers = refl; head = refl; tail = refl; pages = refl; index = λ p. refl; names = λ q. refl })
 
 pub returns-in_default-make_room-clause-taken : goal.returns-in_default-make_room-clause-taken
 returns-in_default-make_room-clause-taken c = tt
@@ -165,8 +157,12 @@ returns-in_default-make_room-clause-taken c = tt
 pub returns-in_default-make_room-clause-count : goal.returns-in_default-make_room-clause-count
 returns-in_default-make_room-clause-count c = tt
 
-pub returns-in_default-make_room-clause-enough : goal.returns-in_default-make_room-clause-enough
-returns-in_default-make_room-clause-enough c = tt
+pub returns-in_default-make_room-clause-needs : goal.returns-in_default-make_room-clause-needs
+returns-in_default-make_room-clause-needs c =
+    record {
+      enough = tt;
+      refused = inl refl;
+    }
 
 pub returns-in_default-make_room-clause-ready : goal.returns-in_default-make_room-clause-ready
 returns-in_default-make_room-clause-ready c = tt
@@ -180,17 +176,11 @@ returns-in_default-make_room-clause-room c = tt
 pub returns-in_default-make_room-clause-goes_on : goal.returns-in_default-make_room-clause-goes_on
 returns-in_default-make_room-clause-goes_on c = memory_goes_on
 
-pub returns-in_default-make_room-clause-refused : goal.returns-in_default-make_room-clause-refused
-returns-in_default-make_room-clause-refused c = inl refl
-
 pub returns-in_default-make_room-clause-unchanged : goal.returns-in_default-make_room-clause-unchanged
 returns-in_default-make_room-clause-unchanged c = record { sup = refl; pools = refl }
 
-pub returns-in_default-make_room-clause-row : goal.returns-in_default-make_room-clause-row
-returns-in_default-make_room-clause-row c = c.make_room.ensures.row
-
-pub returns-in_default-make_room-clause-other : goal.returns-in_default-make_room-clause-other
-returns-in_default-make_room-clause-other c = c.make_room-2.ensures.row
+pub returns-in_default-make_room-clause-rows : goal.returns-in_default-make_room-clause-rows
+returns-in_default-make_room-clause-rows c = (c.make_room.ensures.row, c.make_room-2.ensures.row)
 
 pub returns-then-not-are_enough-clause-taken : goal.returns-then-not-are_enough-clause-taken
 returns-then-not-are_enough-clause-taken c = tt
@@ -198,8 +188,12 @@ returns-then-not-are_enough-clause-taken c = tt
 pub returns-then-not-are_enough-clause-count : goal.returns-then-not-are_enough-clause-count
 returns-then-not-are_enough-clause-count c = tt
 
-pub returns-then-not-are_enough-clause-enough : goal.returns-then-not-are_enough-clause-enough
-returns-then-not-are_enough-clause-enough c = tt
+pub returns-then-not-are_enough-clause-needs : goal.returns-then-not-are_enough-clause-needs
+returns-then-not-are_enough-clause-needs c =
+    record {
+      enough = tt;
+      refused = inr (inr (refl, subst (λ (m : ℕ). all_blocks c.args.free.now.pools < m) (λ t. c.blocks_for-count.ensures t + c.blocks_for-more.ensures t) (c.are_enough.ensures.no c.if-not-are_enough.true)));
+    }
 
 pub returns-then-not-are_enough-clause-ready : goal.returns-then-not-are_enough-clause-ready
 returns-then-not-are_enough-clause-ready c = tt
@@ -216,11 +210,5 @@ returns-then-not-are_enough-clause-goes_on c = no_space_goes_on
 pub returns-then-not-are_enough-clause-unchanged : goal.returns-then-not-are_enough-clause-unchanged
 returns-then-not-are_enough-clause-unchanged c = record { sup = refl; pools = refl }
 
-pub returns-then-not-are_enough-clause-row : goal.returns-then-not-are_enough-clause-row
-returns-then-not-are_enough-clause-row c = record { inode = refl; kind = refl; numbers = refl; head = refl; tail = refl; pages = refl; index = λ p. refl; names = λ q. refl }
-
-pub returns-then-not-are_enough-clause-other : goal.returns-then-not-are_enough-clause-other
-returns-then-not-are_enough-clause-other c = record { inode = refl; kind = refl; numbers = refl; head = refl; tail = refl; pages = refl; index = λ p. refl; names = λ q. refl }
-
-pub returns-then-not-are_enough-clause-refused : goal.returns-then-not-are_enough-clause-refused
-returns-then-not-are_enough-clause-refused c = inr (inr (refl, subst (λ (m : ℕ). all_blocks c.args.free.now.pools < m) (λ t. c.blocks_for-count.ensures t + c.blocks_for-more.ensures t) (c.are_enough.ensures.no c.if-not-are_enough.true)))
+pub returns-then-not-are_enough-clause-rows : goal.returns-then-not-are_enough-clause-rows
+returns-then-not-are_enough-clause-rows c = (record { inode = refl; kind = refl; numbers = refl; head = refl; tail = refl; pages = refl; index = λ p. refl; names = λ q. refl }, record { inode = refl; kind = refl; numbers = refl; head = refl; tail = refl; pages = refl; index = λ p. refl; names = λ q. refl })

@@ -1,4 +1,5 @@
-use Rattle.std.proofs.Common.{◌∙◌, ◌+◌, ◌<◌, ◌≤◌, subst, sym, ◌≡◌, ◌%◌, refl, inl, inr, IsTrue}
+use Rattle.std.proofs.lemmas.Grind.{common_steps}
+use Rattle.std.proofs.Common.{arith, ◌∙◌, ◌+◌, ◌<◌, ◌≤◌, subst, sym, ◌≡◌, ◌%◌, refl, inl, inr, IsTrue}
 use Rattle.std.proofs.lemmas.Result.{err_from_is_err_and, IfOk-from_err}
 use Rattle.nv_region.proofs.Fuses.{keeps_within}
 use Rattle.nv_super.specs.declared.superblock.Super.{Super}
@@ -16,6 +17,7 @@ use Rattle.nv_steps.specs.Stores.{three_logs}
 use Rattle.nv_steps.proofs.LogsThree.{appends_three, left_three, three_ordered, three_stored, three_within}
 use Rattle.nv_steps.proofs.Owed.{commits, has_room, owes_three}
 use Rattle.nv_steps.proofs.Stores.{stores_nothing}
+use Rattle.nv_steps.proofs.Kept.{nothing_stored}
 use Rattle.nv_steps.proofs.TakenBlocks.{taken_sup}
 use Rattle.nv_steps.proofs.growing_three.append_three_logs.Goals as goal
 
@@ -83,20 +85,27 @@ returns-clause-room g c =
     let grown = c.settle_log-2.ensures in
     subst (λ (names : Names). c.args.second.now.names ≤ names.room) (sym grown.names) ready.names_room
 
-pub returns-clause-enough : goal.returns-clause-enough
-returns-clause-enough g c = c.in_ok-blocks.ensures.enough
+pub returns-clause-needs : goal.returns-clause-needs
+returns-clause-needs g c =
+    record {
+      enough = c.in_ok-blocks.ensures.needs.enough;
+      refused = tt;
+    }
 
-pub returns-clause-settled : goal.returns-clause-settled
-returns-clause-settled g c = c.in-Ok.ensures.kept.settled
-
-pub returns-clause-refused : goal.returns-clause-refused
-returns-clause-refused g c = tt
+pub returns-clause-kept : goal.returns-clause-kept
+returns-clause-kept g c =
+    record {
+      keeps = record {
+        stopped = tt;
+        lists = taken_sup c.in_ok-blocks.ensures.taken;
+        length = mixed_size c.extend_three.ensures.kept.wrote.mixed;
+        keeps_fuse = keeps_within (three_within (owes_three c.in_ok-blocks.ensures.ready c.in_ok-blocks.ensures.other_ready c.in_ok-blocks.ensures.last_ready c.requires.stands c.requires.other_stands c.requires.last_stands c.in_ok-blocks.ensures.taken c.in_ok-blocks.ensures.count c.requires.apart c.requires.given c.requires.more_given c.requires.last_given c.blocks_for-count.ensures c.deref.ensures.value c.split_at.ensures.front c.split_at.ensures.back c.blocks_for-next.ensures c.split_at-2.ensures.front c.split_at-2.ensures.back c.extension-one.result c.extension-two.result c.extension-three.result c.extension-one.ensures.slot c.extension-one.ensures.tail c.extension-one.ensures.entries c.extension-one.ensures.fresh c.extension-two.ensures.slot c.extension-two.ensures.tail c.extension-two.ensures.entries c.extension-two.ensures.fresh c.extension-three.ensures.slot c.extension-three.ensures.tail c.extension-three.ensures.entries c.extension-three.ensures.fresh)) c.extend_three.ensures.kept.keeps_fuse;
+      };
+      settled = c.in-Ok.ensures.kept.settled;
+    }
 
 pub returns-clause-unchanged : goal.returns-clause-unchanged
 returns-clause-unchanged g c = tt
-
-pub returns-clause-stopped : goal.returns-clause-stopped
-returns-clause-stopped g c = tt
 
 pub returns-clause-inodes : goal.returns-clause-inodes
 returns-clause-inodes g c =
@@ -112,14 +121,24 @@ returns-in_default-clause-appended g c = tt
 pub returns-in_default-clause-room : goal.returns-in_default-clause-room
 returns-in_default-clause-room g c = tt
 
-pub returns-in_default-clause-enough : goal.returns-in_default-clause-enough
-returns-in_default-clause-enough g c = tt
+pub returns-in_default-clause-needs : goal.returns-in_default-clause-needs
+returns-in_default-clause-needs g c =
+    record {
+      enough = tt;
+      refused = inr (inl refl);
+    }
 
-pub returns-in_default-clause-settled : goal.returns-in_default-clause-settled
-returns-in_default-clause-settled g c = tt
-
-pub returns-in_default-clause-refused : goal.returns-in_default-clause-refused
-returns-in_default-clause-refused g c = inr (inl refl)
+pub returns-in_default-clause-kept : goal.returns-in_default-clause-kept
+returns-in_default-clause-kept g c =
+    record {
+      keeps = record {
+        stopped = grind (arith, common_steps);
+        lists = taken_sup c.in_ok-blocks.ensures.taken;
+        length = mixed_size c.extend_three.ensures.kept.wrote.mixed;
+        keeps_fuse = keeps_within (three_within (owes_three c.in_ok-blocks.ensures.ready c.in_ok-blocks.ensures.other_ready c.in_ok-blocks.ensures.last_ready c.requires.stands c.requires.other_stands c.requires.last_stands c.in_ok-blocks.ensures.taken c.in_ok-blocks.ensures.count c.requires.apart c.requires.given c.requires.more_given c.requires.last_given c.blocks_for-count.ensures c.deref.ensures.value c.split_at.ensures.front c.split_at.ensures.back c.blocks_for-next.ensures c.split_at-2.ensures.front c.split_at-2.ensures.back c.extension-one.result c.extension-two.result c.extension-three.result c.extension-one.ensures.slot c.extension-one.ensures.tail c.extension-one.ensures.entries c.extension-one.ensures.fresh c.extension-two.ensures.slot c.extension-two.ensures.tail c.extension-two.ensures.entries c.extension-two.ensures.fresh c.extension-three.ensures.slot c.extension-three.ensures.tail c.extension-three.ensures.entries c.extension-three.ensures.fresh)) c.extend_three.ensures.kept.keeps_fuse;
+      };
+      settled = tt;
+    }
 
 pub returns-in_default-clause-unchanged : goal.returns-in_default-clause-unchanged
 returns-in_default-clause-unchanged g c = λ goes_on. absurd (goes_on refl)
@@ -131,16 +150,6 @@ returns-in_default-clause-inodes g c =
     let two = rows.1 in
     let three = rows.2 in
     (one.inode, two.inode, three.inode)
-
-pub returns-clause-lists : goal.returns-clause-lists
-returns-clause-lists g c = taken_sup c.in_ok-blocks.ensures.taken
-
-pub returns-clause-length : goal.returns-clause-length
-returns-clause-length g c = mixed_size c.extend_three.ensures.kept.wrote.mixed
-
-pub returns-clause-keeps_fuse : goal.returns-clause-keeps_fuse
-returns-clause-keeps_fuse g c =
-    keeps_within (three_within (owes_three c.in_ok-blocks.ensures.ready c.in_ok-blocks.ensures.other_ready c.in_ok-blocks.ensures.last_ready c.requires.stands c.requires.other_stands c.requires.last_stands c.in_ok-blocks.ensures.taken c.in_ok-blocks.ensures.count c.requires.apart c.requires.given c.requires.more_given c.requires.last_given c.blocks_for-count.ensures c.deref.ensures.value c.split_at.ensures.front c.split_at.ensures.back c.blocks_for-next.ensures c.split_at-2.ensures.front c.split_at-2.ensures.back c.extension-one.result c.extension-two.result c.extension-three.result c.extension-one.ensures.slot c.extension-one.ensures.tail c.extension-one.ensures.entries c.extension-one.ensures.fresh c.extension-two.ensures.slot c.extension-two.ensures.tail c.extension-two.ensures.entries c.extension-two.ensures.fresh c.extension-three.ensures.slot c.extension-three.ensures.tail c.extension-three.ensures.entries c.extension-three.ensures.fresh)) c.extend_three.ensures.kept.keeps_fuse
 
 pub returns-clause-wrote : goal.returns-clause-wrote
 returns-clause-wrote g c held h m f here there also =
@@ -155,16 +164,6 @@ pub returns-clause-any_stop : goal.returns-clause-any_stop
 returns-clause-any_stop g c held h m f here there also settled =
     left_three (owes_three c.in_ok-blocks.ensures.ready c.in_ok-blocks.ensures.other_ready c.in_ok-blocks.ensures.last_ready c.requires.stands c.requires.other_stands c.requires.last_stands c.in_ok-blocks.ensures.taken c.in_ok-blocks.ensures.count c.requires.apart c.requires.given c.requires.more_given c.requires.last_given c.blocks_for-count.ensures c.deref.ensures.value c.split_at.ensures.front c.split_at.ensures.back c.blocks_for-next.ensures c.split_at-2.ensures.front c.split_at-2.ensures.back c.extension-one.result c.extension-two.result c.extension-three.result c.extension-one.ensures.slot c.extension-one.ensures.tail c.extension-one.ensures.entries c.extension-one.ensures.fresh c.extension-two.ensures.slot c.extension-two.ensures.tail c.extension-two.ensures.entries c.extension-two.ensures.fresh c.extension-three.ensures.slot c.extension-three.ensures.tail c.extension-three.ensures.entries c.extension-three.ensures.fresh) here there also _ _ _ c.extend_three.ensures.kept.wrote settled
     (λ i j k a b d can pending. (c.extend_three.ensures.moments c.args.sup.now held i j k a b d can).any_stop pending)
-
-pub returns-in_default-clause-lists : goal.returns-in_default-clause-lists
-returns-in_default-clause-lists g c = taken_sup c.in_ok-blocks.ensures.taken
-
-pub returns-in_default-clause-length : goal.returns-in_default-clause-length
-returns-in_default-clause-length g c = mixed_size c.extend_three.ensures.kept.wrote.mixed
-
-pub returns-in_default-clause-keeps_fuse : goal.returns-in_default-clause-keeps_fuse
-returns-in_default-clause-keeps_fuse g c =
-    keeps_within (three_within (owes_three c.in_ok-blocks.ensures.ready c.in_ok-blocks.ensures.other_ready c.in_ok-blocks.ensures.last_ready c.requires.stands c.requires.other_stands c.requires.last_stands c.in_ok-blocks.ensures.taken c.in_ok-blocks.ensures.count c.requires.apart c.requires.given c.requires.more_given c.requires.last_given c.blocks_for-count.ensures c.deref.ensures.value c.split_at.ensures.front c.split_at.ensures.back c.blocks_for-next.ensures c.split_at-2.ensures.front c.split_at-2.ensures.back c.extension-one.result c.extension-two.result c.extension-three.result c.extension-one.ensures.slot c.extension-one.ensures.tail c.extension-one.ensures.entries c.extension-one.ensures.fresh c.extension-two.ensures.slot c.extension-two.ensures.tail c.extension-two.ensures.entries c.extension-two.ensures.fresh c.extension-three.ensures.slot c.extension-three.ensures.tail c.extension-three.ensures.entries c.extension-three.ensures.fresh)) c.extend_three.ensures.kept.keeps_fuse
 
 pub returns-in_default-clause-wrote : goal.returns-in_default-clause-wrote
 returns-in_default-clause-wrote g c held h m f here there also =
@@ -186,16 +185,18 @@ returns-in_err-blocks-clause-appended g c = IfOk-from_err c.from_residual.result
 pub returns-in_err-blocks-clause-room : goal.returns-in_err-blocks-clause-room
 returns-in_err-blocks-clause-room g c = IfOk-from_err c.from_residual.result _ c.from_residual.ensures.0
 
-pub returns-in_err-blocks-clause-enough : goal.returns-in_err-blocks-clause-enough
-returns-in_err-blocks-clause-enough g c = IfOk-from_err c.from_residual.result _ c.from_residual.ensures.0
+pub returns-in_err-blocks-clause-needs : goal.returns-in_err-blocks-clause-needs
+returns-in_err-blocks-clause-needs g c =
+    record {
+      enough = IfOk-from_err c.from_residual.result _ c.from_residual.ensures.0;
+      refused = let w = err_from_is_err_and c.from_residual.result c.from_residual.ensures.1 in
+          refused_by c.from_residual.result c.in_err-blocks.field-0.0 w.0 (λ (e : Refusal). RefusesStep e (needed (c.args.row.now.tail % 4096) c.args.first.now.entries.now + needed (c.args.other.now.tail % 4096) c.args.second.now.entries.now + needed (c.args.last.now.tail % 4096) c.args.third.now.entries.now) c.args.free.now) w.1 w.2 c.in_err-blocks.ensures.needs.refused;
+    }
 
-pub returns-in_err-blocks-clause-settled : goal.returns-in_err-blocks-clause-settled
-returns-in_err-blocks-clause-settled g c = IfOk-from_err c.from_residual.result _ c.from_residual.ensures.0
-
-pub returns-in_err-blocks-clause-refused : goal.returns-in_err-blocks-clause-refused
-returns-in_err-blocks-clause-refused g c =
-    let w = err_from_is_err_and c.from_residual.result c.from_residual.ensures.1 in
-    refused_by c.from_residual.result c.in_err-blocks.field-0.0 w.0 (λ (e : Refusal). RefusesStep e (needed (c.args.row.now.tail % 4096) c.args.first.now.entries.now + needed (c.args.other.now.tail % 4096) c.args.second.now.entries.now + needed (c.args.last.now.tail % 4096) c.args.third.now.entries.now) c.args.free.now) w.1 w.2 c.in_err-blocks.ensures.refused
+pub returns-in_err-blocks-clause-kept : goal.returns-in_err-blocks-clause-kept
+returns-in_err-blocks-clause-kept g c =
+    nothing_stored (IfOk-from_err c.from_residual.result _ c.from_residual.ensures.0) (let w = err_from_is_err_and c.from_residual.result c.from_residual.ensures.1 in
+    refused_by c.from_residual.result c.in_err-blocks.field-0.0 w.0 (λ (e : Refusal). e ≡ Stopped → IsTrue (g.P.Pmem.fuse c.args.memory.now).has_burnt) w.1 w.2 (λ is. absurd (c.in_err-blocks.ensures.goes_on is))) (c.in_err-blocks.ensures.unchanged.sup)
 
 pub returns-in_err-blocks-clause-unchanged : goal.returns-in_err-blocks-clause-unchanged
 returns-in_err-blocks-clause-unchanged g c =
@@ -204,11 +205,6 @@ returns-in_err-blocks-clause-unchanged g c =
     refused_by c.from_residual.result c.in_err-blocks.field-0.0 w.0 (λ (e : Refusal). (e ≡ Stopped → ⊥) → LeavesStep c.args.memory.now c.args.memory.now c.args.free.now c.prepare_three.new.free c.args.row.now c.prepare_three.new.row × SameRow c.args.other.now c.prepare_three.new.other × SameRow c.args.last.now c.prepare_three.new.last) w.1 w.2
     (λ _. (record { memory = refl; free = c.in_err-blocks.ensures.unchanged; row = rows.0 }, rows.1, rows.2))
 
-pub returns-in_err-blocks-clause-stopped : goal.returns-in_err-blocks-clause-stopped
-returns-in_err-blocks-clause-stopped g c =
-    let w = err_from_is_err_and c.from_residual.result c.from_residual.ensures.1 in
-    refused_by c.from_residual.result c.in_err-blocks.field-0.0 w.0 (λ (e : Refusal). e ≡ Stopped → IsTrue (g.P.Pmem.fuse c.args.memory.now).has_burnt) w.1 w.2 (λ is. absurd (c.in_err-blocks.ensures.goes_on is))
-
 pub returns-in_err-blocks-clause-inodes : goal.returns-in_err-blocks-clause-inodes
 returns-in_err-blocks-clause-inodes g c =
     let rows = c.in_err-blocks.ensures.rows in
@@ -216,15 +212,6 @@ returns-in_err-blocks-clause-inodes g c =
     let two = rows.1 in
     let three = rows.2 in
     (one.inode, two.inode, three.inode)
-
-pub returns-in_err-blocks-clause-lists : goal.returns-in_err-blocks-clause-lists
-returns-in_err-blocks-clause-lists g c = c.in_err-blocks.ensures.unchanged.sup
-
-pub returns-in_err-blocks-clause-length : goal.returns-in_err-blocks-clause-length
-returns-in_err-blocks-clause-length g c = refl
-
-pub returns-in_err-blocks-clause-keeps_fuse : goal.returns-in_err-blocks-clause-keeps_fuse
-returns-in_err-blocks-clause-keeps_fuse g c = record { burnt = λ was. was; steady = λ was. was; stays_open = λ limit past was. was }
 
 pub returns-in_err-blocks-clause-wrote : goal.returns-in_err-blocks-clause-wrote
 returns-in_err-blocks-clause-wrote g c held h m f here there also = stores_nothing c.args.sup.now held (three_logs c.args.sup.now c.args.cpu c.args.row.now.inode c.args.other.now.inode c.args.last.now.inode) (g.P.Pmem.region c.args.memory.now)

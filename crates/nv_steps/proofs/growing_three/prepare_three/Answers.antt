@@ -54,11 +54,12 @@ returns-in-Ok-take_blocks-clause-taken c = c.in-Ok-take_blocks.ensures.taken
 pub returns-in-Ok-take_blocks-clause-count : goal.returns-in-Ok-take_blocks-clause-count
 returns-in-Ok-take_blocks-clause-count c = c.in-Ok-take_blocks.ensures.count ∙ (λ t. c.blocks_for-count.ensures t + c.blocks_for-more.ensures t + c.blocks_for-rest.ensures t)
 
-pub returns-in-Ok-take_blocks-clause-enough : goal.returns-in-Ok-take_blocks-clause-enough
-returns-in-Ok-take_blocks-clause-enough c = subst (λ (m : ℕ). m ≤ all_blocks c.args.free.now.pools) (λ t. c.blocks_for-count.ensures t + c.blocks_for-more.ensures t + c.blocks_for-rest.ensures t) c.in-Ok-take_blocks.ensures.enough
-
-pub returns-in-Ok-take_blocks-clause-refused : goal.returns-in-Ok-take_blocks-clause-refused
-returns-in-Ok-take_blocks-clause-refused c = tt
+pub returns-in-Ok-take_blocks-clause-needs : goal.returns-in-Ok-take_blocks-clause-needs
+returns-in-Ok-take_blocks-clause-needs c =
+    record {
+      enough = subst (λ (m : ℕ). m ≤ all_blocks c.args.free.now.pools) (λ t. c.blocks_for-count.ensures t + c.blocks_for-more.ensures t + c.blocks_for-rest.ensures t) c.in-Ok-take_blocks.ensures.enough;
+      refused = tt;
+    }
 
 pub returns-in-Ok-take_blocks-clause-goes_on : goal.returns-in-Ok-take_blocks-clause-goes_on
 returns-in-Ok-take_blocks-clause-goes_on c = tt
@@ -78,8 +79,12 @@ returns-in-Err-NoSpace-clause-taken c = tt
 pub returns-in-Err-NoSpace-clause-count : goal.returns-in-Err-NoSpace-clause-count
 returns-in-Err-NoSpace-clause-count c = tt
 
-pub returns-in-Err-NoSpace-clause-enough : goal.returns-in-Err-NoSpace-clause-enough
-returns-in-Err-NoSpace-clause-enough c = tt
+pub returns-in-Err-NoSpace-clause-needs : goal.returns-in-Err-NoSpace-clause-needs
+returns-in-Err-NoSpace-clause-needs c =
+    record {
+      enough = tt;
+      refused = inr (inr (refl, subst (λ (m : ℕ). all_blocks c.args.free.now.pools < m) (λ t. c.blocks_for-count.ensures t + c.blocks_for-more.ensures t + c.blocks_for-rest.ensures t) (no_space _ _ _ c.in-Err-NoSpace.ensures.err c.in-Err-NoSpace.field-0-is)));
+    }
 
 pub returns-in-Err-NoSpace-clause-ready : goal.returns-in-Err-NoSpace-clause-ready
 returns-in-Err-NoSpace-clause-ready c = tt
@@ -93,9 +98,6 @@ returns-in-Err-NoSpace-clause-last_ready c = tt
 pub returns-in-Err-NoSpace-clause-goes_on : goal.returns-in-Err-NoSpace-clause-goes_on
 returns-in-Err-NoSpace-clause-goes_on c = no_space_goes_on
 
-pub returns-in-Err-NoSpace-clause-refused : goal.returns-in-Err-NoSpace-clause-refused
-returns-in-Err-NoSpace-clause-refused c = inr (inr (refl, subst (λ (m : ℕ). all_blocks c.args.free.now.pools < m) (λ t. c.blocks_for-count.ensures t + c.blocks_for-more.ensures t + c.blocks_for-rest.ensures t) (no_space _ _ _ c.in-Err-NoSpace.ensures.err c.in-Err-NoSpace.field-0-is)))
-
 pub returns-in-Err-NoSpace-clause-unchanged : goal.returns-in-Err-NoSpace-clause-unchanged
 returns-in-Err-NoSpace-clause-unchanged c = c.in-Err-NoSpace.ensures.unchanged
 
@@ -108,8 +110,12 @@ returns-in-Err-Memory-clause-taken c = tt
 pub returns-in-Err-Memory-clause-count : goal.returns-in-Err-Memory-clause-count
 returns-in-Err-Memory-clause-count c = tt
 
-pub returns-in-Err-Memory-clause-enough : goal.returns-in-Err-Memory-clause-enough
-returns-in-Err-Memory-clause-enough c = tt
+pub returns-in-Err-Memory-clause-needs : goal.returns-in-Err-Memory-clause-needs
+returns-in-Err-Memory-clause-needs c =
+    record {
+      enough = tt;
+      refused = inl refl;
+    }
 
 pub returns-in-Err-Memory-clause-ready : goal.returns-in-Err-Memory-clause-ready
 returns-in-Err-Memory-clause-ready c = tt
@@ -123,9 +129,6 @@ returns-in-Err-Memory-clause-last_ready c = tt
 pub returns-in-Err-Memory-clause-goes_on : goal.returns-in-Err-Memory-clause-goes_on
 returns-in-Err-Memory-clause-goes_on c = memory_goes_on
 
-pub returns-in-Err-Memory-clause-refused : goal.returns-in-Err-Memory-clause-refused
-returns-in-Err-Memory-clause-refused c = inl refl
-
 pub returns-in-Err-Memory-clause-unchanged : goal.returns-in-Err-Memory-clause-unchanged
 returns-in-Err-Memory-clause-unchanged c = c.in-Err-Memory.ensures.unchanged
 
@@ -138,8 +141,12 @@ returns-in_default-clause-taken c = tt
 pub returns-in_default-clause-count : goal.returns-in_default-clause-count
 returns-in_default-clause-count c = tt
 
-pub returns-in_default-clause-enough : goal.returns-in_default-clause-enough
-returns-in_default-clause-enough c = tt
+pub returns-in_default-clause-needs : goal.returns-in_default-clause-needs
+returns-in_default-clause-needs c =
+    record {
+      enough = tt;
+      refused = inl refl;
+    }
 
 pub returns-in_default-clause-ready : goal.returns-in_default-clause-ready
 returns-in_default-clause-ready c = tt
@@ -153,9 +160,6 @@ returns-in_default-clause-last_ready c = tt
 pub returns-in_default-clause-goes_on : goal.returns-in_default-clause-goes_on
 returns-in_default-clause-goes_on c = memory_goes_on
 
-pub returns-in_default-clause-refused : goal.returns-in_default-clause-refused
-returns-in_default-clause-refused c = inl refl
-
 pub returns-in_default-clause-unchanged : goal.returns-in_default-clause-unchanged
 returns-in_default-clause-unchanged c = record { sup = refl; pools = refl }
 
@@ -168,8 +172,12 @@ returns-in_default-make_room-clause-taken c = tt
 pub returns-in_default-make_room-clause-count : goal.returns-in_default-make_room-clause-count
 returns-in_default-make_room-clause-count c = tt
 
-pub returns-in_default-make_room-clause-enough : goal.returns-in_default-make_room-clause-enough
-returns-in_default-make_room-clause-enough c = tt
+pub returns-in_default-make_room-clause-needs : goal.returns-in_default-make_room-clause-needs
+returns-in_default-make_room-clause-needs c =
+    record {
+      enough = tt;
+      refused = inl refl;
+    }
 
 pub returns-in_default-make_room-clause-ready : goal.returns-in_default-make_room-clause-ready
 returns-in_default-make_room-clause-ready c = tt
@@ -183,9 +191,6 @@ returns-in_default-make_room-clause-last_ready c = tt
 pub returns-in_default-make_room-clause-goes_on : goal.returns-in_default-make_room-clause-goes_on
 returns-in_default-make_room-clause-goes_on c = memory_goes_on
 
-pub returns-in_default-make_room-clause-refused : goal.returns-in_default-make_room-clause-refused
-returns-in_default-make_room-clause-refused c = inl refl
-
 pub returns-in_default-make_room-clause-unchanged : goal.returns-in_default-make_room-clause-unchanged
 returns-in_default-make_room-clause-unchanged c = record { sup = refl; pools = refl }
 
@@ -198,8 +203,12 @@ returns-in_default-make_room-2-clause-taken c = tt
 pub returns-in_default-make_room-2-clause-count : goal.returns-in_default-make_room-2-clause-count
 returns-in_default-make_room-2-clause-count c = tt
 
-pub returns-in_default-make_room-2-clause-enough : goal.returns-in_default-make_room-2-clause-enough
-returns-in_default-make_room-2-clause-enough c = tt
+pub returns-in_default-make_room-2-clause-needs : goal.returns-in_default-make_room-2-clause-needs
+returns-in_default-make_room-2-clause-needs c =
+    record {
+      enough = tt;
+      refused = inl refl;
+    }
 
 pub returns-in_default-make_room-2-clause-ready : goal.returns-in_default-make_room-2-clause-ready
 returns-in_default-make_room-2-clause-ready c = tt
@@ -213,9 +222,6 @@ returns-in_default-make_room-2-clause-last_ready c = tt
 pub returns-in_default-make_room-2-clause-goes_on : goal.returns-in_default-make_room-2-clause-goes_on
 returns-in_default-make_room-2-clause-goes_on c = memory_goes_on
 
-pub returns-in_default-make_room-2-clause-refused : goal.returns-in_default-make_room-2-clause-refused
-returns-in_default-make_room-2-clause-refused c = inl refl
-
 pub returns-in_default-make_room-2-clause-unchanged : goal.returns-in_default-make_room-2-clause-unchanged
 returns-in_default-make_room-2-clause-unchanged c = record { sup = refl; pools = refl }
 
@@ -228,8 +234,12 @@ returns-then-not-are_enough-clause-taken c = tt
 pub returns-then-not-are_enough-clause-count : goal.returns-then-not-are_enough-clause-count
 returns-then-not-are_enough-clause-count c = tt
 
-pub returns-then-not-are_enough-clause-enough : goal.returns-then-not-are_enough-clause-enough
-returns-then-not-are_enough-clause-enough c = tt
+pub returns-then-not-are_enough-clause-needs : goal.returns-then-not-are_enough-clause-needs
+returns-then-not-are_enough-clause-needs c =
+    record {
+      enough = tt;
+      refused = inr (inr (refl, subst (λ (m : ℕ). all_blocks c.args.free.now.pools < m) (λ t. c.blocks_for-count.ensures t + c.blocks_for-more.ensures t + c.blocks_for-rest.ensures t) (c.are_enough.ensures.no c.if-not-are_enough.true)));
+    }
 
 pub returns-then-not-are_enough-clause-ready : goal.returns-then-not-are_enough-clause-ready
 returns-then-not-are_enough-clause-ready c = tt
@@ -242,9 +252,6 @@ returns-then-not-are_enough-clause-last_ready c = tt
 
 pub returns-then-not-are_enough-clause-goes_on : goal.returns-then-not-are_enough-clause-goes_on
 returns-then-not-are_enough-clause-goes_on c = no_space_goes_on
-
-pub returns-then-not-are_enough-clause-refused : goal.returns-then-not-are_enough-clause-refused
-returns-then-not-are_enough-clause-refused c = inr (inr (refl, subst (λ (m : ℕ). all_blocks c.args.free.now.pools < m) (λ t. c.blocks_for-count.ensures t + c.blocks_for-more.ensures t + c.blocks_for-rest.ensures t) (c.are_enough.ensures.no c.if-not-are_enough.true)))
 
 pub returns-then-not-are_enough-clause-unchanged : goal.returns-then-not-are_enough-clause-unchanged
 returns-then-not-are_enough-clause-unchanged c = record { sup = refl; pools = refl }

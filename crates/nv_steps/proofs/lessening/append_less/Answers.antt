@@ -1,4 +1,5 @@
-use Rattle.std.proofs.Common.{◌≡◌, ◌+◌, ◌%◌, ◌<◌, ◌≤◌, ◌∙◌, ℕ, ap, inl, inr, length, refl, subst, sym, IsTrue, List}
+use Rattle.std.proofs.lemmas.Grind.{common_steps}
+use Rattle.std.proofs.Common.{arith, ◌≡◌, ◌+◌, ◌%◌, ◌<◌, ◌≤◌, ◌∙◌, ℕ, ap, inl, inr, length, refl, subst, sym, IsTrue, List}
 use Rattle.std.proofs.lemmas.Result.{err_from_is_err_and, IfOk-from_err}
 use Rattle.smallvec.specs.SmallVec.{HasRoomFor}
 use Rattle.nv_region.specs.Region.{size}
@@ -20,42 +21,40 @@ use Rattle.nv_steps.proofs.NumbersOwed.{number_below}
 use Rattle.nv_steps.proofs.TakenBlocks.{taken_sup}
 use Rattle.nv_steps.proofs.lessening.append_less.Goals as goal
 use Rattle.nv_steps.specs.Stores.{one_less}
+use Rattle.nv_steps.proofs.Kept.{nothing_stored}
 use Rattle.nv_steps.proofs.Stores.{stores_nothing}
 
 pub prepare_cut-requires : goal.prepare_cut-requires
 prepare_cut-requires g c = record { cpu = subst (λ (s : Super). c.args.cpu < s.cpus) (sym c.requires.stands.lists) c.requires.can.cpu_below }
 
-pub returns-in_err-fresh-clause-refused : goal.returns-in_err-fresh-clause-refused
-returns-in_err-fresh-clause-refused g c =
-    let w = err_from_is_err_and c.from_residual.result c.from_residual.ensures.1 in
-    refused_by c.from_residual.result c.in_err-fresh.field-0.0 w.0 (λ (e : Refusal). RefusesStep e (needed (c.args.row.now.tail % 4096) c.args.entries.now) c.args.free.now) w.1 w.2
-    c.in_err-fresh.ensures.refused
+pub returns-in_err-fresh-clause-needs : goal.returns-in_err-fresh-clause-needs
+returns-in_err-fresh-clause-needs g c =
+    record {
+      enough = IfOk-from_err c.from_residual.result _ c.from_residual.ensures.0;
+      refused = let w = err_from_is_err_and c.from_residual.result c.from_residual.ensures.1 in
+          refused_by c.from_residual.result c.in_err-fresh.field-0.0 w.0 (λ (e : Refusal). RefusesStep e (needed (c.args.row.now.tail % 4096) c.args.entries.now) c.args.free.now) w.1 w.2
+          c.in_err-fresh.ensures.needs.refused;
+    }
 
 pub returns-in_err-fresh-clause-unchanged : goal.returns-in_err-fresh-clause-unchanged
 returns-in_err-fresh-clause-unchanged g c =
     let w = err_from_is_err_and c.from_residual.result c.from_residual.ensures.1 in
     refused_by c.from_residual.result c.in_err-fresh.field-0.0 w.0 (λ (e : Refusal). (e ≡ Stopped → ⊥) → LeavesStep c.args.memory.now c.args.memory.now c.args.free.now c.prepare_cut.new.free c.args.row.now c.prepare_cut.new.row) w.1 w.2
-    (λ _. record { memory = refl; free = c.in_err-fresh.ensures.unchanged; row = c.in_err-fresh.ensures.row })
+    (λ _. record { memory = refl; free = c.in_err-fresh.ensures.unchanged; row = c.in_err-fresh.ensures.row.0 })
 
-pub returns-in_err-fresh-clause-stopped : goal.returns-in_err-fresh-clause-stopped
-returns-in_err-fresh-clause-stopped g c =
-    let w = err_from_is_err_and c.from_residual.result c.from_residual.ensures.1 in
-    refused_by c.from_residual.result c.in_err-fresh.field-0.0 w.0 (λ (e : Refusal). e ≡ Stopped → IsTrue (g.P.Pmem.fuse c.args.memory.now).has_burnt) w.1 w.2 (λ is. absurd (c.in_err-fresh.ensures.goes_on is))
+pub returns-in_err-fresh-clause-kept : goal.returns-in_err-fresh-clause-kept
+returns-in_err-fresh-clause-kept g c =
+    nothing_stored (IfOk-from_err c.from_residual.result _ c.from_residual.ensures.0) (let w = err_from_is_err_and c.from_residual.result c.from_residual.ensures.1 in
+    refused_by c.from_residual.result c.in_err-fresh.field-0.0 w.0 (λ (e : Refusal). e ≡ Stopped → IsTrue (g.P.Pmem.fuse c.args.memory.now).has_burnt) w.1 w.2 (λ is. absurd (c.in_err-fresh.ensures.goes_on is))) (c.in_err-fresh.ensures.unchanged.sup)
 
-pub returns-in_err-fresh-clause-inode : goal.returns-in_err-fresh-clause-inode
-returns-in_err-fresh-clause-inode g c = c.in_err-fresh.ensures.row.inode
-
-pub returns-in_err-fresh-clause-lists : goal.returns-in_err-fresh-clause-lists
-returns-in_err-fresh-clause-lists g c = c.in_err-fresh.ensures.unchanged.sup
-
-pub returns-in_err-fresh-clause-length : goal.returns-in_err-fresh-clause-length
-returns-in_err-fresh-clause-length g c = refl
+pub returns-in_err-fresh-clause-row : goal.returns-in_err-fresh-clause-row
+returns-in_err-fresh-clause-row g c = (c.in_err-fresh.ensures.row.0.inode, c.prepare_cut.ensures.row.1)
 
 pub slot_address-requires-clause-layout : goal.slot_address-requires-clause-layout
 slot_address-requires-clause-layout g c = c.requires.stands.layout
 
 pub slot_address-requires-clause-inode : goal.slot_address-requires-clause-inode
-slot_address-requires-clause-inode g c = subst (λ (i : ℕ). i < inode_limit c.args.sup.now) (sym c.in_ok-fresh.ensures.row.inode) c.requires.stands.number
+slot_address-requires-clause-inode g c = subst (λ (i : ℕ). i < inode_limit c.args.sup.now) (sym c.in_ok-fresh.ensures.row.0.inode) c.requires.stands.number
 
 pub slot_address-requires-2-clause-layout : goal.slot_address-requires-2-clause-layout
 slot_address-requires-2-clause-layout g c = c.requires.stands.layout
@@ -69,11 +68,11 @@ remove_inode-requires-clause-empty g c = c.requires.can.journal_empty
 pub remove_inode-requires-clause-slot : goal.remove_inode-requires-clause-slot
 remove_inode-requires-clause-slot g c = record {
   whole = (let count : length c.in_ok-fresh.fresh.items ≡ needed (c.args.row.now.tail % 4096) c.args.entries.now = c.in_ok-fresh.ensures.count in
-      subst (λ (a : ℕ). a % 8 ≡ 0) (sym c.slot_address-2.ensures) (slot_whole c.requires.stands c.requires.can c.in_ok-fresh.ensures.taken c.args.entries.now c.requires.given c.requires.some count c.in_ok-fresh.ensures.row));
+      subst (λ (a : ℕ). a % 8 ≡ 0) (sym c.slot_address-2.ensures) (slot_whole c.requires.stands c.requires.can c.in_ok-fresh.ensures.taken c.args.entries.now c.requires.given c.requires.some count c.in_ok-fresh.ensures.row.0));
   inside = (let count : length c.in_ok-fresh.fresh.items ≡ needed (c.args.row.now.tail % 4096) c.args.entries.now = c.in_ok-fresh.ensures.count in
-      subst (λ (a : ℕ). a + 8 ≤ size (g.P.Pmem.region c.args.memory.now)) (sym c.slot_address-2.ensures) (slot_inside c.requires.stands c.requires.can c.in_ok-fresh.ensures.taken c.args.entries.now c.requires.given c.requires.some count c.in_ok-fresh.ensures.row));
+      subst (λ (a : ℕ). a + 8 ≤ size (g.P.Pmem.region c.args.memory.now)) (sym c.slot_address-2.ensures) (slot_inside c.requires.stands c.requires.can c.in_ok-fresh.ensures.taken c.args.entries.now c.requires.given c.requires.some count c.in_ok-fresh.ensures.row.0));
   behind = (let count : length c.in_ok-fresh.fresh.items ≡ needed (c.args.row.now.tail % 4096) c.args.entries.now = c.in_ok-fresh.ensures.count in
-      subst (λ (a : ℕ). journal c.args.cpu + 4096 ≤ a) (sym c.slot_address-2.ensures) (slot_behind c.requires.stands c.requires.can c.in_ok-fresh.ensures.taken c.args.entries.now c.requires.given c.requires.some count c.in_ok-fresh.ensures.row));
+      subst (λ (a : ℕ). journal c.args.cpu + 4096 ≤ a) (sym c.slot_address-2.ensures) (slot_behind c.requires.stands c.requires.can c.in_ok-fresh.ensures.taken c.args.entries.now c.requires.given c.requires.some count c.in_ok-fresh.ensures.row.0));
 }
 
 pub returns-in_default-clause-appended : goal.returns-in_default-clause-appended
@@ -82,79 +81,76 @@ returns-in_default-clause-appended g c = tt
 pub returns-in_default-clause-room : goal.returns-in_default-clause-room
 returns-in_default-clause-room g c = tt
 
-pub returns-in_default-clause-enough : goal.returns-in_default-clause-enough
-returns-in_default-clause-enough g c = tt
+pub returns-in_default-clause-needs : goal.returns-in_default-clause-needs
+returns-in_default-clause-needs g c =
+    record {
+      enough = tt;
+      refused = inr (inl refl);
+    }
 
-pub returns-in_default-clause-settled : goal.returns-in_default-clause-settled
-returns-in_default-clause-settled g c = tt
-
-pub returns-in_default-clause-refused : goal.returns-in_default-clause-refused
-returns-in_default-clause-refused g c = inr (inl refl)
+pub returns-in_default-clause-kept : goal.returns-in_default-clause-kept
+returns-in_default-clause-kept g c =
+    record {
+      keeps = record {
+        stopped = grind (arith, common_steps);
+        lists = taken_sup c.in_ok-fresh.ensures.taken;
+        length = mixed_size c.remove_inode.ensures.kept.wrote.mixed;
+        keeps_fuse = let count : length c.in_ok-fresh.fresh.items ≡ needed (c.args.row.now.tail % 4096) c.args.entries.now = c.in_ok-fresh.ensures.count in
+            keeps_within (less_within c.requires.stands c.requires.can c.in_ok-fresh.ensures.taken c.args.entries.now c.requires.given c.requires.some count c.in_ok-fresh.ensures.row.0 c.slot_address-2.result c.slot_address.result c.prepare_cut.new.row.tail _
+            c.slot_address-2.ensures c.slot_address.ensures refl c.deref.ensures.value) c.remove_inode.ensures.kept.keeps_fuse;
+      };
+      settled = tt;
+    }
 
 pub returns-in_default-clause-unchanged : goal.returns-in_default-clause-unchanged
 returns-in_default-clause-unchanged g c = λ goes_on. absurd (goes_on refl)
 
-pub returns-in_default-clause-inode : goal.returns-in_default-clause-inode
-returns-in_default-clause-inode g c = c.in_ok-fresh.ensures.row.inode
-
-pub returns-in_default-clause-lists : goal.returns-in_default-clause-lists
-returns-in_default-clause-lists g c = taken_sup c.in_ok-fresh.ensures.taken
-
-pub returns-in_default-clause-length : goal.returns-in_default-clause-length
-returns-in_default-clause-length g c = mixed_size c.remove_inode.ensures.kept.wrote.mixed
+pub returns-in_default-clause-row : goal.returns-in_default-clause-row
+returns-in_default-clause-row g c = (c.in_ok-fresh.ensures.row.0.inode, c.prepare_cut.ensures.row.1)
 
 pub settle_less-requires : goal.settle_less-requires
 settle_less-requires g c =
     subst (λ (bs : List ℕ). HasRoomFor c.prepare_cut.new.row.pages (length bs)) (sym c.deref-2.ensures.value) c.in_ok-fresh.ensures.pages_room
 
-pub returns-clause-enough : goal.returns-clause-enough
-returns-clause-enough g c = c.in_ok-fresh.ensures.enough
+pub returns-clause-needs : goal.returns-clause-needs
+returns-clause-needs g c =
+    record {
+      enough = c.in_ok-fresh.ensures.needs.enough;
+      refused = tt;
+    }
 
 pub returns-clause-room : goal.returns-clause-room
 returns-clause-room g c = c.in_ok-fresh.ensures.room
 
-pub returns-clause-settled : goal.returns-clause-settled
-returns-clause-settled g c = c.in-Ok.ensures.kept.settled
-
-pub returns-clause-refused : goal.returns-clause-refused
-returns-clause-refused g c = tt
+pub returns-clause-kept : goal.returns-clause-kept
+returns-clause-kept g c =
+    record {
+      keeps = record {
+        stopped = tt;
+        lists = taken_sup c.in_ok-fresh.ensures.taken;
+        length = mixed_size c.remove_inode.ensures.kept.wrote.mixed;
+        keeps_fuse = let count : length c.in_ok-fresh.fresh.items ≡ needed (c.args.row.now.tail % 4096) c.args.entries.now = c.in_ok-fresh.ensures.count in
+            keeps_within (less_within c.requires.stands c.requires.can c.in_ok-fresh.ensures.taken c.args.entries.now c.requires.given c.requires.some count c.in_ok-fresh.ensures.row.0 c.slot_address-2.result c.slot_address.result c.prepare_cut.new.row.tail _
+            c.slot_address-2.ensures c.slot_address.ensures refl c.deref.ensures.value) c.remove_inode.ensures.kept.keeps_fuse;
+      };
+      settled = c.in-Ok.ensures.kept.settled;
+    }
 
 pub returns-clause-unchanged : goal.returns-clause-unchanged
 returns-clause-unchanged g c = tt
 
-pub returns-clause-stopped : goal.returns-clause-stopped
-returns-clause-stopped g c = tt
-
-pub returns-clause-inode : goal.returns-clause-inode
-returns-clause-inode g c = c.settle_less.ensures.row.inode ∙ c.in_ok-fresh.ensures.row.inode
-
-pub returns-clause-lists : goal.returns-clause-lists
-returns-clause-lists g c = taken_sup c.in_ok-fresh.ensures.taken
-
-pub returns-clause-length : goal.returns-clause-length
-returns-clause-length g c = mixed_size c.remove_inode.ensures.kept.wrote.mixed
+pub returns-clause-row : goal.returns-clause-row
+returns-clause-row g c = (c.settle_less.ensures.row.inode ∙ c.in_ok-fresh.ensures.row.0.inode, ap (λ (m : Names). m.room) c.settle_less.ensures.row.names ∙ c.prepare_cut.ensures.row.1)
 
 pub remove_inode-requires-clause-directory : goal.remove_inode-requires-clause-directory
 remove_inode-requires-clause-directory g c =
     let count : length c.in_ok-fresh.fresh.items ≡ needed (c.args.row.now.tail % 4096) c.args.entries.now = c.in_ok-fresh.ensures.count in
-    commits c.requires.stands c.requires.can c.in_ok-fresh.ensures.taken c.args.entries.now c.requires.given c.requires.some count c.in_ok-fresh.ensures.row _ c.slot_address.ensures refl refl c.deref.ensures.value
-
-pub returns-in_default-clause-keeps_fuse : goal.returns-in_default-clause-keeps_fuse
-returns-in_default-clause-keeps_fuse g c =
-    let count : length c.in_ok-fresh.fresh.items ≡ needed (c.args.row.now.tail % 4096) c.args.entries.now = c.in_ok-fresh.ensures.count in
-    keeps_within (less_within c.requires.stands c.requires.can c.in_ok-fresh.ensures.taken c.args.entries.now c.requires.given c.requires.some count c.in_ok-fresh.ensures.row c.slot_address-2.result c.slot_address.result c.prepare_cut.new.row.tail _
-    c.slot_address-2.ensures c.slot_address.ensures refl c.deref.ensures.value) c.remove_inode.ensures.kept.keeps_fuse
-
-pub returns-clause-keeps_fuse : goal.returns-clause-keeps_fuse
-returns-clause-keeps_fuse g c =
-    let count : length c.in_ok-fresh.fresh.items ≡ needed (c.args.row.now.tail % 4096) c.args.entries.now = c.in_ok-fresh.ensures.count in
-    keeps_within (less_within c.requires.stands c.requires.can c.in_ok-fresh.ensures.taken c.args.entries.now c.requires.given c.requires.some count c.in_ok-fresh.ensures.row c.slot_address-2.result c.slot_address.result c.prepare_cut.new.row.tail _
-    c.slot_address-2.ensures c.slot_address.ensures refl c.deref.ensures.value) c.remove_inode.ensures.kept.keeps_fuse
+    commits c.requires.stands c.requires.can c.in_ok-fresh.ensures.taken c.args.entries.now c.requires.given c.requires.some count c.in_ok-fresh.ensures.row.0 _ c.slot_address.ensures refl refl c.deref.ensures.value
 
 pub returns-clause-appended : goal.returns-clause-appended
 returns-clause-appended g c =
     let count : length c.in_ok-fresh.fresh.items ≡ needed (c.args.row.now.tail % 4096) c.args.entries.now = c.in_ok-fresh.ensures.count in
-    appends_less c.requires.stands c.requires.can c.in_ok-fresh.ensures.taken c.args.entries.now c.requires.given c.requires.some count c.in_ok-fresh.ensures.row _ c.slot_address.ensures refl refl c.deref.ensures.value
+    appends_less c.requires.stands c.requires.can c.in_ok-fresh.ensures.taken c.args.entries.now c.requires.given c.requires.some count c.in_ok-fresh.ensures.row.0 _ c.slot_address.ensures refl refl c.deref.ensures.value
     c.slot_address-2.result c.in-Ok.end _ c.slot_address-2.ensures c.requires.differ c.deref-2.ensures.value c.in-Ok.ensures.end c.settle_less.ensures.row c.in_ok-fresh.ensures.once c.settle_less.ensures.once
     (λ held h can. c.in-Ok.ensures.shows c.args.sup.now held c.prepare_cut.new.row.inode c.args.gone h can) c.remove_inode.ensures.kept.wrote.mixed
 
@@ -164,15 +160,6 @@ returns-in_err-fresh-clause-appended g c = IfOk-from_err c.from_residual.result 
 pub returns-in_err-fresh-clause-room : goal.returns-in_err-fresh-clause-room
 returns-in_err-fresh-clause-room g c = IfOk-from_err c.from_residual.result _ c.from_residual.ensures.0
 
-pub returns-in_err-fresh-clause-enough : goal.returns-in_err-fresh-clause-enough
-returns-in_err-fresh-clause-enough g c = IfOk-from_err c.from_residual.result _ c.from_residual.ensures.0
-
-pub returns-in_err-fresh-clause-settled : goal.returns-in_err-fresh-clause-settled
-returns-in_err-fresh-clause-settled g c = IfOk-from_err c.from_residual.result _ c.from_residual.ensures.0
-
-pub returns-in_err-fresh-clause-keeps_fuse : goal.returns-in_err-fresh-clause-keeps_fuse
-returns-in_err-fresh-clause-keeps_fuse g c = record { burnt = λ was. was; steady = λ was. was; stays_open = λ limit past was. was }
-
 pub returns-in_err-fresh-clause-any_stop : goal.returns-in_err-fresh-clause-any_stop
 returns-in_err-fresh-clause-any_stop g c held h shows settled =
     still _ _ c.args.sup.now held (AppendedLess (g.P.Pmem.region c.args.memory.now) c.args.sup.now c.args.free.now c.args.cpu c.args.row.now c.args.gone c.args.entries.now) shows.sound settled
@@ -180,14 +167,14 @@ returns-in_err-fresh-clause-any_stop g c held h shows settled =
 pub returns-in_default-clause-any_stop : goal.returns-in_default-clause-any_stop
 returns-in_default-clause-any_stop g c held h shows settled =
     let count : length c.in_ok-fresh.fresh.items ≡ needed (c.args.row.now.tail % 4096) c.args.entries.now = c.in_ok-fresh.ensures.count in
-    left_less c.requires.stands c.requires.can c.in_ok-fresh.ensures.taken c.args.entries.now c.requires.given c.requires.some count c.in_ok-fresh.ensures.row _ c.slot_address.ensures refl refl c.deref.ensures.value
+    left_less c.requires.stands c.requires.can c.in_ok-fresh.ensures.taken c.args.entries.now c.requires.given c.requires.some count c.in_ok-fresh.ensures.row.0 _ c.slot_address.ensures refl refl c.deref.ensures.value
     c.slot_address-2.result c.slot_address-2.ensures c.requires.differ shows c.in_ok-fresh.ensures.once _ _ _ c.remove_inode.ensures.kept.wrote settled
     (λ can pending. (c.remove_inode.ensures.moments c.args.sup.now held c.prepare_cut.new.row.inode c.args.gone h can).any_stop pending)
 
 pub returns-clause-any_stop : goal.returns-clause-any_stop
 returns-clause-any_stop g c held h shows settled =
     let count : length c.in_ok-fresh.fresh.items ≡ needed (c.args.row.now.tail % 4096) c.args.entries.now = c.in_ok-fresh.ensures.count in
-    left_less c.requires.stands c.requires.can c.in_ok-fresh.ensures.taken c.args.entries.now c.requires.given c.requires.some count c.in_ok-fresh.ensures.row _ c.slot_address.ensures refl refl c.deref.ensures.value
+    left_less c.requires.stands c.requires.can c.in_ok-fresh.ensures.taken c.args.entries.now c.requires.given c.requires.some count c.in_ok-fresh.ensures.row.0 _ c.slot_address.ensures refl refl c.deref.ensures.value
     c.slot_address-2.result c.slot_address-2.ensures c.requires.differ shows c.in_ok-fresh.ensures.once _ _ _ c.remove_inode.ensures.kept.wrote settled
     (λ can pending. (c.remove_inode.ensures.moments c.args.sup.now held c.prepare_cut.new.row.inode c.args.gone h can).any_stop pending)
 
@@ -197,13 +184,13 @@ returns-in_err-fresh-clause-in_order g c held h shows = inl refl
 pub returns-in_default-clause-in_order : goal.returns-in_default-clause-in_order
 returns-in_default-clause-in_order g c held h shows =
     let count : length c.in_ok-fresh.fresh.items ≡ needed (c.args.row.now.tail % 4096) c.args.entries.now = c.in_ok-fresh.ensures.count in
-    (less_told c.requires.stands c.requires.can c.in_ok-fresh.ensures.taken c.args.entries.now c.requires.given c.requires.some count c.in_ok-fresh.ensures.row _ c.slot_address.ensures refl refl c.deref.ensures.value
+    (less_told c.requires.stands c.requires.can c.in_ok-fresh.ensures.taken c.args.entries.now c.requires.given c.requires.some count c.in_ok-fresh.ensures.row.0 _ c.slot_address.ensures refl refl c.deref.ensures.value
     (g.P.Pmem.region c.remove_inode.new.memory) c.slot_address-2.result c.slot_address-2.ensures c.requires.differ shows (c.remove_inode.ensures.in_order c.args.sup.now held c.prepare_cut.new.row.inode c.args.gone h) c.remove_inode.ensures.kept.wrote.mixed).0
 
 pub returns-clause-in_order : goal.returns-clause-in_order
 returns-clause-in_order g c held h shows =
     let count : length c.in_ok-fresh.fresh.items ≡ needed (c.args.row.now.tail % 4096) c.args.entries.now = c.in_ok-fresh.ensures.count in
-    (less_told c.requires.stands c.requires.can c.in_ok-fresh.ensures.taken c.args.entries.now c.requires.given c.requires.some count c.in_ok-fresh.ensures.row _ c.slot_address.ensures refl refl c.deref.ensures.value
+    (less_told c.requires.stands c.requires.can c.in_ok-fresh.ensures.taken c.args.entries.now c.requires.given c.requires.some count c.in_ok-fresh.ensures.row.0 _ c.slot_address.ensures refl refl c.deref.ensures.value
     (g.P.Pmem.region c.remove_inode.new.memory) c.slot_address-2.result c.slot_address-2.ensures c.requires.differ shows (c.remove_inode.ensures.in_order c.args.sup.now held c.prepare_cut.new.row.inode c.args.gone h) c.remove_inode.ensures.kept.wrote.mixed).0
 
 pub returns-in_err-fresh-clause-wrote : goal.returns-in_err-fresh-clause-wrote
@@ -212,20 +199,11 @@ returns-in_err-fresh-clause-wrote g c held h shows = stores_nothing c.args.sup.n
 pub returns-in_default-clause-wrote : goal.returns-in_default-clause-wrote
 returns-in_default-clause-wrote g c held h shows =
     let count : length c.in_ok-fresh.fresh.items ≡ needed (c.args.row.now.tail % 4096) c.args.entries.now = c.in_ok-fresh.ensures.count in
-    (less_told c.requires.stands c.requires.can c.in_ok-fresh.ensures.taken c.args.entries.now c.requires.given c.requires.some count c.in_ok-fresh.ensures.row _ c.slot_address.ensures refl refl c.deref.ensures.value
+    (less_told c.requires.stands c.requires.can c.in_ok-fresh.ensures.taken c.args.entries.now c.requires.given c.requires.some count c.in_ok-fresh.ensures.row.0 _ c.slot_address.ensures refl refl c.deref.ensures.value
     (g.P.Pmem.region c.remove_inode.new.memory) c.slot_address-2.result c.slot_address-2.ensures c.requires.differ shows (c.remove_inode.ensures.in_order c.args.sup.now held c.prepare_cut.new.row.inode c.args.gone h) c.remove_inode.ensures.kept.wrote.mixed).1
 
 pub returns-clause-wrote : goal.returns-clause-wrote
 returns-clause-wrote g c held h shows =
     let count : length c.in_ok-fresh.fresh.items ≡ needed (c.args.row.now.tail % 4096) c.args.entries.now = c.in_ok-fresh.ensures.count in
-    (less_told c.requires.stands c.requires.can c.in_ok-fresh.ensures.taken c.args.entries.now c.requires.given c.requires.some count c.in_ok-fresh.ensures.row _ c.slot_address.ensures refl refl c.deref.ensures.value
+    (less_told c.requires.stands c.requires.can c.in_ok-fresh.ensures.taken c.args.entries.now c.requires.given c.requires.some count c.in_ok-fresh.ensures.row.0 _ c.slot_address.ensures refl refl c.deref.ensures.value
     (g.P.Pmem.region c.remove_inode.new.memory) c.slot_address-2.result c.slot_address-2.ensures c.requires.differ shows (c.remove_inode.ensures.in_order c.args.sup.now held c.prepare_cut.new.row.inode c.args.gone h) c.remove_inode.ensures.kept.wrote.mixed).1
-
-pub returns-in_err-fresh-clause-names_room : goal.returns-in_err-fresh-clause-names_room
-returns-in_err-fresh-clause-names_room g c = c.prepare_cut.ensures.names_room
-
-pub returns-in_default-clause-names_room : goal.returns-in_default-clause-names_room
-returns-in_default-clause-names_room g c = c.prepare_cut.ensures.names_room
-
-pub returns-clause-names_room : goal.returns-clause-names_room
-returns-clause-names_room g c = ap (λ (m : Names). m.room) c.settle_less.ensures.row.names ∙ c.prepare_cut.ensures.names_room

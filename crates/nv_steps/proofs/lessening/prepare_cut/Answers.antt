@@ -21,17 +21,18 @@ returns-in-Ok-clause-pages_room c = c.in-Ok.ensures.room
 pub returns-in-Ok-clause-room : goal.returns-in-Ok-clause-room
 returns-in-Ok-clause-room c = let kept = not_refused c.reserve.result c.is_err.result c.is_err.ensures.value c.if-is_err.false c.reserve.ensures.room in omega (arith, kept, c.in-Ok.ensures.given_back)
 
-pub returns-in-Ok-clause-enough : goal.returns-in-Ok-clause-enough
-returns-in-Ok-clause-enough c = subst (λ (pools : List (List Run)). needed (c.args.row.now.tail % 4096) c.args.entries.now ≤ all_blocks pools) c.reserve.ensures.same.pools c.in-Ok.ensures.enough
+pub returns-in-Ok-clause-needs : goal.returns-in-Ok-clause-needs
+returns-in-Ok-clause-needs c =
+    record {
+      enough = subst (λ (pools : List (List Run)). needed (c.args.row.now.tail % 4096) c.args.entries.now ≤ all_blocks pools) c.reserve.ensures.same.pools c.in-Ok.ensures.enough;
+      refused = tt;
+    }
 
 pub returns-in-Ok-clause-once : goal.returns-in-Ok-clause-once
 returns-in-Ok-clause-once c = c.len-names.ensures.each_once
 
 pub returns-in-Ok-clause-row : goal.returns-in-Ok-clause-row
-returns-in-Ok-clause-row c = record { inode = refl; kind = refl; numbers = refl; head = refl; tail = refl; pages = c.in-Ok.ensures.pages; index = λ p. refl; names = λ q. refl }
-
-pub returns-in-Ok-clause-refused : goal.returns-in-Ok-clause-refused
-returns-in-Ok-clause-refused c = tt
+returns-in-Ok-clause-row c = (record { inode = refl; kind = refl; numbers = refl; head = refl; tail = refl; pages = c.in-Ok.ensures.pages; index = λ p. refl; names = λ q. refl }, refl)
 
 pub returns-in-Ok-clause-goes_on : goal.returns-in-Ok-clause-goes_on
 returns-in-Ok-clause-goes_on c = tt
@@ -51,17 +52,18 @@ returns-in-Err-NoSpace-clause-pages_room c = tt
 pub returns-in-Err-NoSpace-clause-room : goal.returns-in-Err-NoSpace-clause-room
 returns-in-Err-NoSpace-clause-room c = tt
 
-pub returns-in-Err-NoSpace-clause-enough : goal.returns-in-Err-NoSpace-clause-enough
-returns-in-Err-NoSpace-clause-enough c = tt
+pub returns-in-Err-NoSpace-clause-needs : goal.returns-in-Err-NoSpace-clause-needs
+returns-in-Err-NoSpace-clause-needs c =
+    record {
+      enough = tt;
+      refused = inr (inr (refl, subst (λ (pools : List (List Run)). all_blocks pools < needed (c.args.row.now.tail % 4096) c.args.entries.now) c.reserve.ensures.same.pools (no_space _ _ _ c.in-Err-NoSpace.ensures.err c.in-Err-NoSpace.field-0-is)));
+    }
 
 pub returns-in-Err-NoSpace-clause-once : goal.returns-in-Err-NoSpace-clause-once
 returns-in-Err-NoSpace-clause-once c = c.len-names.ensures.each_once
 
 pub returns-in-Err-NoSpace-clause-row : goal.returns-in-Err-NoSpace-clause-row
-returns-in-Err-NoSpace-clause-row c = record { inode = refl; kind = refl; numbers = refl; head = refl; tail = refl; pages = c.in-Err-NoSpace.ensures.pages; index = λ p. refl; names = λ q. refl }
-
-pub returns-in-Err-NoSpace-clause-refused : goal.returns-in-Err-NoSpace-clause-refused
-returns-in-Err-NoSpace-clause-refused c = inr (inr (refl, subst (λ (pools : List (List Run)). all_blocks pools < needed (c.args.row.now.tail % 4096) c.args.entries.now) c.reserve.ensures.same.pools (no_space _ _ _ c.in-Err-NoSpace.ensures.err c.in-Err-NoSpace.field-0-is)))
+returns-in-Err-NoSpace-clause-row c = (record { inode = refl; kind = refl; numbers = refl; head = refl; tail = refl; pages = c.in-Err-NoSpace.ensures.pages; index = λ p. refl; names = λ q. refl }, refl)
 
 pub returns-in-Err-NoSpace-clause-goes_on : goal.returns-in-Err-NoSpace-clause-goes_on
 returns-in-Err-NoSpace-clause-goes_on c = no_space_goes_on
@@ -81,17 +83,18 @@ returns-in-Err-Memory-clause-pages_room c = tt
 pub returns-in-Err-Memory-clause-room : goal.returns-in-Err-Memory-clause-room
 returns-in-Err-Memory-clause-room c = tt
 
-pub returns-in-Err-Memory-clause-enough : goal.returns-in-Err-Memory-clause-enough
-returns-in-Err-Memory-clause-enough c = tt
+pub returns-in-Err-Memory-clause-needs : goal.returns-in-Err-Memory-clause-needs
+returns-in-Err-Memory-clause-needs c =
+    record {
+      enough = tt;
+      refused = inl refl;
+    }
 
 pub returns-in-Err-Memory-clause-once : goal.returns-in-Err-Memory-clause-once
 returns-in-Err-Memory-clause-once c = c.len-names.ensures.each_once
 
 pub returns-in-Err-Memory-clause-row : goal.returns-in-Err-Memory-clause-row
-returns-in-Err-Memory-clause-row c = record { inode = refl; kind = refl; numbers = refl; head = refl; tail = refl; pages = c.in-Err-Memory.ensures.pages; index = λ p. refl; names = λ q. refl }
-
-pub returns-in-Err-Memory-clause-refused : goal.returns-in-Err-Memory-clause-refused
-returns-in-Err-Memory-clause-refused c = inl refl
+returns-in-Err-Memory-clause-row c = (record { inode = refl; kind = refl; numbers = refl; head = refl; tail = refl; pages = c.in-Err-Memory.ensures.pages; index = λ p. refl; names = λ q. refl }, refl)
 
 pub returns-in-Err-Memory-clause-goes_on : goal.returns-in-Err-Memory-clause-goes_on
 returns-in-Err-Memory-clause-goes_on c = memory_goes_on
@@ -111,32 +114,21 @@ returns-then-is_err-clause-pages_room c = tt
 pub returns-then-is_err-clause-room : goal.returns-then-is_err-clause-room
 returns-then-is_err-clause-room c = tt
 
-pub returns-then-is_err-clause-enough : goal.returns-then-is_err-clause-enough
-returns-then-is_err-clause-enough c = tt
+pub returns-then-is_err-clause-needs : goal.returns-then-is_err-clause-needs
+returns-then-is_err-clause-needs c =
+    record {
+      enough = tt;
+      refused = inl refl;
+    }
 
 pub returns-then-is_err-clause-once : goal.returns-then-is_err-clause-once
 returns-then-is_err-clause-once c = c.len-names.ensures.each_once
 
 pub returns-then-is_err-clause-row : goal.returns-then-is_err-clause-row
-returns-then-is_err-clause-row c = record { inode = refl; kind = refl; numbers = refl; head = refl; tail = refl; pages = refl; index = λ p. refl; names = λ q. refl }
-
-pub returns-then-is_err-clause-refused : goal.returns-then-is_err-clause-refused
-returns-then-is_err-clause-refused c = inl refl
+returns-then-is_err-clause-row c = (record { inode = refl; kind = refl; numbers = refl; head = refl; tail = refl; pages = refl; index = λ p. refl; names = λ q. refl }, refl)
 
 pub returns-then-is_err-clause-goes_on : goal.returns-then-is_err-clause-goes_on
 returns-then-is_err-clause-goes_on c = memory_goes_on
 
 pub returns-then-is_err-clause-unchanged : goal.returns-then-is_err-clause-unchanged
 returns-then-is_err-clause-unchanged c = let same = c.reserve.ensures.same in record { sup = same.sup; pools = same.pools }
-
-pub returns-in-Ok-clause-names_room : goal.returns-in-Ok-clause-names_room
-returns-in-Ok-clause-names_room c = refl
-
-pub returns-in-Err-NoSpace-clause-names_room : goal.returns-in-Err-NoSpace-clause-names_room
-returns-in-Err-NoSpace-clause-names_room c = refl
-
-pub returns-in-Err-Memory-clause-names_room : goal.returns-in-Err-Memory-clause-names_room
-returns-in-Err-Memory-clause-names_room c = refl
-
-pub returns-then-is_err-clause-names_room : goal.returns-then-is_err-clause-names_room
-returns-then-is_err-clause-names_room c = refl

@@ -1,4 +1,4 @@
-use Rattle.std.proofs.Common.{◌∙◌, ◌+◌, ◌%◌, ◌∷◌, [], ap, refl, subst, arith, ◌≡◌, ◌≤◌, sym, IsTrue}
+use Rattle.std.proofs.Common.{◌∙◌, ◌+◌, ◌%◌, ◌∷◌, [], ap, refl, subst, arith, ◌≡◌, ◌≤◌, sym}
 use Rattle.nv_super.specs.Layout.{fixed_layout}
 use Rattle.std.proofs.lemmas.Result.{err_from_is_err_and, IfOk-from_err}
 use Rattle.nv_entry.specs.declared.entry.Entry.{Entry}
@@ -16,15 +16,19 @@ use Rattle.nv_steps.specs.Stopped.{AppendedBoth}
 use Rattle.nv_steps.specs.Steps.{LeavesStep, RefusesStep}
 use Rattle.nv_steps.proofs.LinkedAt.{left_linked, links_at_places}
 use Rattle.nv_tree.proofs.Replies.{refused_by}
+use Rattle.nv_steps.proofs.Kept.{kept_done, kept_refused}
 use Rattle.nv_steps.proofs.AppendedLogs.{few_one}
 use Rattle.nv_steps.proofs.linking.link_both.Goals as goal
 
-pub returns-in_err-append_logs-clause-refused : goal.returns-in_err-append_logs-clause-refused
-returns-in_err-append_logs-clause-refused g c =
-    let w = err_from_is_err_and c.from_residual.result c.from_residual.ensures.1 in
-    refused_by c.from_residual.result c.in_err-append_logs.field-0.0 w.0
-    (λ (e : Refusal). RefusesStep e (needed (c.args.file.now.tail % 4096) (links_entries (c.args.file.now.numbers.links + 1) c.args.time) + needed (c.args.directory.now.tail % 4096) (name_entries Add c.args.file.now.inode c.args.name.now c.args.time)) c.args.free.now) w.1 w.2
-    (subst (λ (x : Entry). RefusesStep c.in_err-append_logs.field-0.0 (needed (c.args.file.now.tail % 4096) (links_entries (c.args.file.now.numbers.links + 1) c.args.time) + needed (c.args.directory.now.tail % 4096) (x ∷ [])) c.args.free.now) c.name_entry.ensures c.in_err-append_logs.ensures.refused)
+pub returns-in_err-append_logs-clause-needs : goal.returns-in_err-append_logs-clause-needs
+returns-in_err-append_logs-clause-needs g c =
+    record {
+      enough = IfOk-from_err c.from_residual.result _ c.from_residual.ensures.0;
+      refused = let w = err_from_is_err_and c.from_residual.result c.from_residual.ensures.1 in
+          refused_by c.from_residual.result c.in_err-append_logs.field-0.0 w.0
+          (λ (e : Refusal). RefusesStep e (needed (c.args.file.now.tail % 4096) (links_entries (c.args.file.now.numbers.links + 1) c.args.time) + needed (c.args.directory.now.tail % 4096) (name_entries Add c.args.file.now.inode c.args.name.now c.args.time)) c.args.free.now) w.1 w.2
+          (subst (λ (x : Entry). RefusesStep c.in_err-append_logs.field-0.0 (needed (c.args.file.now.tail % 4096) (links_entries (c.args.file.now.numbers.links + 1) c.args.time) + needed (c.args.directory.now.tail % 4096) (x ∷ [])) c.args.free.now) c.name_entry.ensures c.in_err-append_logs.ensures.needs.refused);
+    }
 
 pub returns-clause-linked : goal.returns-clause-linked
 returns-clause-linked g c =
@@ -52,64 +56,38 @@ returns-in_err-append_logs-clause-unchanged g c =
     let w = err_from_is_err_and c.from_residual.result c.from_residual.ensures.1 in
     refused_by c.from_residual.result c.in_err-append_logs.field-0.0 w.0 (λ (e : Refusal). (e ≡ Stopped → ⊥) → LeavesStep c.args.memory.now c.append_logs.new.memory c.args.free.now c.append_logs.new.free c.args.file.now c.append_logs.new.row × SameRow c.args.directory.now c.append_logs.new.other) w.1 w.2 c.in_err-append_logs.ensures.unchanged
 
-pub returns-in_err-append_logs-clause-stopped : goal.returns-in_err-append_logs-clause-stopped
-returns-in_err-append_logs-clause-stopped g c =
+pub returns-in_err-append_logs-clause-kept : goal.returns-in_err-append_logs-clause-kept
+returns-in_err-append_logs-clause-kept g c =
     let w = err_from_is_err_and c.from_residual.result c.from_residual.ensures.1 in
-    refused_by c.from_residual.result c.in_err-append_logs.field-0.0 w.0 (λ (e : Refusal). e ≡ Stopped → IsTrue (g.P.Pmem.fuse c.append_logs.new.memory).has_burnt) w.1 w.2 c.in_err-append_logs.ensures.stopped
+    kept_refused c.from_residual.result c.in_err-append_logs.field-0.0 w.0 w.1 w.2 c.in_err-append_logs.ensures.kept
 
 pub returns-in_err-append_logs-clause-inode : goal.returns-in_err-append_logs-clause-inode
-returns-in_err-append_logs-clause-inode g c = c.in_err-append_logs.ensures.inode
+returns-in_err-append_logs-clause-inode g c = c.in_err-append_logs.ensures.inodes.0
 
 pub returns-in_err-append_logs-clause-directory_inode : goal.returns-in_err-append_logs-clause-directory_inode
-returns-in_err-append_logs-clause-directory_inode g c = c.in_err-append_logs.ensures.other_inode
+returns-in_err-append_logs-clause-directory_inode g c = c.in_err-append_logs.ensures.inodes.1
 
-pub returns-in_err-append_logs-clause-lists : goal.returns-in_err-append_logs-clause-lists
-returns-in_err-append_logs-clause-lists g c = c.in_err-append_logs.ensures.lists
+pub returns-clause-needs : goal.returns-clause-needs
+returns-clause-needs g c =
+    record {
+      enough = subst (λ (x : Entry). needed (c.args.file.now.tail % 4096) (links_entries (c.args.file.now.numbers.links + 1) c.args.time) + needed (c.args.directory.now.tail % 4096) (x ∷ []) ≤ all_blocks c.args.free.now.pools) c.name_entry.ensures c.in_ok-append_logs.ensures.needs.enough;
+      refused = tt;
+    }
 
-pub returns-in_err-append_logs-clause-length : goal.returns-in_err-append_logs-clause-length
-returns-in_err-append_logs-clause-length g c = c.in_err-append_logs.ensures.length
-
-pub returns-in_err-append_logs-clause-keeps_fuse : goal.returns-in_err-append_logs-clause-keeps_fuse
-returns-in_err-append_logs-clause-keeps_fuse g c = c.in_err-append_logs.ensures.keeps_fuse
-
-pub returns-clause-enough : goal.returns-clause-enough
-returns-clause-enough g c = subst (λ (x : Entry). needed (c.args.file.now.tail % 4096) (links_entries (c.args.file.now.numbers.links + 1) c.args.time) + needed (c.args.directory.now.tail % 4096) (x ∷ []) ≤ all_blocks c.args.free.now.pools) c.name_entry.ensures c.in_ok-append_logs.ensures.enough
-
-pub returns-clause-settled : goal.returns-clause-settled
-returns-clause-settled g c = c.in_ok-append_logs.ensures.settled
-
-pub returns-clause-refused : goal.returns-clause-refused
-returns-clause-refused g c = tt
+pub returns-clause-kept : goal.returns-clause-kept
+returns-clause-kept g c = kept_done c.in_ok-append_logs.ensures.kept
 
 pub returns-clause-unchanged : goal.returns-clause-unchanged
 returns-clause-unchanged g c = tt
 
-pub returns-clause-stopped : goal.returns-clause-stopped
-returns-clause-stopped g c = tt
-
 pub returns-clause-inode : goal.returns-clause-inode
-returns-clause-inode g c = c.set_links.ensures.rest.inode ∙ c.in_ok-append_logs.ensures.inode
+returns-clause-inode g c = c.set_links.ensures.rest.inode ∙ c.in_ok-append_logs.ensures.inodes.0
 
 pub returns-clause-directory_inode : goal.returns-clause-directory_inode
-returns-clause-directory_inode g c = c.add_name.ensures.row.rest.inode ∙ c.in_ok-append_logs.ensures.other_inode
-
-pub returns-clause-lists : goal.returns-clause-lists
-returns-clause-lists g c = c.in_ok-append_logs.ensures.lists
-
-pub returns-clause-length : goal.returns-clause-length
-returns-clause-length g c = c.in_ok-append_logs.ensures.length
-
-pub returns-clause-keeps_fuse : goal.returns-clause-keeps_fuse
-returns-clause-keeps_fuse g c = c.in_ok-append_logs.ensures.keeps_fuse
+returns-clause-directory_inode g c = c.add_name.ensures.row.rest.inode ∙ c.in_ok-append_logs.ensures.inodes.1
 
 pub returns-in_err-append_logs-clause-linked : goal.returns-in_err-append_logs-clause-linked
 returns-in_err-append_logs-clause-linked g c = IfOk-from_err c.from_residual.result _ c.from_residual.ensures.0
-
-pub returns-in_err-append_logs-clause-enough : goal.returns-in_err-append_logs-clause-enough
-returns-in_err-append_logs-clause-enough g c = IfOk-from_err c.from_residual.result _ c.from_residual.ensures.0
-
-pub returns-in_err-append_logs-clause-settled : goal.returns-in_err-append_logs-clause-settled
-returns-in_err-append_logs-clause-settled g c = IfOk-from_err c.from_residual.result _ c.from_residual.ensures.0
 
 pub name_entry-requires : goal.name_entry-requires
 name_entry-requires g c = record { some = c.requires.name.some; fits = c.requires.name.short }

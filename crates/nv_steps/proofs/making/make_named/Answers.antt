@@ -1,4 +1,5 @@
-use Rattle.std.proofs.Common.{◌≡◌, ◌+◌, ◌-◌, ◌%◌, ◌<◌, ◌≤◌, ◌∙◌, ◌∷◌, [], List, ℕ, ap, drop, inl, inr, length, refl, subst, sym, take, IsTrue}
+use Rattle.std.proofs.lemmas.Grind.{common_steps}
+use Rattle.std.proofs.Common.{arith, ◌≡◌, ◌+◌, ◌-◌, ◌%◌, ◌<◌, ◌≤◌, ◌∙◌, ◌∷◌, [], List, ℕ, ap, drop, inl, inr, length, refl, subst, sym, take, IsTrue}
 use Rattle.std.proofs.lemmas.Result.{err_from_is_err_and, IfOk-from_err}
 use Rattle.nv_region.proofs.Fuses.{keeps_within}
 use Rattle.nv_super.specs.declared.superblock.Super.{Super}
@@ -22,6 +23,7 @@ use Rattle.nv_steps.proofs.NumbersOwed.{ends_behind, has_one, number_below, othe
 use Rattle.nv_steps.proofs.TakenBlocks.{taken_sup}
 use Rattle.nv_steps.proofs.making.make_named.Goals as goal
 use Rattle.nv_steps.specs.Stores.{one_more}
+use Rattle.nv_steps.proofs.Kept.{nothing_stored}
 use Rattle.nv_steps.proofs.Stores.{stores_nothing}
 
 pub name_entry-requires : goal.name_entry-requires
@@ -33,11 +35,14 @@ prepare_name-requires-clause-cpu g c = subst (λ (s : Super). c.args.cpu < s.cpu
 pub prepare_name-requires-clause-few : goal.prepare_name-requires-clause-few
 prepare_name-requires-clause-few g c = needed_one (c.args.directory.now.tail % 4096) (c.name_entry.result ∷ []) refl
 
-pub returns-in_err-blocks-clause-refused : goal.returns-in_err-blocks-clause-refused
-returns-in_err-blocks-clause-refused g c =
-    let w = err_from_is_err_and c.from_residual.result c.from_residual.ensures.1 in
-    refused_by c.from_residual.result c.in_err-blocks.field-0.0 w.0 (λ (e : Refusal). RefusesStep e (1 + needed (c.args.directory.now.tail % 4096) (name_entries Add c.args.new.now.inode c.args.new.now.name.now c.args.new.now.time)) c.args.free.now) w.1 w.2
-    (subst (λ (x : Entry). RefusesStep c.in_err-blocks.field-0.0 (1 + needed (c.args.directory.now.tail % 4096) (x ∷ [])) c.args.free.now) c.name_entry.ensures c.in_err-blocks.ensures.refused)
+pub returns-in_err-blocks-clause-needs : goal.returns-in_err-blocks-clause-needs
+returns-in_err-blocks-clause-needs g c =
+    record {
+      enough = IfOk-from_err c.from_residual.result _ c.from_residual.ensures.0;
+      refused = let w = err_from_is_err_and c.from_residual.result c.from_residual.ensures.1 in
+          refused_by c.from_residual.result c.in_err-blocks.field-0.0 w.0 (λ (e : Refusal). RefusesStep e (1 + needed (c.args.directory.now.tail % 4096) (name_entries Add c.args.new.now.inode c.args.new.now.name.now c.args.new.now.time)) c.args.free.now) w.1 w.2
+          (subst (λ (x : Entry). RefusesStep c.in_err-blocks.field-0.0 (1 + needed (c.args.directory.now.tail % 4096) (x ∷ [])) c.args.free.now) c.name_entry.ensures c.in_err-blocks.ensures.needs.refused);
+    }
 
 pub returns-in_err-blocks-clause-unchanged : goal.returns-in_err-blocks-clause-unchanged
 returns-in_err-blocks-clause-unchanged g c =
@@ -45,19 +50,13 @@ returns-in_err-blocks-clause-unchanged g c =
     refused_by c.from_residual.result c.in_err-blocks.field-0.0 w.0 (λ (e : Refusal). (e ≡ Stopped → ⊥) → LeavesStep c.args.memory.now c.args.memory.now c.args.free.now c.prepare_name.new.free c.args.directory.now c.prepare_name.new.directory) w.1 w.2
     (λ _. record { memory = refl; free = c.in_err-blocks.ensures.unchanged; row = c.in_err-blocks.ensures.row })
 
-pub returns-in_err-blocks-clause-stopped : goal.returns-in_err-blocks-clause-stopped
-returns-in_err-blocks-clause-stopped g c =
-    let w = err_from_is_err_and c.from_residual.result c.from_residual.ensures.1 in
-    refused_by c.from_residual.result c.in_err-blocks.field-0.0 w.0 (λ (e : Refusal). e ≡ Stopped → IsTrue (g.P.Pmem.fuse c.args.memory.now).has_burnt) w.1 w.2 (λ is. absurd (c.in_err-blocks.ensures.goes_on is))
+pub returns-in_err-blocks-clause-kept : goal.returns-in_err-blocks-clause-kept
+returns-in_err-blocks-clause-kept g c =
+    nothing_stored (IfOk-from_err c.from_residual.result _ c.from_residual.ensures.0) (let w = err_from_is_err_and c.from_residual.result c.from_residual.ensures.1 in
+    refused_by c.from_residual.result c.in_err-blocks.field-0.0 w.0 (λ (e : Refusal). e ≡ Stopped → IsTrue (g.P.Pmem.fuse c.args.memory.now).has_burnt) w.1 w.2 (λ is. absurd (c.in_err-blocks.ensures.goes_on is))) (c.in_err-blocks.ensures.unchanged.sup)
 
 pub returns-in_err-blocks-clause-inode : goal.returns-in_err-blocks-clause-inode
 returns-in_err-blocks-clause-inode g c = c.in_err-blocks.ensures.row.inode
-
-pub returns-in_err-blocks-clause-lists : goal.returns-in_err-blocks-clause-lists
-returns-in_err-blocks-clause-lists g c = c.in_err-blocks.ensures.unchanged.sup
-
-pub returns-in_err-blocks-clause-length : goal.returns-in_err-blocks-clause-length
-returns-in_err-blocks-clause-length g c = refl
 
 pub slot_address-requires-clause-layout : goal.slot_address-requires-clause-layout
 slot_address-requires-clause-layout g c = c.requires.stands.layout
@@ -91,14 +90,26 @@ make_inode-requires-clause-directory g c =
 pub returns-in_default-clause-made : goal.returns-in_default-clause-made
 returns-in_default-clause-made g c = tt
 
-pub returns-in_default-clause-enough : goal.returns-in_default-clause-enough
-returns-in_default-clause-enough g c = tt
+pub returns-in_default-clause-needs : goal.returns-in_default-clause-needs
+returns-in_default-clause-needs g c =
+    record {
+      enough = tt;
+      refused = inr (inl refl);
+    }
 
-pub returns-in_default-clause-settled : goal.returns-in_default-clause-settled
-returns-in_default-clause-settled g c = tt
-
-pub returns-in_default-clause-refused : goal.returns-in_default-clause-refused
-returns-in_default-clause-refused g c = inr (inl refl)
+pub returns-in_default-clause-kept : goal.returns-in_default-clause-kept
+returns-in_default-clause-kept g c =
+    record {
+      keeps = record {
+        stopped = grind (arith, common_steps);
+        lists = taken_sup c.in_ok-blocks.ensures.taken;
+        length = mixed_size c.make_inode.ensures.kept.wrote.mixed;
+        keeps_fuse = let count : length c.in_ok-blocks.blocks.items ≡ 1 + needed (c.args.directory.now.tail % 4096) (name_entries Add c.args.new.now.inode c.args.new.now.name.now c.args.new.now.time) = c.in_ok-blocks.ensures.count ∙ ap (λ (e : Entry). 1 + needed (c.args.directory.now.tail % 4096) (e ∷ [])) c.name_entry.ensures in
+            keeps_within (makes_within c.requires.stands c.requires.can c.in_ok-blocks.ensures.taken c.args.new.now.name.now c.args.new.now.time count c.in_ok-blocks.ensures.row c.index.result.now c.slot_address.result c.slot_address-2.result c.prepare_name.new.directory.tail _
+            (first_is c.in_ok-blocks.blocks.items _ c.index.result.now count c.index.ensures) c.slot_address.ensures c.slot_address-2.ensures refl (all_others c.deref.result.now (length c.deref.result.now) refl ∙ ap (drop 1) c.deref.ensures.value)) c.make_inode.ensures.kept.keeps_fuse;
+      };
+      settled = tt;
+    }
 
 pub returns-in_default-clause-unchanged : goal.returns-in_default-clause-unchanged
 returns-in_default-clause-unchanged g c = λ goes_on. absurd (goes_on refl)
@@ -106,20 +117,19 @@ returns-in_default-clause-unchanged g c = λ goes_on. absurd (goes_on refl)
 pub returns-in_default-clause-inode : goal.returns-in_default-clause-inode
 returns-in_default-clause-inode g c = c.in_ok-blocks.ensures.row.inode
 
-pub returns-in_default-clause-lists : goal.returns-in_default-clause-lists
-returns-in_default-clause-lists g c = taken_sup c.in_ok-blocks.ensures.taken
-
-pub returns-in_default-clause-keeps_fuse : goal.returns-in_default-clause-keeps_fuse
-returns-in_default-clause-keeps_fuse g c =
-    let count : length c.in_ok-blocks.blocks.items ≡ 1 + needed (c.args.directory.now.tail % 4096) (name_entries Add c.args.new.now.inode c.args.new.now.name.now c.args.new.now.time) = c.in_ok-blocks.ensures.count ∙ ap (λ (e : Entry). 1 + needed (c.args.directory.now.tail % 4096) (e ∷ [])) c.name_entry.ensures in
-    keeps_within (makes_within c.requires.stands c.requires.can c.in_ok-blocks.ensures.taken c.args.new.now.name.now c.args.new.now.time count c.in_ok-blocks.ensures.row c.index.result.now c.slot_address.result c.slot_address-2.result c.prepare_name.new.directory.tail _
-    (first_is c.in_ok-blocks.blocks.items _ c.index.result.now count c.index.ensures) c.slot_address.ensures c.slot_address-2.ensures refl (all_others c.deref.result.now (length c.deref.result.now) refl ∙ ap (drop 1) c.deref.ensures.value)) c.make_inode.ensures.kept.keeps_fuse
-
-pub returns-clause-keeps_fuse : goal.returns-clause-keeps_fuse
-returns-clause-keeps_fuse g c =
-    let count : length c.in_ok-blocks.blocks.items ≡ 1 + needed (c.args.directory.now.tail % 4096) (name_entries Add c.args.new.now.inode c.args.new.now.name.now c.args.new.now.time) = c.in_ok-blocks.ensures.count ∙ ap (λ (e : Entry). 1 + needed (c.args.directory.now.tail % 4096) (e ∷ [])) c.name_entry.ensures in
-    keeps_within (makes_within c.requires.stands c.requires.can c.in_ok-blocks.ensures.taken c.args.new.now.name.now c.args.new.now.time count c.in_ok-blocks.ensures.row c.index.result.now c.slot_address.result c.slot_address-2.result c.prepare_name.new.directory.tail _
-    (first_is c.in_ok-blocks.blocks.items _ c.index.result.now count c.index.ensures) c.slot_address.ensures c.slot_address-2.ensures refl (all_others c.deref.result.now (length c.deref.result.now) refl ∙ ap (drop 1) c.deref.ensures.value)) c.make_inode.ensures.kept.keeps_fuse
+pub returns-clause-kept : goal.returns-clause-kept
+returns-clause-kept g c =
+    record {
+      keeps = record {
+        stopped = tt;
+        lists = taken_sup c.in_ok-blocks.ensures.taken;
+        length = mixed_size c.make_inode.ensures.kept.wrote.mixed;
+        keeps_fuse = let count : length c.in_ok-blocks.blocks.items ≡ 1 + needed (c.args.directory.now.tail % 4096) (name_entries Add c.args.new.now.inode c.args.new.now.name.now c.args.new.now.time) = c.in_ok-blocks.ensures.count ∙ ap (λ (e : Entry). 1 + needed (c.args.directory.now.tail % 4096) (e ∷ [])) c.name_entry.ensures in
+            keeps_within (makes_within c.requires.stands c.requires.can c.in_ok-blocks.ensures.taken c.args.new.now.name.now c.args.new.now.time count c.in_ok-blocks.ensures.row c.index.result.now c.slot_address.result c.slot_address-2.result c.prepare_name.new.directory.tail _
+            (first_is c.in_ok-blocks.blocks.items _ c.index.result.now count c.index.ensures) c.slot_address.ensures c.slot_address-2.ensures refl (all_others c.deref.result.now (length c.deref.result.now) refl ∙ ap (drop 1) c.deref.ensures.value)) c.make_inode.ensures.kept.keeps_fuse;
+      };
+      settled = c.in-Ok.ensures.kept.settled;
+    }
 
 pub returns-clause-made : goal.returns-clause-made
 returns-clause-made g c =
@@ -133,12 +143,6 @@ returns-clause-made g c =
     (ends.1 ∙ (λ t. end_of (blocks t) 0 (same.tail t) (c.name_entry.ensures t ∷ []))) (c.length.ensures.value ∙ ap entry_length c.name_entry.ensures))
     c.in_ok-blocks.ensures.once c.settle_name.ensures.once (first_is c.in_ok-blocks.blocks.items _ c.index.result.now count c.index.ensures) c.new_row.ensures
     (λ held h can. c.in-Ok.ensures.shows c.args.sup.now held c.args.new.now.inode c.prepare_name.new.directory.inode h can) c.make_inode.ensures.kept.wrote.mixed
-
-pub returns-in_default-clause-length : goal.returns-in_default-clause-length
-returns-in_default-clause-length g c = mixed_size c.make_inode.ensures.kept.wrote.mixed
-
-pub returns-clause-length : goal.returns-clause-length
-returns-clause-length g c = mixed_size c.make_inode.ensures.kept.wrote.mixed
 
 pub slice_bounds-settle_name-count : goal.slice_bounds-settle_name-count
 slice_bounds-settle_name-count g c = subst (λ (xs : List ℕ). 1 ≤ length xs) (sym c.deref-2.ensures.value) (has_one c.in_ok-blocks.blocks.items _ c.in_ok-blocks.ensures.count)
@@ -155,38 +159,21 @@ settle_name-requires-clause-names g c = c.in_ok-blocks.ensures.names_room
 pub settle_name-requires-clause-name : goal.settle_name-requires-clause-name
 settle_name-requires-clause-name g c = c.requires.name
 
-pub returns-clause-enough : goal.returns-clause-enough
-returns-clause-enough g c = subst (λ (x : Entry). 1 + needed (c.args.directory.now.tail % 4096) (x ∷ []) ≤ all_blocks c.args.free.now.pools) c.name_entry.ensures c.in_ok-blocks.ensures.enough
-
-pub returns-clause-settled : goal.returns-clause-settled
-returns-clause-settled g c = c.in-Ok.ensures.kept.settled
-
-pub returns-clause-refused : goal.returns-clause-refused
-returns-clause-refused g c = tt
+pub returns-clause-needs : goal.returns-clause-needs
+returns-clause-needs g c =
+    record {
+      enough = subst (λ (x : Entry). 1 + needed (c.args.directory.now.tail % 4096) (x ∷ []) ≤ all_blocks c.args.free.now.pools) c.name_entry.ensures c.in_ok-blocks.ensures.needs.enough;
+      refused = tt;
+    }
 
 pub returns-clause-unchanged : goal.returns-clause-unchanged
 returns-clause-unchanged g c = tt
 
-pub returns-clause-stopped : goal.returns-clause-stopped
-returns-clause-stopped g c = tt
-
 pub returns-clause-inode : goal.returns-clause-inode
 returns-clause-inode g c = c.settle_name.ensures.row.inode ∙ c.in_ok-blocks.ensures.row.inode
 
-pub returns-clause-lists : goal.returns-clause-lists
-returns-clause-lists g c = taken_sup c.in_ok-blocks.ensures.taken
-
 pub returns-in_err-blocks-clause-made : goal.returns-in_err-blocks-clause-made
 returns-in_err-blocks-clause-made g c = IfOk-from_err c.from_residual.result _ c.from_residual.ensures.0
-
-pub returns-in_err-blocks-clause-enough : goal.returns-in_err-blocks-clause-enough
-returns-in_err-blocks-clause-enough g c = IfOk-from_err c.from_residual.result _ c.from_residual.ensures.0
-
-pub returns-in_err-blocks-clause-settled : goal.returns-in_err-blocks-clause-settled
-returns-in_err-blocks-clause-settled g c = IfOk-from_err c.from_residual.result _ c.from_residual.ensures.0
-
-pub returns-in_err-blocks-clause-keeps_fuse : goal.returns-in_err-blocks-clause-keeps_fuse
-returns-in_err-blocks-clause-keeps_fuse g c = record { burnt = λ was. was; steady = λ was. was; stays_open = λ limit past was. was }
 
 pub returns-in_err-blocks-clause-any_stop : goal.returns-in_err-blocks-clause-any_stop
 returns-in_err-blocks-clause-any_stop g c held h shows out absent settled =

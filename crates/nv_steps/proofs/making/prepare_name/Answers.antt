@@ -19,17 +19,18 @@ returns-in-Ok-clause-room c = subst (λ (m : ℕ). HasRoomFor c.make_room.new.ro
 pub returns-in-Ok-clause-names_room : goal.returns-in-Ok-clause-names_room
 returns-in-Ok-clause-names_room c = not_refused c.make_room.result c.is_err.result c.is_err.ensures.value c.if-is_err.false c.make_room.ensures.names
 
-pub returns-in-Ok-clause-enough : goal.returns-in-Ok-clause-enough
-returns-in-Ok-clause-enough c = subst (λ (m : ℕ). 1 + m ≤ all_blocks c.args.free.now.pools) c.pages_needed-count.ensures c.in-Ok.ensures.enough
+pub returns-in-Ok-clause-needs : goal.returns-in-Ok-clause-needs
+returns-in-Ok-clause-needs c =
+    record {
+      enough = subst (λ (m : ℕ). 1 + m ≤ all_blocks c.args.free.now.pools) c.pages_needed-count.ensures c.in-Ok.ensures.enough;
+      refused = tt;
+    }
 
 pub returns-in-Ok-clause-once : goal.returns-in-Ok-clause-once
 returns-in-Ok-clause-once c = c.len-names.ensures.each_once
 
 pub returns-in-Ok-clause-row : goal.returns-in-Ok-clause-row
 returns-in-Ok-clause-row c = c.make_room.ensures.row
-
-pub returns-in-Ok-clause-refused : goal.returns-in-Ok-clause-refused
-returns-in-Ok-clause-refused c = tt
 
 pub returns-in-Ok-clause-goes_on : goal.returns-in-Ok-clause-goes_on
 returns-in-Ok-clause-goes_on c = tt
@@ -49,17 +50,18 @@ returns-in-Err-NoSpace-clause-room c = tt
 pub returns-in-Err-NoSpace-clause-names_room : goal.returns-in-Err-NoSpace-clause-names_room
 returns-in-Err-NoSpace-clause-names_room c = tt
 
-pub returns-in-Err-NoSpace-clause-enough : goal.returns-in-Err-NoSpace-clause-enough
-returns-in-Err-NoSpace-clause-enough c = tt
+pub returns-in-Err-NoSpace-clause-needs : goal.returns-in-Err-NoSpace-clause-needs
+returns-in-Err-NoSpace-clause-needs c =
+    record {
+      enough = tt;
+      refused = inr (inr (refl, subst (λ (m : ℕ). all_blocks c.args.free.now.pools < 1 + m) c.pages_needed-count.ensures (no_space _ _ _ c.in-Err-NoSpace.ensures.err c.in-Err-NoSpace.field-0-is)));
+    }
 
 pub returns-in-Err-NoSpace-clause-once : goal.returns-in-Err-NoSpace-clause-once
 returns-in-Err-NoSpace-clause-once c = c.len-names.ensures.each_once
 
 pub returns-in-Err-NoSpace-clause-row : goal.returns-in-Err-NoSpace-clause-row
 returns-in-Err-NoSpace-clause-row c = c.make_room.ensures.row
-
-pub returns-in-Err-NoSpace-clause-refused : goal.returns-in-Err-NoSpace-clause-refused
-returns-in-Err-NoSpace-clause-refused c = inr (inr (refl, subst (λ (m : ℕ). all_blocks c.args.free.now.pools < 1 + m) c.pages_needed-count.ensures (no_space _ _ _ c.in-Err-NoSpace.ensures.err c.in-Err-NoSpace.field-0-is)))
 
 pub returns-in-Err-NoSpace-clause-goes_on : goal.returns-in-Err-NoSpace-clause-goes_on
 returns-in-Err-NoSpace-clause-goes_on c = no_space_goes_on
@@ -79,17 +81,18 @@ returns-in-Err-Memory-clause-room c = tt
 pub returns-in-Err-Memory-clause-names_room : goal.returns-in-Err-Memory-clause-names_room
 returns-in-Err-Memory-clause-names_room c = tt
 
-pub returns-in-Err-Memory-clause-enough : goal.returns-in-Err-Memory-clause-enough
-returns-in-Err-Memory-clause-enough c = tt
+pub returns-in-Err-Memory-clause-needs : goal.returns-in-Err-Memory-clause-needs
+returns-in-Err-Memory-clause-needs c =
+    record {
+      enough = tt;
+      refused = inl refl;
+    }
 
 pub returns-in-Err-Memory-clause-once : goal.returns-in-Err-Memory-clause-once
 returns-in-Err-Memory-clause-once c = c.len-names.ensures.each_once
 
 pub returns-in-Err-Memory-clause-row : goal.returns-in-Err-Memory-clause-row
 returns-in-Err-Memory-clause-row c = c.make_room.ensures.row
-
-pub returns-in-Err-Memory-clause-refused : goal.returns-in-Err-Memory-clause-refused
-returns-in-Err-Memory-clause-refused c = inl refl
 
 pub returns-in-Err-Memory-clause-goes_on : goal.returns-in-Err-Memory-clause-goes_on
 returns-in-Err-Memory-clause-goes_on c = memory_goes_on
@@ -109,17 +112,18 @@ returns-then-is_err-clause-room c = tt
 pub returns-then-is_err-clause-names_room : goal.returns-then-is_err-clause-names_room
 returns-then-is_err-clause-names_room c = tt
 
-pub returns-then-is_err-clause-enough : goal.returns-then-is_err-clause-enough
-returns-then-is_err-clause-enough c = tt
+pub returns-then-is_err-clause-needs : goal.returns-then-is_err-clause-needs
+returns-then-is_err-clause-needs c =
+    record {
+      enough = tt;
+      refused = inl refl;
+    }
 
 pub returns-then-is_err-clause-once : goal.returns-then-is_err-clause-once
 returns-then-is_err-clause-once c = c.len-names.ensures.each_once
 
 pub returns-then-is_err-clause-row : goal.returns-then-is_err-clause-row
 returns-then-is_err-clause-row c = c.make_room.ensures.row
-
-pub returns-then-is_err-clause-refused : goal.returns-then-is_err-clause-refused
-returns-then-is_err-clause-refused c = inl refl
 
 pub returns-then-is_err-clause-goes_on : goal.returns-then-is_err-clause-goes_on
 returns-then-is_err-clause-goes_on c = memory_goes_on

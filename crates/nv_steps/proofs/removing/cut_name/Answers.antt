@@ -1,4 +1,4 @@
-use Rattle.std.proofs.Common.{◌≡◌, ◌∙◌, ◌∷◌, [], ◌≤◌, ◌%◌, refl, subst, sym, IsTrue}
+use Rattle.std.proofs.Common.{◌≡◌, ◌∙◌, ◌∷◌, [], ◌≤◌, ◌%◌, refl, subst, sym}
 use Rattle.std.proofs.lemmas.Result.{err_from_is_err_and, IfOk-from_err}
 use Rattle.nv_super.specs.Layout.{fixed_layout, slot_address}
 use Rattle.nv_alloc.specs.Taking.{all_blocks}
@@ -13,6 +13,7 @@ use Rattle.nv_steps.specs.InOrder.{TailIsFirst}
 use Rattle.nv_steps.specs.NameEntries.{name_entries}
 use Rattle.nv_steps.specs.Steps.{LeavesStep, RefusesStep}
 use Rattle.nv_steps.specs.Takes.{AppendedLess, AppendsLess}
+use Rattle.nv_steps.proofs.Kept.{kept_done, kept_refused}
 use Rattle.nv_steps.proofs.CutNames.{cuts_name, left_cut}
 use Rattle.nv_steps.proofs.removing.cut_name.Goals as goal
 
@@ -39,24 +40,21 @@ returns-clause-cut g c =
 pub returns-clause-room : goal.returns-clause-room
 returns-clause-room g c = c.in_ok-append_less.ensures.room
 
-pub returns-clause-enough : goal.returns-clause-enough
-returns-clause-enough g c =
-    subst (λ (x : Entry). needed (c.args.directory.now.tail % 4096) (x ∷ []) ≤ all_blocks c.args.free.now.pools) c.name_entry.ensures c.in_ok-append_less.ensures.enough
+pub returns-clause-needs : goal.returns-clause-needs
+returns-clause-needs g c =
+    record {
+      enough = subst (λ (x : Entry). needed (c.args.directory.now.tail % 4096) (x ∷ []) ≤ all_blocks c.args.free.now.pools) c.name_entry.ensures c.in_ok-append_less.ensures.needs.enough;
+      refused = tt;
+    }
 
-pub returns-clause-settled : goal.returns-clause-settled
-returns-clause-settled g c = c.in_ok-append_less.ensures.settled
-
-pub returns-clause-refused : goal.returns-clause-refused
-returns-clause-refused g c = tt
+pub returns-clause-kept : goal.returns-clause-kept
+returns-clause-kept g c = kept_done c.in_ok-append_less.ensures.kept
 
 pub returns-clause-unchanged : goal.returns-clause-unchanged
 returns-clause-unchanged g c = tt
 
-pub returns-clause-stopped : goal.returns-clause-stopped
-returns-clause-stopped g c = tt
-
 pub returns-clause-inode : goal.returns-clause-inode
-returns-clause-inode g c = c.remove_name.ensures.row.rest.inode ∙ c.in_ok-append_less.ensures.inode
+returns-clause-inode g c = c.remove_name.ensures.row.rest.inode ∙ c.in_ok-append_less.ensures.row.0
 
 pub returns-in_err-append_less-clause-cut : goal.returns-in_err-append_less-clause-cut
 returns-in_err-append_less-clause-cut g c = IfOk-from_err c.from_residual.result _ c.from_residual.ensures.0
@@ -64,39 +62,27 @@ returns-in_err-append_less-clause-cut g c = IfOk-from_err c.from_residual.result
 pub returns-in_err-append_less-clause-room : goal.returns-in_err-append_less-clause-room
 returns-in_err-append_less-clause-room g c = IfOk-from_err c.from_residual.result _ c.from_residual.ensures.0
 
-pub returns-in_err-append_less-clause-enough : goal.returns-in_err-append_less-clause-enough
-returns-in_err-append_less-clause-enough g c = IfOk-from_err c.from_residual.result _ c.from_residual.ensures.0
+pub returns-in_err-append_less-clause-needs : goal.returns-in_err-append_less-clause-needs
+returns-in_err-append_less-clause-needs g c =
+    record {
+      enough = IfOk-from_err c.from_residual.result _ c.from_residual.ensures.0;
+      refused = let w = err_from_is_err_and c.from_residual.result c.from_residual.ensures.1 in
+          refused_by c.from_residual.result c.in_err-append_less.field-0.0 w.0 (λ (e : Refusal). RefusesStep e (needed (c.args.directory.now.tail % 4096) (name_entries Remove c.args.gone.now.inode c.args.gone.now.name.now c.args.gone.now.time)) c.args.free.now) w.1 w.2
+          (subst (λ (x : Entry). RefusesStep c.in_err-append_less.field-0.0 (needed (c.args.directory.now.tail % 4096) (x ∷ [])) c.args.free.now) c.name_entry.ensures c.in_err-append_less.ensures.needs.refused);
+    }
 
-pub returns-in_err-append_less-clause-settled : goal.returns-in_err-append_less-clause-settled
-returns-in_err-append_less-clause-settled g c = IfOk-from_err c.from_residual.result _ c.from_residual.ensures.0
-
-pub returns-in_err-append_less-clause-refused : goal.returns-in_err-append_less-clause-refused
-returns-in_err-append_less-clause-refused g c =
+pub returns-in_err-append_less-clause-kept : goal.returns-in_err-append_less-clause-kept
+returns-in_err-append_less-clause-kept g c =
     let w = err_from_is_err_and c.from_residual.result c.from_residual.ensures.1 in
-    refused_by c.from_residual.result c.in_err-append_less.field-0.0 w.0 (λ (e : Refusal). RefusesStep e (needed (c.args.directory.now.tail % 4096) (name_entries Remove c.args.gone.now.inode c.args.gone.now.name.now c.args.gone.now.time)) c.args.free.now) w.1 w.2
-    (subst (λ (x : Entry). RefusesStep c.in_err-append_less.field-0.0 (needed (c.args.directory.now.tail % 4096) (x ∷ [])) c.args.free.now) c.name_entry.ensures c.in_err-append_less.ensures.refused)
+    kept_refused c.from_residual.result c.in_err-append_less.field-0.0 w.0 w.1 w.2 c.in_err-append_less.ensures.kept
 
 pub returns-in_err-append_less-clause-unchanged : goal.returns-in_err-append_less-clause-unchanged
 returns-in_err-append_less-clause-unchanged g c =
     let w = err_from_is_err_and c.from_residual.result c.from_residual.ensures.1 in
     refused_by c.from_residual.result c.in_err-append_less.field-0.0 w.0 (λ (e : Refusal). (e ≡ Stopped → ⊥) → LeavesStep c.args.memory.now c.append_less.new.memory c.args.free.now c.append_less.new.free c.args.directory.now c.append_less.new.row) w.1 w.2 c.in_err-append_less.ensures.unchanged
 
-pub returns-in_err-append_less-clause-stopped : goal.returns-in_err-append_less-clause-stopped
-returns-in_err-append_less-clause-stopped g c =
-    let w = err_from_is_err_and c.from_residual.result c.from_residual.ensures.1 in
-    refused_by c.from_residual.result c.in_err-append_less.field-0.0 w.0 (λ (e : Refusal). e ≡ Stopped → IsTrue (g.P.Pmem.fuse c.append_less.new.memory).has_burnt) w.1 w.2 c.in_err-append_less.ensures.stopped
-
 pub returns-in_err-append_less-clause-inode : goal.returns-in_err-append_less-clause-inode
-returns-in_err-append_less-clause-inode g c = c.in_err-append_less.ensures.inode
-
-pub returns-in_err-append_less-clause-lists : goal.returns-in_err-append_less-clause-lists
-returns-in_err-append_less-clause-lists g c = c.in_err-append_less.ensures.lists
-
-pub returns-in_err-append_less-clause-length : goal.returns-in_err-append_less-clause-length
-returns-in_err-append_less-clause-length g c = c.in_err-append_less.ensures.length
-
-pub returns-in_err-append_less-clause-keeps_fuse : goal.returns-in_err-append_less-clause-keeps_fuse
-returns-in_err-append_less-clause-keeps_fuse g c = c.in_err-append_less.ensures.keeps_fuse
+returns-in_err-append_less-clause-inode g c = c.in_err-append_less.ensures.row.0
 
 pub returns-in_err-append_less-clause-wrote : goal.returns-in_err-append_less-clause-wrote
 returns-in_err-append_less-clause-wrote g c held h shows = c.append_less.ensures.wrote held h shows
@@ -109,15 +95,6 @@ pub returns-in_err-append_less-clause-any_stop : goal.returns-in_err-append_less
 returns-in_err-append_less-clause-any_stop g c held h shows settled left may =
     left_cut c.args.directory.now c.args.gone.now.inode c.args.gone.now.name.now c.args.gone.now.time left
     (subst (λ (x : Entry). LeavesEither (g.P.Pmem.region c.args.memory.now) (fixed_layout c.args.sup.now) held (AppendedLess (g.P.Pmem.region c.args.memory.now) c.args.sup.now c.args.free.now c.args.cpu c.args.directory.now c.args.gone.now.inode (x ∷ [])) left) c.name_entry.ensures (c.append_less.ensures.any_stop held h shows settled left may))
-
-pub returns-clause-lists : goal.returns-clause-lists
-returns-clause-lists g c = c.in_ok-append_less.ensures.lists
-
-pub returns-clause-length : goal.returns-clause-length
-returns-clause-length g c = c.in_ok-append_less.ensures.length
-
-pub returns-clause-keeps_fuse : goal.returns-clause-keeps_fuse
-returns-clause-keeps_fuse g c = c.in_ok-append_less.ensures.keeps_fuse
 
 pub returns-clause-wrote : goal.returns-clause-wrote
 returns-clause-wrote g c held h shows = c.append_less.ensures.wrote held h shows

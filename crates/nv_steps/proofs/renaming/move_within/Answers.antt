@@ -1,10 +1,9 @@
-use Rattle.std.proofs.Common.{ℕ, ◌<◌, ◌∙◌, ◌∷◌, [], ap, refl, subst, ◌≡◌, ◌≤◌, ◌%◌, sym, IsTrue, inl, inr, arith}
+use Rattle.std.proofs.Common.{ℕ, ◌<◌, ◌∙◌, ◌∷◌, [], ap, refl, subst, ◌≤◌, ◌%◌, sym, inl, inr, arith}
 use Rattle.nv_super.specs.Layout.{fixed_layout}
 use Rattle.std.proofs.lemmas.Result.{err_from_is_err_and, IfOk-from_err}
 use Rattle.nv_alloc.specs.Taking.{all_blocks}
 use Rattle.nv_logpage.specs.Append.{AreGiven, needed}
 use Rattle.nv_tree.specs.declared.refusal.Refusal.{Refusal}
-use Rattle.nv_tree.specs.declared.refusal.Refusal.TheVariants.{Stopped}
 use Rattle.nv_tree.proofs.Replies.{refused_by}
 use Rattle.nv_steps.specs.Moves.{move_entries}
 use Rattle.nv_entry.specs.declared.entry.Entry.{Entry}
@@ -15,6 +14,8 @@ use Rattle.nv_commit.specs.Stopped.{LeavesEither}
 use Rattle.nv_commit.proofs.Left.{still}
 use Rattle.nv_steps.specs.Stopped.{Appended, MovedHere}
 use Rattle.nv_steps.specs.Steps.{AppendsLog, RefusesStep}
+use Rattle.nv_steps.proofs.Kept.{kept_done, kept_refused, nothing_stored}
+use Rattle.nv_steps.proofs.Refusals.{no_space_goes_on, memory_goes_on}
 use Rattle.nv_steps.proofs.MovedRow.{left_here, more_names, moves_within, shows_same}
 use Rattle.nv_steps.proofs.renaming.move_within.Goals as goal
 
@@ -41,76 +42,58 @@ pub append_log-requires-clause-given : goal.append_log-requires-clause-given
 append_log-requires-clause-given g c =
     subst (λ (x : Entry). AreGiven (x ∷ c.name_entry-2.result ∷ [])) (sym c.name_entry.ensures) (subst (λ (x : Entry). AreGiven (Name (record { operation = Remove; inode = c.args.moved.now.inode; time = c.args.moved.now.time; name = c.args.moved.now.name.now }) ∷ x ∷ [])) (sym c.name_entry-2.ensures) (refl, (refl, tt)))
 
-pub returns-in_err-append_log-clause-refused : goal.returns-in_err-append_log-clause-refused
-returns-in_err-append_log-clause-refused g c =
-    let w = err_from_is_err_and c.from_residual.result c.from_residual.ensures.1 in
-    refused_by c.from_residual.result c.in_err-append_log.field-0.0 w.0 (λ (e : Refusal). RefusesStep e (needed (c.args.directory.now.tail % 4096) (move_entries c.args.moved.now.inode c.args.moved.now.name.now c.args.moved.now.other.now c.args.moved.now.time)) c.args.free.now) w.1 w.2
-    (subst (λ (x : Entry). RefusesStep c.in_err-append_log.field-0.0 (needed (c.args.directory.now.tail % 4096) (Name (record { operation = Remove; inode = c.args.moved.now.inode; time = c.args.moved.now.time; name = c.args.moved.now.name.now }) ∷ x ∷ [])) c.args.free.now) c.name_entry-2.ensures
-    (subst (λ (x : Entry). RefusesStep c.in_err-append_log.field-0.0 (needed (c.args.directory.now.tail % 4096) (x ∷ c.name_entry-2.result ∷ [])) c.args.free.now) c.name_entry.ensures c.in_err-append_log.ensures.refused))
+pub returns-in_err-append_log-clause-needs : goal.returns-in_err-append_log-clause-needs
+returns-in_err-append_log-clause-needs g c =
+    record {
+      enough = IfOk-from_err c.from_residual.result _ c.from_residual.ensures.0;
+      refused = let w = err_from_is_err_and c.from_residual.result c.from_residual.ensures.1 in
+          refused_by c.from_residual.result c.in_err-append_log.field-0.0 w.0 (λ (e : Refusal). RefusesStep e (needed (c.args.directory.now.tail % 4096) (move_entries c.args.moved.now.inode c.args.moved.now.name.now c.args.moved.now.other.now c.args.moved.now.time)) c.args.free.now) w.1 w.2
+          (subst (λ (x : Entry). RefusesStep c.in_err-append_log.field-0.0 (needed (c.args.directory.now.tail % 4096) (Name (record { operation = Remove; inode = c.args.moved.now.inode; time = c.args.moved.now.time; name = c.args.moved.now.name.now }) ∷ x ∷ [])) c.args.free.now) c.name_entry-2.ensures
+          (subst (λ (x : Entry). RefusesStep c.in_err-append_log.field-0.0 (needed (c.args.directory.now.tail % 4096) (x ∷ c.name_entry-2.result ∷ [])) c.args.free.now) c.name_entry.ensures c.in_err-append_log.ensures.needs.refused));
+    }
 
-pub returns-in_err-append_log-clause-stopped : goal.returns-in_err-append_log-clause-stopped
-returns-in_err-append_log-clause-stopped g c =
+pub returns-in_err-append_log-clause-kept : goal.returns-in_err-append_log-clause-kept
+returns-in_err-append_log-clause-kept g c =
     let w = err_from_is_err_and c.from_residual.result c.from_residual.ensures.1 in
-    refused_by c.from_residual.result c.in_err-append_log.field-0.0 w.0 (λ (e : Refusal). e ≡ Stopped → IsTrue (g.P.Pmem.fuse c.append_log.new.memory).has_burnt) w.1 w.2 c.in_err-append_log.ensures.stopped
+    kept_refused c.from_residual.result c.in_err-append_log.field-0.0 w.0 w.1 w.2 c.in_err-append_log.ensures.kept
 
 pub returns-in_err-append_log-clause-inode : goal.returns-in_err-append_log-clause-inode
 returns-in_err-append_log-clause-inode g c = c.in_err-append_log.ensures.inode
 
-pub returns-in_err-append_log-clause-lists : goal.returns-in_err-append_log-clause-lists
-returns-in_err-append_log-clause-lists g c = c.in_err-append_log.ensures.lists
+pub returns-clause-needs : goal.returns-clause-needs
+returns-clause-needs g c =
+    record {
+      enough = subst (λ (x : Entry). needed (c.args.directory.now.tail % 4096) (Name (record { operation = Remove; inode = c.args.moved.now.inode; time = c.args.moved.now.time; name = c.args.moved.now.name.now }) ∷ x ∷ []) ≤ all_blocks c.args.free.now.pools) c.name_entry-2.ensures
+          (subst (λ (x : Entry). needed (c.args.directory.now.tail % 4096) (x ∷ c.name_entry-2.result ∷ []) ≤ all_blocks c.args.free.now.pools) c.name_entry.ensures c.in_ok-append_log.ensures.needs.enough);
+      refused = tt;
+    }
 
-pub returns-in_err-append_log-clause-length : goal.returns-in_err-append_log-clause-length
-returns-in_err-append_log-clause-length g c = c.in_err-append_log.ensures.length
-
-pub returns-in_err-append_log-clause-keeps_fuse : goal.returns-in_err-append_log-clause-keeps_fuse
-returns-in_err-append_log-clause-keeps_fuse g c = c.in_err-append_log.ensures.keeps_fuse
-
-pub returns-clause-enough : goal.returns-clause-enough
-returns-clause-enough g c =
-    subst (λ (x : Entry). needed (c.args.directory.now.tail % 4096) (Name (record { operation = Remove; inode = c.args.moved.now.inode; time = c.args.moved.now.time; name = c.args.moved.now.name.now }) ∷ x ∷ []) ≤ all_blocks c.args.free.now.pools) c.name_entry-2.ensures
-    (subst (λ (x : Entry). needed (c.args.directory.now.tail % 4096) (x ∷ c.name_entry-2.result ∷ []) ≤ all_blocks c.args.free.now.pools) c.name_entry.ensures c.in_ok-append_log.ensures.enough)
-
-pub returns-clause-settled : goal.returns-clause-settled
-returns-clause-settled g c = c.in_ok-append_log.ensures.settled
-
-pub returns-clause-refused : goal.returns-clause-refused
-returns-clause-refused g c = tt
+pub returns-clause-kept : goal.returns-clause-kept
+returns-clause-kept g c = kept_done c.in_ok-append_log.ensures.kept
 
 pub returns-clause-unchanged : goal.returns-clause-unchanged
 returns-clause-unchanged g c = tt
 
-pub returns-clause-stopped : goal.returns-clause-stopped
-returns-clause-stopped g c = tt
-
 pub returns-clause-inode : goal.returns-clause-inode
 returns-clause-inode g c = c.add_name.ensures.row.rest.inode ∙ c.remove_name.ensures.row.rest.inode ∙ c.in_ok-append_log.ensures.inode
-
-pub returns-clause-lists : goal.returns-clause-lists
-returns-clause-lists g c = c.in_ok-append_log.ensures.lists
-
-pub returns-clause-length : goal.returns-clause-length
-returns-clause-length g c = c.in_ok-append_log.ensures.length
-
-pub returns-clause-keeps_fuse : goal.returns-clause-keeps_fuse
-returns-clause-keeps_fuse g c = c.in_ok-append_log.ensures.keeps_fuse
 
 pub returns-in_err-append_log-clause-moved : goal.returns-in_err-append_log-clause-moved
 returns-in_err-append_log-clause-moved g c = IfOk-from_err c.from_residual.result _ c.from_residual.ensures.0
 
-pub returns-in_err-append_log-clause-enough : goal.returns-in_err-append_log-clause-enough
-returns-in_err-append_log-clause-enough g c = IfOk-from_err c.from_residual.result _ c.from_residual.ensures.0
-
-pub returns-in_err-append_log-clause-settled : goal.returns-in_err-append_log-clause-settled
-returns-in_err-append_log-clause-settled g c = IfOk-from_err c.from_residual.result _ c.from_residual.ensures.0
-
 pub returns-then-not-are_enough-clause-moved : goal.returns-then-not-are_enough-clause-moved
 returns-then-not-are_enough-clause-moved g c = tt
 
-pub returns-then-not-are_enough-clause-enough : goal.returns-then-not-are_enough-clause-enough
-returns-then-not-are_enough-clause-enough g c = tt
+pub returns-then-not-are_enough-clause-needs : goal.returns-then-not-are_enough-clause-needs
+returns-then-not-are_enough-clause-needs g c =
+    record {
+      enough = tt;
+      refused = let few = subst (λ (m : ℕ). all_blocks c.args.free.now.pools < m) c.pages_needed.ensures (c.are_enough.ensures.no c.if-not-are_enough.true) in
+          inr (inr (refl, subst (λ (x : Entry). all_blocks c.args.free.now.pools < needed (c.args.directory.now.tail % 4096) (Name (record { operation = Remove; inode = c.args.moved.now.inode; time = c.args.moved.now.time; name = c.args.moved.now.name.now }) ∷ x ∷ [])) c.name_entry-2.ensures (subst (λ (x : Entry). all_blocks c.args.free.now.pools < needed (c.args.directory.now.tail % 4096) (x ∷ c.name_entry-2.result ∷ [])) c.name_entry.ensures few)));
+    }
 
-pub returns-then-not-are_enough-clause-settled : goal.returns-then-not-are_enough-clause-settled
-returns-then-not-are_enough-clause-settled g c = tt
+pub returns-then-not-are_enough-clause-kept : goal.returns-then-not-are_enough-clause-kept
+returns-then-not-are_enough-clause-kept g c =
+    nothing_stored tt (λ is. absurd (no_space_goes_on is)) refl
 
 pub returns-then-not-are_enough-clause-unchanged : goal.returns-then-not-are_enough-clause-unchanged
 returns-then-not-are_enough-clause-unchanged g c = λ _. record { memory = refl; free = record { sup = refl; pools = refl }; row = record { inode = refl; kind = refl; numbers = refl; head = refl; tail = refl; pages = refl; index = λ p. refl; names = λ q. refl } }
@@ -118,46 +101,25 @@ returns-then-not-are_enough-clause-unchanged g c = λ _. record { memory = refl;
 pub returns-then-not-are_enough-clause-inode : goal.returns-then-not-are_enough-clause-inode
 returns-then-not-are_enough-clause-inode g c = refl
 
-pub returns-then-not-are_enough-clause-lists : goal.returns-then-not-are_enough-clause-lists
-returns-then-not-are_enough-clause-lists g c = refl
-
-pub returns-then-not-are_enough-clause-length : goal.returns-then-not-are_enough-clause-length
-returns-then-not-are_enough-clause-length g c = refl
-
-pub returns-then-not-are_enough-clause-keeps_fuse : goal.returns-then-not-are_enough-clause-keeps_fuse
-returns-then-not-are_enough-clause-keeps_fuse g c = record { burnt = λ was. was; steady = λ was. was; stays_open = λ limit past was. was }
-
 pub returns-then-is_err-clause-moved : goal.returns-then-is_err-clause-moved
 returns-then-is_err-clause-moved g c = tt
 
-pub returns-then-is_err-clause-enough : goal.returns-then-is_err-clause-enough
-returns-then-is_err-clause-enough g c = tt
+pub returns-then-is_err-clause-needs : goal.returns-then-is_err-clause-needs
+returns-then-is_err-clause-needs g c =
+    record {
+      enough = tt;
+      refused = inl refl;
+    }
 
-pub returns-then-is_err-clause-settled : goal.returns-then-is_err-clause-settled
-returns-then-is_err-clause-settled g c = tt
-
-pub returns-then-is_err-clause-refused : goal.returns-then-is_err-clause-refused
-returns-then-is_err-clause-refused g c = inl refl
+pub returns-then-is_err-clause-kept : goal.returns-then-is_err-clause-kept
+returns-then-is_err-clause-kept g c =
+    nothing_stored tt (λ is. absurd (memory_goes_on is)) refl
 
 pub returns-then-is_err-clause-unchanged : goal.returns-then-is_err-clause-unchanged
 returns-then-is_err-clause-unchanged g c = λ _. record { memory = refl; free = record { sup = refl; pools = refl }; row = more_names c.args.directory.now c.reserve.new.self c.reserve.ensures.names }
 
 pub returns-then-is_err-clause-inode : goal.returns-then-is_err-clause-inode
 returns-then-is_err-clause-inode g c = refl
-
-pub returns-then-is_err-clause-lists : goal.returns-then-is_err-clause-lists
-returns-then-is_err-clause-lists g c = refl
-
-pub returns-then-is_err-clause-length : goal.returns-then-is_err-clause-length
-returns-then-is_err-clause-length g c = refl
-
-pub returns-then-is_err-clause-keeps_fuse : goal.returns-then-is_err-clause-keeps_fuse
-returns-then-is_err-clause-keeps_fuse g c = record { burnt = λ was. was; steady = λ was. was; stays_open = λ limit past was. was }
-
-pub returns-then-not-are_enough-clause-refused : goal.returns-then-not-are_enough-clause-refused
-returns-then-not-are_enough-clause-refused g c =
-    let few = subst (λ (m : ℕ). all_blocks c.args.free.now.pools < m) c.pages_needed.ensures (c.are_enough.ensures.no c.if-not-are_enough.true) in
-    inr (inr (refl, subst (λ (x : Entry). all_blocks c.args.free.now.pools < needed (c.args.directory.now.tail % 4096) (Name (record { operation = Remove; inode = c.args.moved.now.inode; time = c.args.moved.now.time; name = c.args.moved.now.name.now }) ∷ x ∷ [])) c.name_entry-2.ensures (subst (λ (x : Entry). all_blocks c.args.free.now.pools < needed (c.args.directory.now.tail % 4096) (x ∷ c.name_entry-2.result ∷ [])) c.name_entry.ensures few)))
 
 pub returns-then-not-are_enough-clause-any_stop : goal.returns-then-not-are_enough-clause-any_stop
 returns-then-not-are_enough-clause-any_stop g c held h shows absent settled = still _ _ c.args.sup.now held (MovedHere (g.P.Pmem.region c.args.memory.now) c.args.sup.now c.args.free.now c.args.cpu c.args.directory.now c.args.moved.now.inode c.args.moved.now.name.now c.args.moved.now.other.now c.args.moved.now.time) shows.sound settled

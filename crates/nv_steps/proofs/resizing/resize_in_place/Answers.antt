@@ -1,13 +1,13 @@
-use Rattle.std.proofs.Common.{refl, ◌≡◌, ◌<◌, subst, sym, IsTrue, inl, arith}
+use Rattle.std.proofs.lemmas.Grind.{common_steps}
+use Rattle.std.proofs.Common.{refl, ◌∙◌, ◌<◌, subst, sym, inl, arith}
 use Rattle.std.proofs.lemmas.Result.{err_from_is_err_and, IfOk-from_err}
 use Rattle.nv_super.specs.declared.superblock.Super.{Super}
-use Rattle.nv_tree.specs.declared.refusal.Refusal.{Refusal}
-use Rattle.nv_tree.specs.declared.refusal.Refusal.TheVariants.{Stopped}
-use Rattle.nv_tree.proofs.Replies.{refused_by}
 use Rattle.nv_commit.proofs.Left.{still}
 use Rattle.nv_steps.specs.Stopped.{Resized}
 use Rattle.nv_steps.specs.Taken.{SamePools}
 use Rattle.nv_steps.proofs.CopyOwed.{numbered}
+use Rattle.nv_steps.proofs.Kept.{kept_behind, kept_refused, nothing_stored}
+use Rattle.nv_steps.proofs.Refusals.{memory_goes_on}
 use Rattle.nv_steps.proofs.CutFile.{cut_as, cut_resizes, gives_as, left_sized, own_grown, shows_with, stands_with}
 use Rattle.nv_steps.proofs.resizing.resize_in_place.Goals as goal
 
@@ -29,76 +29,64 @@ append_log-requires-clause-cpu g c = let same = c.reserve.ensures.same in subst 
 pub append_log-requires-clause-given : goal.append_log-requires-clause-given
 append_log-requires-clause-given g c = (refl, tt)
 
-pub returns-in_err-append_log-clause-stopped : goal.returns-in_err-append_log-clause-stopped
-returns-in_err-append_log-clause-stopped g c =
+pub returns-in_err-append_log-clause-kept : goal.returns-in_err-append_log-clause-kept
+returns-in_err-append_log-clause-kept g c =
     let w = err_from_is_err_and c.from_residual.result c.from_residual.ensures.1 in
-    refused_by c.from_residual.result c.in_err-append_log.field-0.0 w.0 (λ (e : Refusal). e ≡ Stopped → IsTrue (g.P.Pmem.fuse c.append_log.new.memory).has_burnt) w.1 w.2 c.in_err-append_log.ensures.stopped
+    kept_refused c.from_residual.result c.in_err-append_log.field-0.0 w.0 w.1 w.2 (kept_behind c.reserve.ensures.same.sup c.in_err-append_log.ensures.kept)
 
 pub returns-in_err-append_log-clause-inode : goal.returns-in_err-append_log-clause-inode
 returns-in_err-append_log-clause-inode g c = c.in_err-append_log.ensures.inode
 
-pub returns-in_err-append_log-clause-length : goal.returns-in_err-append_log-clause-length
-returns-in_err-append_log-clause-length g c = c.in_err-append_log.ensures.length
+pub returns-clause-kept : goal.returns-clause-kept
+returns-clause-kept g c =
+    let kept = c.in_ok-append_log.ensures.kept in
+    record {
+      keeps = record { stopped = tt; lists = c.give_pages.ensures.lists ∙ kept.lists ∙ c.reserve.ensures.same.sup; length = kept.length; keeps_fuse = kept.keeps_fuse };
+      settled = kept.settled;
+    }
 
-pub returns-in_err-append_log-clause-keeps_fuse : goal.returns-in_err-append_log-clause-keeps_fuse
-returns-in_err-append_log-clause-keeps_fuse g c = c.in_err-append_log.ensures.keeps_fuse
-
-pub returns-clause-settled : goal.returns-clause-settled
-returns-clause-settled g c = c.in_ok-append_log.ensures.settled
-
-pub returns-clause-refused : goal.returns-clause-refused
-returns-clause-refused g c = tt
+pub returns-clause-needs : goal.returns-clause-needs
+returns-clause-needs g c =
+    record {
+      enough = grind (arith, common_steps);
+      refused = tt;
+    }
 
 pub returns-clause-unchanged : goal.returns-clause-unchanged
 returns-clause-unchanged g c = tt
 
-pub returns-clause-stopped : goal.returns-clause-stopped
-returns-clause-stopped g c = tt
-
 pub returns-clause-inode : goal.returns-clause-inode
 returns-clause-inode g c = c.in_ok-append_log.ensures.inode
-
-pub returns-clause-length : goal.returns-clause-length
-returns-clause-length g c = c.in_ok-append_log.ensures.length
-
-pub returns-clause-keeps_fuse : goal.returns-clause-keeps_fuse
-returns-clause-keeps_fuse g c = c.in_ok-append_log.ensures.keeps_fuse
 
 pub returns-in_err-append_log-clause-resized : goal.returns-in_err-append_log-clause-resized
 returns-in_err-append_log-clause-resized g c = IfOk-from_err c.from_residual.result _ c.from_residual.ensures.0
 
-pub returns-in_err-append_log-clause-enough : goal.returns-in_err-append_log-clause-enough
-returns-in_err-append_log-clause-enough g c = IfOk-from_err c.from_residual.result _ c.from_residual.ensures.0
-
-pub returns-in_err-append_log-clause-settled : goal.returns-in_err-append_log-clause-settled
-returns-in_err-append_log-clause-settled g c = IfOk-from_err c.from_residual.result _ c.from_residual.ensures.0
+pub returns-in_err-append_log-clause-needs : goal.returns-in_err-append_log-clause-needs
+returns-in_err-append_log-clause-needs g c =
+    record {
+      enough = IfOk-from_err c.from_residual.result _ c.from_residual.ensures.0;
+      refused = grind (arith, common_steps);
+    }
 
 pub returns-then-is_err-clause-resized : goal.returns-then-is_err-clause-resized
 returns-then-is_err-clause-resized g c = tt
 
-pub returns-then-is_err-clause-enough : goal.returns-then-is_err-clause-enough
-returns-then-is_err-clause-enough g c = tt
+pub returns-then-is_err-clause-needs : goal.returns-then-is_err-clause-needs
+returns-then-is_err-clause-needs g c =
+    record {
+      enough = tt;
+      refused = inl refl;
+    }
 
-pub returns-then-is_err-clause-settled : goal.returns-then-is_err-clause-settled
-returns-then-is_err-clause-settled g c = tt
-
-pub returns-then-is_err-clause-refused : goal.returns-then-is_err-clause-refused
-returns-then-is_err-clause-refused g c = inl refl
+pub returns-then-is_err-clause-kept : goal.returns-then-is_err-clause-kept
+returns-then-is_err-clause-kept g c =
+    nothing_stored tt (λ is. absurd (memory_goes_on is)) (c.reserve.ensures.same.sup)
 
 pub returns-then-is_err-clause-unchanged : goal.returns-then-is_err-clause-unchanged
 returns-then-is_err-clause-unchanged g c = let same = c.reserve.ensures.same in λ _. record { memory = refl; free = record { sup = same.sup; pools = same.pools }; row = record { inode = refl; kind = refl; numbers = refl; head = refl; tail = refl; pages = refl; index = λ p. refl; names = λ q. refl } }
 
 pub returns-then-is_err-clause-inode : goal.returns-then-is_err-clause-inode
 returns-then-is_err-clause-inode g c = refl
-
-pub returns-then-is_err-clause-length : goal.returns-then-is_err-clause-length
-returns-then-is_err-clause-length g c = refl
-
-pub returns-then-is_err-clause-keeps_fuse : goal.returns-then-is_err-clause-keeps_fuse
-returns-then-is_err-clause-keeps_fuse g c = record { burnt = λ was. was; steady = λ was. was; stays_open = λ limit past was. was }
-
-pub returns-then-is_err-clause-lists : goal.returns-then-is_err-clause-lists
-returns-then-is_err-clause-lists g c = c.reserve.ensures.same.sup
 
 pub returns-then-is_err-clause-any_stop : goal.returns-then-is_err-clause-any_stop
 returns-then-is_err-clause-any_stop g c held h shows settled = still _ _ c.args.sup.now held (Resized (g.P.Pmem.region c.args.memory.now) c.args.sup.now c.args.free.now c.args.cpu c.args.row.now c.args.attributes) shows.sound settled

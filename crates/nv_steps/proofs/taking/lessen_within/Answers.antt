@@ -1,4 +1,4 @@
-use Rattle.std.proofs.Common.{◌+◌, ◌-◌, ◌%◌, ◌∷◌, [], List, ap, refl, subst, arith, ◌∙◌, ◌≡◌, ◌≤◌, sym, IsTrue}
+use Rattle.std.proofs.Common.{◌+◌, ◌-◌, ◌%◌, ◌∷◌, [], List, ap, refl, subst, arith, ◌∙◌, ◌≡◌, ◌≤◌, sym}
 use Rattle.nv_super.specs.Layout.{fixed_layout}
 use Rattle.std.proofs.lemmas.Result.{err_from_is_err_and, IfOk-from_err}
 use Rattle.nv_entry.specs.declared.entry.Entry.{Entry}
@@ -17,16 +17,20 @@ use Rattle.nv_steps.specs.Steps.{LeavesStep, RefusesStep}
 use Rattle.nv_steps.specs.Takes.{take_entries}
 use Rattle.nv_tree.proofs.Replies.{refused_by}
 use Rattle.nv_steps.proofs.AppendedLogs.{few_one}
+use Rattle.nv_steps.proofs.Kept.{kept_done, kept_refused}
 use Rattle.nv_steps.proofs.Lessened.{left_lessened, lessens_at_places}
 use Rattle.nv_steps.proofs.taking.lessen_within.Goals as goal
 
-pub returns-in_err-append_logs-clause-refused : goal.returns-in_err-append_logs-clause-refused
-returns-in_err-append_logs-clause-refused g c =
-    let three : c.name_entry.result ∷ c.name_entry-2.result ∷ c.name_entry-3.result ∷ [] ≡ take_entries c.args.moved.now.inode c.args.file.now.inode c.args.moved.now.name.now c.args.moved.now.other.now c.args.moved.now.time = (λ t. c.name_entry.ensures t ∷ c.name_entry-2.ensures t ∷ c.name_entry-3.ensures t ∷ []) in
-    let w = err_from_is_err_and c.from_residual.result c.from_residual.ensures.1 in
-    refused_by c.from_residual.result c.in_err-append_logs.field-0.0 w.0
-    (λ (e : Refusal). RefusesStep e (needed (c.args.directory.now.tail % 4096) (take_entries c.args.moved.now.inode c.args.file.now.inode c.args.moved.now.name.now c.args.moved.now.other.now c.args.moved.now.time) + needed (c.args.file.now.tail % 4096) (links_entries (c.args.file.now.numbers.links - 1) c.args.moved.now.time)) c.args.free.now) w.1 w.2
-    (subst (λ (es : List Entry). RefusesStep c.in_err-append_logs.field-0.0 (needed (c.args.directory.now.tail % 4096) es + needed (c.args.file.now.tail % 4096) (links_entries (c.args.file.now.numbers.links - 1) c.args.moved.now.time)) c.args.free.now) three c.in_err-append_logs.ensures.refused)
+pub returns-in_err-append_logs-clause-needs : goal.returns-in_err-append_logs-clause-needs
+returns-in_err-append_logs-clause-needs g c =
+    record {
+      enough = IfOk-from_err c.from_residual.result _ c.from_residual.ensures.0;
+      refused = let three : c.name_entry.result ∷ c.name_entry-2.result ∷ c.name_entry-3.result ∷ [] ≡ take_entries c.args.moved.now.inode c.args.file.now.inode c.args.moved.now.name.now c.args.moved.now.other.now c.args.moved.now.time = (λ t. c.name_entry.ensures t ∷ c.name_entry-2.ensures t ∷ c.name_entry-3.ensures t ∷ []) in
+          let w = err_from_is_err_and c.from_residual.result c.from_residual.ensures.1 in
+          refused_by c.from_residual.result c.in_err-append_logs.field-0.0 w.0
+          (λ (e : Refusal). RefusesStep e (needed (c.args.directory.now.tail % 4096) (take_entries c.args.moved.now.inode c.args.file.now.inode c.args.moved.now.name.now c.args.moved.now.other.now c.args.moved.now.time) + needed (c.args.file.now.tail % 4096) (links_entries (c.args.file.now.numbers.links - 1) c.args.moved.now.time)) c.args.free.now) w.1 w.2
+          (subst (λ (es : List Entry). RefusesStep c.in_err-append_logs.field-0.0 (needed (c.args.directory.now.tail % 4096) es + needed (c.args.file.now.tail % 4096) (links_entries (c.args.file.now.numbers.links - 1) c.args.moved.now.time)) c.args.free.now) three c.in_err-append_logs.ensures.needs.refused);
+    }
 
 pub returns-clause-lessened : goal.returns-clause-lessened
 returns-clause-lessened g c =
@@ -57,66 +61,39 @@ returns-in_err-append_logs-clause-unchanged g c =
     let w = err_from_is_err_and c.from_residual.result c.from_residual.ensures.1 in
     refused_by c.from_residual.result c.in_err-append_logs.field-0.0 w.0 (λ (e : Refusal). (e ≡ Stopped → ⊥) → LeavesStep c.args.memory.now c.append_logs.new.memory c.args.free.now c.append_logs.new.free c.args.directory.now c.append_logs.new.row × SameRow c.args.file.now c.append_logs.new.other) w.1 w.2 c.in_err-append_logs.ensures.unchanged
 
-pub returns-in_err-append_logs-clause-stopped : goal.returns-in_err-append_logs-clause-stopped
-returns-in_err-append_logs-clause-stopped g c =
+pub returns-in_err-append_logs-clause-kept : goal.returns-in_err-append_logs-clause-kept
+returns-in_err-append_logs-clause-kept g c =
     let w = err_from_is_err_and c.from_residual.result c.from_residual.ensures.1 in
-    refused_by c.from_residual.result c.in_err-append_logs.field-0.0 w.0 (λ (e : Refusal). e ≡ Stopped → IsTrue (g.P.Pmem.fuse c.append_logs.new.memory).has_burnt) w.1 w.2 c.in_err-append_logs.ensures.stopped
+    kept_refused c.from_residual.result c.in_err-append_logs.field-0.0 w.0 w.1 w.2 c.in_err-append_logs.ensures.kept
 
 pub returns-in_err-append_logs-clause-inode : goal.returns-in_err-append_logs-clause-inode
-returns-in_err-append_logs-clause-inode g c = c.in_err-append_logs.ensures.inode
+returns-in_err-append_logs-clause-inode g c = c.in_err-append_logs.ensures.inodes.0
 
 pub returns-in_err-append_logs-clause-file_inode : goal.returns-in_err-append_logs-clause-file_inode
-returns-in_err-append_logs-clause-file_inode g c = c.in_err-append_logs.ensures.other_inode
+returns-in_err-append_logs-clause-file_inode g c = c.in_err-append_logs.ensures.inodes.1
 
-pub returns-in_err-append_logs-clause-lists : goal.returns-in_err-append_logs-clause-lists
-returns-in_err-append_logs-clause-lists g c = c.in_err-append_logs.ensures.lists
+pub returns-clause-needs : goal.returns-clause-needs
+returns-clause-needs g c =
+    record {
+      enough = let three : c.name_entry.result ∷ c.name_entry-2.result ∷ c.name_entry-3.result ∷ [] ≡ take_entries c.args.moved.now.inode c.args.file.now.inode c.args.moved.now.name.now c.args.moved.now.other.now c.args.moved.now.time = (λ t. c.name_entry.ensures t ∷ c.name_entry-2.ensures t ∷ c.name_entry-3.ensures t ∷ []) in
+          subst (λ (es : List Entry). needed (c.args.directory.now.tail % 4096) es + needed (c.args.file.now.tail % 4096) (links_entries (c.args.file.now.numbers.links - 1) c.args.moved.now.time) ≤ all_blocks c.args.free.now.pools) three c.in_ok-append_logs.ensures.needs.enough;
+      refused = tt;
+    }
 
-pub returns-in_err-append_logs-clause-length : goal.returns-in_err-append_logs-clause-length
-returns-in_err-append_logs-clause-length g c = c.in_err-append_logs.ensures.length
-
-pub returns-in_err-append_logs-clause-keeps_fuse : goal.returns-in_err-append_logs-clause-keeps_fuse
-returns-in_err-append_logs-clause-keeps_fuse g c = c.in_err-append_logs.ensures.keeps_fuse
-
-pub returns-clause-enough : goal.returns-clause-enough
-returns-clause-enough g c =
-    let three : c.name_entry.result ∷ c.name_entry-2.result ∷ c.name_entry-3.result ∷ [] ≡ take_entries c.args.moved.now.inode c.args.file.now.inode c.args.moved.now.name.now c.args.moved.now.other.now c.args.moved.now.time = (λ t. c.name_entry.ensures t ∷ c.name_entry-2.ensures t ∷ c.name_entry-3.ensures t ∷ []) in
-    subst (λ (es : List Entry). needed (c.args.directory.now.tail % 4096) es + needed (c.args.file.now.tail % 4096) (links_entries (c.args.file.now.numbers.links - 1) c.args.moved.now.time) ≤ all_blocks c.args.free.now.pools) three c.in_ok-append_logs.ensures.enough
-
-pub returns-clause-settled : goal.returns-clause-settled
-returns-clause-settled g c = c.in_ok-append_logs.ensures.settled
-
-pub returns-clause-refused : goal.returns-clause-refused
-returns-clause-refused g c = tt
+pub returns-clause-kept : goal.returns-clause-kept
+returns-clause-kept g c = kept_done c.in_ok-append_logs.ensures.kept
 
 pub returns-clause-unchanged : goal.returns-clause-unchanged
 returns-clause-unchanged g c = tt
 
-pub returns-clause-stopped : goal.returns-clause-stopped
-returns-clause-stopped g c = tt
-
 pub returns-clause-inode : goal.returns-clause-inode
-returns-clause-inode g c = c.add_name.ensures.row.rest.inode ∙ c.remove_name-2.ensures.row.rest.inode ∙ c.remove_name.ensures.row.rest.inode ∙ c.in_ok-append_logs.ensures.inode
+returns-clause-inode g c = c.add_name.ensures.row.rest.inode ∙ c.remove_name-2.ensures.row.rest.inode ∙ c.remove_name.ensures.row.rest.inode ∙ c.in_ok-append_logs.ensures.inodes.0
 
 pub returns-clause-file_inode : goal.returns-clause-file_inode
-returns-clause-file_inode g c = c.set_links.ensures.rest.inode ∙ c.in_ok-append_logs.ensures.other_inode
-
-pub returns-clause-lists : goal.returns-clause-lists
-returns-clause-lists g c = c.in_ok-append_logs.ensures.lists
-
-pub returns-clause-length : goal.returns-clause-length
-returns-clause-length g c = c.in_ok-append_logs.ensures.length
-
-pub returns-clause-keeps_fuse : goal.returns-clause-keeps_fuse
-returns-clause-keeps_fuse g c = c.in_ok-append_logs.ensures.keeps_fuse
+returns-clause-file_inode g c = c.set_links.ensures.rest.inode ∙ c.in_ok-append_logs.ensures.inodes.1
 
 pub returns-in_err-append_logs-clause-lessened : goal.returns-in_err-append_logs-clause-lessened
 returns-in_err-append_logs-clause-lessened g c = IfOk-from_err c.from_residual.result _ c.from_residual.ensures.0
-
-pub returns-in_err-append_logs-clause-enough : goal.returns-in_err-append_logs-clause-enough
-returns-in_err-append_logs-clause-enough g c = IfOk-from_err c.from_residual.result _ c.from_residual.ensures.0
-
-pub returns-in_err-append_logs-clause-settled : goal.returns-in_err-append_logs-clause-settled
-returns-in_err-append_logs-clause-settled g c = IfOk-from_err c.from_residual.result _ c.from_residual.ensures.0
 
 pub name_entry-requires : goal.name_entry-requires
 name_entry-requires g c = record { some = c.requires.name.some; fits = c.requires.name.short }
@@ -128,7 +105,7 @@ pub name_entry-requires-3 : goal.name_entry-requires-3
 name_entry-requires-3 g c = record { some = c.requires.other.some; fits = c.requires.other.short }
 
 pub add_name-requires-clause-room : goal.add_name-requires-clause-room
-add_name-requires-clause-room g c = omega (arith, c.in_ok-append_logs.ensures.first_room, c.remove_name.ensures.room, c.remove_name-2.ensures.room)
+add_name-requires-clause-room g c = omega (arith, c.in_ok-append_logs.ensures.rooms.0, c.remove_name.ensures.room, c.remove_name-2.ensures.room)
 
 pub returns-in_err-append_logs-clause-any_stop : goal.returns-in_err-append_logs-clause-any_stop
 returns-in_err-append_logs-clause-any_stop g c held h f here there settled left may =

@@ -1,4 +1,4 @@
-use Rattle.std.proofs.Common.{◌≡◌, ◌∙◌, ◌∷◌, [], ◌≤◌, ◌%◌, List, ap, refl, subst, sym, IsTrue, inl, arith}
+use Rattle.std.proofs.Common.{◌≡◌, ◌∙◌, ◌∷◌, [], ◌≤◌, ◌%◌, List, ap, refl, subst, sym, inl, arith}
 use Rattle.std.proofs.lemmas.Result.{err_from_is_err_and, IfOk-from_err}
 use Rattle.nv_super.specs.Layout.{fixed_layout, slot_address}
 use Rattle.nv_alloc.specs.Taking.{all_blocks}
@@ -14,7 +14,8 @@ use Rattle.nv_steps.specs.InOrder.{TailIsFirst}
 use Rattle.nv_steps.specs.Steps.{LeavesStep, RefusesStep}
 use Rattle.nv_steps.specs.Takes.{AppendedLess, AppendsLess, TookWithin, take_entries}
 use Rattle.nv_steps.proofs.MovedRow.{leaves_after, more_names, shows_same}
-use Rattle.nv_steps.proofs.Refusals.{not_refused}
+use Rattle.nv_steps.proofs.Refusals.{memory_goes_on, not_refused}
+use Rattle.nv_steps.proofs.Kept.{kept_done, kept_refused, nothing_stored}
 use Rattle.nv_steps.proofs.Took.{left_taken, takes_within}
 use Rattle.nv_steps.proofs.taking.take_within.Goals as goal
 
@@ -51,34 +52,22 @@ returns-clause-taken g c =
 pub returns-clause-room : goal.returns-clause-room
 returns-clause-room g c = c.in_ok-append_less.ensures.room
 
-pub returns-clause-enough : goal.returns-clause-enough
-returns-clause-enough g c =
-    let three : c.name_entry.result ∷ c.name_entry-2.result ∷ c.name_entry-3.result ∷ [] ≡ take_entries c.args.moved.now.inode c.args.gone.inode c.args.moved.now.name.now c.args.moved.now.other.now c.args.moved.now.time = (λ t. c.name_entry.ensures t ∷ c.name_entry-2.ensures t ∷ c.name_entry-3.ensures t ∷ []) in
-    subst (λ (es : List Entry). needed (c.args.directory.now.tail % 4096) es ≤ all_blocks c.args.free.now.pools) three c.in_ok-append_less.ensures.enough
+pub returns-clause-needs : goal.returns-clause-needs
+returns-clause-needs g c =
+    record {
+      enough = let three : c.name_entry.result ∷ c.name_entry-2.result ∷ c.name_entry-3.result ∷ [] ≡ take_entries c.args.moved.now.inode c.args.gone.inode c.args.moved.now.name.now c.args.moved.now.other.now c.args.moved.now.time = (λ t. c.name_entry.ensures t ∷ c.name_entry-2.ensures t ∷ c.name_entry-3.ensures t ∷ []) in
+          subst (λ (es : List Entry). needed (c.args.directory.now.tail % 4096) es ≤ all_blocks c.args.free.now.pools) three c.in_ok-append_less.ensures.needs.enough;
+      refused = tt;
+    }
 
-pub returns-clause-settled : goal.returns-clause-settled
-returns-clause-settled g c = c.in_ok-append_less.ensures.settled
-
-pub returns-clause-refused : goal.returns-clause-refused
-returns-clause-refused g c = tt
+pub returns-clause-kept : goal.returns-clause-kept
+returns-clause-kept g c = kept_done c.in_ok-append_less.ensures.kept
 
 pub returns-clause-unchanged : goal.returns-clause-unchanged
 returns-clause-unchanged g c = tt
 
-pub returns-clause-stopped : goal.returns-clause-stopped
-returns-clause-stopped g c = tt
-
 pub returns-clause-inode : goal.returns-clause-inode
-returns-clause-inode g c = c.add_name.ensures.row.rest.inode ∙ c.remove_name-2.ensures.row.rest.inode ∙ c.remove_name.ensures.row.rest.inode ∙ c.in_ok-append_less.ensures.inode
-
-pub returns-clause-lists : goal.returns-clause-lists
-returns-clause-lists g c = c.in_ok-append_less.ensures.lists
-
-pub returns-clause-length : goal.returns-clause-length
-returns-clause-length g c = c.in_ok-append_less.ensures.length
-
-pub returns-clause-keeps_fuse : goal.returns-clause-keeps_fuse
-returns-clause-keeps_fuse g c = c.in_ok-append_less.ensures.keeps_fuse
+returns-clause-inode g c = c.add_name.ensures.row.rest.inode ∙ c.remove_name-2.ensures.row.rest.inode ∙ c.remove_name.ensures.row.rest.inode ∙ c.in_ok-append_less.ensures.row.0
 
 pub returns-clause-wrote : goal.returns-clause-wrote
 returns-clause-wrote g c held h shows = c.append_less.ensures.wrote held h (shows_same (more_names c.args.directory.now c.reserve.new.self c.reserve.ensures.names) shows)
@@ -102,18 +91,20 @@ returns-in_err-append_less-clause-taken g c = IfOk-from_err c.from_residual.resu
 pub returns-in_err-append_less-clause-room : goal.returns-in_err-append_less-clause-room
 returns-in_err-append_less-clause-room g c = IfOk-from_err c.from_residual.result _ c.from_residual.ensures.0
 
-pub returns-in_err-append_less-clause-enough : goal.returns-in_err-append_less-clause-enough
-returns-in_err-append_less-clause-enough g c = IfOk-from_err c.from_residual.result _ c.from_residual.ensures.0
+pub returns-in_err-append_less-clause-needs : goal.returns-in_err-append_less-clause-needs
+returns-in_err-append_less-clause-needs g c =
+    record {
+      enough = IfOk-from_err c.from_residual.result _ c.from_residual.ensures.0;
+      refused = let three : c.name_entry.result ∷ c.name_entry-2.result ∷ c.name_entry-3.result ∷ [] ≡ take_entries c.args.moved.now.inode c.args.gone.inode c.args.moved.now.name.now c.args.moved.now.other.now c.args.moved.now.time = (λ t. c.name_entry.ensures t ∷ c.name_entry-2.ensures t ∷ c.name_entry-3.ensures t ∷ []) in
+          let w = err_from_is_err_and c.from_residual.result c.from_residual.ensures.1 in
+          refused_by c.from_residual.result c.in_err-append_less.field-0.0 w.0 (λ (e : Refusal). RefusesStep e (needed (c.args.directory.now.tail % 4096) (take_entries c.args.moved.now.inode c.args.gone.inode c.args.moved.now.name.now c.args.moved.now.other.now c.args.moved.now.time)) c.args.free.now) w.1 w.2
+          (subst (λ (es : List Entry). RefusesStep c.in_err-append_less.field-0.0 (needed (c.args.directory.now.tail % 4096) es) c.args.free.now) three c.in_err-append_less.ensures.needs.refused);
+    }
 
-pub returns-in_err-append_less-clause-settled : goal.returns-in_err-append_less-clause-settled
-returns-in_err-append_less-clause-settled g c = IfOk-from_err c.from_residual.result _ c.from_residual.ensures.0
-
-pub returns-in_err-append_less-clause-refused : goal.returns-in_err-append_less-clause-refused
-returns-in_err-append_less-clause-refused g c =
-    let three : c.name_entry.result ∷ c.name_entry-2.result ∷ c.name_entry-3.result ∷ [] ≡ take_entries c.args.moved.now.inode c.args.gone.inode c.args.moved.now.name.now c.args.moved.now.other.now c.args.moved.now.time = (λ t. c.name_entry.ensures t ∷ c.name_entry-2.ensures t ∷ c.name_entry-3.ensures t ∷ []) in
+pub returns-in_err-append_less-clause-kept : goal.returns-in_err-append_less-clause-kept
+returns-in_err-append_less-clause-kept g c =
     let w = err_from_is_err_and c.from_residual.result c.from_residual.ensures.1 in
-    refused_by c.from_residual.result c.in_err-append_less.field-0.0 w.0 (λ (e : Refusal). RefusesStep e (needed (c.args.directory.now.tail % 4096) (take_entries c.args.moved.now.inode c.args.gone.inode c.args.moved.now.name.now c.args.moved.now.other.now c.args.moved.now.time)) c.args.free.now) w.1 w.2
-    (subst (λ (es : List Entry). RefusesStep c.in_err-append_less.field-0.0 (needed (c.args.directory.now.tail % 4096) es) c.args.free.now) three c.in_err-append_less.ensures.refused)
+    kept_refused c.from_residual.result c.in_err-append_less.field-0.0 w.0 w.1 w.2 c.in_err-append_less.ensures.kept
 
 pub returns-in_err-append_less-clause-unchanged : goal.returns-in_err-append_less-clause-unchanged
 returns-in_err-append_less-clause-unchanged g c =
@@ -121,22 +112,8 @@ returns-in_err-append_less-clause-unchanged g c =
     refused_by c.from_residual.result c.in_err-append_less.field-0.0 w.0 (λ (e : Refusal). (e ≡ Stopped → ⊥) → LeavesStep c.args.memory.now c.append_less.new.memory c.args.free.now c.append_less.new.free c.args.directory.now c.append_less.new.row) w.1 w.2
     (λ off. leaves_after (more_names c.args.directory.now c.reserve.new.self c.reserve.ensures.names) (c.in_err-append_less.ensures.unchanged off))
 
-pub returns-in_err-append_less-clause-stopped : goal.returns-in_err-append_less-clause-stopped
-returns-in_err-append_less-clause-stopped g c =
-    let w = err_from_is_err_and c.from_residual.result c.from_residual.ensures.1 in
-    refused_by c.from_residual.result c.in_err-append_less.field-0.0 w.0 (λ (e : Refusal). e ≡ Stopped → IsTrue (g.P.Pmem.fuse c.append_less.new.memory).has_burnt) w.1 w.2 c.in_err-append_less.ensures.stopped
-
 pub returns-in_err-append_less-clause-inode : goal.returns-in_err-append_less-clause-inode
-returns-in_err-append_less-clause-inode g c = c.in_err-append_less.ensures.inode
-
-pub returns-in_err-append_less-clause-lists : goal.returns-in_err-append_less-clause-lists
-returns-in_err-append_less-clause-lists g c = c.in_err-append_less.ensures.lists
-
-pub returns-in_err-append_less-clause-length : goal.returns-in_err-append_less-clause-length
-returns-in_err-append_less-clause-length g c = c.in_err-append_less.ensures.length
-
-pub returns-in_err-append_less-clause-keeps_fuse : goal.returns-in_err-append_less-clause-keeps_fuse
-returns-in_err-append_less-clause-keeps_fuse g c = c.in_err-append_less.ensures.keeps_fuse
+returns-in_err-append_less-clause-inode g c = c.in_err-append_less.ensures.row.0
 
 pub returns-in_err-append_less-clause-wrote : goal.returns-in_err-append_less-clause-wrote
 returns-in_err-append_less-clause-wrote g c held h shows = c.append_less.ensures.wrote held h (shows_same (more_names c.args.directory.now c.reserve.new.self c.reserve.ensures.names) shows)
@@ -160,29 +137,22 @@ returns-then-is_err-clause-taken g c = tt
 pub returns-then-is_err-clause-room : goal.returns-then-is_err-clause-room
 returns-then-is_err-clause-room g c = tt
 
-pub returns-then-is_err-clause-enough : goal.returns-then-is_err-clause-enough
-returns-then-is_err-clause-enough g c = tt
+pub returns-then-is_err-clause-needs : goal.returns-then-is_err-clause-needs
+returns-then-is_err-clause-needs g c =
+    record {
+      enough = tt;
+      refused = inl refl;
+    }
 
-pub returns-then-is_err-clause-settled : goal.returns-then-is_err-clause-settled
-returns-then-is_err-clause-settled g c = tt
-
-pub returns-then-is_err-clause-refused : goal.returns-then-is_err-clause-refused
-returns-then-is_err-clause-refused g c = inl refl
+pub returns-then-is_err-clause-kept : goal.returns-then-is_err-clause-kept
+returns-then-is_err-clause-kept g c =
+    nothing_stored tt (λ is. absurd (memory_goes_on is)) refl
 
 pub returns-then-is_err-clause-unchanged : goal.returns-then-is_err-clause-unchanged
 returns-then-is_err-clause-unchanged g c = λ _. record { memory = refl; free = record { sup = refl; pools = refl }; row = more_names c.args.directory.now c.reserve.new.self c.reserve.ensures.names }
 
 pub returns-then-is_err-clause-inode : goal.returns-then-is_err-clause-inode
 returns-then-is_err-clause-inode g c = refl
-
-pub returns-then-is_err-clause-lists : goal.returns-then-is_err-clause-lists
-returns-then-is_err-clause-lists g c = refl
-
-pub returns-then-is_err-clause-length : goal.returns-then-is_err-clause-length
-returns-then-is_err-clause-length g c = refl
-
-pub returns-then-is_err-clause-keeps_fuse : goal.returns-then-is_err-clause-keeps_fuse
-returns-then-is_err-clause-keeps_fuse g c = record { burnt = λ was. was; steady = λ was. was; stays_open = λ limit past was. was }
 
 pub returns-then-is_err-clause-wrote : goal.returns-then-is_err-clause-wrote
 returns-then-is_err-clause-wrote g c held h shows at whole away = refl
@@ -196,4 +166,4 @@ returns-then-is_err-clause-any_stop g c held h shows settled = still _ _ c.args.
 pub add_name-requires-clause-room : goal.add_name-requires-clause-room
 add_name-requires-clause-room g c =
     let kept = not_refused c.reserve.result c.is_err.result c.is_err.ensures.value c.if-is_err.false c.reserve.ensures.ready in
-    omega (arith, kept, c.append_less.ensures.names_room, c.remove_name.ensures.room, c.remove_name-2.ensures.room)
+    omega (arith, kept, c.append_less.ensures.row.1, c.remove_name.ensures.room, c.remove_name-2.ensures.room)

@@ -1,4 +1,5 @@
-use Rattle.std.proofs.Common.{◌∙◌, ℕ, List, length, inr, sym, subst, refl, inl, ◌<◌}
+use Rattle.std.proofs.lemmas.Grind.{common_steps}
+use Rattle.std.proofs.Common.{arith, ◌∙◌, ℕ, List, length, inr, sym, subst, refl, inl, ◌<◌}
 use Rattle.nv_region.specs.Region.{Region}
 use Rattle.nv_super.specs.declared.owners.Run.{Run}
 use Rattle.nv_super.specs.Layout.{inode_limit}
@@ -17,18 +18,19 @@ use Rattle.nv_steps.specs.Stopped.{Wrote}
 use Rattle.nv_steps.proofs.WriteStops.{can_there, data_free, left_write}
 use Rattle.nv_steps.proofs.WritesFile.{bytes_as, commits_as, has_written, inside_as, writes_file}
 use Rattle.nv_steps.proofs.writing.change_bytes.Goals as goal
+use Rattle.nv_steps.proofs.Kept.{nothing_stored}
 use Rattle.nv_bytes.specs.Data.{data_bytes}
 
 pub returns-in-Err-NoSpace-clause-refused : goal.returns-in-Err-NoSpace-clause-refused
 returns-in-Err-NoSpace-clause-refused g c = inr (inr (refl, c.in-Err-NoSpace.ensures.refused c.in-Err-NoSpace.field-0-is))
 
 pub commit_data-requires-clause-mapped : goal.commit_data-requires-clause-mapped
-commit_data-requires-clause-mapped g c = inside_as (g.P.Pmem.region c.args.memory.now) c.args.row.now.index c.prepare_data.new.row.index c.prepare_data.ensures.row.index c.requires.file.inside
+commit_data-requires-clause-mapped g c = inside_as (g.P.Pmem.region c.args.memory.now) c.args.row.now.index c.prepare_data.new.row.index c.prepare_data.ensures.row.0.index c.requires.file.inside
 
 pub commit_data-requires-clause-fresh : goal.commit_data-requires-clause-fresh
 commit_data-requires-clause-fresh g c =
     let right = subst (IsRight c.args.row.now) (sym c.requires.plan) (plan_right c.args.row.now (block_at c.args.row.now.index) c.args.change.now.offset (length (data_bytes c.args.change.now.content)) c.args.plan.now.time c.requires.file.small c.requires.some c.requires.fits) in
-    blocks_fresh c.requires.stands c.requires.file right c.requires.cpu c.in-Ok.ensures.prepared c.prepare_data.new.row.index c.prepare_data.ensures.row.index
+    blocks_fresh c.requires.stands c.requires.file right c.requires.cpu c.in-Ok.ensures.prepared c.prepare_data.new.row.index c.prepare_data.ensures.row.0.index
 
 pub commit_data-requires-clause-pages : goal.commit_data-requires-clause-pages
 commit_data-requires-clause-pages g c =
@@ -38,12 +40,12 @@ commit_data-requires-clause-pages g c =
 pub commit_data-requires-clause-can : goal.commit_data-requires-clause-can
 commit_data-requires-clause-can g c =
     let right = subst (IsRight c.args.row.now) (sym c.requires.plan) (plan_right c.args.row.now (block_at c.args.row.now.index) c.args.change.now.offset (length (data_bytes c.args.change.now.content)) c.args.plan.now.time c.requires.file.small c.requires.some c.requires.fits) in
-    subst (λ (t : ℕ). CanAppend (g.P.Pmem.region c.args.memory.now) t c.in-Ok.ready.log.entries.items c.in-Ok.ready.log.fresh.items) (sym c.prepare_data.ensures.row.tail) (can_append_entries c.requires.stands c.requires.file right c.requires.cpu c.in-Ok.ensures.prepared)
+    subst (λ (t : ℕ). CanAppend (g.P.Pmem.region c.args.memory.now) t c.in-Ok.ready.log.entries.items c.in-Ok.ready.log.fresh.items) (sym c.prepare_data.ensures.row.0.tail) (can_append_entries c.requires.stands c.requires.file right c.requires.cpu c.in-Ok.ensures.prepared)
 
 pub settle_data-requires-clause-ready : goal.settle_data-requires-clause-ready
 settle_data-requires-clause-ready g c =
     let right = subst (IsRight c.args.row.now) (sym c.requires.plan) (plan_right c.args.row.now (block_at c.args.row.now.index) c.args.change.now.offset (length (data_bytes c.args.change.now.content)) c.args.plan.now.time c.requires.file.small c.requires.some c.requires.fits) in
-    pages_settled c.requires.stands c.requires.file right c.requires.cpu c.in-Ok.ensures.prepared c.prepare_data.new.row.index c.in-Ok.ensures.first c.in-Ok.ensures.last
+    pages_settled c.requires.stands c.requires.file right c.requires.cpu c.in-Ok.ensures.prepared c.prepare_data.new.row.index c.in-Ok.ensures.ready.0 c.in-Ok.ensures.ready.1
 
 pub settle_data-requires-clause-once : goal.settle_data-requires-clause-once
 settle_data-requires-clause-once g c =
@@ -61,29 +63,44 @@ returns-in-Ok-commit_data-clause-writes g c =
     let S : Region = g.P.Pmem.region c.commit_data.new.memory in
     let row = c.args.row.now in
     let mid = c.prepare_data.new.row in
-    let same = c.prepare_data.ensures.row in
+    let same = c.prepare_data.ensures.row.0 in
     let n = c.args.change.now in
     let right = subst (IsRight row) (sym c.requires.plan) (plan_right row (block_at row.index) n.offset (length (data_bytes n.content)) c.args.plan.now.time c.requires.file.small c.requires.some c.requires.fits) in
     let entries = c.in-Ok.ready.log.entries.items in
     let fresh = c.in-Ok.ready.log.fresh.items in
     let bytes : ℕ → ℕ = byte_after n.offset (data_bytes n.content) n.size (file_byte R mid.index) in
     let done = commits_as R S c.args.sup.now row.inode mid.inode c.slot_address-slot.result row.tail mid.tail bytes entries fresh same.inode same.tail c.slot_address-slot.ensures (c.in-Ok-commit_data.ensures.commits c.args.sup.now row.inode) in
-    let has = has_written row mid c.settle_data.new.row c.args.plan.now entries fresh c.in-Ok-commit_data.end same c.prepare_data.ensures.names c.in-Ok-commit_data.ensures.end c.settle_data.ensures in
+    let has = has_written row mid c.settle_data.new.row c.args.plan.now entries fresh c.in-Ok-commit_data.end same c.prepare_data.ensures.row.1 c.in-Ok-commit_data.ensures.end c.settle_data.ensures in
     let joins = subst (λ (xs : List Run). JoinAll c.prepare_data.new.free xs c.give_all.new.free) (c.deref.ensures.value ∙ c.in-Ok.ensures.replaced) c.give_all.ensures.given in
     writes_file c.requires.stands c.requires.kind c.requires.file c.requires.cpu right c.in-Ok.ensures.prepared done has c.give_all.new.free joins n.offset c.args.plan.now.time (data_bytes n.content) c.requires.some c.requires.plan
     (λ x. bytes_as R row.index mid.index n.offset n.size row.numbers.size (data_bytes n.content) same.index c.requires.size x)
 
-pub returns-in-Ok-commit_data-clause-lists : goal.returns-in-Ok-commit_data-clause-lists
-returns-in-Ok-commit_data-clause-lists g c = c.give_all.ensures.lists ∙ prepared_sup c.in-Ok.ensures.prepared
+pub returns-in-Ok-commit_data-clause-kept : goal.returns-in-Ok-commit_data-clause-kept
+returns-in-Ok-commit_data-clause-kept g c =
+    record {
+      keeps = record {
+        stopped = tt;
+        lists = c.give_all.ensures.lists ∙ prepared_sup c.in-Ok.ensures.prepared;
+        length = c.in-Ok-commit_data.ensures.length;
+        keeps_fuse = c.in-Ok-commit_data.ensures.keeps_fuse;
+      };
+      settled = c.in-Ok-commit_data.ensures.settled;
+    }
 
-pub returns-clause-lists : goal.returns-clause-lists
-returns-clause-lists g c = prepared_sup c.in-Ok.ensures.prepared
+pub returns-clause-kept : goal.returns-clause-kept
+returns-clause-kept g c =
+    record {
+      keeps = record {
+        stopped = grind (arith, common_steps);
+        lists = prepared_sup c.in-Ok.ensures.prepared;
+        length = c.commit_data.ensures.length;
+        keeps_fuse = c.commit_data.ensures.keeps_fuse;
+      };
+      settled = tt;
+    }
 
 pub returns-in-Ok-commit_data-clause-enough : goal.returns-in-Ok-commit_data-clause-enough
 returns-in-Ok-commit_data-clause-enough g c = c.in-Ok.ensures.enough
-
-pub returns-in-Ok-commit_data-clause-settled : goal.returns-in-Ok-commit_data-clause-settled
-returns-in-Ok-commit_data-clause-settled g c = c.in-Ok-commit_data.ensures.settled
 
 pub returns-in-Ok-commit_data-clause-refused : goal.returns-in-Ok-commit_data-clause-refused
 returns-in-Ok-commit_data-clause-refused g c = tt
@@ -91,23 +108,11 @@ returns-in-Ok-commit_data-clause-refused g c = tt
 pub returns-in-Ok-commit_data-clause-unchanged : goal.returns-in-Ok-commit_data-clause-unchanged
 returns-in-Ok-commit_data-clause-unchanged g c = tt
 
-pub returns-in-Ok-commit_data-clause-stopped : goal.returns-in-Ok-commit_data-clause-stopped
-returns-in-Ok-commit_data-clause-stopped g c = tt
-
-pub returns-in-Ok-commit_data-clause-length : goal.returns-in-Ok-commit_data-clause-length
-returns-in-Ok-commit_data-clause-length g c = c.in-Ok-commit_data.ensures.length
-
-pub returns-in-Ok-commit_data-clause-keeps_fuse : goal.returns-in-Ok-commit_data-clause-keeps_fuse
-returns-in-Ok-commit_data-clause-keeps_fuse g c = c.in-Ok-commit_data.ensures.keeps_fuse
-
 pub returns-clause-writes : goal.returns-clause-writes
 returns-clause-writes g c = tt
 
 pub returns-clause-enough : goal.returns-clause-enough
 returns-clause-enough g c = tt
-
-pub returns-clause-settled : goal.returns-clause-settled
-returns-clause-settled g c = tt
 
 pub returns-clause-refused : goal.returns-clause-refused
 returns-clause-refused g c = inr (inl refl)
@@ -116,13 +121,7 @@ pub returns-clause-unchanged : goal.returns-clause-unchanged
 returns-clause-unchanged g c = λ goes_on. absurd (goes_on refl)
 
 pub returns-clause-inode : goal.returns-clause-inode
-returns-clause-inode g c = c.in-Ok.ensures.row.inode
-
-pub returns-clause-length : goal.returns-clause-length
-returns-clause-length g c = c.commit_data.ensures.length
-
-pub returns-clause-keeps_fuse : goal.returns-clause-keeps_fuse
-returns-clause-keeps_fuse g c = c.commit_data.ensures.keeps_fuse
+returns-clause-inode g c = c.in-Ok.ensures.row.0.inode
 
 pub returns-in-Err-NoSpace-clause-writes : goal.returns-in-Err-NoSpace-clause-writes
 returns-in-Err-NoSpace-clause-writes g c = tt
@@ -130,23 +129,15 @@ returns-in-Err-NoSpace-clause-writes g c = tt
 pub returns-in-Err-NoSpace-clause-enough : goal.returns-in-Err-NoSpace-clause-enough
 returns-in-Err-NoSpace-clause-enough g c = tt
 
-pub returns-in-Err-NoSpace-clause-settled : goal.returns-in-Err-NoSpace-clause-settled
-returns-in-Err-NoSpace-clause-settled g c = tt
+pub returns-in-Err-NoSpace-clause-kept : goal.returns-in-Err-NoSpace-clause-kept
+returns-in-Err-NoSpace-clause-kept g c =
+    nothing_stored tt (λ is. absurd (no_space_goes_on is)) (c.in-Err-NoSpace.ensures.unchanged.sup)
 
 pub returns-in-Err-NoSpace-clause-unchanged : goal.returns-in-Err-NoSpace-clause-unchanged
-returns-in-Err-NoSpace-clause-unchanged g c = λ _. record { memory = refl; free = c.in-Err-NoSpace.ensures.unchanged; row = c.in-Err-NoSpace.ensures.row }
+returns-in-Err-NoSpace-clause-unchanged g c = λ _. record { memory = refl; free = c.in-Err-NoSpace.ensures.unchanged; row = c.in-Err-NoSpace.ensures.row.0 }
 
 pub returns-in-Err-NoSpace-clause-inode : goal.returns-in-Err-NoSpace-clause-inode
-returns-in-Err-NoSpace-clause-inode g c = c.in-Err-NoSpace.ensures.row.inode
-
-pub returns-in-Err-NoSpace-clause-length : goal.returns-in-Err-NoSpace-clause-length
-returns-in-Err-NoSpace-clause-length g c = refl
-
-pub returns-in-Err-NoSpace-clause-keeps_fuse : goal.returns-in-Err-NoSpace-clause-keeps_fuse
-returns-in-Err-NoSpace-clause-keeps_fuse g c = record { burnt = λ was. was; steady = λ was. was; stays_open = λ limit past was. was }
-
-pub returns-in-Err-NoSpace-clause-lists : goal.returns-in-Err-NoSpace-clause-lists
-returns-in-Err-NoSpace-clause-lists g c = c.in-Err-NoSpace.ensures.unchanged.sup
+returns-in-Err-NoSpace-clause-inode g c = c.in-Err-NoSpace.ensures.row.0.inode
 
 pub returns-in-Err-Memory-clause-writes : goal.returns-in-Err-Memory-clause-writes
 returns-in-Err-Memory-clause-writes g c = tt
@@ -154,41 +145,27 @@ returns-in-Err-Memory-clause-writes g c = tt
 pub returns-in-Err-Memory-clause-enough : goal.returns-in-Err-Memory-clause-enough
 returns-in-Err-Memory-clause-enough g c = tt
 
-pub returns-in-Err-Memory-clause-settled : goal.returns-in-Err-Memory-clause-settled
-returns-in-Err-Memory-clause-settled g c = tt
+pub returns-in-Err-Memory-clause-kept : goal.returns-in-Err-Memory-clause-kept
+returns-in-Err-Memory-clause-kept g c =
+    nothing_stored tt (λ is. absurd (memory_goes_on is)) (c.in-Err-Memory.ensures.unchanged.sup)
 
 pub returns-in-Err-Memory-clause-refused : goal.returns-in-Err-Memory-clause-refused
 returns-in-Err-Memory-clause-refused g c = inl refl
 
 pub returns-in-Err-Memory-clause-unchanged : goal.returns-in-Err-Memory-clause-unchanged
-returns-in-Err-Memory-clause-unchanged g c = λ _. record { memory = refl; free = c.in-Err-Memory.ensures.unchanged; row = c.in-Err-Memory.ensures.row }
+returns-in-Err-Memory-clause-unchanged g c = λ _. record { memory = refl; free = c.in-Err-Memory.ensures.unchanged; row = c.in-Err-Memory.ensures.row.0 }
 
 pub returns-in-Err-Memory-clause-inode : goal.returns-in-Err-Memory-clause-inode
-returns-in-Err-Memory-clause-inode g c = c.in-Err-Memory.ensures.row.inode
-
-pub returns-in-Err-Memory-clause-length : goal.returns-in-Err-Memory-clause-length
-returns-in-Err-Memory-clause-length g c = refl
-
-pub returns-in-Err-Memory-clause-keeps_fuse : goal.returns-in-Err-Memory-clause-keeps_fuse
-returns-in-Err-Memory-clause-keeps_fuse g c = record { burnt = λ was. was; steady = λ was. was; stays_open = λ limit past was. was }
-
-pub returns-in-Err-Memory-clause-lists : goal.returns-in-Err-Memory-clause-lists
-returns-in-Err-Memory-clause-lists g c = c.in-Err-Memory.ensures.unchanged.sup
+returns-in-Err-Memory-clause-inode g c = c.in-Err-Memory.ensures.row.0.inode
 
 pub slot_address-slot-requires-clause-layout : goal.slot_address-slot-requires-clause-layout
 slot_address-slot-requires-clause-layout g c = c.requires.stands.layout
 
 pub slot_address-slot-requires-clause-inode : goal.slot_address-slot-requires-clause-inode
-slot_address-slot-requires-clause-inode g c = subst (λ (i : ℕ). i < inode_limit c.args.sup.now) (sym c.in-Ok.ensures.row.inode) c.requires.stands.number
+slot_address-slot-requires-clause-inode g c = subst (λ (i : ℕ). i < inode_limit c.args.sup.now) (sym c.in-Ok.ensures.row.0.inode) c.requires.stands.number
 
 pub returns-in-Ok-commit_data-clause-inode : goal.returns-in-Ok-commit_data-clause-inode
-returns-in-Ok-commit_data-clause-inode g c = c.settle_data.ensures.inode ∙ c.in-Ok.ensures.row.inode
-
-pub returns-in-Err-NoSpace-clause-stopped : goal.returns-in-Err-NoSpace-clause-stopped
-returns-in-Err-NoSpace-clause-stopped g c = λ is. absurd (no_space_goes_on is)
-
-pub returns-in-Err-Memory-clause-stopped : goal.returns-in-Err-Memory-clause-stopped
-returns-in-Err-Memory-clause-stopped g c = λ is. absurd (memory_goes_on is)
+returns-in-Ok-commit_data-clause-inode g c = c.settle_data.ensures.inode ∙ c.in-Ok.ensures.row.0.inode
 
 pub returns-in-Err-NoSpace-clause-any_stop : goal.returns-in-Err-NoSpace-clause-any_stop
 returns-in-Err-NoSpace-clause-any_stop g c held h shows settled = still _ _ c.args.sup.now held (Wrote (g.P.Pmem.region c.args.memory.now) c.args.sup.now c.args.free.now c.args.cpu c.args.plan.now c.args.change.now.offset (data_bytes c.args.change.now.content) c.args.row.now) shows.sound settled
@@ -201,7 +178,7 @@ returns-in-Ok-commit_data-clause-any_stop g c held h shows settled left may =
     let R : Region = g.P.Pmem.region c.args.memory.now in
     let row = c.args.row.now in
     let mid = c.prepare_data.new.row in
-    let same = c.prepare_data.ensures.row in
+    let same = c.prepare_data.ensures.row.0 in
     let n = c.args.change.now in
     let right = subst (IsRight row) (sym c.requires.plan) (plan_right row (block_at row.index) n.offset (length (data_bytes n.content)) c.args.plan.now.time c.requires.file.small c.requires.some c.requires.fits) in
     let p = c.in-Ok.ensures.prepared in
@@ -214,7 +191,7 @@ returns-clause-any_stop g c held h shows settled left may =
     let R : Region = g.P.Pmem.region c.args.memory.now in
     let row = c.args.row.now in
     let mid = c.prepare_data.new.row in
-    let same = c.prepare_data.ensures.row in
+    let same = c.prepare_data.ensures.row.0 in
     let n = c.args.change.now in
     let right = subst (IsRight row) (sym c.requires.plan) (plan_right row (block_at row.index) n.offset (length (data_bytes n.content)) c.args.plan.now.time c.requires.file.small c.requires.some c.requires.fits) in
     let p = c.in-Ok.ensures.prepared in
@@ -232,7 +209,7 @@ pub returns-in-Ok-commit_data-clause-wrote : goal.returns-in-Ok-commit_data-clau
 returns-in-Ok-commit_data-clause-wrote g c held h shows =
     let row = c.args.row.now in
     let mid = c.prepare_data.new.row in
-    let same = c.prepare_data.ensures.row in
+    let same = c.prepare_data.ensures.row.0 in
     let n = c.args.change.now in
     let right = subst (IsRight row) (sym c.requires.plan) (plan_right row (block_at row.index) n.offset (length (data_bytes n.content)) c.args.plan.now.time c.requires.file.small c.requires.some c.requires.fits) in
     let p = c.in-Ok.ensures.prepared in
@@ -242,7 +219,7 @@ pub returns-clause-wrote : goal.returns-clause-wrote
 returns-clause-wrote g c held h shows =
     let row = c.args.row.now in
     let mid = c.prepare_data.new.row in
-    let same = c.prepare_data.ensures.row in
+    let same = c.prepare_data.ensures.row.0 in
     let n = c.args.change.now in
     let right = subst (IsRight row) (sym c.requires.plan) (plan_right row (block_at row.index) n.offset (length (data_bytes n.content)) c.args.plan.now.time c.requires.file.small c.requires.some c.requires.fits) in
     let p = c.in-Ok.ensures.prepared in
