@@ -305,43 +305,18 @@ static uint32_t move(const char *path, const char *other)
     return has_room_now(status, other) ? nova_rename(&fs, cpu(), PATH(path), PATH(other), now()) : status;
 }
 
-/* Whether enough blocks are free for a name that goes and one that moves to its place: for both, a log page of two inodes. */
-static bool can_replace(void)
+/* The same, also to a name that stands: what it stands for goes, or loses a link, in the same call. */
+static uint32_t replace(const char *path, const char *other)
 {
-    nova_space s;
-    return !nova_space_of(&fs, &s) && s.free_blocks >= 4;
+    uint32_t status = WITH_ROOM(path, nova_replace(&fs, cpu(), PATH(path), PATH(other), now()));
+    return has_room_now(status, other) ? nova_replace(&fs, cpu(), PATH(path), PATH(other), now()) : status;
 }
 
-/* Takes away what stands at a name that another inode is to get: 0, or an error. */
-static int make_way(const nova_numbers *from, const nova_numbers *to, const char *other)
-{
-    if (from->is_directory != to->is_directory)
-        return to->is_directory ? -EISDIR : -ENOTDIR;
-    return to->is_directory ? op_rmdir(other) : op_unlink(other);
-}
-
-/* Moves a name to one that stands, by two calls, of which neither is begun where the second may lack blocks. */
-static int replace(const char *path, const char *other)
-{
-    nova_numbers from, to;
-    uint32_t status;
-    if ((status = nova_stat(&fs, PATH(path), &from)) || (status = nova_stat(&fs, PATH(other), &to)))
-        return error_of(status);
-    if (from.inode == to.inode)
-        return 0;
-    if (!can_replace() && !(has_room_now(NOVA_NO_SPACE, other) && can_replace()))
-        return -ENOSPC;
-    int error = make_way(&from, &to, other);
-    return error ? error : written(move(path, other));
-}
-
-/* The library's rename takes no name that stands. */
 static int op_rename(const char *path, const char *other, unsigned flags)
 {
     if (flags & ~(unsigned)RENAME_NOREPLACE)
         return -EOPNOTSUPP;
-    uint32_t status = move(path, other);
-    return status == NOVA_EXISTS && !(flags & RENAME_NOREPLACE) ? replace(path, other) : written(status);
+    return written(flags & RENAME_NOREPLACE ? move(path, other) : replace(path, other));
 }
 
 static int set_attr(const char *path, const nova_numbers *n)

@@ -83,6 +83,16 @@ static void changes(void)
     SAYS(nova_rename(&fs, 0, BYTES("/b"), BYTES("/d/c"), 7));
     SAYS(nova_rename(&fs, 0, BYTES("/d/a"), BYTES("/d/c"), 7));
     SAYS(nova_rename(&fs, 0, BYTES("/d"), BYTES("/d/e"), 7));
+    SAYS(nova_create(&fs, 0, BYTES("/e"), 0644, 7));
+    SAYS(nova_replace(&fs, 0, BYTES("/e"), BYTES("/d"), 7));
+    SAYS(nova_replace(&fs, 0, BYTES("/d"), BYTES("/e"), 7));
+    SAYS(nova_mkdir(&fs, 0, BYTES("/f"), 0755, 7));
+    SAYS(nova_replace(&fs, 0, BYTES("/f"), BYTES("/d"), 7));
+    SAYS(nova_replace(&fs, 0, BYTES("/d"), BYTES("/f"), 7));
+    SAYS(nova_replace(&fs, 0, BYTES("/f"), BYTES("/d"), 7));
+    SAYS(nova_replace(&fs, 0, BYTES("/d/a"), BYTES("/d/c"), 7));
+    SAYS(nova_replace(&fs, 0, BYTES("/d/a"), BYTES("/e"), 7));
+    SAYS(nova_replace(&fs, 0, BYTES("/e"), BYTES("/d/a"), 7));
     SAYS(nova_unlink(&fs, 0, BYTES("/d/a"), 8));
     SAYS(nova_rmdir(&fs, 0, BYTES("/d"), 9));
     SAYS(nova_clean(&fs, BYTES("/d/c"), &cleaned));

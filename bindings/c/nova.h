@@ -200,6 +200,18 @@ uint32_t nova_rmdir(nova_fs *fs, uint64_t cpu, const uint8_t *path, size_t path_
 uint32_t nova_rename(nova_fs *fs, uint64_t cpu, const uint8_t *path, size_t path_length, const uint8_t *other,
                      size_t other_length, uint64_t time);
 
+/* Gives the inode that a path leads to the name that the other path says, in place of its old one, and in
+ * place of another inode that has it: that one goes where it is a directory or has no further name, and else
+ * loses a link. Where both paths lead to one inode, nothing changes.
+ * Statuses, the first that applies: 16 where the handle is closed, 13 where there is no CPU of that number,
+ * 10 where the mount has faults, 6 where a text is no path or /, 1 or 3 for an inode on the first way and
+ * then on the second, 1 where the first path leads to no inode, 12 where it leads to a directory that the
+ * second way passes, 4 where the second leads to a directory and the first to a file, 3 where it is the other
+ * way round, 5 where the second leads to another inode, which has names, 7 where too few blocks are free.
+ * Besides these 14 where memory was refused. All leave everything as it was. */
+uint32_t nova_replace(nova_fs *fs, uint64_t cpu, const uint8_t *path, size_t path_length, const uint8_t
+                      *other, size_t other_length, uint64_t time);
+
 /* Writes bytes into a file, from an offset on. A gap between the old end and the offset is zeros. No bytes
  * change nothing.
  * Statuses, the first that applies: 16 where the handle is closed, 13 where there is no CPU of that number,

@@ -103,6 +103,7 @@ _CALLS = {
     "unlink": (c_uint64, *_PATH, c_uint64),
     "rmdir": (c_uint64, *_PATH, c_uint64),
     "rename": (c_uint64, *_PATH, *_PATH, c_uint64),
+    "replace": (c_uint64, *_PATH, *_PATH, c_uint64),
     "clean": (*_PATH, POINTER(_Cleaned)),
 }
 
@@ -210,6 +211,9 @@ class Nova:
 
     def rename(self, path, other, cpu=0, time=None):
         self._call("rename", cpu, *_of_path(path), *_of_path(other), _of_time(time))
+
+    def replace(self, path, other, cpu=0, time=None):
+        self._call("replace", cpu, *_of_path(path), *_of_path(other), _of_time(time))
 
     def clean(self, path):
         """Frees the first page that the inode's log can do without: its block, or None where it needs each."""

@@ -39,7 +39,9 @@ class Calls(unittest.TestCase):
     def test_names_go_and_move(self):
         self.fs.mkdir("/d")
         self.fs.create("/d/a")
-        self.fs.rename("/d/a", "/b")
+        self.fs.create("/b")
+        self.assertEqual(self.refusal(self.fs.rename, "/d/a", "/b"), (2, errno.EEXIST))
+        self.fs.replace("/d/a", "/b")
         self.fs.rmdir("/d")
         self.fs.set_attr("/b", 0o400, 7, 8, time=9)
         self.assertEqual(self.fs.stat("/b")[2:], (9, 0, 0o400, 7, 8, 1))

@@ -68,7 +68,8 @@ class Tree:
             self.at[words[0]] = self.at[path]
         elif kind in ("unlink", "rmdir"):
             del self.at[path]
-        elif kind == "rename":
+        elif kind in ("rename", "replace"):
+            self.at.pop(words[0], None)
             for one in [path, *self.below(path)]:
                 self.at[words[0] + one[len(path) :]] = self.at.pop(one)
 
@@ -93,9 +94,9 @@ def choose(tree, number, chance):
     """A call that the tree allows, with new names of this number, or now and then an fsync."""
     if chance.random() < SYNCS:
         return ("sync", "")
-    kind = chance.choice("create create mkdir write write write cut link unlink rmdir rename rename".split())
+    kind = chance.choice("create create mkdir write write write cut link unlink rmdir rename rename replace".split())
     if len(tree.at) > MANY_NAMES:
-        kind = "unlink" if len(tree.at) > MOST_NAMES else chance.choice(["unlink", "unlink", "rmdir", "write", "rename"])
+        kind = "unlink" if len(tree.at) > MOST_NAMES else chance.choice(["unlink", "unlink", "rmdir", "write", "rename", "replace"])
     directory = chance.choice(tree.directories())
     files, new = tree.files(), f"{directory}/n{number}"
     if kind == "mkdir" and directory.count("/") < MOST_DEPTH:
@@ -117,6 +118,10 @@ def choose(tree, number, chance):
         path = chance.choice(list(tree.at))
         to = chance.choice([it for it in tree.directories() if not (it + "/").startswith(path + "/")])
         return "rename", path, f"{to}/r{number}"
+    if kind == "replace" and len(files) > 3:
+        path, other = chance.sample(files, 2)
+        if tree.at[path] is not tree.at[other]:
+            return "replace", path, other
     return "create", new
 
 
@@ -143,7 +148,7 @@ def make(folder, call):
         os.unlink(path)
     elif kind == "rmdir":
         os.rmdir(path)
-    elif kind == "rename":
+    elif kind in ("rename", "replace"):
         os.rename(path, folder + words[0])
     elif kind == "sync":
         at = os.open(path, os.O_RDONLY | os.O_DIRECTORY)

@@ -79,6 +79,11 @@ static uint32_t remove_directory(void) { return nova_rmdir(&fs, 0, PATH("/f"), 7
 static uint32_t rename_within(void) { return nova_rename(&fs, 0, PATH("/d/a"), PATH("/d/c"), 7); }
 static uint32_t rename_across(void) { return nova_rename(&fs, 0, PATH("/d/a"), PATH("/e/c"), 7); }
 static uint32_t rename_directory(void) { return nova_rename(&fs, 0, PATH("/e"), PATH("/d/e"), 7); }
+static uint32_t replace_last(void) { return nova_replace(&fs, 0, PATH("/d/a"), PATH("/d/long"), 7); }
+static uint32_t replace_one(void) { return nova_replace(&fs, 0, PATH("/d/a"), PATH("/d/b"), 7); }
+static uint32_t replace_last_across(void) { return nova_replace(&fs, 0, PATH("/g"), PATH("/d/a"), 7); }
+static uint32_t replace_one_across(void) { return nova_replace(&fs, 0, PATH("/g"), PATH("/d/b"), 7); }
+static uint32_t replace_directory(void) { return nova_replace(&fs, 0, PATH("/d"), PATH("/f"), 7); }
 
 static uint32_t clean(void)
 {
@@ -94,7 +99,9 @@ static const struct {
     {"create", create}, {"mkdir", make_directory}, {"write, 50 bytes", write_some}, {"write, 15,000 bytes", write_more},
     {"set_size, less", cut}, {"set_size, more", lengthen}, {"set_attr", set_attr}, {"link", make_link},
     {"unlink, last name", unlink_last}, {"unlink", unlink_one}, {"rmdir", remove_directory}, {"rename", rename_within},
-    {"rename across", rename_across}, {"rename of a directory", rename_directory}, {"clean", clean},
+    {"rename across", rename_across}, {"rename of a directory", rename_directory}, {"replace, last name", replace_last},
+    {"replace", replace_one}, {"replace across, last name", replace_last_across}, {"replace across", replace_one_across},
+    {"replace of a directory", replace_directory}, {"clean", clean},
 };
 
 /* The report of these words, which are left as they are. */
@@ -117,7 +124,7 @@ static void make_base(void)
     must(!nova_mkdir(&fs, 0, PATH("/d"), 0755, 1) && !nova_mkdir(&fs, 0, PATH("/e"), 0755, 1) && !nova_mkdir(&fs, 1, PATH("/f"), 0755, 1), "mkdir");
     must(!nova_create(&fs, 0, PATH("/d/a"), 0644, 2) && !nova_write(&fs, 0, PATH("/d/a"), 0, bytes, 9000, 3), "create");
     must(!nova_create(&fs, 1, PATH("/d/b"), 0644, 2) && !nova_link(&fs, 0, PATH("/d/b"), PATH("/d/b2"), 3), "link");
-    must(!nova_create(&fs, 1, PATH("/d/long"), 0644, 2), "create");
+    must(!nova_create(&fs, 1, PATH("/d/long"), 0644, 2) && !nova_create(&fs, 0, PATH("/g"), 0644, 2), "create");
     for (int k = 0; k < 300; k++)
         must(!nova_set_attr(&fs, 0, PATH("/d/long"), 0600, 1, 2, 4), "set_attr");
     must(!nova_save(&fs, base, LENGTH), "save");

@@ -79,6 +79,7 @@ unsafe extern "C" {
     pub fn nova_unlink(fs: &mut Handle, cpu: u64, path: *const u8, path_length: usize, time: u64) -> u32;
     pub fn nova_rmdir(fs: &mut Handle, cpu: u64, path: *const u8, path_length: usize, time: u64) -> u32;
     pub fn nova_rename(fs: &mut Handle, cpu: u64, path: *const u8, path_length: usize, other: *const u8, other_length: usize, time: u64) -> u32;
+    pub fn nova_replace(fs: &mut Handle, cpu: u64, path: *const u8, path_length: usize, other: *const u8, other_length: usize, time: u64) -> u32;
     pub fn nova_clean(fs: &mut Handle, path: *const u8, path_length: usize, out: &mut Cleaned) -> u32;
 }
 

@@ -252,6 +252,21 @@ impl Fs {
         })
     }
 
+    /// Gives an inode another name, also that of another inode, which goes or loses a link.
+    pub fn replace(&mut self, cpu: u64, path: &[u8], other: &[u8], time: u64) -> Answer<()> {
+        check(unsafe {
+            calls::nova_replace(
+                &mut self.0,
+                cpu,
+                path.as_ptr(),
+                path.len(),
+                other.as_ptr(),
+                other.len(),
+                time,
+            )
+        })
+    }
+
     /// Frees the first page that an inode's log can do without: its block, or none where it needs each.
     pub fn clean(&mut self, path: &[u8]) -> Answer<Option<u64>> {
         let mut out = calls::Cleaned::default();

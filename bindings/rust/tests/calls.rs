@@ -45,6 +45,10 @@ fn names_go_and_move() -> Result<(), Refused> {
     fs.link(0, b"/d/a", b"/b", 3)?;
     fs.unlink(0, b"/d/a", 4)?;
     fs.rename(0, b"/b", b"/c", 5)?;
+    fs.create(0, b"/b", 0o644, 5)?;
+    assert_eq!(fs.rename(0, b"/c", b"/b", 5), Err(Refused(2)));
+    fs.replace(0, b"/c", b"/b", 5)?;
+    fs.replace(0, b"/b", b"/c", 5)?;
     fs.rmdir(0, b"/d", 6)?;
     fs.set_attr(0, b"/c", 0o400, 7, 8, 9)?;
     let found = fs.stat(b"/c")?;

@@ -4,6 +4,7 @@ use Rattle.std.proofs.Common.{◌≡◌, ◌∙◌, inl, inr, ℕ, List, Bool, f
 use Rattle.std.proofs.lemmas.Bool.{cases_Bool, false≢true}
 use Rattle.nv_region.specs.Region.{Region}
 use Rattle.nv_region.specs.Stops.{LeavesOnly}
+use Rattle.nv_tree.specs.Tree.{SameTree, Tree}
 use Rattle.nv_tree.specs.Refusals.{IsRefusedBy}
 use Rattle.nv_tree.specs.declared.refusal.Refusal.{Refusal}
 use Rattle.nv_tree.specs.declared.refusal.Refusal.TheVariants.{Stopped}
@@ -14,6 +15,7 @@ use Rattle.nv_calls.specs.Stopped.{LeavesCall}
 use Rattle.nv_calls.proofs.RowChange.{same_mount}
 use Rattle.nv_lent.specs.WordsState.{as_it_reads}
 use Rattle.nova_c.specs.Codes.{TellsRefusal, status_of}
+use Rattle.nova_c.specs.Handles.{shown}
 
 -- a call that is refused by a stop of a mount that ran would have burnt a fuse
 pub never_stopped : {A : Type 0} (result : Result A Refusal) (e : Refusal) (old new : Bool) → result ≡ Err e
@@ -48,6 +50,9 @@ module _ (a b m n : Mount Region) (before : a ≡ b) (after : n ≡ m) where
   pub logs_of : (logs : Logs Region) (names : List (List ℕ)) → logs a.memory a names m.memory → logs b.memory b names n.memory
   logs_of logs names is =
       subst (λ (k : Mount Region). logs k.memory k names n.memory) before (subst (λ (k : Mount Region). logs a.memory a names k.memory) (sym after) is)
+
+  pub changed_of : (tree : Mount Region → Tree) → SameTree (shown m) (tree a) → SameTree (shown n) (tree b)
+  changed_of tree same = subst (λ (k : Mount Region). SameTree (shown n) (tree k)) before (subst (λ (k : Mount Region). SameTree (shown k) (tree a)) (sym after) same)
 
 -- the status of a refusal, by what comes first on the mount that the handle owns
 pub refused_by : (first : Mount Region → Option Refusal) (a b : Mount Region) (e : Refusal) (status : ℕ) → a ≡ b → status ≡ status_of e

@@ -3,6 +3,7 @@ use Rattle.std.specs.Prelude.{ℕ, Option}
 use Rattle.nv_region.specs.Region.{Region}
 use Rattle.nv_tree.specs.Refusals.{Path, first_refusal, clean_tests, create_tests, link_tests, list_tests, read_tests, rename_tests, rmdir_tests, set_attr_tests, set_size_tests, stat_tests}
 use Rattle.nv_tree.specs.Refusals.{unlink_tests, write_tests}
+use Rattle.nv_tree.specs.Replace.{replace_tests}
 use Rattle.nv_tree.specs.declared.refusal.Refusal.{Refusal}
 use Rattle.nv_calls.specs.Mount.{Mount}
 use Rattle.nv_calls.specs.World.{world_of}
@@ -10,6 +11,7 @@ use Rattle.nv_calls.specs.AttributesCall.{attributes_blocks}
 use Rattle.nv_calls.specs.LinkCalls.{link_blocks}
 use Rattle.nv_calls.specs.MoveCalls.{rename_blocks}
 use Rattle.nv_calls.specs.NameCalls.{create_blocks, name_blocks}
+use Rattle.nv_calls.specs.ReplaceBlocks.{replace_blocks}
 use Rattle.nv_calls.specs.SizeCall.{resized_blocks}
 use Rattle.nv_calls.specs.UnlinkCalls.{unlink_blocks}
 use Rattle.nova_c.specs.Handles.{shown}
@@ -45,6 +47,10 @@ rmdir_refusal m cpu p = first_refusal (rmdir_tests (world_of m) (shown m) cpu p 
 -- of `rename`, by the old path and the new one
 abbrev pub rename_refusal : Mount Region → ℕ → Path → Path → Option Refusal
 rename_refusal m cpu p q = first_refusal (rename_tests (world_of m) (shown m) cpu p q (rename_blocks m.rows (shown m) p q))
+
+-- of `replace`, by the old path and the new one
+abbrev pub replace_refusal : Mount Region → ℕ → Path → Path → Option Refusal
+replace_refusal m cpu p q = first_refusal (replace_tests (world_of m) (shown m) cpu p q (replace_blocks m.rows (shown m) p q))
 
 -- of `clean`
 abbrev pub clean_refusal : Mount Region → Path → Option Refusal

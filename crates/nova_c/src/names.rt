@@ -11,8 +11,8 @@ ghost use Rattle.nv_calls.specs.Stopped.{LeavesCall};
 ghost use Rattle.nv_lent.specs.WordsState.{as_it_reads};
 ghost use Rattle.nova_c.specs.Codes.{TellsRefusal};
 ghost use Rattle.nova_c.specs.Handles.{IsClosed, IsOpen, IsRunning, TellsClosed, shown};
-ghost use Rattle.nova_c.specs.Refused.{create_refusal, link_refusal, rename_refusal, rmdir_refusal, unlink_refusal};
-ghost use Rattle.nv_calls.specs.Effects.{LogsUnlink, logs_inode, logs_link, logs_removal, logs_rename, makes_inode, makes_link, makes_removal, makes_rename, makes_unlink};
+ghost use Rattle.nova_c.specs.Refused.{create_refusal, link_refusal, rename_refusal, replace_refusal, rmdir_refusal, unlink_refusal};
+ghost use Rattle.nv_calls.specs.Effects.{LogsUnlink, logs_inode, logs_link, logs_removal, logs_rename, logs_replace, makes_inode, makes_link, makes_removal, makes_rename, makes_replace, makes_unlink};
 
 use crate::codes::{CLOSED, DONE, code};
 use crate::handle::NovaFs;
@@ -255,6 +255,52 @@ pub extern "C" fn nova_rename(
         Some(mount) => {
             let mut mount = mount;
             let done = mount.rename(Cpu(cpu), path, other, Time(time));
+            fs.put(mount);
+            match done {
+                Ok(()) => DONE,
+                Err(refusal) => code(refusal),
+            }
+        }
+        None => CLOSED,
+    }
+}
+
+/// Gives the inode that a path leads to the name that the other path says, in place of its old one, and in place of another inode
+/// that has it: that one goes where it is a directory or has no further name, and else loses a link. Where both paths lead to one
+/// inode, nothing changes.
+///
+/// Statuses, the first that applies: 16 where the handle is closed, 13 where there is no CPU of that number, 10 where the mount
+/// has faults, 6 where a text is no path or `/`, 1 or 3 for an inode on the first way and then on the second, 1 where the first
+/// path leads to no inode, 12 where it leads to a directory that the second way passes, 4 where the second leads to a directory
+/// and the first to a file, 3 where it is the other way round, 5 where the second leads to another inode, which has names, 7
+/// where too few blocks are free. Besides these 14 where memory was refused. All leave everything as it was.
+#[unsafe(no_mangle)]
+pub extern "C" fn nova_replace(
+    alloc: Global,
+    fs: &mut NovaFs,
+    cpu: u64,
+    path: &[u8],
+    other: &[u8],
+    time: u64,
+) -> u32
+    ensures allowed { IsOpen fs.old → result ≡ 0 → (p q : Path) → Says path.now p → Says other.now q → replace_refusal fs.old.mount cpu p q ≡ Option.None }
+    ensures refused { IsRunning fs.old → result ≢ 0 → (p q : Path) → Says path.now p → Says other.now q → TellsRefusal (IsRefusedBy (replace_refusal fs.old.mount cpu p q)) result }
+    ensures changed { IsOpen fs.old → result ≡ 0 → (names others : List (List ℕ)) → IsPath path.now names → IsPath other.now others
+        → SameTree (shown fs.new.mount) (makes_replace time (Option.Some others) fs.old.mount.memory fs.old.mount names) }
+    ensures logs { IsOpen fs.old → result ≡ 0 → (names others : List (List ℕ)) → IsPath path.now names → IsPath other.now others
+        → logs_replace cpu time (Option.Some others) fs.old.mount.memory fs.old.mount names fs.new.mount.memory }
+    ensures unchanged { IsOpen fs.old → result ≢ 0 → SameMount fs.old.mount fs.new.mount }
+    ensures runs { IsRunning fs.old → IsRunning fs.new × (result ≢ 15) }
+    ensures keeps { IsOpen fs.old → IsOpen fs.new × KeepsMount fs.old.mount fs.new.mount }
+    ensures any_stop { IsRunning fs.old → fs.old.mount.read_only ≡ false → (names others : List (List ℕ)) → IsPath path.now names → IsPath other.now others
+        → LeavesOnly fs.new.mount.memory (as_it_reads fs.new.mount.memory) (LeavesCall (makes_replace time (Option.Some others))
+        (logs_replace cpu time (Option.Some others)) fs.old.mount.memory fs.old.mount names) }
+    ensures closed { IsClosed fs.old → TellsClosed fs.new result }
+{
+    match fs.take(alloc) {
+        Some(mount) => {
+            let mut mount = mount;
+            let done = mount.replace(Cpu(cpu), path, other, Time(time));
             fs.put(mount);
             match done {
                 Ok(()) => DONE,

@@ -38,7 +38,7 @@ walk_passes t names more none = by (walk t 1 names) refl none where
 pub directory_used : (t : Tree) (names : List (List ℕ)) (name : List ℕ) (others : List (List ℕ)) (d : ℕ) → names ≡ name ∷ others → walk t 1 names ≡ Ok d → (a : Node) × (t d ≡ Some a)
 directory_used t names name others d is ended = walk_ends t 1 name others d (ap (walk t 1) (sym is) ∙ ended)
 
-found_used : (t : Tree) (names : List (List ℕ)) (i : ℕ) → found t names ≡ Some i → (a : Node) × (t i ≡ Some a)
+pub found_used : (t : Tree) (names : List (List ℕ)) (i : ℕ) → found t names ≡ Some i → (a : Node) × (t i ≡ Some a)
 found_used t [] i is = (let w = used_now t (Some 1) i is in (w.0, w.2))
 found_used t (name ∷ names) i is = (let w = used_now t (last_in t (walk t 1 (name ∷ names)) (name ∷ names)) i is in (w.0, w.2))
 

@@ -163,13 +163,13 @@ module _ (held : Store) (R S T U : Region) (m k : Mount ⊤) (names : List (List
   there = subst (λ (s : Super). ShowsSound S s held) (sym same.sup) w.second
 
   -- what is said by the numbers and the free lists of the second mount is said by those of the first
-  by_first : (P : Super → List (List Run) → Type 0) → P k.sup k.free.pools → P m.sup m.free.pools
+  pub by_first : (P : Super → List (List Run) → Type 0) → P k.sup k.free.pools → P m.sup m.free.pools
   by_first P p = subst (λ (s : Super). P s m.free.pools) same.sup (subst (λ (pools : List (List Run)). P k.sup pools) same.free p)
 
-  walks : (path : List (List ℕ)) → walk t 1 path ≡ walk u 1 path
+  pub walks : (path : List (List ℕ)) → walk t 1 path ≡ walk u 1 path
   walks path = sym (walk_alike t u alike path 1)
 
-  finds : (path : List (List ℕ)) → found t path ≡ found u path
+  pub finds : (path : List (List ℕ)) → found t path ≡ found u path
   finds path = sym (found_alike t u alike path)
 
   links : (i : ℕ) → links_at t i ≡ links_at u i
@@ -178,7 +178,7 @@ module _ (held : Store) (R S T U : Region) (m k : Mount ⊤) (names : List (List
   pub finish : {makes : Makes ⊤} {logs others : Logs ⊤} → WasDone makes logs R m names T → WasDone makes others S k names U → SameFiles (makes R m names) (makes S k names) → ShowSame m.sup T U → AreAlike T U
   finish {makes} a b contents shows = alike_after m.sup T U a.rows b.rows a.free b.free (makes R m names) (makes S k names) shows a.shown (subst (λ (s : Super). IsOutcome U (faultless_outcome s b.rows b.free)) same.sup b.shown) a.tree b.tree contents
 
-  number : (cpu j : ℕ) → unused_number m.sup m.rows cpu ≡ Some j → unused_number k.sup k.rows cpu ≡ Some j
+  number : (cpu j : ℕ) → unused_number (fixed_layout m.sup) m.rows cpu ≡ Some j → unused_number (fixed_layout k.sup) k.rows cpu ≡ Some j
   number cpu j at = unused_same m.sup k.sup m.rows k.rows same.sup same.rows cpu ∙ at
 
   -- ---- names that come
@@ -190,12 +190,12 @@ module _ (held : Store) (R S T U : Region) (m k : Mount ⊤) (names : List (List
       let one = named_passes names (walk_tests t (Some names) ++ behind) (writing_passes (world_of m) cpu (is_bad_name (Some names) ∷ walk_tests t (Some names) ++ behind) allowed.1) in
       let way = walk_passes t names behind one.3 in
       let free = first_passes (is_there t (Some names)) (has_no_slot (world_of m) cpu ∷ last) way.2 in
-      let unused = some_passes (unused_number m.sup m.rows cpu) (first_passes (has_no_slot (world_of m) cpu) last free.1).0 in
+      let unused = some_passes (unused_number (fixed_layout m.sup) m.rows cpu) (first_passes (has_no_slot (world_of m) cpu) last free.1).0 in
       let used = directory_used t names one.0 one.1 way.0 one.2 way.1 in
       let h = held_there mounted way.0 used.0 used.1 in
       let first : ShowsCreated T m.sup m.free.pools cpu held kind mode time unused.0 way.0 h.0 (last_name names) = a.left way.0 unused.0 held h.0 way.1 unused.1 w.first h.1 in
       let second : ShowsCreated U k.sup k.free.pools cpu held kind mode time unused.0 way.0 h.0 (last_name names) = b.left way.0 unused.0 held h.0 (sym (walks names) ∙ way.1) (number cpu unused.0 unused.1) there h.1 in
-      finish a b (created_same t u files walks finds links kind (unused_number m.sup m.rows cpu) (unused_number k.sup k.rows cpu) (unused.1 ∙ sym (number cpu unused.0 unused.1)) names mode time)
+      finish a b (created_same t u files walks finds links kind (unused_number (fixed_layout m.sup) m.rows cpu) (unused_number (fixed_layout k.sup) k.rows cpu) (unused.1 ∙ sym (number cpu unused.0 unused.1)) names mode time)
       (created_decided m.sup m.free.pools cpu held kind mode time unused.0 way.0 h.0 (last_name names) T U first (by_first (λ s pools. ShowsCreated U s pools cpu held kind mode time unused.0 way.0 h.0 (last_name names)) second))
 
   link_alike : (cpu time : ℕ) (q : Path) → IsAllowed (λ R m p n. link_tests (world_of m) (tree_of R m.rows) cpu p q n) R m names → WasDone (makes_link time q) (logs_link cpu time q) R m names T → WasDone (makes_link time q) (logs_link cpu time q) S k names U → AreAlike T U
@@ -272,7 +272,7 @@ module _ (held : Store) (R S T U : Region) (m k : Mount ⊤) (names : List (List
 
   -- ---- names that move
 
-  rename_alike : (cpu time : ℕ) (q : Path) → IsAllowed (λ R m p n. rename_tests (world_of m) (tree_of R m.rows) cpu p q n) R m names → WasDone (makes_rename time q) (logs_rename cpu time q) R m names T → WasDone (makes_rename time q) (logs_rename cpu time q) S k names U → AreAlike T U
+  pub rename_alike : (cpu time : ℕ) (q : Path) → IsAllowed (λ R m p n. rename_tests (world_of m) (tree_of R m.rows) cpu p q n) R m names → WasDone (makes_rename time q) (logs_rename cpu time q) R m names T → WasDone (makes_rename time q) (logs_rename cpu time q) S k names U → AreAlike T U
   rename_alike cpu time None allowed a b = absurd a.left
   rename_alike cpu time (Some others) allowed a b =
       let last = is_into_itself t (Some names) (Some others) ∷ is_there t (Some others) ∷ has_no_space (world_of m) allowed.0 ∷ [] in

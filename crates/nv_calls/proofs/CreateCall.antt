@@ -48,7 +48,7 @@ use Rattle.nv_calls.proofs.RowChange.{keeps_same}
 use Rattle.nv_calls.proofs.Tests.{space_allows, space_refuses}
 
 module _ {R S : Region} {s : Super} {rows news : List Row} {free after : FreeLists} {faults : List Fault} {read_only stopped : Bool} (kept : IsKept R s rows free faults read_only stopped) (runs : stopped ≡ false) (writes : read_only ≡ false)
-    {place : ℕ} {kind : Kind} {cpu mode time j : ℕ} {name : List ℕ} (step : CreatesAt R S s free after cpu rows news place kind mode time j name) (low : cpu < s.cpus) (spelled : IsPathName name) (names : List (List ℕ)) (spot : IsSpot (tree_of R rows) rows s cpu names place name j) where
+    {place : ℕ} {kind : Kind} {cpu mode time j : ℕ} {name : List ℕ} (step : CreatesAt R S s free after cpu rows news place kind mode time j name) (low : cpu < s.cpus) (spelled : IsPathName name) (names : List (List ℕ)) (spot : IsSpot (tree_of R rows) rows (fixed_layout s) cpu names place name j) where
   directory : step.row.kind ≡ Directory
   directory = (spot.directory step.row step.at).1
 
@@ -76,7 +76,7 @@ module _ {R S : Region} {s : Super} {rows news : List Row} {free after : FreeLis
   created_kept = kept_then kept runs writes step directory good unused absent
 
   -- The tree is what the call makes of that of before.
-  pub created_tree : SameTree (tree_of S news) (created kind (unused_number s rows cpu) names mode time (tree_of R rows))
+  pub created_tree : SameTree (tree_of S news) (created kind (unused_number (fixed_layout s) rows cpu) names mode time (tree_of R rows))
   created_tree =
       let made = step.step in
       let new = made.row in
@@ -87,13 +87,13 @@ module _ {R S : Region} {s : Super} {rows news : List Row} {free after : FreeLis
       (subst (λ (i : ℕ). SameNode (node_of S step.now) (with_name name i time (node_of R step.row))) (sym there)
       (named_node R S made.fresh _ name j _ time made.directory made.once made.once_now (name_absent kept runs writes step.row here name absent) (bytes_kept kept runs writes step directory good unused absent step.row here)))
       (new_node_is S j kind mode time made.page _ new) (bytes_kept kept runs writes step directory good unused absent)) in
-      subst (λ (t : Tree). SameTree (tree_of S news) t) (sym (created_by kind (unused_number s rows cpu) names mode time (tree_of R rows) j step.row.inode name spot.unused walked spot.name_is)) same
+      subst (λ (t : Tree). SameTree (tree_of S news) t) (sym (created_by kind (unused_number (fixed_layout s) rows cpu) names mode time (tree_of R rows) j step.row.inode name spot.unused walked spot.name_is)) same
     where
       number_stays : step.now.inode ≡ step.row.inode
       number_stays = let made = step.step in let dir = made.directory in dir.inode
 
   -- The logs, for whatever is held of the region.
-  pub created_log : (d i : ℕ) (held : Store) (h : Held) → walk (tree_of R rows) 1 names ≡ Ok d → unused_number s rows cpu ≡ Some i → ShowsSound R s held → held d ≡ Some h → ShowsCreated S s free.pools cpu held kind mode time i d h (last_name names)
+  pub created_log : (d i : ℕ) (held : Store) (h : Held) → walk (tree_of R rows) 1 names ≡ Ok d → unused_number (fixed_layout s) rows cpu ≡ Some i → ShowsSound R s held → held d ≡ Some h → ShowsCreated S s free.pools cpu held kind mode time i d h (last_name names)
   created_log d i held h ended free_number sound is =
       let both : Ok step.row.inode ≡ Ok d = sym walked ∙ ended in
       let same : step.row.inode ≡ d = cc in
@@ -115,15 +115,15 @@ blocks_by rows t row names j time name walked is last =
     ∙ ap (λ (q : List ℕ). 1 + needed (row.tail % 4096) (name_entries Add 0 q 0)) (sym last)
 
 module _ {P : Type 0} (region : P → Region) {n m : Mount P} (same : n ≡ m) (cpu : ℕ) (passed : (tests : Tests) → first_refusal (writing (world_of m) cpu tests) ≡ first_refusal tests) (place : ℕ) (row : Row) (at : slice_get n.rows place ≡ Some row) (is : row_of n.rows row.inode ≡ Some row)
-    (name : List ℕ) (j time : ℕ) (text : List ℕ) (spot : (names : List (List ℕ)) → IsPath text names → IsSpot (tree_of (region n.memory) n.rows) n.rows n.sup cpu names place name j) (p : Path) (says : Says text p)
-    (none : first_refusal (spot_tests (tree_of (region n.memory) n.rows) (unused_number n.sup n.rows cpu) p) ≡ None) where
+    (name : List ℕ) (j time : ℕ) (text : List ℕ) (spot : (names : List (List ℕ)) → IsPath text names → IsSpot (tree_of (region n.memory) n.rows) n.rows (fixed_layout n.sup) cpu names place name j) (p : Path) (says : Says text p)
+    (none : first_refusal (spot_tests (tree_of (region n.memory) n.rows) (unused_number (fixed_layout n.sup) n.rows cpu) p) ≡ None) where
   abbrev tests : Mount P → Option Refusal
   tests k = first_refusal (create_tests (world_of k) (tree_of (region k.memory) k.rows) cpu p (create_blocks k.rows (tree_of (region k.memory) k.rows) p))
 
   abbrev count : ℕ
   count = 1 + needed (row.tail % 4096) (name_entries Add j name time)
 
-  blocks_there : (q : Path) → Says text q → first_refusal (spot_tests (tree_of (region n.memory) n.rows) (unused_number n.sup n.rows cpu) q) ≡ None → create_blocks n.rows (tree_of (region n.memory) n.rows) q ≡ count
+  blocks_there : (q : Path) → Says text q → first_refusal (spot_tests (tree_of (region n.memory) n.rows) (unused_number (fixed_layout n.sup) n.rows cpu) q) ≡ None → create_blocks n.rows (tree_of (region n.memory) n.rows) q ≡ count
   blocks_there None says none = absurd (cc)
   blocks_there (Some names) says none = let there = spot names says in blocks_by n.rows (tree_of (region n.memory) n.rows) row names j time name (there.directory row at).0 is there.name_is
 

@@ -1,5 +1,5 @@
 -- What a call leaves is decided: the blocks that it takes are.
-use Rattle.std.proofs.Common.{◌≡◌, ℕ, suc, List, ◌∷◌, length, get_or, remove, ap, sym, ◌∙◌, subst, arith, refl, Option, Some, None, is_some}
+use Rattle.std.proofs.Common.{◌≡◌, ℕ, suc, List, ◌∷◌, ◌++◌, length, get_or, remove, ap, sym, ◌∙◌, subst, arith, refl, Option, Some, None, is_some}
 use Rattle.std.specs.Prelude.{⊤}
 use Rattle.std.proofs.Math.Logic.{∥∥₁_elim, ∥∥₁_map, ∥∥₁_prop}
 use Rattle.nv_region.specs.Region.{Region}
@@ -13,6 +13,7 @@ use Rattle.nv_held.specs.Held.{Held, Store}
 use Rattle.nv_held.specs.Mounted.{ShowsSound}
 use Rattle.nv_commit.specs.Extends.{with_log}
 use Rattle.nv_tree.specs.Tree.{Node}
+use Rattle.nv_steps.specs.Across.{with_three_logs, with_two_gone}
 use Rattle.nv_steps.specs.declared.planning.Plan.{Plan}
 use Rattle.nv_steps.specs.NameEntries.{with_gone, with_named}
 use Rattle.nv_steps.specs.Sizes.{copied_to, resizing, sized}
@@ -23,6 +24,7 @@ use Rattle.nv_calls.specs.LinkCalls.{BothGrew, ShowsBothGrew}
 use Rattle.nv_calls.specs.Mount.{Mount}
 use Rattle.nv_calls.specs.NameCalls.{ShowsCreated, WasCreated}
 use Rattle.nv_calls.specs.RemoveCalls.{ShowsRemoved, WasRemoved}
+use Rattle.nv_calls.specs.ReplaceLogs.{BothLess, ShowsBothLess, ShowsThreeGrew, ThreeGrew}
 use Rattle.nv_calls.specs.SizeCall.{LogResized, ShowsResizedLog}
 use Rattle.nv_calls.specs.WriteCall.{LogsWrite, ShowsLogWrite}
 
@@ -80,6 +82,40 @@ removed_same {S} {T} {s} {pools} {cpu} {held} {d} {h} {entries} {i} a b =
 
 pub removed_decided : (s : Super) (pools : List (List Run)) (cpu : ℕ) (held : Store) (d : ℕ) (h : Held) (entries : List Entry) (i : ℕ) → IsDecided s (λ S. ShowsRemoved S s pools cpu held d h entries i)
 removed_decided s pools cpu held d h entries i S T first second = by_both s S T first second (λ a b. removed_same a b)
+
+-- ---- two logs and an inode less, and three logs
+
+less_same : {S T : Region} {s : Super} {pools : List (List Run)} {cpu : ℕ} {held : Store} {i : ℕ} {h : Held} {entries : List Entry} {e : ℕ} {g : Held} {others : List Entry} {j : ℕ}
+    → BothLess S s pools cpu held i h entries e g others j → BothLess T s pools cpu held i h entries e g others j → Same s S T
+less_same {S} {T} {s} {pools} {cpu} {held} {i} {h} {entries} {e} {g} {others} {j} a b =
+    let c = singly_cut pools cpu a.fresh a.more a.rest a.taken in
+    let d = singly_cut pools cpu b.fresh b.more b.rest b.taken in
+    let one = single_takes_are_one pools cpu a.fresh b.fresh c.0 d.0 (a.count ∙ sym b.count) c.1 d.1 in
+    let two = single_takes_are_one c.0 cpu a.more b.more a.rest b.rest (a.more_count ∙ sym b.more_count) c.2 (subst (λ (ps : List (List Run)). TakesSingly ps cpu b.more b.rest) (sym one.1) d.2) in
+    let first = subst (λ (blocks : List ℕ). ShowsSound T s (with_two_gone held i h entries b.fresh e g others blocks j)) (sym two.0) b.sound in
+    (with_two_gone held i h entries a.fresh e g others a.more j, a.sound, subst (λ (blocks : List ℕ). ShowsSound T s (with_two_gone held i h entries blocks e g others a.more j)) (sym one.0) first)
+
+pub less_decided : (s : Super) (pools : List (List Run)) (cpu : ℕ) (held : Store) (i : ℕ) (h : Held) (entries : List Entry) (e : ℕ) (g : Held) (others : List Entry) (j : ℕ) → IsDecided s (λ S. ShowsBothLess S s pools cpu held i h entries e g others j)
+less_decided s pools cpu held i h entries e g others j S T first second = by_both s S T first second (λ a b. less_same a b)
+
+three_same : {S T : Region} {s : Super} {pools : List (List Run)} {cpu : ℕ} {held : Store} {i : ℕ} {h : Held} {entries : List Entry} {e : ℕ} {g : Held} {others : List Entry} {j : ℕ} {f : Held} {lasts : List Entry}
+    → ThreeGrew S s pools cpu held i h entries e g others j f lasts → ThreeGrew T s pools cpu held i h entries e g others j f lasts → Same s S T
+three_same {S} {T} {s} {pools} {cpu} {held} {i} {h} {entries} {e} {g} {others} {j} {f} {lasts} a b =
+    let c = singly_cut pools cpu (a.fresh ++ a.more) a.last a.rest a.taken in
+    let d = singly_cut pools cpu (b.fresh ++ b.more) b.last b.rest b.taken in
+    let inner = singly_cut pools cpu a.fresh a.more c.0 c.1 in
+    let inner_there = singly_cut pools cpu b.fresh b.more d.0 d.1 in
+    let one = single_takes_are_one pools cpu a.fresh b.fresh inner.0 inner_there.0 (a.count ∙ sym b.count) inner.1 inner_there.1 in
+    let two = single_takes_are_one inner.0 cpu a.more b.more c.0 d.0 (a.more_count ∙ sym b.more_count) inner.2 (subst (λ (ps : List (List Run)). TakesSingly ps cpu b.more d.0) (sym one.1) inner_there.2) in
+    let three = single_takes_are_one c.0 cpu a.last b.last a.rest b.rest (a.last_count ∙ sym b.last_count) c.2 (subst (λ (ps : List (List Run)). TakesSingly ps cpu b.last b.rest) (sym two.1) d.2) in
+    let blocks : (b.fresh, b.more, b.last) ≡ (a.fresh, a.more, a.last) = λ x. (sym one.0 x, sym two.0 x, sym three.0 x) in (
+      with_three_logs held i h entries a.fresh e g others a.more j f lasts a.last,
+      a.sound,
+      subst (λ (w : List ℕ × List ℕ × List ℕ). ShowsSound T s (with_three_logs held i h entries w.0 e g others w.1 j f lasts w.2)) blocks b.sound,
+    )
+
+pub three_decided : (s : Super) (pools : List (List Run)) (cpu : ℕ) (held : Store) (i : ℕ) (h : Held) (entries : List Entry) (e : ℕ) (g : Held) (others : List Entry) (j : ℕ) (f : Held) (lasts : List Entry) → IsDecided s (λ S. ShowsThreeGrew S s pools cpu held i h entries e g others j f lasts)
+three_decided s pools cpu held i h entries e g others j f lasts S T first second = by_both s S T first second (λ a b. three_same a b)
 
 -- ---- another size
 

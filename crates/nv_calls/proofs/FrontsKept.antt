@@ -22,6 +22,7 @@ use Rattle.nv_steps.proofs.OtherJournals.{extended_front}
 use Rattle.nv_calls.specs.AtPlaces.{CreatesAt, CutsAt, Releases, cut_of}
 use Rattle.nv_calls.specs.Mount.{IsKept}
 use Rattle.nv_calls.specs.MoveCalls.{MovesAt, MovesHere}
+use Rattle.nv_calls.specs.ReplaceCalls.{ReplacesHere, ReplacesOver}
 use Rattle.nv_calls.proofs.CreatedRows.{not_held}
 use Rattle.nv_calls.proofs.Mounts.{mounted_of_kept}
 use Rattle.nv_calls.proofs.OneRow.{shows_row}
@@ -67,6 +68,34 @@ module _ {R S : Region} {s : Super} {rows news : List Row} {free after : FreeLis
   pub moved_front : {place target end : ℕ} {name other : List ℕ} {time : ℕ} → MovesAt R S s free after cpu rows news place target end name other time → SameFrontBut s.cpus cpu R S
   moved_front (inl w) = here_front w.1
   moved_front (inr w) = let across = w.1 in both_front across.step
+
+  -- a name that was given to another inode: within one directory
+  pub taken_front : {place target i : ℕ} {name other : List ℕ} {time : ℕ} → ReplacesHere R S s free after cpu rows news place target i name other time → SameFrontBut s.cpus cpu R S
+  taken_front (inl w) = let lessens = w.1 in both_front lessens.step
+  taken_front {place} (inr w) = by_held kept runs writes (λ held m.
+      let takes = w.1 in
+      let step = takes.step in
+      let row = shows_row {free = free} m kept.lists takes.row (stands rows place takes.row takes.at) in
+      let seen = step.shows held row.0 row.1 in
+      seen.front)
+
+  -- and from one directory to another
+  pub handed_front : {place end target i : ℕ} {name other : List ℕ} {time : ℕ} → ReplacesOver R S s free after cpu rows news place end target i name other time → SameFrontBut s.cpus cpu R S
+  handed_front {place} {end} {target} (inl w) = by_held kept runs writes (λ held m.
+      let lessens = w.1 in
+      let step = lessens.step in
+      let from = shows_row {free = free} m kept.lists lessens.from (stands rows place lessens.from lessens.at) in
+      let to = shows_row {free = free} m kept.lists lessens.to (stands rows end lessens.to lessens.to_at) in
+      let file = shows_row {free = free} m kept.lists lessens.file (stands rows target lessens.file lessens.file_at) in
+      let seen = step.shows held from.0 to.0 file.0 from.1 to.1 file.1 in
+      seen.front)
+  handed_front {place} {end} {target} (inr w) = by_held kept runs writes (λ held m.
+      let takes = w.1 in
+      let step = takes.step in
+      let from = shows_row {free = free} m kept.lists takes.from (stands rows place takes.from takes.at) in
+      let to = shows_row {free = free} m kept.lists takes.to (stands rows end takes.to takes.to_at) in
+      let seen = step.shows held from.0 to.0 from.1 to.1 in
+      seen.front)
 
 -- a name that went, with its file or a link of it
 pub released_front : {R S : Region} {s : Super} {rows news : List Row} {free after : FreeLists} {faults : List Fault} {read_only stopped : Bool} → IsKept R s rows free faults read_only stopped → stopped ≡ false → read_only ≡ false

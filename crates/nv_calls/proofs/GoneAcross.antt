@@ -116,7 +116,7 @@ module _ {R S : Region} {s : Super} {rows news : List Row} {free mid : FreeLists
     stays = named_file s i name time step.fresh shows.told from_directory good Remove
 
     to_stays : SameFile l k (extended k hand step.more)
-    to_stays = handed_file s i j other time step.more shows_to.told to_directory good_there good_other
+    to_stays = handed_file s i j other other time step.more shows_to.told to_directory good_there good_other
 
     abbrev one : Store
     one = with_log held from.inode h cut step.fresh
@@ -165,7 +165,7 @@ module _ {R S : Region} {s : Super} {rows news : List Row} {free mid : FreeLists
 
     faultless : IsFaultless l then
     faultless = gone_across l held from.inode h name (way_to (first ∷ rest)) to.inode k other i j f can (place_of step.fresh 0 h.tail (Name (record { operation = Remove; inode = i; time = time; name = name }))) time (end_of step.fresh 0 h.tail cut) (take (needed (h.tail % 4096) cut) step.fresh)
-        (cut_place s i j other time step.more shows_to.told to_directory good_there good_other) (given_place s i j other time step.more shows_to.told to_directory good_there good_other) (end_of step.more 0 k.tail hand) (take (needed (k.tail % 4096) hand) step.more) (λ e. differ (sym e))
+        (cut_place s i j other other time step.more shows_to.told to_directory good_there good_other) (given_place s i j other other time step.more shows_to.told to_directory good_there good_other) (end_of step.more 0 k.tail hand) (take (needed (k.tail % 4096) hand) step.more) (λ e. differ (sym e))
         own_first own_second (held_goes shows_gone (spot_goes R s rows target moved at to_at moved_at gone_at names first rest spot apart free m goes))
 
     sound_then : ShowsSound S s then
@@ -181,7 +181,7 @@ module _ {R S : Region} {s : Super} {rows news : List Row} {free mid : FreeLists
         let lost = left.0 in
         let has = step.other_is in
         let told = lost_told s i name time step.fresh shows.told from_directory good step.count lost in
-        let to_told = handed_told s i j other time step.more shows_to.told to_directory good_there good_other step.more_count has in
+        let to_told = handed_told s i j other other time step.more shows_to.told to_directory good_there good_other step.more_count has in
         let to_still : slice_get (set rows place from_now) end ≡ Some to = other_set rows place end from_now (places_differ rows place end from to at to_at differ) ∙ to_at in
         let first_follow = rows_follow l held from.inode (extended h cut step.fresh) rows keeps.in_rows place (slice_get_within rows place from at) from_now (number_at rows place from from_now at) lost.inode told in
         let follow = rows_follow l one to.inode (extended k hand step.more) (set rows place from_now) first_follow end (slice_get_within (set rows place from_now) end to to_still) to_now (number_at (set rows place from_now) end to to_now to_still) has.inode to_told in
@@ -191,7 +191,7 @@ module _ {R S : Region} {s : Super} {rows news : List Row} {free mid : FreeLists
         subst (λ (rs : List Row). KeepsRows l then rs) (sym put) left_rows
 
     -- The rows and the free lists are those of what is held.
-    pub mounted_then : {after : FreeLists} → GivesRow mid gone after → IsMounted S s then news after.pools
+    mounted_then : {after : FreeLists} → GivesRow mid gone after → IsMounted S s then news after.pools
     mounted_then given = record { sound = sound_then; keeps = record { in_rows = rows_then; in_lists = lists_gone both_grew step.taken kept.lists shows_gone gone_there given } }
 
     -- And there are such free lists.

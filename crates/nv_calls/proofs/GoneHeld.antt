@@ -57,7 +57,7 @@ module _ {R : Region} {s : Super} {held : Store} {h f : Held} {row gone : Row} {
   pub fresh_free : AreFree l held fresh
   fresh_free = are_free taken l held shows.lists lists
 
-  pub pages_now : grown_log.pages ≡ h.pages ++ fresh
+  pages_now : grown_log.pages ≡ h.pages ++ fresh
   pages_now = ap (λ (ps : List ℕ). h.pages ++ ps) (take_all (needed (h.tail % 4096) entries) fresh (omega (arith, count)))
 
   but : (b : ℕ) → IsUnowned l less b ↔ (IsUnowned l held b × (Contains fresh b → ⊥))

@@ -137,7 +137,7 @@ module _ {R S : Region} {s : Super} {rows news : List Row} {free after : FreeLis
     stays = named_file s i name time step.fresh shows.told from_directory good Remove
 
     to_stays : SameFile l k (extended k hand step.more)
-    to_stays = handed_file s i j other time step.more shows_to.told to_directory good_there good_other
+    to_stays = handed_file s i j other other time step.more shows_to.told to_directory good_there good_other
 
     abbrev one : Store
     one = with_log held from.inode h cut step.fresh
@@ -212,7 +212,7 @@ module _ {R S : Region} {s : Super} {rows news : List Row} {free after : FreeLis
     follows more small own =
         let count = (node_in l f).links - 1 in
         less_across l held from.inode h name (way_to (first ∷ rest)) to.inode k other i j f can (place_of step.fresh 0 h.tail (Name (record { operation = Remove; inode = i; time = time; name = name }))) time (end_of step.fresh 0 h.tail cut) (take (needed (h.tail % 4096) cut) step.fresh)
-        (cut_place s i j other time step.more shows_to.told to_directory good_there good_other) (given_place s i j other time step.more shows_to.told to_directory good_there good_other) (end_of step.more 0 k.tail hand) (take (needed (k.tail % 4096) hand) step.more) (λ e. differ (sym e))
+        (cut_place s i j other other time step.more shows_to.told to_directory good_there good_other) (given_place s i j other other time step.more shows_to.told to_directory good_there good_other) (end_of step.more 0 k.tail hand) (take (needed (k.tail % 4096) hand) step.more) (λ e. differ (sym e))
         own_first own_second file_kind more small (place_of step.rest 0 f.tail (Links (record { count = count; time = time }))) (end_of step.rest 0 f.tail (links_entries count time)) (take (needed (f.tail % 4096) (links_entries count time)) step.rest) own
 
     faultless : IsFaultless l then
@@ -233,7 +233,7 @@ module _ {R S : Region} {s : Super} {rows news : List Row} {free after : FreeLis
         let counts = step.third_is in
         let counted = counts.0 in
         let told = lost_told s i name time step.fresh shows.told from_directory good step.count lost in
-        let to_told = handed_told s i j other time step.more shows_to.told to_directory good_there good_other step.more_count has in
+        let to_told = handed_told s i j other other time step.more shows_to.told to_directory good_there good_other step.more_count has in
         let to_still : slice_get (set rows place from_now) end ≡ Some to = other_set rows place end from_now (places_differ rows place end from to at to_at differ) ∙ to_at in
         let first_follow = rows_follow l held from.inode (extended h cut step.fresh) rows keeps.in_rows place (slice_get_within rows place from at) from_now (number_at rows place from from_now at) lost.inode told in
         let follow = rows_follow l one to.inode (extended k hand step.more) (set rows place from_now) first_follow end (slice_get_within (set rows place from_now) end to to_still) to_now (number_at (set rows place from_now) end to to_now to_still) has.inode to_told in

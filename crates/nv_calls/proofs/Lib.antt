@@ -39,6 +39,12 @@ pub mod GoneAcross
 pub mod LessAcross
 pub mod ReplacedAcross
 pub mod StoppedHanding
+pub mod ReplaceCount
+pub mod ReplacePlaces
+pub mod ReplaceStores
+pub mod ReplaceCall
+pub mod ReplaceBlocks
+pub mod StoppedReplace
 pub mod TwoOut
 pub mod ThreeRows
 pub mod BothHeld
@@ -76,6 +82,7 @@ pub mod MovedWithin
 pub mod FrontsKept
 pub mod OneOut
 pub mod MoveTests
+pub mod ReplaceTests
 pub mod MoveCall
 pub mod StoppedMoves
 pub mod MoveAt
@@ -96,6 +103,7 @@ pub mod SeenAlike
 pub mod OneOutcome
 pub mod Allowed
 pub mod CallsAlike
+pub mod ReplaceAlike
 pub mod CleanAlike
 pub mod AnswersAlike
 pub mod Numbered

@@ -147,30 +147,33 @@ module _ {R : Region} {s : Super} {rows : List Row} {free : FreeLists} {faults :
       let one : Ok step.from.inode ≡ Ok step.to.inode = sym (from_ends step.from both.at) ∙ walked ∙ sym ended ∙ to_ends step.to both.other_at in
       absurd (apart step w.0 (cc))
 
+-- two rows are of one inode where they stand at one place
+pub places_tests : (rows : List Row) (place end : ℕ) (from to : Row) → Rises row_key rows → slice_get rows place ≡ Some from → slice_get rows end ≡ Some to → nat_eq from.inode to.inode ≡ nat_eq place end
+places_tests rows place end from to rising at other_at = tests (nat_eq place end) refl where
+  tests : (b : Bool) → nat_eq place end ≡ b → nat_eq from.inode to.inode ≡ nat_eq place end
+  tests true test =
+      let same : place ≡ end = grind (arith, nat_tests) in
+      let both : Some from ≡ Some to = sym at ∙ ap (slice_get rows) same ∙ other_at in
+      let one : from ≡ to = cc in
+      let number : from.inode ≡ to.inode = ap (λ (r : Row). r.inode) one in
+      let on : nat_eq from.inode to.inode ≡ true = grind (arith, nat_tests) in
+      on ∙ sym test
+  tests false test =
+      let differ : place ≢ end = λ same. (let on : nat_eq place end ≡ true = grind (arith, nat_tests) in let clash : true ≡ false = sym on ∙ test in cc) in
+      let apart : from.inode ≢ to.inode = places_numbers rows place end from to rising at other_at differ in
+      let off : nat_eq from.inode to.inode ≡ false = grind (arith, nat_tests) in
+      off ∙ sym test
+
 -- ---- why it is refused
 
 -- what the logs need, by where they are
-blocks_by : (rows : List Row) (t : Tree) (place end : ℕ) (from to : Row) (names others : List (List ℕ)) (i time : ℕ) (name other : List ℕ) → Rises row_key rows → slice_get rows place ≡ Some from → slice_get rows end ≡ Some to → walk t 1 names ≡ Ok from.inode → row_of rows from.inode ≡ Some from → walk t 1 others ≡ Ok to.inode → row_of rows to.inode ≡ Some to
+pub blocks_by : (rows : List Row) (t : Tree) (place end : ℕ) (from to : Row) (names others : List (List ℕ)) (i time : ℕ) (name other : List ℕ) → Rises row_key rows → slice_get rows place ≡ Some from → slice_get rows end ≡ Some to → walk t 1 names ≡ Ok from.inode → row_of rows from.inode ≡ Some from → walk t 1 others ≡ Ok to.inode → row_of rows to.inode ≡ Some to
     → name ≡ last_name names → other ≡ last_name others → rename_blocks rows t (Some names) (Some others) ≡ move_blocks place end from to i name other time
 blocks_by rows t place end from to names others i time name other rising at other_at walked is ended other_is last other_last =
     (λ k. cond (end_together (walked k) (ended k)) (row_blocks (ended_row rows (walked k)) (move_entries 0 (last_name names) (last_name others) 0)) (row_blocks (ended_row rows (walked k)) (name_entries Add 0 (last_name names) 0) + row_blocks (ended_row rows (ended k)) (name_entries Add 0 (last_name others) 0)))
     ∙ (λ k. cond (nat_eq from.inode to.inode) (row_blocks (is k) (move_entries 0 (last_name names) (last_name others) 0)) (row_blocks (is k) (name_entries Add 0 (last_name names) 0) + row_blocks (other_is k) (name_entries Add 0 (last_name others) 0)))
     ∙ (λ k. cond (nat_eq from.inode to.inode) (needed (from.tail % 4096) (move_entries 0 (sym last k) (sym other_last k) 0)) (needed (from.tail % 4096) (name_entries Add 0 (sym last k) 0) + needed (to.tail % 4096) (name_entries Add 0 (sym other_last k) 0)))
-    ∙ ap (λ (b : Bool). cond b (needed (from.tail % 4096) (move_entries i name other time)) (needed (from.tail % 4096) (name_entries Remove i name time) + needed (to.tail % 4096) (name_entries Add i other time))) (tests (nat_eq place end) refl)
-  where
-    tests : (b : Bool) → nat_eq place end ≡ b → nat_eq from.inode to.inode ≡ nat_eq place end
-    tests true test =
-        let same : place ≡ end = grind (arith, nat_tests) in
-        let both : Some from ≡ Some to = sym at ∙ ap (slice_get rows) same ∙ other_at in
-        let one : from ≡ to = cc in
-        let number : from.inode ≡ to.inode = ap (λ (r : Row). r.inode) one in
-        let on : nat_eq from.inode to.inode ≡ true = grind (arith, nat_tests) in
-        on ∙ sym test
-    tests false test =
-        let differ : place ≢ end = λ same. (let on : nat_eq place end ≡ true = grind (arith, nat_tests) in let clash : true ≡ false = sym on ∙ test in cc) in
-        let apart : from.inode ≢ to.inode = places_numbers rows place end from to rising at other_at differ in
-        let off : nat_eq from.inode to.inode ≡ false = grind (arith, nat_tests) in
-        off ∙ sym test
+    ∙ ap (λ (b : Bool). cond b (needed (from.tail % 4096) (move_entries i name other time)) (needed (from.tail % 4096) (name_entries Remove i name time) + needed (to.tail % 4096) (name_entries Add i other time))) (places_tests rows place end from to rising at other_at)
 
 module _ {P : Type 0} (region : P → Region) {n m : Mount P} (same : n ≡ m) (cpu : ℕ) (passed : (tests : Tests) → first_refusal (writing (world_of m) cpu tests) ≡ first_refusal tests) (place target end : ℕ) (from to moved : Row) (rising : Rises row_key n.rows) (at : slice_get n.rows place ≡ Some from) (other_at : slice_get n.rows end ≡ Some to)
     (is : row_of n.rows from.inode ≡ Some from) (other_is : row_of n.rows to.inode ≡ Some to) (name other : List ℕ) (time : ℕ) (old new : List ℕ) (spot : (names others : List (List ℕ)) → IsPath old names → IsPath new others → IsMoveSpot (tree_of (region n.memory) n.rows) n.rows names others place name target end other)

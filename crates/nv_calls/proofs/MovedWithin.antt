@@ -1,13 +1,11 @@
 -- A name that became another in its directory: what is held, what is kept, the tree, and the log.
-use Rattle.std.proofs.Common.{◌≡◌, ℕ, ◌+◌, ◌%◌, ◌/◌, cond, inl, inr, nat_eq, Bool, true, false, List, ◌∷◌, ◌++◌, set, slice_get, take, ap, sym, ◌∙◌, subst, arith, refl, Option, Some, None, Ok}
+use Rattle.std.proofs.Common.{◌≡◌, ℕ, ◌+◌, ◌%◌, ◌/◌, cond, nat_eq, Bool, false, List, ◌∷◌, set, slice_get, take, ap, sym, ◌∙◌, subst, arith, refl, Option, Some, None, Ok}
 use Rattle.std.specs.Cmp.Lexicographic.{pointwise}
 use Rattle.std.specs.List.{Contains}
 use Rattle.std.specs.Option.{option_and_then, option_map}
 use Rattle.std.proofs.Math.Logic.{∥∥₁_elim}
 use Rattle.std.proofs.Math.Nat.{ℕ_set}
 use Rattle.std.proofs.Props.{props}
-use Rattle.std.proofs.lemmas.Bool.{cases_eq}
-use Rattle.std.proofs.lemmas.Bool.Decides.{nat_tests}
 use Rattle.nv_region.specs.Region.{Region}
 use Rattle.nv_super.specs.declared.superblock.Super.{Super}
 use Rattle.nv_super.specs.declared.faults.Fault.{Fault}
@@ -36,7 +34,7 @@ use Rattle.nv_commit.specs.Extends.{CanExtend, extended, with_log}
 use Rattle.nv_commit.proofs.Called.{either_none, moved_here_faultless}
 use Rattle.nv_tree.specs.Tree.{SameNode, SameTree, Tree, walk}
 use Rattle.nv_tree.specs.Tree as tree
-use Rattle.nv_tree.specs.Calls.{edit, renamed, with_name, without_name}
+use Rattle.nv_tree.specs.Calls.{renamed, with_name, without_name}
 use Rattle.nv_calls.specs.GrownLogs.{ShowsGrownLog}
 use Rattle.nv_paths.specs.MoveSpots.{IsMoveSpot}
 use Rattle.nv_steps.specs.Moves.{MovesWithin, move_entries, move_place}
@@ -50,12 +48,14 @@ use Rattle.nv_calls.proofs.GraphPaths.{graph_agrees, passed_there, walked_there,
 use Rattle.nv_calls.proofs.LinkedHeld.{absent_in}
 use Rattle.nv_steps.proofs.LogGrows.{can_extend, count_held, extended_bytes, fresh_free, pages_now, pages_once}
 use Rattle.nv_calls.proofs.MovedAcross.{renamed_by}
-use Rattle.nv_calls.proofs.MovedEntries.{moved_file, moved_names, moved_numbers}
+use Rattle.nv_calls.proofs.HandedRow.{handed_told}
+use Rattle.nv_calls.proofs.MovedEntries.{moved_file}
 use Rattle.nv_calls.proofs.Mounts.{mounted_with}
 use Rattle.nv_steps.proofs.NamesCounted.{one_less, one_more}
 use Rattle.nv_super.proofs.Members.{stands}
 use Rattle.nv_calls.proofs.RemovedTree.{none_of}
 use Rattle.nv_calls.proofs.RowChange.{kept_after, log_grew, mounted_after, row_bytes, tree_after}
+use Rattle.nv_calls.proofs.RowsTree.{edit_twice}
 use Rattle.nv_steps.proofs.TakenBlocks.{lists_without, taken_sup}
 use Rattle.nv_steps.proofs.OneByOne.{by_rule}
 
@@ -140,20 +140,7 @@ module _ {R S : Region} {s : Super} {rows : List Row} {free after : FreeLists} {
 
     -- The row is of its log.
     told_now : KeepsRow l (extended h entries fresh) new
-    told_now =
-        let told = shows.told in
-        let has = step.row in
-        record {
-          kind = has.kind ∙ told.kind;
-          numbers = moved_numbers l h of_kind i i name other good good_other removal_place addition_place time end pages row.numbers new.numbers told.numbers has.numbers;
-          head = has.head ∙ told.head;
-          tail = has.tail ∙ ap (λ (t : ℕ). end_of fresh 0 t entries) told.tail;
-          pages = has.pages ∙ ap (λ (ps : List ℕ). ps ++ fresh) told.pages ∙ sym (pages_now entries shows kept.lists step.taken step.count given (omega arith));
-          index = λ p. has.index p ∙ told.index p ∙ sym (moved_file l h of_kind i i name other good good_other removal_place addition_place time end pages p);
-          names = λ q. has.names q ∙ ap (λ (t : ℕ). cond (pointwise nat_eq q other) (Some (i, move_place fresh t i name other time)) (name_at has.between q)) told.tail
-              ∙ ap (λ (o : Option (ℕ × ℕ)). cond (pointwise nat_eq q other) (Some (i, addition_place)) o) (has.lost q ∙ ap (λ (o : Option (ℕ × ℕ)). cond (pointwise nat_eq q name) None o) (told.names q))
-              ∙ sym (moved_names l h of_kind i i name other good good_other removal_place addition_place time end pages q);
-        }
+    told_now = handed_told s i i name other time fresh shows.told is_directory good good_other step.count step.row
 
     -- The log has grown by both entries.
     follows : LogFollows R S s held h entries free.pools cpu row new after
@@ -211,21 +198,6 @@ module _ {R S : Region} {s : Super} {rows : List Row} {free after : FreeLists} {
         bytes = λ x below. ap (λ (o : Option ℕ). byte_in S o x) (has.index (x / 4096)) ∙ bytes row (stands rows place row at) x;
       }
 
-  -- one inode changed twice
-  edit_twice : (t : Tree) (d : ℕ) (f g : tree.Node → tree.Node) (j : ℕ) → edit d (λ n. f (g n)) t j ≡ edit d f (edit d g t) j
-  edit_twice t d f g j = elim (cases_eq j d) [
-    | inl same ↦ (
-        let on : nat_eq j d ≡ true = grind (arith, nat_tests) in
-        let own : nat_eq d d ≡ true = grind (arith, nat_tests) in
-        ap (λ (b : Bool). cond b (option_map (λ n. f (g n)) (t d)) (t j)) on ∙ twice (t d) ∙ sym (ap (λ (b : Bool). cond b (option_map f (cond (nat_eq d d) (option_map g (t d)) (t d))) (cond (nat_eq j d) (option_map g (t d)) (t j))) on ∙ ap (λ (b : Bool). option_map f (cond b (option_map g (t d)) (t d))) own))
-    | inr apart ↦ (
-        let off : nat_eq j d ≡ false = grind (arith, nat_tests) in
-        ap (λ (b : Bool). cond b (option_map (λ n. f (g n)) (t d)) (t j)) off ∙ sym (ap (λ (b : Bool). cond b (option_map f (cond (nat_eq d d) (option_map g (t d)) (t d))) (cond b (option_map g (t d)) (t j))) off))
-  ] where
-    twice : (o : Option tree.Node) → option_map (λ n. f (g n)) o ≡ option_map f (option_map g o)
-    twice None = refl
-    twice (Some n) = refl
-
   -- The tree is what the call makes of that of before.
   pub within_tree : tree.SameTree (tree_of S (set rows place new)) (renamed names (first ∷ rest) time (tree_of R rows))
   within_tree =
@@ -235,4 +207,4 @@ module _ {R S : Region} {s : Super} {rows : List Row} {free after : FreeLists} {
       let in_directory = free_name.directory in
       let same = tree_after kept runs writes place row new at entries follows (λ n. with_name other i time (without_name name time n)) has.inode moved_node in
       let made = renamed_by names (first ∷ rest) time (tree_of R rows) i row.inode row.inode name other (there.leads moved moved_at) (there.directory row at).0 walked there.name_is in_directory.name_is in
-      subst (λ (t : Tree). SameTree (tree_of S (set rows place new)) t) (sym made) (λ j. subst (λ (o : Option tree.Node). tree.SameNodes (tree_of S (set rows place new) j) o) (edit_twice (tree_of R rows) row.inode (with_name other i time) (without_name name time) j) (same j))
+      subst (λ (t : Tree). SameTree (tree_of S (set rows place new)) t) (edit_twice (tree_of R rows) row.inode (with_name other i time) (without_name name time) ∙ sym made) same

@@ -1,5 +1,5 @@
 -- What is known of the number that a new inode gets, and of the directory that gets its name, where it can be written.
-use Rattle.std.proofs.Common.{◌≡◌, ℕ, zero, suc, ◌+◌, ◌*◌, ◌/◌, ◌<◌, ◌≤◌, nat_eq, not, ◌&&◌, Bool, true, false, cond, IsTrue, is_none, List, map, refl, subst, arith, Option, Some, None}
+use Rattle.std.proofs.Common.{◌≡◌, ℕ, zero, suc, ◌+◌, ◌*◌, ◌/◌, ◌<◌, ◌≤◌, nat_eq, not, ◌&&◌, Bool, true, false, cond, IsTrue, is_none, List, map, refl, sym, ◌∙◌, subst, arith, Option, Some, None}
 use Rattle.std.specs.List.{Contains, find, range_with_len}
 use Rattle.std.proofs.Math.Logic.{∥∥₁_elim}
 use Rattle.std.proofs.Math.Nat.{ℕ_set, mul-le-mul_right}
@@ -8,7 +8,7 @@ use Rattle.std.proofs.lemmas.Bool.Decides.{nat_tests}
 use Rattle.nv_region.specs.Region.{Region}
 use Rattle.nv_super.specs.declared.superblock.Super.{Super}
 use Rattle.nv_super.specs.declared.faults.Fault.{Fault}
-use Rattle.nv_super.specs.Layout.{inode_limit, is_number, system_blocks}
+use Rattle.nv_super.specs.Layout.{fixed_layout, inode_limit, is_number, system_blocks}
 use Rattle.nv_journal.specs.Undo.{enqueue, is_sound}
 use Rattle.nv_journal.specs.Pending.{IsEmpty}
 use Rattle.nv_alloc.specs.FreeValue.{FreeLists}
@@ -21,6 +21,7 @@ use Rattle.nv_held.proofs.Shown.{stands_at}
 use Rattle.nv_calls.specs.Mount.{IsKept}
 use Rattle.nv_steps.specs.NewNames.{CanName}
 use Rattle.nv_rows.specs.Unused.{is_unused, unused_number}
+use Rattle.nv_rows.proofs.TableNumbers.{fixed_unused}
 use Rattle.nv_calls.proofs.Mounts.{mounted_of_kept}
 use Rattle.nv_calls.proofs.OneRow.{shows_row}
 
@@ -61,9 +62,9 @@ pub number_below : (s : Super) (j : ℕ) → IsTrue (is_number s j) → j < inod
 number_below s j number = grind (arith, nat_tests)
 
 -- No row has it, and it is a number that an inode can have.
-pub unused_is : (s : Super) (rows : List Row) (cpu j : ℕ) → cpu < s.cpus → unused_number s rows cpu ≡ Some j → (row_of rows j ≡ None) × IsTrue (is_number s j)
+pub unused_is : (s : Super) (rows : List Row) (cpu j : ℕ) → cpu < s.cpus → unused_number (fixed_layout s) rows cpu ≡ Some j → (row_of rows j ≡ None) × IsTrue (is_number s j)
 unused_is s rows cpu j low e =
-    let w = find_in (is_unused rows) (λ k. k * s.cpus + cpu) (32 * s.table_blocks) 0 j e in
+    let w = find_in (is_unused rows) (λ k. k * s.cpus + cpu) (32 * s.table_blocks) 0 j (sym (fixed_unused s rows cpu) ∙ e) in
     let tests = not_some (nat_eq j 0) (row_of rows j) w.passes in
     let under = w.below in
     let is = w.is in

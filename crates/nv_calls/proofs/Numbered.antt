@@ -1,9 +1,8 @@
 -- Why the calls that take an inode's number are refused, and when they are not.
-use Rattle.std.proofs.Common.{◌≡◌, ℕ, Bool, false, not, is_none, [], ◌∷◌, refl, ap, ◌∙◌, Option, Some, None, Result, Err}
-use Rattle.std.specs.Result.{IfErr}
+use Rattle.std.proofs.Common.{◌≡◌, is_none, ◌∷◌, refl, Option, Some, None}
 use Rattle.nv_tree.specs.declared.refusal.Refusal.{Refusal}
 use Rattle.nv_tree.specs.declared.refusal.Refusal.TheVariants.{NotFound}
-use Rattle.nv_tree.specs.Tree.{Node, Tree}
+use Rattle.nv_tree.specs.Tree.{Node}
 use Rattle.nv_tree.specs.Refusals.{Tests, first_refusal}
 
 -- where no inode in use has the number, that is told first, whatever the other tests are

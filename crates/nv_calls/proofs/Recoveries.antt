@@ -17,7 +17,8 @@ use Rattle.nv_held.proofs.nv_outcome.OnlyOne.{same_outcome}
 use Rattle.nv_held.proofs.nv_outcome.SuperOf.{one_super}
 use Rattle.nv_calls.specs.Stopped.{RecoversTo}
 
-row_then : {a b c : Row} → SameRow a b → SameRow b c → SameRow a c
+-- what is the same as the same
+pub row_then : {a b c : Row} → SameRow a b → SameRow b c → SameRow a c
 row_then first second = record {
   inode = second.inode ∙ first.inode;
   kind = second.kind ∙ first.kind;

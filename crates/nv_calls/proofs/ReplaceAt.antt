@@ -32,6 +32,8 @@ more_links row on = more row.numbers.links (both_true (not (is_directory row.kin
 nothing_more : (n : ℕ) → n ≡ n + 0
 nothing_more n = omega arith
 
+-- ---- how many blocks it takes, within one directory
+
 module _ (row there : Row) (i : ℕ) (name other : List ℕ) (time : ℕ) where
   abbrev of_names : ℕ
   of_names = needed (row.tail % 4096) (take_entries i there.inode name other time)
@@ -45,7 +47,7 @@ module _ (row there : Row) (i : ℕ) (name other : List ℕ) (time : ℕ) where
   pub blocks_go : keeps_others there ≡ false → of_names ≡ replace_here_blocks row there i name other time
   blocks_go off = nothing_more of_names ∙ ap (λ (b : Bool). of_names + cond b of_links 0) (sym off)
 
--- ---- the same for two directories
+-- ---- and across two
 
 module _ (from to there : Row) (i : ℕ) (name other : List ℕ) (time : ℕ) where
   abbrev of_hands : ℕ

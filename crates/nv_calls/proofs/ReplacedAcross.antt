@@ -141,16 +141,9 @@ module _ {R : Region} {s : Super} {rows : List Row} {free : FreeLists} {faults :
 
   module _ {S : Region} {news : List Row} {mid : FreeLists} {cpu time : ℕ} {from from_now to to_now gone : Row} (at : slice_get rows place ≡ Some from) (to_at : slice_get rows end ≡ Some to) (gone_at : slice_get rows target ≡ Some gone) (step : TakesAcross R S s free mid cpu from from_now to to_now i gone.inode name other time)
       (put : news ≡ remove (set (set rows place from_now) end to_now) target) (goes : keeps_others gone ≡ false) where
-    pub gone_kept : {after : FreeLists} → GivesRow mid gone after → (later : Bool) → IsKept S s news after faults read_only later
+    gone_kept : {after : FreeLists} → GivesRow mid gone after → (later : Bool) → IsKept S s news after faults read_only later
     gone_kept given later = gone_across.kept_then kept runs writes target moved at to_at moved_at gone_at step put names first rest (spot_here gone gone_at) (good_here name spelled source moved moved_at) (good_here other spelled_other source moved moved_at) (good_here other spelled_other target gone gone_at)
         (apart_here gone gone_at) goes (both_apart from to at to_at) (from_apart from at gone gone_at) (to_apart to to_at gone gone_at) given later
-
-    pub gone_mounted : {after : FreeLists} → GivesRow mid gone after → (held : Store) (m : IsMounted R s held rows free.pools) → (then : Store) × IsMounted S s then news after.pools
-    gone_mounted given held m = (
-      _,
-      gone_across.mounted_then kept runs writes target moved at to_at moved_at gone_at step put names first rest (spot_here gone gone_at) (good_here name spelled source moved moved_at) (good_here other spelled_other source moved moved_at) (good_here other spelled_other target gone gone_at)
-          (apart_here gone gone_at) goes (both_apart from to at to_at) (from_apart from at gone gone_at) (to_apart to to_at gone gone_at) held m given,
-    )
 
     pub gone_some : (held : Store) (m : IsMounted R s held rows free.pools) → (then : Store) × (lists : List (List Run)) × IsMounted S s then news lists
     gone_some held m =
@@ -201,7 +194,7 @@ module _ {R : Region} {s : Super} {rows : List Row} {free : FreeLists} {faults :
 
   module _ {S : Region} {news : List Row} {after : FreeLists} {cpu time : ℕ} {from from_now to to_now file file_now : Row} (at : slice_get rows place ≡ Some from) (to_at : slice_get rows end ≡ Some to) (file_at : slice_get rows target ≡ Some file) (step : LessensAcross R S s free after cpu from from_now to to_now file file_now i name other time)
       (put : news ≡ set (set (set rows place from_now) end to_now) target file_now) (has_more : keeps_others file ≡ true) where
-    pub less_kept : (later : Bool) → IsKept S s news after faults read_only later
+    less_kept : (later : Bool) → IsKept S s news after faults read_only later
     less_kept later = less_across.kept_then kept runs writes target moved at to_at moved_at file_at step put names first rest (spot_here file file_at) (good_here name spelled source moved moved_at) (good_here other spelled_other source moved moved_at) (good_here other spelled_other target file file_at)
         (apart_here file file_at) has_more (both_apart from to at to_at) (from_apart from at file file_at) (to_apart to to_at file file_at) later
 
@@ -268,13 +261,6 @@ module _ {R : Region} {s : Super} {rows : List Row} {free : FreeLists} {faults :
       by : ReplacesOver R S s free after cpu rows news place end target i name other time → IsKept S s news after faults read_only later
       by (inl w) = let step = w.1 in less_kept step.at step.to_at step.file_at step.step step.put (w.0 step.file step.file_at) later
       by (inr w) = let step = w.1 in gone_kept step.at step.to_at step.gone_at step.step step.put (w.0 step.gone step.gone_at) step.given later
-
-    -- What is mounted, for what is held of the region of before.
-    pub over_mounted : (held : Store) (m : IsMounted R s held rows free.pools) → (then : Store) × IsMounted S s then news after.pools
-    over_mounted held m = by done where
-      by : ReplacesOver R S s free after cpu rows news place end target i name other time → (then : Store) × IsMounted S s then news after.pools
-      by (inl w) = let step = w.1 in less_mounted step.at step.to_at step.file_at step.step step.put (w.0 step.file step.file_at) held m
-      by (inr w) = let step = w.1 in gone_mounted step.at step.to_at step.gone_at step.step step.put (w.0 step.gone step.gone_at) step.given held m
 
     -- The tree is what the call makes of that of before.
     pub over_tree : SameTree (tree_of S news) (replaced names others time t)

@@ -45,7 +45,7 @@ use Rattle.nv_calls.proofs.ReplacedSpot.{apart_at, from_differs, goes_there, goo
 use Rattle.nv_calls.proofs.ReplacedTree.{replaced_gone, replaced_less}
 use Rattle.nv_calls.proofs.RowsTree.{edit_twice, edits_swap, put_swaps, row_changed, row_gone, tree_stays}
 use Rattle.nv_calls.proofs.TakenOut.{places_differ}
-use Rattle.nv_calls.proofs.TakenRows.{bytes_kept, kept_then, mounted_some, mounted_then, was_taken}
+use Rattle.nv_calls.proofs.TakenRows.{bytes_kept, kept_then, mounted_some, was_taken}
 use Rattle.nv_calls.proofs.TakenSpot.{spot_named, spot_taken}
 use Rattle.nv_calls.proofs.TakenTree.{taken_node}
 
@@ -116,18 +116,15 @@ module _ {R : Region} {s : Super} {rows : List Row} {free : FreeLists} {faults :
   -- ---- where it goes
 
   module _ {S : Region} {news : List Row} {mid : FreeLists} {cpu time : ℕ} {row now gone : Row} (at : slice_get rows place ≡ Some row) (gone_at : slice_get rows target ≡ Some gone) (step : TakesWithin R S s free mid cpu row now i gone.inode name other time) (put : news ≡ remove (set rows place now) target) (goes : keeps_others gone ≡ false) where
-    pub gone_kept : {after : FreeLists} → GivesRow mid gone after → (later : Bool) → IsKept S s news after faults read_only later
+    gone_kept : {after : FreeLists} → GivesRow mid gone after → (later : Bool) → IsKept S s news after faults read_only later
     gone_kept given later = kept_then kept runs writes target moved at moved_at gone_at step put names first rest (spot_here gone gone_at) (good_here name spelled source moved moved_at) (good_here other spelled_other source moved moved_at) (good_here other spelled_other target gone gone_at) (apart_here gone gone_at) goes given later
-
-    pub gone_mounted : {after : FreeLists} → GivesRow mid gone after → (held : Store) (m : IsMounted R s held rows free.pools) → (then : Store) × IsMounted S s then news after.pools
-    gone_mounted given held m = (_, mounted_then kept runs writes target moved at moved_at gone_at step put names first rest (spot_here gone gone_at) (good_here name spelled source moved moved_at) (good_here other spelled_other source moved moved_at) (good_here other spelled_other target gone gone_at) (apart_here gone gone_at) goes held m given)
 
     pub gone_some : (held : Store) (m : IsMounted R s held rows free.pools) → (then : Store) × (lists : List (List Run)) × IsMounted S s then news lists
     gone_some held m =
         let w = mounted_some kept runs writes target moved at moved_at gone_at step put names first rest (spot_here gone gone_at) (good_here name spelled source moved moved_at) (good_here other spelled_other source moved moved_at) (good_here other spelled_other target gone gone_at) (apart_here gone gone_at) goes held m in
         (_, w.0, w.1)
 
-    pub gone_log : (held : Store) (g : Held) → ShowsSound R s held → held row.inode ≡ Some g → ShowsRemoved S s free.pools cpu held row.inode g (take_entries i gone.inode name other time) gone.inode
+    gone_log : (held : Store) (g : Held) → ShowsSound R s held → held row.inode ≡ Some g → ShowsRemoved S s free.pools cpu held row.inode g (take_entries i gone.inode name other time) gone.inode
     gone_log held g sound is = was_taken kept runs writes target moved at moved_at gone_at step put names first rest (spot_here gone gone_at) (good_here name spelled source moved moved_at) (good_here other spelled_other source moved moved_at) (good_here other spelled_other target gone gone_at) (apart_here gone gone_at) goes held g sound is
 
     pub gone_last : (a b d : ℕ) (node : Node) (held : Store) (h : Held) → TakesPlace t names others a b d d node → ShowsSound R s held → held d ≡ Some h → ShowsRemoved S s free.pools cpu held d h (take_entries a b (last_name names) (last_name others) time) b
@@ -187,13 +184,13 @@ module _ {R : Region} {s : Super} {rows : List Row} {free : FreeLists} {faults :
     less_differ : row.inode ≢ file.inode
     less_differ = rows_differ row at file file_at
 
-    pub less_kept : (later : Bool) → IsKept S s news after faults read_only later
+    less_kept : (later : Bool) → IsKept S s news after faults read_only later
     less_kept = both_kept kept runs writes step.step less_differ right
 
     pub less_mounted : (held : Store) (m : IsMounted R s held rows free.pools) → (then : Store) × IsMounted S s then news after.pools
     less_mounted held m = (_, both_mounted.mounted_then kept runs writes step.step less_differ right held m)
 
-    pub less_logs : (held : Store) (a b : Held) → ShowsSound R s held → held row.inode ≡ Some a → held file.inode ≡ Some b → ShowsBothGrew S s free.pools cpu held row.inode a (take_entries i file.inode name other time) file.inode b (links_entries (links - 1) time)
+    less_logs : (held : Store) (a b : Held) → ShowsSound R s held → held row.inode ≡ Some a → held file.inode ≡ Some b → ShowsBothGrew S s free.pools cpu held row.inode a (take_entries i file.inode name other time) file.inode b (links_entries (links - 1) time)
     less_logs = both_logs kept runs writes step.step less_differ right
 
     pub less_more : (a b d : ℕ) (node : Node) (held : Store) (h f : Held) → TakesPlace t names others a b d d node → ShowsSound R s held → held d ≡ Some h → held b ≡ Some f
@@ -249,13 +246,6 @@ module _ {R : Region} {s : Super} {rows : List Row} {free : FreeLists} {faults :
       by : ReplacesHere R S s free after cpu rows news place target i name other time → IsKept S s news after faults read_only later
       by (inl w) = less_kept w.1 (w.0 w.1.file (at_file w.1)) later
       by (inr w) = let step = w.1 in gone_kept step.at step.gone_at step.step step.put (w.0 step.gone step.gone_at) step.given later
-
-    -- What is mounted, for what is held of the region of before.
-    pub here_mounted : (held : Store) (m : IsMounted R s held rows free.pools) → (then : Store) × IsMounted S s then news after.pools
-    here_mounted held m = by done where
-      by : ReplacesHere R S s free after cpu rows news place target i name other time → (then : Store) × IsMounted S s then news after.pools
-      by (inl w) = less_mounted w.1 (w.0 w.1.file (at_file w.1)) held m
-      by (inr w) = let step = w.1 in gone_mounted step.at step.gone_at step.step step.put (w.0 step.gone step.gone_at) step.given held m
 
     -- The tree is what the call makes of that of before.
     pub here_tree : SameTree (tree_of S news) (replaced names others time t)

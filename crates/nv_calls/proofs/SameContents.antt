@@ -47,7 +47,7 @@ one_of : (b : Bool) (o p x y : Option Node) → SameContents o p → SameContent
 one_of true o p x y s r = s
 one_of false o p x y s r = r
 
-put_same : (t u : Tree) (i : ℕ) (o p : Option Node) → SameContents o p → SameFiles t u → SameFiles (put_node i o t) (put_node i p u)
+pub put_same : (t u : Tree) (i : ℕ) (o p : Option Node) → SameContents o p → SameFiles t u → SameFiles (put_node i o t) (put_node i p u)
 put_same t u i o p s same j = one_of (eqb j i) o p (t j) (u j) s (same j)
 
 mapped_same : (f g : Node → Node) → ((a b : Node) → SameContent a b → SameContent (f a) (g b)) → (o p : Option Node) → SameContents o p → SameContents (option_map f o) (option_map g p)
@@ -56,18 +56,18 @@ mapped_same f g keeps None (Some b) s = s
 mapped_same f g keeps (Some a) None s = s
 mapped_same f g keeps (Some a) (Some b) s = keeps a b s
 
-edit_same : (t u : Tree) (i : ℕ) (f g : Node → Node) → ((a b : Node) → SameContent a b → SameContent (f a) (g b)) → SameFiles t u → SameFiles (edit i f t) (edit i g u)
+pub edit_same : (t u : Tree) (i : ℕ) (f g : Node → Node) → ((a b : Node) → SameContent a b → SameContent (f a) (g b)) → SameFiles t u → SameFiles (edit i f t) (edit i g u)
 edit_same t u i f g keeps same = put_same t u i (option_map f (t i)) (option_map g (u i)) (mapped_same f g keeps (t i) (u i) (same i)) same
 
 -- ---- the changes of an inode
 
-name_same : (name : List ℕ) (i time : ℕ) (a b : Node) → SameContent a b → SameContent (with_name name i time a) (with_name name i time b)
+pub name_same : (name : List ℕ) (i time : ℕ) (a b : Node) → SameContent a b → SameContent (with_name name i time a) (with_name name i time b)
 name_same name i time a b s = record { size = s.size; bytes = s.bytes }
 
-no_name_same : (name : List ℕ) (time : ℕ) (a b : Node) → SameContent a b → SameContent (without_name name time a) (without_name name time b)
+pub no_name_same : (name : List ℕ) (time : ℕ) (a b : Node) → SameContent a b → SameContent (without_name name time a) (without_name name time b)
 no_name_same name time a b s = record { size = s.size; bytes = s.bytes }
 
-links_same : (m n time : ℕ) (a b : Node) → SameContent a b → SameContent (with_links m time a) (with_links n time b)
+pub links_same : (m n time : ℕ) (a b : Node) → SameContent a b → SameContent (with_links m time a) (with_links n time b)
 links_same m n time a b s = record { size = s.size; bytes = s.bytes }
 
 attributes_same : (mode owner group time : ℕ) (a b : Node) → SameContent a b → SameContent (with_attributes mode owner group time a) (with_attributes mode owner group time b)

@@ -6,6 +6,7 @@ use Rattle.std.specs.List.{find, range_with_len}
 use Rattle.std.specs.Option.{option_map, option_and_then, option_map_or}
 use Rattle.nv_region.specs.Region.{Region}
 use Rattle.nv_super.specs.declared.superblock.Super.{Super}
+use Rattle.nv_super.specs.Layout.{fixed_layout}
 use Rattle.nv_super.specs.Order.{Lists}
 use Rattle.nv_super.proofs.Rising.{Lists-only}
 use Rattle.nv_names.specs.Names.{Names, found_in, name_at}
@@ -193,8 +194,8 @@ unused_at xs ys same i = by (row_of xs i) (row_of ys i) (rows_at xs ys same i) w
   by (Some a) None s = absurd s
   by (Some a) (Some b) s = refl
 
-pub unused_same : (s z : Super) (xs ys : List Row) → z ≡ s → SameRows xs ys → (cpu : ℕ) → unused_number z ys cpu ≡ unused_number s xs cpu
-unused_same s z xs ys sup same cpu = ap (λ (x : Super). unused_number x ys cpu) sup ∙ (λ i. find (λ x. not (nat_eq x 0) && unused_at xs ys same x i) (numbers_in_table s cpu))
+pub unused_same : (s z : Super) (xs ys : List Row) → z ≡ s → SameRows xs ys → (cpu : ℕ) → unused_number (fixed_layout z) ys cpu ≡ unused_number (fixed_layout s) xs cpu
+unused_same s z xs ys sup same cpu = ap (λ (x : Super). unused_number (fixed_layout x) ys cpu) sup ∙ (λ i. find (λ x. not (nat_eq x 0) && unused_at xs ys same x i) (numbers_in_table (fixed_layout s) cpu))
 
 -- ---- paths
 

@@ -1,33 +1,27 @@
--- What recovery finds in a region that a stop has left where a name went from one directory to another, in which it stood for another
--- inode.
+-- For `replace` from one directory to another: what it leaves of the logs, and what recovery finds in a region that a stop within it
+-- has left.
 use Rattle.std.proofs.Common.{◌≡◌, ◌≢◌, ◌⊎◌, ℕ, true, false, inl, inr, List, ◌∷◌, remove, set, slice_get, refl, ◌∙◌, Some}
-use Rattle.std.proofs.Math.Logic.{∥∥₁_map}
 use Rattle.nv_region.specs.Region.{Region}
-use Rattle.nv_region.specs.Stops.{Choices, LeavesOnly, NothingPending}
 use Rattle.nv_super.specs.declared.superblock.Super.{Super}
 use Rattle.nv_super.specs.Layout.{fixed_layout}
-use Rattle.nv_super.proofs.Members.{stands}
 use Rattle.nv_journal.specs.Undo.{undone}
 use Rattle.nv_alloc.specs.FreeValue.{FreeLists}
 use Rattle.nv_scan.specs.declared.piece.Row.{Row}
 use Rattle.nv_rows.specs.Rows.{place_in}
 use Rattle.nv_rows.proofs.Places.{at_place}
 use Rattle.nv_held.specs.nv_graph.Read.{row_of}
-use Rattle.nv_held.specs.Held.{Held, Store}
+use Rattle.nv_held.specs.Held.{Store}
 use Rattle.nv_held.specs.Mounted.{IsMounted}
 use Rattle.nv_commit.specs.Stopped.{CanRecover, LeavesEither}
 use Rattle.nv_tree.specs.Path.{IsPathName}
 use Rattle.nv_tree.specs.Replace.{replaced}
 use Rattle.nv_paths.specs.ReplaceSpots.{IsReplaceSpot}
 use Rattle.nv_paths.specs.Seen.{tree_of}
-use Rattle.nv_steps.specs.Across.{LessenedAcross, TookAcross}
-use Rattle.nv_steps.specs.Steps.{ShowsRow}
+use Rattle.nv_steps.specs.Across.{LessenedAcross, LessensAcross, TakesAcross, TookAcross}
 use Rattle.nv_calls.specs.Mount.{IsKept, Mount}
-use Rattle.nv_calls.specs.ReplaceCalls.{ReplacedOver, keeps_others}
+use Rattle.nv_calls.specs.ReplaceCalls.{ReplacedOver, ReplacesOver, keeps_others}
 use Rattle.nv_calls.specs.ReplaceLogs.{LogsHanded}
-use Rattle.nv_calls.specs.Stopped.{IsAsMade, IsAsMounted, StopLeaves}
-use Rattle.nv_calls.proofs.Mounts.{mounted_of_kept}
-use Rattle.nv_calls.proofs.OneRow.{shows_row}
+use Rattle.nv_calls.specs.Stopped.{IsAsMade, IsAsMounted}
 use Rattle.nv_calls.proofs.ReplacedAcross.{gone_last, gone_others, gone_some, gone_tree, less_more, less_mounted, less_others, less_tree}
 use Rattle.nv_calls.proofs.Stopped.{recovers_to, still_mounted}
 
@@ -64,6 +58,28 @@ module _ {P : Type 0} (region : P → Region) (n : Mount P) (kept : IsKept (regi
   there_there : slice_get rows (place_in rows k) ≡ Some there
   there_there = at_place rows k ∙ there_at
 
+  -- ---- the logs
+
+  less_logged : {S : Region} {news : List Row} {after : FreeLists} {one one_now two two_now file file_now : Row} (one_at : slice_get rows (place_in rows i) ≡ Some one) (two_at : slice_get rows (place_in rows e) ≡ Some two) (file_at : slice_get rows (place_in rows k) ≡ Some file)
+      (step : LessensAcross R S s free after cpu one one_now two two_now file file_now moved.inode name other time) → news ≡ set (set (set rows (place_in rows i) one_now) (place_in rows e) two_now) (place_in rows k) file_now → keeps_others file ≡ true → LogsHanded cpu time others R n names S
+  less_logged one_at two_at file_at step put stays = record {
+    more = λ a b d c node st h g f takes parted sound is other_is last_is on. less_more kept runs writes (place_in rows k) moved there moved_there there_there spelled spelled_other first_old old first rest spot apart places_apart one_at two_at file_at step put stays a b d c node st h g f takes sound is other_is last_is;
+    last = λ a b d c node st h g takes parted sound is other_is off. absurd (less_others kept runs writes (place_in rows k) moved there moved_there there_there spelled spelled_other first_old old first rest spot apart places_apart one_at two_at file_at step put stays a b d c node takes off);
+  }
+
+  gone_logged : {S : Region} {news : List Row} {mid : FreeLists} {one one_now two two_now gone : Row} (one_at : slice_get rows (place_in rows i) ≡ Some one) (two_at : slice_get rows (place_in rows e) ≡ Some two) (gone_at : slice_get rows (place_in rows k) ≡ Some gone)
+      (step : TakesAcross R S s free mid cpu one one_now two two_now moved.inode gone.inode name other time) → news ≡ remove (set (set rows (place_in rows i) one_now) (place_in rows e) two_now) (place_in rows k) → keeps_others gone ≡ false → LogsHanded cpu time others R n names S
+  gone_logged one_at two_at gone_at step put goes = record {
+    more = λ a b d c node st h g f takes parted sound is other_is last_is on. absurd (gone_others kept runs writes (place_in rows k) moved there moved_there there_there spelled spelled_other first_old old first rest spot apart places_apart one_at two_at gone_at step put goes a b d c node takes on);
+    last = λ a b d c node st h g takes parted sound is other_is off. gone_last kept runs writes (place_in rows k) moved there moved_there there_there spelled spelled_other first_old old first rest spot apart places_apart one_at two_at gone_at step put goes a b d c node st h g takes sound is other_is;
+  }
+
+  pub over_logged : {S : Region} {news : List Row} {after : FreeLists} → ReplacesOver R S s free after cpu rows news (place_in rows i) (place_in rows e) (place_in rows k) moved.inode name other time → LogsHanded cpu time others R n names S
+  over_logged (inl w) = let step = w.1 in less_logged step.at step.to_at step.file_at step.step step.put (w.0 step.file step.file_at)
+  over_logged (inr w) = let step = w.1 in gone_logged step.at step.to_at step.gone_at step.step step.put (w.0 step.gone step.gone_at)
+
+  -- ---- stops
+
   -- where the file counts a link less
   less_made : (left : Region) (held : Store) (mounted : IsMounted R s held rows free.pools) → CanRecover s left → keeps_others there ≡ true → LessenedAcross R s free cpu from to there moved.inode name other time (undone s left)
       → IsAsMade s (replaced names others time (tree_of R rows)) (LogsHanded cpu time others R n names) left
@@ -72,10 +88,7 @@ module _ {P : Type 0} (region : P → Region) (n : Mount P) (kept : IsKept (regi
     free = (w.0).pools;
     recovers = recovers_to can (less_mounted kept runs writes (place_in rows k) moved there moved_there there_there spelled spelled_other first_old old first rest spot apart places_apart from_there to_there there_there w.4 refl on held mounted).1;
     tree = less_tree kept runs writes (place_in rows k) moved there moved_there there_there spelled spelled_other first_old old first rest spot apart places_apart from_there to_there there_there w.4 refl on;
-    logs = record {
-      more = λ a b d c node st h g f takes parted sound is other_is last_is yes. less_more kept runs writes (place_in rows k) moved there moved_there there_there spelled spelled_other first_old old first rest spot apart places_apart from_there to_there there_there w.4 refl on a b d c node st h g f takes sound is other_is last_is;
-      last = λ a b d c node st h g takes parted sound is other_is off. absurd (less_others kept runs writes (place_in rows k) moved there moved_there there_there spelled spelled_other first_old old first rest spot apart places_apart from_there to_there there_there w.4 refl on a b d c node takes off);
-    };
+    logs = less_logged from_there to_there there_there w.4 refl on;
   }
 
   -- where it goes
@@ -88,10 +101,7 @@ module _ {P : Type 0} (region : P → Region) (n : Mount P) (kept : IsKept (regi
         free = v.1;
         recovers = recovers_to can v.2;
         tree = gone_tree kept runs writes (place_in rows k) moved there moved_there there_there spelled spelled_other first_old old first rest spot apart places_apart from_there to_there there_there w.3 refl off;
-        logs = record {
-          more = λ a b d c node st h g f takes parted sound is other_is last_is on. absurd (gone_others kept runs writes (place_in rows k) moved there moved_there there_there spelled spelled_other first_old old first rest spot apart places_apart from_there to_there there_there w.3 refl off a b d c node takes on);
-          last = λ a b d c node st h g takes parted sound is other_is none. gone_last kept runs writes (place_in rows k) moved there moved_there there_there spelled spelled_other first_old old first rest spot apart places_apart from_there to_there there_there w.3 refl off a b d c node st h g takes sound is other_is;
-        };
+        logs = gone_logged from_there to_there there_there w.3 refl off;
       }
 
   pub over_by : (left : Region) (held : Store) (mounted : IsMounted R s held rows free.pools) → LeavesEither R (fixed_layout s) held (ReplacedOver R s free cpu from to there moved.inode name other time) left
@@ -101,14 +111,3 @@ module _ {P : Type 0} (region : P → Region) (n : Mount P) (kept : IsKept (regi
     by : ReplacedOver R s free cpu from to there moved.inode name other time (undone s left) → IsAsMade s (replaced names others time (tree_of R rows)) (LogsHanded cpu time others R n names) left
     by (inl v) = less_made left held mounted w.0 v.0 v.1
     by (inr v) = gone_made left held mounted w.0 v.0 v.1
-
-  -- What a stop leaves within the step.
-  pub over_left : (S : Region) (before last : Choices)
-      → ((held : Store) (h g f : Held) → ShowsRow R s held h from free → ShowsRow R s held g to free → ShowsRow R s held f there free → NothingPending R before
-      → LeavesOnly S last (LeavesEither R (fixed_layout s) held (ReplacedOver R s free cpu from to there moved.inode name other time)))
-      → NothingPending R before → LeavesOnly S last (StopLeaves R s rows free.pools (replaced names others time (tree_of R rows)) (LogsHanded cpu time others R n names))
-  over_left S before last step settled left may = ∥∥₁_map (mounted_of_kept kept runs writes) (λ w.
-      let v = shows_row w.1 kept.lists from (stands rows (place_in rows i) from from_there) in
-      let x = shows_row w.1 kept.lists to (stands rows (place_in rows e) to to_there) in
-      let u = shows_row w.1 kept.lists there (stands rows (place_in rows k) there there_there) in
-      over_by left w.0 w.1 (step w.0 v.0 x.0 u.0 v.1 x.1 u.1 settled left may))

@@ -76,7 +76,7 @@ module _ {P : Type 0} (region : P → Region) {n m : Mount P} (same : n ≡ m) (
       let news = set (set rows (place_in rows i) w.1.1) (place_in rows e) w.1.2 in
       (news, w.1.0, inr (w.0, record { from = from; to = to; moved = moved; moved_at = moved_there; step = lifted rows news i e from to w.1.1 w.1.2 (λ is. w.0 (ap (place_in rows) is)) at other_at refl w.1.3 }))
 
-  rename_by : (left : Region) (held : Store) (mounted : IsMounted R s held rows free.pools) → LeavesEither R (fixed_layout s) held (Renamed R s free cpu (place_in rows i) (place_in rows e) from to moved.inode name other time) left
+  pub rename_by : (left : Region) (held : Store) (mounted : IsMounted R s held rows free.pools) → LeavesEither R (fixed_layout s) held (Renamed R s free cpu (place_in rows i) (place_in rows e) from to moved.inode name other time) left
       → IsAsMounted R s rows free.pools left ⊎ IsAsMade s (renamed names (first ∷ rest) time (tree_of R rows)) (LogsMove cpu time (first ∷ rest) R n names) left
   rename_by left held mounted (inl as_before) = inl (still_mounted mounted as_before)
   rename_by left held mounted (inr w) =

@@ -73,7 +73,7 @@ can_insert (x ∷ rows) row up none = elim (cases_lt row.inode x.inode) [
 ]
 
 module _ {P : Type 0} (region : P → Region) {n m : Mount P} (same : n ≡ m) (kept : IsKept (region n.memory) n.sup n.rows n.free n.faults n.read_only n.stopped) (runs : n.stopped ≡ false) (writes : n.read_only ≡ false)
-    (place : ℕ) (row : Row) (at : slice_get n.rows place ≡ Some row) (kind : Kind) (mode time j : ℕ) (name : List ℕ) (cpu : ℕ) (low : cpu < n.sup.cpus) (spelled : IsPathName name) (names : List (List ℕ)) (spot : IsSpot (tree_of (region n.memory) n.rows) n.rows n.sup cpu names place name j) where
+    (place : ℕ) (row : Row) (at : slice_get n.rows place ≡ Some row) (kind : Kind) (mode time j : ℕ) (name : List ℕ) (cpu : ℕ) (low : cpu < n.sup.cpus) (spelled : IsPathName name) (names : List (List ℕ)) (spot : IsSpot (tree_of (region n.memory) n.rows) n.rows (fixed_layout n.sup) cpu names place name j) where
   abbrev R : Region
   R = region n.memory
 
@@ -104,7 +104,7 @@ module _ {P : Type 0} (region : P → Region) {n m : Mount P} (same : n ≡ m) (
       row_there up = row_at rows place row up at
 
   create_by : (left : Region) (held : Store) (mounted : IsMounted R s held rows free.pools) → LeavesEither R (fixed_layout s) held (Named R s free cpu row kind mode time j name) left
-      → IsAsMounted R s rows free.pools left ⊎ IsAsMade s (created kind (unused_number s rows cpu) names mode time (tree_of R rows)) (logs_inode kind cpu mode time R n names) left
+      → IsAsMounted R s rows free.pools left ⊎ IsAsMade s (created kind (unused_number (fixed_layout s) rows cpu) names mode time (tree_of R rows)) (logs_inode kind cpu mode time R n names) left
   create_by left held mounted (inl as_before) = inl (still_mounted mounted as_before)
   create_by left held mounted (inr w) =
       let step = w.1 in

@@ -1,19 +1,17 @@
--- What recovery finds in a region that a stop has left where a name was given to another inode of its directory.
+-- For `replace` within one directory: what it leaves of the logs, and what recovery finds in a region that a stop within it has
+-- left.
 use Rattle.std.proofs.Common.{◌≡◌, ◌≢◌, ◌⊎◌, ℕ, true, false, inl, inr, List, ◌∷◌, remove, set, slice_get, refl, ap, sym, ◌∙◌, Some}
-use Rattle.std.proofs.Math.Logic.{∥∥₁_map}
 use Rattle.std.proofs.lemmas.Option.{same_Some}
 use Rattle.nv_region.specs.Region.{Region}
-use Rattle.nv_region.specs.Stops.{Choices, LeavesOnly, NothingPending}
 use Rattle.nv_super.specs.declared.superblock.Super.{Super}
 use Rattle.nv_super.specs.Layout.{fixed_layout}
-use Rattle.nv_super.proofs.Members.{stands}
 use Rattle.nv_journal.specs.Undo.{undone}
 use Rattle.nv_alloc.specs.FreeValue.{FreeLists}
 use Rattle.nv_scan.specs.declared.piece.Row.{Row}
 use Rattle.nv_rows.specs.Rows.{place_in}
 use Rattle.nv_rows.proofs.Places.{at_place}
 use Rattle.nv_held.specs.nv_graph.Read.{row_of}
-use Rattle.nv_held.specs.Held.{Held, Store}
+use Rattle.nv_held.specs.Held.{Store}
 use Rattle.nv_held.specs.Mounted.{IsMounted}
 use Rattle.nv_commit.specs.Stopped.{CanRecover, LeavesEither}
 use Rattle.nv_tree.specs.Path.{IsPathName}
@@ -21,14 +19,11 @@ use Rattle.nv_tree.specs.Replace.{replaced}
 use Rattle.nv_paths.specs.ReplaceSpots.{IsReplaceSpot}
 use Rattle.nv_paths.specs.Seen.{tree_of}
 use Rattle.nv_steps.specs.Lessens.{Lessened, LessensAt}
-use Rattle.nv_steps.specs.Steps.{ShowsRow}
-use Rattle.nv_steps.specs.Takes.{TookWithin}
+use Rattle.nv_steps.specs.Takes.{TakesWithin, TookWithin}
 use Rattle.nv_calls.specs.Mount.{IsKept, Mount}
-use Rattle.nv_calls.specs.ReplaceCalls.{ReplacedHere, keeps_others}
+use Rattle.nv_calls.specs.ReplaceCalls.{ReplacedHere, ReplacesHere, keeps_others}
 use Rattle.nv_calls.specs.ReplaceLogs.{LogsTaken}
-use Rattle.nv_calls.specs.Stopped.{IsAsMade, IsAsMounted, StopLeaves}
-use Rattle.nv_calls.proofs.Mounts.{mounted_of_kept}
-use Rattle.nv_calls.proofs.OneRow.{shows_row}
+use Rattle.nv_calls.specs.Stopped.{IsAsMade, IsAsMounted}
 use Rattle.nv_calls.proofs.ReplacedWithin.{gone_last, gone_others, gone_some, gone_tree, less_more, less_mounted, less_others, less_tree}
 use Rattle.nv_calls.proofs.Stopped.{recovers_to, still_mounted}
 use Rattle.nv_calls.proofs.TwoRows.{lifted}
@@ -63,6 +58,27 @@ module _ {P : Type 0} (region : P → Region) (n : Mount P) (kept : IsKept (regi
   there_there : slice_get rows (place_in rows k) ≡ Some there
   there_there = at_place rows k ∙ there_at
 
+  -- ---- the logs
+
+  less_logged : {S : Region} {news : List Row} {after : FreeLists} (step : LessensAt R S s free after cpu rows news (place_in rows i) (place_in rows k) moved.inode name other time) → keeps_others step.file ≡ true → LogsTaken cpu time others R n names S
+  less_logged step stays = record {
+    more = λ a b d node st h f takes sound is other_is on. less_more kept runs writes (place_in rows k) moved there moved_there there_there spelled spelled_other first_old old first rest spot apart step stays a b d node st h f takes sound is other_is;
+    last = λ a b d node st h takes sound is off. absurd (less_others kept runs writes (place_in rows k) moved there moved_there there_there spelled spelled_other first_old old first rest spot apart step stays a b d node takes off);
+  }
+
+  gone_logged : {S : Region} {news : List Row} {mid : FreeLists} {old_row new_row gone : Row} (old_at : slice_get rows (place_in rows i) ≡ Some old_row) (gone_at : slice_get rows (place_in rows k) ≡ Some gone) (step : TakesWithin R S s free mid cpu old_row new_row moved.inode gone.inode name other time)
+      → news ≡ remove (set rows (place_in rows i) new_row) (place_in rows k) → keeps_others gone ≡ false → LogsTaken cpu time others R n names S
+  gone_logged old_at gone_at step put goes = record {
+    more = λ a b d node st h f takes sound is other_is on. absurd (gone_others kept runs writes (place_in rows k) moved there moved_there there_there spelled spelled_other first_old old first rest spot apart old_at gone_at step put goes a b d node takes on);
+    last = λ a b d node st h takes sound is off. gone_last kept runs writes (place_in rows k) moved there moved_there there_there spelled spelled_other first_old old first rest spot apart old_at gone_at step put goes a b d node st h takes sound is;
+  }
+
+  pub here_logged : {S : Region} {news : List Row} {after : FreeLists} → ReplacesHere R S s free after cpu rows news (place_in rows i) (place_in rows k) moved.inode name other time → LogsTaken cpu time others R n names S
+  here_logged (inl w) = let step = w.1 in let both = step.step in less_logged step (w.0 step.file both.other_at)
+  here_logged (inr w) = let step = w.1 in gone_logged step.at step.gone_at step.step step.put (w.0 step.gone step.gone_at)
+
+  -- ---- stops
+
   -- where the file counts a link less
   less_made : (left : Region) (held : Store) (mounted : IsMounted R s held rows free.pools) → CanRecover s left → keeps_others there ≡ true → Lessened R s free cpu row there moved.inode name other time (undone s left)
       → IsAsMade s (replaced names others time (tree_of R rows)) (LogsTaken cpu time others R n names) left
@@ -78,10 +94,7 @@ module _ {P : Type 0} (region : P → Region) (n : Mount P) (kept : IsKept (regi
         free = (w.0).pools;
         recovers = recovers_to can (less_mounted kept runs writes (place_in rows k) moved there moved_there there_there spelled spelled_other first_old old first rest spot apart step stays held mounted).1;
         tree = less_tree kept runs writes (place_in rows k) moved there moved_there there_there spelled spelled_other first_old old first rest spot apart step stays;
-        logs = record {
-          more = λ a b d node st h f takes sound is other_is on. less_more kept runs writes (place_in rows k) moved there moved_there there_there spelled spelled_other first_old old first rest spot apart step stays a b d node st h f takes sound is other_is;
-          last = λ a b d node st h takes sound is off. absurd (less_others kept runs writes (place_in rows k) moved there moved_there there_there spelled spelled_other first_old old first rest spot apart step stays a b d node takes off);
-        };
+        logs = less_logged step stays;
       }
 
   -- where it goes
@@ -94,10 +107,7 @@ module _ {P : Type 0} (region : P → Region) (n : Mount P) (kept : IsKept (regi
         free = v.1;
         recovers = recovers_to can v.2;
         tree = gone_tree kept runs writes (place_in rows k) moved there moved_there there_there spelled spelled_other first_old old first rest spot apart row_at there_there w.2 refl off;
-        logs = record {
-          more = λ a b d node st h f takes sound is other_is on. absurd (gone_others kept runs writes (place_in rows k) moved there moved_there there_there spelled spelled_other first_old old first rest spot apart row_at there_there w.2 refl off a b d node takes on);
-          last = λ a b d node st h takes sound is none. gone_last kept runs writes (place_in rows k) moved there moved_there there_there spelled spelled_other first_old old first rest spot apart row_at there_there w.2 refl off a b d node st h takes sound is;
-        };
+        logs = gone_logged row_at there_there w.2 refl off;
       }
 
   pub here_by : (left : Region) (held : Store) (mounted : IsMounted R s held rows free.pools) → LeavesEither R (fixed_layout s) held (ReplacedHere R s free cpu row there moved.inode name other time) left
@@ -107,13 +117,3 @@ module _ {P : Type 0} (region : P → Region) (n : Mount P) (kept : IsKept (regi
     by : ReplacedHere R s free cpu row there moved.inode name other time (undone s left) → IsAsMade s (replaced names others time (tree_of R rows)) (LogsTaken cpu time others R n names) left
     by (inl v) = less_made left held mounted w.0 v.0 v.1
     by (inr v) = gone_made left held mounted w.0 v.0 v.1
-
-  -- What a stop leaves within the step.
-  pub here_left : (S : Region) (before last : Choices)
-      → ((held : Store) (h f : Held) → ShowsRow R s held h row free → ShowsRow R s held f there free → NothingPending R before
-      → LeavesOnly S last (LeavesEither R (fixed_layout s) held (ReplacedHere R s free cpu row there moved.inode name other time)))
-      → NothingPending R before → LeavesOnly S last (StopLeaves R s rows free.pools (replaced names others time (tree_of R rows)) (LogsTaken cpu time others R n names))
-  here_left S before last step settled left may = ∥∥₁_map (mounted_of_kept kept runs writes) (λ w.
-      let v = shows_row w.1 kept.lists row (stands rows (place_in rows i) row row_at) in
-      let u = shows_row w.1 kept.lists there (stands rows (place_in rows k) there there_there) in
-      here_by left w.0 w.1 (step w.0 v.0 u.0 v.1 u.1 settled left may))

@@ -93,7 +93,7 @@ module _ {R S : Region} {s : Super} {rows news : List Row} {free mid : FreeLists
     count : length step.fresh ≡ needed (h.tail % 4096) entries
     count = let told = shows.told in step.count ∙ ap (λ (t : ℕ). needed (t % 4096) entries) told.tail
 
-    pub rows_apart : row.inode ≢ j
+    rows_apart : row.inode ≢ j
     rows_apart = takes_apart i name other time (way_to (first ∷ rest)) step.fresh shows shows_gone of_kind can can_go kept.lists step.taken count
 
     abbrev then : Store
@@ -118,7 +118,7 @@ module _ {R S : Region} {s : Super} {rows news : List Row} {free mid : FreeLists
         subst (λ (rs : List Row). KeepsRows (fixed_layout s) then rs) (sym put) left
 
     -- The rows and the free lists are those of what is held.
-    pub mounted_then : {after : FreeLists} → GivesRow mid gone after → IsMounted S s then news after.pools
+    mounted_then : {after : FreeLists} → GivesRow mid gone after → IsMounted S s then news after.pools
     mounted_then given =
         let seen = step.shows held h shows in
         record {

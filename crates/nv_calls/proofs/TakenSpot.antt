@@ -55,7 +55,7 @@ module _ (R : Region) (s : Super) (rows : List Row) (target : ℕ) {place source
   pub spot_to : to.kind ≡ Directory
   spot_to = let way = spot.way in let ends = way.to in (ends.row to to_at).1
 
-  pub spot_walked : walk (tree_of R rows) 1 (first ∷ rest) ≡ Ok to.inode
+  spot_walked : walk (tree_of R rows) 1 (first ∷ rest) ≡ Ok to.inode
   spot_walked = let way = spot.way in let ends = way.to in (ends.row to to_at).0
 
   pub spot_named : option_map (λ (x : ℕ × ℕ). x.0) (name_at row.names name) ≡ Some i

@@ -11,20 +11,8 @@ use Rattle.nv_steps.specs.Steps.{LeavesStep}
 use Rattle.nv_steps.proofs.RowsAt.{other_set}
 use Rattle.nv_steps.proofs.SetRows.{both_same}
 use Rattle.nv_calls.specs.AtPlaces.{LeavesRows}
+use Rattle.nv_calls.proofs.Recoveries.{row_then}
 use Rattle.nv_calls.proofs.TwoRows.{row_stays, used_still}
-
--- what is the same as the same
-row_then : {a b c : Row} → SameRow a b → SameRow b c → SameRow a c
-row_then s r = record {
-  inode = r.inode ∙ s.inode;
-  kind = r.kind ∙ s.kind;
-  numbers = r.numbers ∙ s.numbers;
-  head = r.head ∙ s.head;
-  tail = r.tail ∙ s.tail;
-  pages = r.pages ∙ s.pages;
-  index = λ p. r.index p ∙ s.index p;
-  names = λ q. r.names q ∙ s.names q;
-}
 
 -- one row more that was replaced by the same
 more_same : (old rows : List Row) (k : ℕ) (a new : Row) → SameRows old rows → slice_get rows k ≡ Some a → SameRow a new → SameRows old (set rows k new)

@@ -6,7 +6,7 @@ use Rattle.std.proofs.Math.Logic.{∥∥₁_map}
 use Rattle.std.proofs.lemmas.Option.{same_Some}
 use Rattle.nv_region.specs.Region.{Region}
 use Rattle.nv_super.specs.declared.superblock.Super.{Super}
-use Rattle.nv_super.specs.Layout.{slot_address}
+use Rattle.nv_super.specs.Layout.{fixed_layout, slot_address}
 use Rattle.nv_super.proofs.Members.{stands}
 use Rattle.nv_journal.specs.InOrder.{FirstIsFirst}
 use Rattle.nv_alloc.specs.FreeValue.{FreeLists}
@@ -222,15 +222,12 @@ module _ {P : Type 0} (region : P → Region) {n m : Mount P} (same : n ≡ m) (
 
   -- ---- `create` and `mkdir`: of the directory, and the number of the new inode
 
-  module _ (now_writes : m.read_only ≡ false) (i j : ℕ) (used : IsInUse rows i) (now_low : cpu < m.sup.cpus) (t : Super) (limit : t ≡ s) (name : List ℕ) (names : List (List ℕ)) (free_spot : IsSpot (tree_of R rows) rows t cpu names (place_in rows i) name j) where
+  module _ (now_writes : m.read_only ≡ false) (i j : ℕ) (used : IsInUse rows i) (now_low : cpu < m.sup.cpus) (name : List ℕ) (names : List (List ℕ)) (spot : IsSpot (tree_of R rows) rows (fixed_layout s) cpu names (place_in rows i) name j) where
     abbrev directory : Row
     directory = (row_in_use rows i used).0
 
     directory_at : row_of rows i ≡ Some directory
     directory_at = (row_in_use rows i used).1
-
-    spot : IsSpot (tree_of R rows) rows s cpu names (place_in rows i) name j
-    spot = subst (λ (u : Super). IsSpot (tree_of R rows) rows u cpu names (place_in rows i) name j) limit free_spot
 
     unused : row_of rows j ≡ None
     unused = (unused_is s rows cpu j (subst (λ (q : Mount P). cpu < q.sup.cpus) (sym same) now_low) spot.unused).0
@@ -240,13 +237,13 @@ module _ {P : Type 0} (region : P → Region) {n m : Mount P} (same : n ≡ m) (
         let walked : Ok directory.inode ≡ Ok d = sym (spot.directory directory (at_place rows i ∙ directory_at)).0 ∙ ended in
         cc
 
-    number_is : (k : ℕ) → unused_number s rows cpu ≡ Some k → j ≡ k
+    number_is : (k : ℕ) → unused_number (fixed_layout s) rows cpu ≡ Some k → j ≡ k
     number_is k number = same_Some _ _ (sym spot.unused ∙ number)
 
     pub create_stored : ((row : Row) (held : Store) (h : Held) → row_of rows i ≡ Some row → ShowsRow R s held h row free → held j ≡ None → StoresIn s held (one_more s cpu j row.inode) R S)
-        → (d k : ℕ) (held : Store) → walk (tree_of (region m.memory) m.rows) 1 names ≡ Ok d → unused_number m.sup m.rows cpu ≡ Some k → ShowsSound (region m.memory) m.sup held → StoresIn m.sup held (one_more m.sup cpu k d) (region m.memory) S
+        → (d k : ℕ) (held : Store) → walk (tree_of (region m.memory) m.rows) 1 names ≡ Ok d → unused_number (fixed_layout m.sup) m.rows cpu ≡ Some k → ShowsSound (region m.memory) m.sup held → StoresIn m.sup held (one_more m.sup cpu k d) (region m.memory) S
     create_stored step d k held =
-        subst (λ (q : Mount P). walk (tree_of (region q.memory) q.rows) 1 names ≡ Ok d → unused_number q.sup q.rows cpu ≡ Some k → ShowsSound (region q.memory) q.sup held → StoresIn q.sup held (one_more q.sup cpu k d) (region q.memory) S) same
+        subst (λ (q : Mount P). walk (tree_of (region q.memory) q.rows) 1 names ≡ Ok d → unused_number (fixed_layout q.sup) q.rows cpu ≡ Some k → ShowsSound (region q.memory) q.sup held → StoresIn q.sup held (one_more q.sup cpu k d) (region q.memory) S) same
         (λ ended number sound.
         let parent = named_is d ended in
         let inode = number_is k number in
@@ -256,9 +253,9 @@ module _ {P : Type 0} (region : P → Region) {n m : Mount P} (same : n ≡ m) (
 
     -- The new inode's valid word is stored first.
     pub create_ordered : ((row : Row) (held : Store) (h : Held) → row_of rows i ≡ Some row → ShowsRow R s held h row free → held j ≡ None → FirstIsFirst R (slot_address s j) 1 (tail_address s row.inode) S)
-        → (d k : ℕ) → walk (tree_of (region m.memory) m.rows) 1 names ≡ Ok d → unused_number m.sup m.rows cpu ≡ Some k → ShowsValidFirst (region m.memory) S m.sup k d
+        → (d k : ℕ) → walk (tree_of (region m.memory) m.rows) 1 names ≡ Ok d → unused_number (fixed_layout m.sup) m.rows cpu ≡ Some k → ShowsValidFirst (region m.memory) S m.sup k d
     create_ordered step d k =
-        subst (λ (q : Mount P). walk (tree_of (region q.memory) q.rows) 1 names ≡ Ok d → unused_number q.sup q.rows cpu ≡ Some k → ShowsValidFirst (region q.memory) S q.sup k d) same
+        subst (λ (q : Mount P). walk (tree_of (region q.memory) q.rows) 1 names ≡ Ok d → unused_number (fixed_layout q.sup) q.rows cpu ≡ Some k → ShowsValidFirst (region q.memory) S q.sup k d) same
         (λ ended number. valid_as R S s (number_is k number) (named_is d ended) (∥∥₁_map (mounted_of_kept kept runs (ap (λ (q : Mount P). q.read_only) same ∙ now_writes)) (λ w.
         let v = shows_row w.1 kept.lists directory (there i directory directory_at) in
         step directory w.0 v.0 directory_at v.1 (not_held w.1 j unused))))

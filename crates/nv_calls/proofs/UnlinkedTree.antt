@@ -1,26 +1,15 @@
 -- The tree once a file has a name less: the tree machine's.
-use Rattle.std.proofs.Common.{◌≡◌, ◌≢◌, ℕ, ◌-◌, ◌<◌, ◌≤◌, nat_le, inl, inr, Bool, cond, List, ap, sym, ◌∙◌, subst, Option, Some, None, Result, Ok}
-use Rattle.std.specs.Option.{option_map}
-use Rattle.std.proofs.lemmas.Bool.{cases_eq, le-leb, lt-leb}
+use Rattle.std.proofs.Common.{◌≡◌, ◌≢◌, ℕ, ◌-◌, ◌<◌, ◌≤◌, nat_le, Bool, cond, List, ap, sym, ◌∙◌, subst, Option, Some, None, Result, Ok}
+use Rattle.std.proofs.lemmas.Bool.{le-leb, lt-leb}
 use Rattle.nv_tree.specs.declared.refusal.Refusal.{Refusal}
 use Rattle.nv_tree.specs.Path.{last_name}
-use Rattle.nv_tree.specs.Tree.{Node, SameNodes, SameTree, Tree, found, walk}
+use Rattle.nv_tree.specs.Tree.{Node, SameTree, Tree, found, walk}
 use Rattle.nv_tree.specs.Calls.{edit, links_at, on_ok, on_some, put_node, released, unlinked, with_links, without_name}
-use Rattle.nv_calls.proofs.CreatedTree.{changed_there, elsewhere, put_there}
+use Rattle.nv_calls.proofs.RowsTree.{edits_swap}
 
 -- two inodes changed, in either order
-edits_swap : (t : Tree) (d i : ℕ) (change other : Node → Node) → d ≢ i → (k : ℕ) → edit i other (edit d change t) k ≡ edit d change (edit i other t) k
-edits_swap t d i change other differ k = elim (cases_eq k d) [
-  | inl same ↦ put_there t i d other (option_map change (t d)) k same (λ e. differ (sym e)) ∙ sym (changed_there t d i change (option_map other (t i)) k same differ)
-  | inr no_d ↦ elim (cases_eq k i) [
-    | inl same ↦ changed_there t i d other (option_map change (t d)) k same (λ e. differ (sym e)) ∙ sym (put_there t d i change (option_map other (t i)) k same differ)
-    | inr no_i ↦ elsewhere t i d other (option_map change (t d)) k no_d no_i ∙ sym (elsewhere t d i change (option_map other (t i)) k no_i no_d)
-  ]
-]
-
--- so the tree is the same
 pub swapped : (u t : Tree) (d i : ℕ) (change other : Node → Node) → d ≢ i → SameTree u (edit i other (edit d change t)) → SameTree u (edit d change (edit i other t))
-swapped u t d i change other differ same k = subst (λ (o : Option Node). SameNodes (u k) o) (edits_swap t d i change other differ k) (same k)
+swapped u t d i change other differ = subst (λ (v : Tree). SameTree u v) (edits_swap t i d other change differ)
 
 -- What `unlink` makes of a tree, by the directory and the file.
 unlinked_by : (names : List (List ℕ)) (time : ℕ) (t : Tree) (i d : ℕ) (name : List ℕ) → found t names ≡ Some i → walk t 1 names ≡ Ok d → name ≡ last_name names → unlinked names time t ≡ edit d (without_name name time) (released i time t)

@@ -9,9 +9,10 @@ use Rattle.nv_held.specs.Held.{Held, Store, good_in}
 use Rattle.nv_held.specs.Mounted.{ShowsSound}
 use Rattle.nv_rows.specs.Unused.{unused_number}
 use Rattle.nv_tree.specs.Path.{last_name}
-use Rattle.nv_tree.specs.Tree.{Node, Tree, walk}
+use Rattle.nv_tree.specs.Tree.{Node, Tree, found, walk}
 use Rattle.nv_tree.specs.Calls.{attributed, created, linked, removed, renamed, resized, unlinked, written}
 use Rattle.nv_tree.specs.Refusals.{Path}
+use Rattle.nv_tree.specs.Replace.{replaced}
 use Rattle.nv_paths.specs.Seen.{LeadsTo, tree_of}
 use Rattle.nv_steps.specs.Attributes.{attributes}
 use Rattle.nv_steps.specs.Moves.{move_entries}
@@ -23,6 +24,7 @@ use Rattle.nv_calls.specs.LinkCalls.{ShowsBothGrew}
 use Rattle.nv_calls.specs.Mount.{Mount}
 use Rattle.nv_calls.specs.NameCalls.{ShowsCreated}
 use Rattle.nv_calls.specs.RemoveCalls.{ShowsRemoved}
+use Rattle.nv_calls.specs.ReplaceLogs.{LogsHanded, LogsTaken}
 use Rattle.nv_calls.specs.SizeCall.{ShowsResizedLog}
 use Rattle.nv_calls.specs.WriteCall.{ShowsLogWrite}
 
@@ -38,7 +40,7 @@ Logs P = Region → Mount P → List (List ℕ) → Region → Type 0
 
 -- `create` and `mkdir`: a new inode of a kind, and its name
 abbrev pub makes_inode : {P : Type 0} → Kind → ℕ → ℕ → ℕ → Makes P
-makes_inode kind cpu mode time S m names = created kind (unused_number m.sup m.rows cpu) names mode time (tree_of S m.rows)
+makes_inode kind cpu mode time S m names = created kind (unused_number (fixed_layout m.sup) m.rows cpu) names mode time (tree_of S m.rows)
 
 -- `write`: the file has new bytes
 abbrev pub makes_bytes : {P : Type 0} → ℕ → List ℕ → ℕ → Makes P
@@ -70,6 +72,11 @@ abbrev pub makes_rename : {P : Type 0} → ℕ → Path → Makes P
 makes_rename time None S m names = tree_of S m.rows
 makes_rename time (Some others) S m names = renamed names others time (tree_of S m.rows)
 
+-- `replace`: the same, also in the place of another inode
+abbrev pub makes_replace : {P : Type 0} → ℕ → Path → Makes P
+makes_replace time None S m names = tree_of S m.rows
+makes_replace time (Some others) S m names = replaced names others time (tree_of S m.rows)
+
 -- `clean`: the tree stays
 abbrev pub makes_no_change : {P : Type 0} → Makes P
 makes_no_change S m names = tree_of S m.rows
@@ -78,8 +85,8 @@ makes_no_change S m names = tree_of S m.rows
 
 -- `create` and `mkdir`: the directory's log has one entry more, the new inode's log is one entry, and no other log has changed.
 abbrev pub logs_inode : {P : Type 0} → Kind → ℕ → ℕ → ℕ → Logs P
-logs_inode kind cpu mode time S m names T = (d j : ℕ) (held : Store) (h : Held) → walk (tree_of S m.rows) 1 names ≡ Ok d → unused_number m.sup m.rows cpu ≡ Some j → ShowsSound S m.sup held
-    → held d ≡ Some h
+logs_inode kind cpu mode time S m names T = (d j : ℕ) (held : Store) (h : Held) → walk (tree_of S m.rows) 1 names ≡ Ok d → unused_number (fixed_layout m.sup) m.rows cpu ≡ Some j
+    → ShowsSound S m.sup held → held d ≡ Some h
     → ShowsCreated T m.sup m.free.pools cpu held kind mode time j d h (last_name names)
 
 -- `write`: the file's log has the entries over the blocks that a take of this CPU gives, and no other log has changed. No bytes
@@ -136,6 +143,19 @@ pub record LogsMove {P : Type 0} (cpu time : ℕ) (others : List (List ℕ)) (S 
 abbrev pub logs_rename : {P : Type 0} → ℕ → ℕ → Path → Logs P
 logs_rename cpu time None S m names T = ⊥
 logs_rename cpu time (Some others) S m names T = LogsMove cpu time others S m names T
+
+-- `replace`: where the new name stands for no inode in use, it is `rename`; else that inode has a link less or is gone. One inode by
+-- both paths changes nothing.
+pub record LogsReplace {P : Type 0} (cpu time : ℕ) (others : List (List ℕ)) (S : Region) (m : Mount P) (names : List (List ℕ)) (T : Region) : Type 0 where
+  pub unused : found (tree_of S m.rows) others ≡ None → LogsMove cpu time others S m names T
+  pub within : LogsTaken cpu time others S m names T
+  pub across : LogsHanded cpu time others S m names T
+  pub one : (i : ℕ) → found (tree_of S m.rows) names ≡ Some i → found (tree_of S m.rows) others ≡ Some i → T ≡ S
+
+-- the same by the new path; by what is no path it is never done
+abbrev pub logs_replace : {P : Type 0} → ℕ → ℕ → Path → Logs P
+logs_replace cpu time None S m names T = ⊥
+logs_replace cpu time (Some others) S m names T = LogsReplace cpu time others S m names T
 
 -- `clean`, by its answer: the first page went that the inode's log can do without, or the log needs each of its pages and
 -- the region is as before.

@@ -12,7 +12,9 @@ pub use Rattle.nv_rows.specs as nv_rows
 pub use Rattle.nv_held.specs.nv_graph
 pub mod MoveCalls
 pub mod ReplaceCalls
+pub mod ReplaceStores
 pub mod ReplaceLogs
+pub mod ReplaceBlocks
 pub mod LinkCalls
 pub mod NameCalls
 pub mod RemoveCalls

@@ -1,10 +1,13 @@
--- A name that an inode gets from another of its directory: what it makes of all rows, and how many blocks it takes.
-use Rattle.std.specs.Prelude.{◌≡◌, ◌⊎◌, ℕ, ◌+◌, ◌-◌, ◌%◌, nat_lt, not, Bool, true, false, ◌&&◌, if◌then◌else◌, List, remove, set, slice_get, Some}
+-- A name that an inode gets in the place of another inode: what each step of `replace` and the call make of all rows, and how many
+-- blocks they take.
+use Rattle.std.specs.Prelude.{◌≡◌, ◌≢◌, ◌⊎◌, ℕ, ◌+◌, ◌-◌, ◌%◌, nat_eq, nat_lt, not, Bool, true, false, ◌&&◌, if◌then◌else◌, List, remove, set, slice_get, Option, Some, None}
+use Rattle.std.specs.Option.{option_and_then, option_map_or}
 use Rattle.nv_region.specs.Region.{Region}
 use Rattle.nv_super.specs.declared.superblock.Super.{Super}
 use Rattle.nv_alloc.specs.FreeValue.{FreeLists}
 use Rattle.nv_logpage.specs.Append.{needed}
 use Rattle.nv_scan.specs.declared.piece.Row.{Row}
+use Rattle.nv_rows.specs.Rows.{place_in, row_of}
 use Rattle.nv_tree.specs.Tree.{is_directory}
 use Rattle.nv_entry.specs.declared.entry.Operation.TheVariants.{Remove}
 use Rattle.nv_steps.specs.Across.{LessenedAcross, LessensAcross, TakesAcross, TookAcross, handed_entries}
@@ -13,10 +16,16 @@ use Rattle.nv_steps.specs.LessNames.{GivesRow}
 use Rattle.nv_steps.specs.Lessens.{Lessened, LessensAt}
 use Rattle.nv_steps.specs.NameEntries.{links_entries, name_entries}
 use Rattle.nv_steps.specs.Takes.{TakesWithin, TookWithin, take_entries}
+use Rattle.nv_calls.specs.MoveCalls.{MovesAt, move_blocks}
+use Rattle.nv_calls.specs.Stopped.{Renamed}
 
 -- a file with more links than one, which stays without one of its names
 abbrev pub keeps_others : Row → Bool
 keeps_others row = not (is_directory row.kind) && nat_lt 1 row.numbers.links
+
+-- the inode of a number is such a file
+abbrev pub keeps_others_at : List Row → Option ℕ → Bool
+keeps_others_at rows o = option_map_or keeps_others (option_and_then (row_of rows) o) false
 
 -- Inode i got the name of another in the directory whose row is at one place, and that one went, whose row was at another. That row
 -- was taken out, and its blocks were given back.
@@ -105,3 +114,27 @@ replace_over_blocks from to there i name other time = hand_blocks from to i ther
 abbrev pub ReplacedOver : Region → Super → FreeLists → ℕ → Row → Row → Row → ℕ → List ℕ → List ℕ → ℕ → Region → Type 0
 ReplacedOver R s free cpu from to there i name other time S = ((keeps_others there ≡ true) × LessenedAcross R s free cpu from to there i name other time S)
     ⊎ ((keeps_others there ≡ false) × TookAcross R s free cpu from to i there.inode name other time S)
+
+-- ---- the call
+
+-- The name that inode i got stood for no inode in use, so it was moved. Or it stood for i, and nothing has changed. Or it stood for
+-- another, within one directory or not.
+abbrev pub ReplacesAt : Region → Region → Super → FreeLists → FreeLists → ℕ → List Row → List Row → ℕ → ℕ → ℕ → Option ℕ → ℕ → List ℕ → List ℕ → ℕ → Type 0
+ReplacesAt R S s free after cpu rows news place source end None i name other time = MovesAt R S s free after cpu rows news place source end name other time
+ReplacesAt R S s free after cpu rows news place source end (Some j) i name other time = ((j ≡ i) × ((S ≡ R) × (after ≡ free) × (news ≡ rows)))
+    ⊎ ((j ≢ i) × (((place ≡ end) × ReplacesHere R S s free after cpu rows news place (place_in rows j) i name other time) ⊎ ((place ≢ end)
+    × ReplacesOver R S s free after cpu rows news place end (place_in rows j) i name other time)))
+
+-- how many blocks it takes, by the row of the inode that has the new name
+abbrev pub replace_count : ℕ → ℕ → Row → Row → Option Row → ℕ → List ℕ → List ℕ → ℕ → ℕ
+replace_count place end from to None i name other time = move_blocks place end from to i name other time
+replace_count place end from to (Some had) i name other time =
+    if nat_eq had.inode i then 0
+    else if nat_eq place end then replace_here_blocks from had i name other time
+    else replace_over_blocks from to had i name other time
+
+-- what a stop leaves of it
+abbrev pub ReplacedAt : Region → Super → FreeLists → ℕ → ℕ → ℕ → Row → Row → Option Row → ℕ → List ℕ → List ℕ → ℕ → Region → Type 0
+ReplacedAt R s free cpu place end from to None i name other time S = Renamed R s free cpu place end from to i name other time S
+ReplacedAt R s free cpu place end from to (Some had) i name other time S = (had.inode ≢ i) × (((place ≡ end) × ReplacedHere R s free cpu from had i name other time S) ⊎ ((place ≢ end)
+    × ReplacedOver R s free cpu from to had i name other time S))

@@ -48,7 +48,8 @@ pub record LogsTaken {P : Type 0} (cpu time : ℕ) (others : List (List ℕ)) (S
 
 -- The region is sound, and shows what was held with these entries behind two logs and without an inode, over free blocks: those that
 -- are taken one by one from these pools, by a CPU, the first log's first.
-pub record BothLess (S : Region) (s : Super) (pools : List (List Run)) (cpu : ℕ) (held : Store) (i : ℕ) (h : Held) (entries : List Entry) (e : ℕ) (g : Held) (others : List Entry) (j : ℕ) : Type 0 where
+pub record BothLess (S : Region) (s : Super) (pools : List (List Run)) (cpu : ℕ) (held : Store) (i : ℕ) (h : Held) (entries : List Entry) (e : ℕ) (g : Held) (others : List Entry)
+    (j : ℕ) : Type 0 where
   pub fresh : List ℕ
   pub more : List ℕ
   pub rest : List (List Run)
@@ -64,8 +65,8 @@ abbrev pub ShowsBothLess : Region → Super → List (List Run) → ℕ → Stor
 ShowsBothLess S s pools cpu held i h entries e g others j = ∥ (BothLess S s pools cpu held i h entries e g others j) ∥₁
 
 -- The same with entries behind three logs.
-pub record ThreeGrew (S : Region) (s : Super) (pools : List (List Run)) (cpu : ℕ) (held : Store) (i : ℕ) (h : Held) (entries : List Entry) (e : ℕ) (g : Held) (others : List Entry) (j : ℕ) (f : Held) (lasts : List
-    Entry) : Type 0 where
+pub record ThreeGrew (S : Region) (s : Super) (pools : List (List Run)) (cpu : ℕ) (held : Store) (i : ℕ) (h : Held) (entries : List Entry) (e : ℕ) (g : Held) (others : List Entry) (j : ℕ)
+    (f : Held) (lasts : List Entry) : Type 0 where
   pub fresh : List ℕ
   pub more : List ℕ
   pub last : List ℕ
@@ -86,7 +87,8 @@ ShowsThreeGrew S s pools cpu held i h entries e g others j f lasts = ∥ (ThreeG
 -- The old name's directory has an entry more, and the new one's two. Where the inode of the new name has other names, its log has one
 -- more; else it is gone. No other log has changed.
 pub record LogsHanded {P : Type 0} (cpu time : ℕ) (others : List (List ℕ)) (S : Region) (m : Mount P) (names : List (List ℕ)) (T : Region) : Type 0 where
-  pub more : (i j d e : ℕ) (node : Node) (held : Store) (h k f : Held) → TakesPlace (tree_of S m.rows) names others i j d e node → d ≢ e → ShowsSound S m.sup held → held d ≡ Some h → held e ≡ Some k → held j ≡ Some f
+  pub more : (i j d e : ℕ) (node : Node) (held : Store) (h k f : Held) → TakesPlace (tree_of S m.rows) names others i j d e node → d ≢ e → ShowsSound S m.sup held → held d ≡ Some h
+      → held e ≡ Some k → held j ≡ Some f
       → has_others node ≡ true
       → ShowsThreeGrew T m.sup m.free.pools cpu held d h (name_entries Remove i (last_name names) time) e k (handed_entries i j (last_name others) time) j f (links_entries (node.links - 1) time)
   pub last : (i j d e : ℕ) (node : Node) (held : Store) (h k : Held) → TakesPlace (tree_of S m.rows) names others i j d e node → d ≢ e → ShowsSound S m.sup held → held d ≡ Some h → held e ≡ Some k

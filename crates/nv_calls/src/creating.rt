@@ -4,7 +4,7 @@ ghost use Rattle.std.specs.Prelude.{◌≡◌, ◌+◌, ◌<◌, ◌≤◌, ◌%
 ghost use Rattle.nv_region.specs.Region.{size};
 ghost use Rattle.nv_region.specs.Stops.{LeavesOnly, NothingPending};
 ghost use Rattle.nv_region.specs.Fuses.{KeepsFuse};
-ghost use Rattle.nv_super.specs.Layout.{fixed_layout, inode_limit, slot_address};
+ghost use Rattle.nv_super.specs.Layout.{fixed_layout, slot_address};
 ghost use Rattle.nv_journal.specs.InOrder.{FirstIsFirst};
 ghost use Rattle.nv_super.specs.declared.kind.Kind.TheVariants.{File, Directory};
 ghost use Rattle.nv_alloc.specs.Taking.{all_blocks};
@@ -34,9 +34,10 @@ ghost use Rattle.nv_steps.specs.Steps.{RefusesStep, ShowsRow};
 ghost use Rattle.nv_steps.specs.InOrder.{tail_address};
 ghost use Rattle.nv_calls.specs.InOrder.{ShowsValidFirst};
 ghost use Rattle.nv_steps.specs.Fronts.{SameFrontBut};
-ghost use Rattle.nv_rows.specs.Unused.{unused_number};
+ghost use Rattle.nv_rows.specs.Unused.{unused_number, IsTableNumber};
 ghost use Rattle.nv_calls.specs.World.{world_of};
 ghost use Rattle.nv_steps.specs.Stores.{StoresIn, one_more};
+ghost use Rattle.nv_steps.specs.Keeping.{SettlesStep};
 ghost use Rattle.nv_calls.specs.Mount.{shown};
 
 use crate::Fs;
@@ -68,7 +69,7 @@ fn create_at<P: Pmem>(
     new: &NewName<'_>,
 ) -> Result<(), Refusal>
     requires in_use { IsInUse rows.old.items directory }
-    requires limit { new.now.inode < inode_limit rows.old.sup }
+    requires limit { IsTableNumber rows.old.sup.cpus rows.old.sizes new.now.inode }
     requires unused { row_of rows.old.items new.now.inode ≡ Option.None }
     requires stands { (row : RowValue) → row_of rows.old.items directory ≡ Option.Some row → StandsRight (P.region memory.old) sup.now free.old row }
     requires can { (row : RowValue) → row_of rows.old.items directory ≡ Option.Some row → CanName (P.region memory.old) sup.now cpu new.now.inode row }
@@ -77,15 +78,11 @@ fn create_at<P: Pmem>(
         (place_in rows.old.items directory) new.now.kind new.now.mode new.now.time new.now.inode new.now.name.now) }
     ensures enough { (row : RowValue) → row_of rows.old.items directory ≡ Option.Some row
         → OnOk result (1 + needed (row.tail % 4096) (name_entries OperationValue.Add new.now.inode new.now.name.now new.now.time) ≤ all_blocks free.old.pools) }
-    ensures settled { OnOk result (NothingPending (P.region memory.new) (P.may_hold memory.new)) }
+    ensures kept { SettlesStep P.region P.may_hold P.fuse memory.old memory.new free.old free.new result }
     ensures refused { (row : RowValue) → row_of rows.old.items directory ≡ Option.Some row
         → IfErr result (λ e. RefusesStep e (1 + needed (row.tail % 4096) (name_entries OperationValue.Add new.now.inode new.now.name.now new.now.time)) free.old) }
     ensures unchanged { IfErr result (λ e. (e ≡ RefusalValue.Stopped → ⊥) → LeavesRows memory.old memory.new free.old free.new rows.old.items rows.new.items) }
-    ensures stopped { IfErr result (λ e. e ≡ RefusalValue.Stopped → IsTrue (P.fuse memory.new).has_burnt) }
-    ensures limit { rows.new.sup ≡ rows.old.sup }
-    ensures lists { free.new.sup ≡ free.old.sup }
-    ensures length { size (P.region memory.new) ≡ size (P.region memory.old) }
-    ensures keeps_fuse { KeepsFuse (λ limit. size (P.region memory.old) ≤ limit) (P.fuse memory.old) (P.fuse memory.new) }
+    ensures tables { (rows.new.sup ≡ rows.old.sup) × (rows.new.sizes ≡ rows.old.sizes) }
     // Every word outside these places is as it was.
     ensures wrote { (row : RowValue) (held : Store) (h : Held) → row_of rows.old.items directory ≡ Option.Some row → ShowsRow (P.region memory.old) sup.now held h row free.old
         → held new.now.inode ≡ Option.None
@@ -136,10 +133,10 @@ impl<P: Pmem + Drop> Fs<P> {
         ensures refused { self.old.stopped ≡ false → (p : Path) → Says path.now p
             → IfErr result (IsRefusedBy (first_refusal (create_tests (world_of self.old) (shown P.region self.old) cpu p (create_blocks self.old.rows (shown P.region self.old) p)))) }
         ensures changed { (names : List (List ℕ)) → IsPath path.now names
-            → OnOk result (SameTree (shown P.region self.new) (created File (unused_number self.old.sup self.old.rows cpu) names mode time (shown P.region self.old))) }
+            → OnOk result (SameTree (shown P.region self.new) (created File (unused_number (fixed_layout self.old.sup) self.old.rows cpu) names mode time (shown P.region self.old))) }
         // The log of the directory has one entry more, the new inode's log is one entry, and no other log has changed.
         ensures log { (names : List (List ℕ)) (d j : ℕ) (held : Store) (h : Held) → IsPath path.now names → walk (shown P.region self.old) 1 names ≡ Result.Ok d
-            → unused_number self.old.sup self.old.rows cpu ≡ Option.Some j
+            → unused_number (fixed_layout self.old.sup) self.old.rows cpu ≡ Option.Some j
             → ShowsSound (P.region self.old.memory) self.old.sup held → held d ≡ Option.Some h
             → OnOk result (ShowsCreated (P.region self.new.memory) self.old.sup self.old.free.pools cpu held File mode time j d h (last_name names)) }
         ensures unchanged { IfErr result (λ e. (e ≡ RefusalValue.Stopped → ⊥) → SameMount self.old self.new) }
@@ -157,11 +154,11 @@ impl<P: Pmem + Drop> Fs<P> {
         ensures read_only { IsTrue self.old.read_only → SameMount self.old self.new }
         // Every word outside these places is as it was.
         ensures wrote { (names : List (List ℕ)) (d j : ℕ) (held : Store) → IsPath path.now names → walk (shown P.region self.old) 1 names ≡ Result.Ok d
-            → unused_number self.old.sup self.old.rows cpu ≡ Option.Some j → ShowsSound (P.region self.old.memory) self.old.sup held
+            → unused_number (fixed_layout self.old.sup) self.old.rows cpu ≡ Option.Some j → ShowsSound (P.region self.old.memory) self.old.sup held
             → StoresIn self.old.sup held (one_more self.old.sup cpu j d) (P.region self.old.memory) (P.region self.new.memory) }
         // The new inode's valid word is stored first.
         ensures in_order { (names : List (List ℕ)) (d j : ℕ) → IsPath path.now names → walk (shown P.region self.old) 1 names ≡ Result.Ok d
-            → unused_number self.old.sup self.old.rows cpu ≡ Option.Some j
+            → unused_number (fixed_layout self.old.sup) self.old.rows cpu ≡ Option.Some j
             → ShowsValidFirst (P.region self.old.memory) (P.region self.new.memory) self.old.sup j d }
         // Whatever a stop leaves, at any exit: recovery finds what was mounted, or what the call makes, without faults.
         ensures any_stop { (names : List (List ℕ)) → IsPath path.now names → self.old.stopped ≡ false → self.old.read_only ≡ false
@@ -179,10 +176,10 @@ impl<P: Pmem + Drop> Fs<P> {
         ensures refused { self.old.stopped ≡ false → (p : Path) → Says path.now p
             → IfErr result (IsRefusedBy (first_refusal (create_tests (world_of self.old) (shown P.region self.old) cpu p (create_blocks self.old.rows (shown P.region self.old) p)))) }
         ensures changed { (names : List (List ℕ)) → IsPath path.now names
-            → OnOk result (SameTree (shown P.region self.new) (created Directory (unused_number self.old.sup self.old.rows cpu) names mode time (shown P.region self.old))) }
+            → OnOk result (SameTree (shown P.region self.new) (created Directory (unused_number (fixed_layout self.old.sup) self.old.rows cpu) names mode time (shown P.region self.old))) }
         // The log of the directory has one entry more, the new inode's log is one entry, and no other log has changed.
         ensures log { (names : List (List ℕ)) (d j : ℕ) (held : Store) (h : Held) → IsPath path.now names → walk (shown P.region self.old) 1 names ≡ Result.Ok d
-            → unused_number self.old.sup self.old.rows cpu ≡ Option.Some j
+            → unused_number (fixed_layout self.old.sup) self.old.rows cpu ≡ Option.Some j
             → ShowsSound (P.region self.old.memory) self.old.sup held → held d ≡ Option.Some h
             → OnOk result (ShowsCreated (P.region self.new.memory) self.old.sup self.old.free.pools cpu held Directory mode time j d h (last_name names)) }
         ensures unchanged { IfErr result (λ e. (e ≡ RefusalValue.Stopped → ⊥) → SameMount self.old self.new) }
@@ -200,11 +197,11 @@ impl<P: Pmem + Drop> Fs<P> {
         ensures read_only { IsTrue self.old.read_only → SameMount self.old self.new }
         // Every word outside these places is as it was.
         ensures wrote { (names : List (List ℕ)) (d j : ℕ) (held : Store) → IsPath path.now names → walk (shown P.region self.old) 1 names ≡ Result.Ok d
-            → unused_number self.old.sup self.old.rows cpu ≡ Option.Some j → ShowsSound (P.region self.old.memory) self.old.sup held
+            → unused_number (fixed_layout self.old.sup) self.old.rows cpu ≡ Option.Some j → ShowsSound (P.region self.old.memory) self.old.sup held
             → StoresIn self.old.sup held (one_more self.old.sup cpu j d) (P.region self.old.memory) (P.region self.new.memory) }
         // The new inode's valid word is stored first.
         ensures in_order { (names : List (List ℕ)) (d j : ℕ) → IsPath path.now names → walk (shown P.region self.old) 1 names ≡ Result.Ok d
-            → unused_number self.old.sup self.old.rows cpu ≡ Option.Some j
+            → unused_number (fixed_layout self.old.sup) self.old.rows cpu ≡ Option.Some j
             → ShowsValidFirst (P.region self.old.memory) (P.region self.new.memory) self.old.sup j d }
         // Whatever a stop leaves, at any exit: recovery finds what was mounted, or what the call makes, without faults.
         ensures any_stop { (names : List (List ℕ)) → IsPath path.now names → self.old.stopped ≡ false → self.old.read_only ≡ false
@@ -229,10 +226,10 @@ impl<P: Pmem + Drop> Fs<P> {
         ensures refused { self.old.stopped ≡ false → (p : Path) → Says path.now p
             → IfErr result (IsRefusedBy (first_refusal (create_tests (world_of self.old) (shown P.region self.old) cpu p (create_blocks self.old.rows (shown P.region self.old) p)))) }
         ensures changed { (names : List (List ℕ)) → IsPath path.now names
-            → OnOk result (SameTree (shown P.region self.new) (created kind (unused_number self.old.sup self.old.rows cpu) names mode time (shown P.region self.old))) }
+            → OnOk result (SameTree (shown P.region self.new) (created kind (unused_number (fixed_layout self.old.sup) self.old.rows cpu) names mode time (shown P.region self.old))) }
         // The log of the directory has one entry more, the new inode's log is one entry, and no other log has changed.
         ensures log { (names : List (List ℕ)) (d j : ℕ) (held : Store) (h : Held) → IsPath path.now names → walk (shown P.region self.old) 1 names ≡ Result.Ok d
-            → unused_number self.old.sup self.old.rows cpu ≡ Option.Some j
+            → unused_number (fixed_layout self.old.sup) self.old.rows cpu ≡ Option.Some j
             → ShowsSound (P.region self.old.memory) self.old.sup held → held d ≡ Option.Some h
             → OnOk result (ShowsCreated (P.region self.new.memory) self.old.sup self.old.free.pools cpu held kind mode time j d h (last_name names)) }
         ensures unchanged { IfErr result (λ e. (e ≡ RefusalValue.Stopped → ⊥) → SameMount self.old self.new) }
@@ -250,11 +247,11 @@ impl<P: Pmem + Drop> Fs<P> {
         ensures read_only { IsTrue self.old.read_only → SameMount self.old self.new }
         // Every word outside these places is as it was.
         ensures wrote { (names : List (List ℕ)) (d j : ℕ) (held : Store) → IsPath path.now names → walk (shown P.region self.old) 1 names ≡ Result.Ok d
-            → unused_number self.old.sup self.old.rows cpu ≡ Option.Some j → ShowsSound (P.region self.old.memory) self.old.sup held
+            → unused_number (fixed_layout self.old.sup) self.old.rows cpu ≡ Option.Some j → ShowsSound (P.region self.old.memory) self.old.sup held
             → StoresIn self.old.sup held (one_more self.old.sup cpu j d) (P.region self.old.memory) (P.region self.new.memory) }
         // The new inode's valid word is stored first.
         ensures in_order { (names : List (List ℕ)) (d j : ℕ) → IsPath path.now names → walk (shown P.region self.old) 1 names ≡ Result.Ok d
-            → unused_number self.old.sup self.old.rows cpu ≡ Option.Some j
+            → unused_number (fixed_layout self.old.sup) self.old.rows cpu ≡ Option.Some j
             → ShowsValidFirst (P.region self.old.memory) (P.region self.new.memory) self.old.sup j d }
         // Whatever a stop leaves, at any exit: recovery finds what was mounted, or what the call makes, without faults.
         ensures any_stop { (names : List (List ℕ)) → IsPath path.now names → self.old.stopped ≡ false → self.old.read_only ≡ false

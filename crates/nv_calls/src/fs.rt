@@ -4,7 +4,9 @@ ghost use Rattle.std.specs.Prelude.{◌≡◌, ◌<◌, ℕ, List, IsTrue, IfOk,
 ghost use Rattle.std.specs.Result.{result_err};
 ghost use Rattle.std.specs.List.{Contains};
 ghost use Rattle.nv_region.specs.Stops.{LeavesOnly, NothingPending};
+ghost use Rattle.nv_super.specs.Layout.{fixed_layout};
 ghost use Rattle.nv_journal.specs.Undo.{undone};
+ghost use Rattle.nv_rows.specs.RowList.{HasNumbersOf};
 ghost use Rattle.nv_alloc.specs.Taking.{pool_at};
 ghost use Rattle.nv_held.specs.nv_outcome.Outcome.{IsOutcome};
 ghost use Rattle.nv_held.specs.nv_outcome.Same.{lasting_outcome};
@@ -48,13 +50,15 @@ pub struct Fs<P: Pmem + Drop> {
 impl<P: Pmem + Drop> Model for Fs<P> {
     ghost use Rattle.std.specs.Prelude.{◌≡◌, false};
     ghost use Rattle.nv_region.specs.Stops.{NothingPending};
+    ghost use Rattle.nv_super.specs.Layout.{fixed_layout};
+    ghost use Rattle.nv_rows.specs.RowList.{HasNumbersOf};
     ghost use Rattle.nv_calls.specs.Mount.{Mount, IsKept};
 
     ghost Value = { Mount P };
 
     ghost view = { λ a. record { memory = a.memory; sup = a.sup; rows = a.rows.items; free = a.free; faults = a.faults.items; read_only = a.read_only; stopped = a.stopped } };
 
-    ghost invariant = { λ a. IsKept (P.region a.memory) a.sup a.rows.items a.free a.faults.items a.read_only a.stopped × (a.rows.sup ≡ a.sup)
+    ghost invariant = { λ a. IsKept (P.region a.memory) a.sup a.rows.items a.free a.faults.items a.read_only a.stopped × HasNumbersOf (fixed_layout a.sup) a.rows
         × (a.stopped ≡ false → NothingPending (P.region a.memory) (P.may_hold a.memory)) };
 }
 
@@ -64,7 +68,7 @@ impl<P: Pmem + Drop> Fs<P> {
     pub fn open(alloc: Global, memory: P, recovered: Recovered) -> Fs<P>
         requires outcome { IsOutcome (P.region memory) (lasting_outcome (outcome_of recovered)) }
         requires lists { recovered.free.sup ≡ recovered.sup }
-        requires numbers { recovered.rows.sup ≡ recovered.sup }
+        requires numbers { HasNumbersOf (fixed_layout recovered.sup) recovered.rows }
         requires own { undone recovered.sup (P.region memory) ≡ P.region memory }
         requires settled { NothingPending (P.region memory) (P.may_hold memory) }
         ensures memory { result.memory ≡ memory }

@@ -14,10 +14,11 @@ ghost use Rattle.nv_paths.specs.Seen.{tree_of};
 ghost use Rattle.nv_steps.specs.declared.planning.Plan.{Plan};
 ghost use Rattle.nv_tree.specs.Tree.{Node};
 ghost use Rattle.nv_tree.specs.Refusals.{Path, clean_tests, create_tests, link_tests, rename_tests, rmdir_tests, set_attr_tests, set_size_tests, unlink_tests, write_tests};
+ghost use Rattle.nv_tree.specs.Replace.{replace_tests};
 ghost use Rattle.nv_calls.specs.Alike.{AreAlike, IsAllowed, IsFaultlessMount, KeepsAlike, WasDone};
 ghost use Rattle.nv_calls.specs.Decided.{IsDecided};
-ghost use Rattle.nv_calls.specs.Effects.{LogsBytes, LogsUnlink, logs_attributes, logs_clean, logs_inode, logs_link, logs_removal, logs_rename, logs_size, makes_attributes, makes_bytes, makes_inode};
-ghost use Rattle.nv_calls.specs.Effects.{makes_link, makes_no_change, makes_removal, makes_rename, makes_size, makes_unlink};
+ghost use Rattle.nv_calls.specs.Effects.{LogsBytes, LogsUnlink, logs_attributes, logs_clean, logs_inode, logs_link, logs_removal, logs_rename, logs_replace, logs_size};
+ghost use Rattle.nv_calls.specs.Effects.{makes_attributes, makes_bytes, makes_inode, makes_link, makes_no_change, makes_removal, makes_rename, makes_replace, makes_size, makes_unlink};
 ghost use Rattle.nv_calls.specs.GrownLogs.{ShowsGrownLog};
 ghost use Rattle.nv_calls.specs.LinkCalls.{ShowsBothGrew};
 ghost use Rattle.nv_calls.specs.Mount.{Mount};
@@ -25,6 +26,7 @@ ghost use Rattle.nv_calls.specs.Listing.{ListsNamesIn};
 ghost use Rattle.nv_calls.specs.NameCalls.{ShowsCreated};
 ghost use Rattle.nv_calls.specs.Reading.{IsRead};
 ghost use Rattle.nv_calls.specs.RemoveCalls.{ShowsRemoved};
+ghost use Rattle.nv_calls.specs.ReplaceLogs.{ShowsBothLess, ShowsThreeGrew};
 ghost use Rattle.nv_calls.specs.SizeCall.{ShowsResizedLog};
 ghost use Rattle.nv_calls.specs.Stat.{IsStat};
 ghost use Rattle.nv_calls.specs.World.{world_of};
@@ -40,6 +42,10 @@ pub fn calls_are_decided()
         → IsDecided s (λ S. ShowsBothGrew S s pools cpu held i h entries j g others) }
     ensures created { (s : Super) (pools : List (List Run)) (cpu : ℕ) (held : Store) (kind : Kind) (mode time j d : ℕ) (h : Held) (name : List ℕ)
         → IsDecided s (λ S. ShowsCreated S s pools cpu held kind mode time j d h name) }
+    ensures less { (s : Super) (pools : List (List Run)) (cpu : ℕ) (held : Store) (i : ℕ) (h : Held) (entries : List Entry) (e : ℕ) (g : Held) (others : List Entry) (j : ℕ)
+        → IsDecided s (λ S. ShowsBothLess S s pools cpu held i h entries e g others j) }
+    ensures three { (s : Super) (pools : List (List Run)) (cpu : ℕ) (held : Store) (i : ℕ) (h : Held) (entries : List Entry) (e : ℕ) (g : Held) (others : List Entry) (j : ℕ) (f : Held)
+        (lasts : List Entry) → IsDecided s (λ S. ShowsThreeGrew S s pools cpu held i h entries e g others j f lasts) }
     ensures removed { (s : Super) (pools : List (List Run)) (cpu : ℕ) (held : Store) (d : ℕ) (h : Held) (entries : List Entry) (i : ℕ)
         → IsDecided s (λ S. ShowsRemoved S s pools cpu held d h entries i) }
     ensures resized { (s : Super) (pools : List (List Run)) (cpu : ℕ) (held : Store) (i : ℕ) (h : Held) (node : Node) (size time : ℕ)
@@ -74,6 +80,7 @@ pub fn calls_keep_regions_alike()
     ensures unlink { (cpu time : ℕ) → KeepsAlike (λ R m p n. unlink_tests (world_of m) (tree_of R m.rows) cpu p n) (makes_unlink time) (LogsUnlink cpu time) }
     ensures rmdir { (cpu time : ℕ) → KeepsAlike (λ R m p n. rmdir_tests (world_of m) (tree_of R m.rows) cpu p n) (makes_removal time) (logs_removal cpu time) }
     ensures rename { (cpu time : ℕ) (q : Path) → KeepsAlike (λ R m p n. rename_tests (world_of m) (tree_of R m.rows) cpu p q n) (makes_rename time q) (logs_rename cpu time q) }
+    ensures replace { (cpu time : ℕ) (q : Path) → KeepsAlike (λ R m p n. replace_tests (world_of m) (tree_of R m.rows) cpu p q n) (makes_replace time q) (logs_replace cpu time q) }
     ensures clean { (answer : Option ℕ) → KeepsAlike (λ R m p n. clean_tests (world_of m) (tree_of R m.rows) p) makes_no_change (logs_clean answer) }
     ensures cleaned { (answer other : Option ℕ) (R S T U : Region) (m k : Mount ⊤) (names : List (List ℕ)) → AreAlike R S → IsFaultlessMount R m → IsFaultlessMount S k
         → IsAllowed (λ R m p n. clean_tests (world_of m) (tree_of R m.rows) p) R m names

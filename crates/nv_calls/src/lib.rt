@@ -15,6 +15,7 @@ mod reading;
 mod removing;
 mod removing_directory;
 mod renaming;
+mod replace;
 mod replacing;
 mod replacing_across;
 mod sizes;

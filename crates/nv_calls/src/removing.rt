@@ -1,11 +1,10 @@
 //! An inode that goes with its name: all growths first, then the commit, then the rows and the free lists.
 
-ghost use Rattle.std.specs.Prelude.{◌≡◌, ◌≢◌, ◌+◌, ◌%◌, ◌<◌, ◌≤◌, length, Option, IsTrue, IfErr, OnOk};
+ghost use Rattle.std.specs.Prelude.{◌≡◌, ◌≢◌, ◌+◌, ◌%◌, ◌<◌, ◌≤◌, length, Option, IfErr, OnOk};
 ghost use Rattle.nv_super.specs.Layout.{fixed_layout, slot_address};
 ghost use Rattle.std.specs.Int.{div_ceil};
 ghost use Rattle.nv_region.specs.Region.{size};
 ghost use Rattle.nv_region.specs.Stops.{LeavesOnly, NothingPending};
-ghost use Rattle.nv_region.specs.Fuses.{KeepsFuse};
 ghost use Rattle.nv_alloc.specs.Taking.{all_blocks};
 ghost use Rattle.nv_entry.specs.declared.entry.Operation.{Operation as OperationValue};
 ghost use Rattle.nv_logpage.specs.Append.{needed};
@@ -24,6 +23,7 @@ ghost use Rattle.nv_steps.specs.Steps.{RefusesStep, ShowsRow};
 ghost use Rattle.nv_steps.specs.InOrder.{TailIsFirst};
 ghost use Rattle.nv_steps.specs.Stopped.{Cut};
 ghost use Rattle.nv_steps.specs.Stores.{StoresIn, one_less};
+ghost use Rattle.nv_steps.specs.Keeping.{SettlesStep};
 
 use nv_alloc::Allocators;
 use nv_paths::Named;
@@ -61,15 +61,11 @@ pub(crate) fn remove_named<P: Pmem>(
         (place_in rows.old.items named.now.target) named.now.name.now time) }
     ensures enough { (row gone : RowValue) → row_of rows.old.items named.now.directory ≡ Option.Some row → row_of rows.old.items named.now.target ≡ Option.Some gone
         → OnOk result (needed (row.tail % 4096) (name_entries OperationValue.Remove gone.inode named.now.name.now time) ≤ all_blocks free.old.pools) }
-    ensures settled { OnOk result (NothingPending (P.region memory.new) (P.may_hold memory.new)) }
+    ensures kept { SettlesStep P.region P.may_hold P.fuse memory.old memory.new free.old free.new result }
     ensures refused { (row gone : RowValue) → row_of rows.old.items named.now.directory ≡ Option.Some row → row_of rows.old.items named.now.target ≡ Option.Some gone
         → IfErr result (λ e. RefusesStep e (needed (row.tail % 4096) (name_entries OperationValue.Remove gone.inode named.now.name.now time)) free.old) }
     ensures unchanged { IfErr result (λ e. (e ≡ RefusalValue.Stopped → ⊥) → LeavesRows memory.old memory.new free.old free.new rows.old.items rows.new.items) }
-    ensures stopped { IfErr result (λ e. e ≡ RefusalValue.Stopped → IsTrue (P.fuse memory.new).has_burnt) }
-    ensures limit { rows.new.sup ≡ rows.old.sup }
-    ensures lists { free.new.sup ≡ free.old.sup }
-    ensures length { size (P.region memory.new) ≡ size (P.region memory.old) }
-    ensures keeps_fuse { KeepsFuse (λ limit. size (P.region memory.old) ≤ limit) (P.fuse memory.old) (P.fuse memory.new) }
+    ensures tables { (rows.new.sup ≡ rows.old.sup) × (rows.new.sizes ≡ rows.old.sizes) }
     // Every word outside these places is as it was.
     ensures wrote { (row gone : RowValue) (held : Store) (h : Held) → row_of rows.old.items named.now.directory ≡ Option.Some row → row_of rows.old.items named.now.target ≡ Option.Some gone
         → ShowsRow (P.region memory.old) sup.now held h row free.old

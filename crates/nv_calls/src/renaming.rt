@@ -38,6 +38,7 @@ ghost use Rattle.nv_calls.specs.InOrder.{ShowsTailFirst};
 ghost use Rattle.nv_steps.specs.Fronts.{SameFrontBut};
 ghost use Rattle.nv_calls.specs.World.{world_of};
 ghost use Rattle.nv_steps.specs.Stores.{StoresIn, one_log, two_logs};
+ghost use Rattle.nv_steps.specs.Keeping.{SettlesStep};
 ghost use Rattle.nv_calls.specs.Mount.{shown};
 
 use crate::Fs;
@@ -82,17 +83,13 @@ fn move_across<P: Pmem>(
         → row_of rows.old.items moved.now.from.target ≡ Option.Some inode
         → OnOk result (needed (from.tail % 4096) (name_entries Remove inode.inode moved.now.from.name.now time)
         + needed (to.tail % 4096) (name_entries Add inode.inode moved.now.name.now time) ≤ all_blocks free.old.pools) }
-    ensures settled { OnOk result (NothingPending (P.region memory.new) (P.may_hold memory.new)) }
+    ensures kept { SettlesStep P.region P.may_hold P.fuse memory.old memory.new free.old free.new result }
     ensures refused { (from to inode : RowValue) → row_of rows.old.items moved.now.from.directory ≡ Option.Some from → row_of rows.old.items moved.now.directory ≡ Option.Some to
         → row_of rows.old.items moved.now.from.target ≡ Option.Some inode
         → IfErr result (λ e. RefusesStep e (needed (from.tail % 4096) (name_entries Remove inode.inode moved.now.from.name.now time)
         + needed (to.tail % 4096) (name_entries Add inode.inode moved.now.name.now time)) free.old) }
     ensures unchanged { IfErr result (λ e. (e ≡ RefusalValue.Stopped → ⊥) → LeavesRows memory.old memory.new free.old free.new rows.old.items rows.new.items) }
-    ensures stopped { IfErr result (λ e. e ≡ RefusalValue.Stopped → IsTrue (P.fuse memory.new).has_burnt) }
-    ensures limit { rows.new.sup ≡ rows.old.sup }
-    ensures lists { free.new.sup ≡ free.old.sup }
-    ensures length { size (P.region memory.new) ≡ size (P.region memory.old) }
-    ensures keeps_fuse { KeepsFuse (λ limit. size (P.region memory.old) ≤ limit) (P.fuse memory.old) (P.fuse memory.new) }
+    ensures tables { (rows.new.sup ≡ rows.old.sup) × (rows.new.sizes ≡ rows.old.sizes) }
     // Every word outside these places is as it was.
     ensures wrote { (from to inode : RowValue) (held : Store) (h k : Held) → row_of rows.old.items moved.now.from.directory ≡ Option.Some from
         → row_of rows.old.items moved.now.directory ≡ Option.Some to → row_of rows.old.items moved.now.from.target ≡ Option.Some inode
@@ -140,7 +137,7 @@ pub(crate) fn other_name<'a>(moved: &Move<'a>, time: u64) -> OtherName<'a>
 ///
 /// `NoSpace` where all pools together have too few blocks, `Memory` where a growth was refused; both change nothing.
 /// `Stopped` where the fuse has burnt.
-fn move_at<P: Pmem>(
+pub(crate) fn move_at<P: Pmem>(
     alloc: Global,
     memory: &mut P,
     sup: &Super,
@@ -166,17 +163,13 @@ fn move_at<P: Pmem>(
         → row_of rows.old.items moved.now.from.target ≡ Option.Some inode
         → OnOk result (move_blocks (place_in rows.old.items moved.now.from.directory) (place_in rows.old.items moved.now.directory) from to inode.inode moved.now.from.name.now moved.now.name.now
         time ≤ all_blocks free.old.pools) }
-    ensures settled { OnOk result (NothingPending (P.region memory.new) (P.may_hold memory.new)) }
+    ensures kept { SettlesStep P.region P.may_hold P.fuse memory.old memory.new free.old free.new result }
     ensures refused { (from to inode : RowValue) → row_of rows.old.items moved.now.from.directory ≡ Option.Some from → row_of rows.old.items moved.now.directory ≡ Option.Some to
         → row_of rows.old.items moved.now.from.target ≡ Option.Some inode
         → IfErr result (λ e. RefusesStep e (move_blocks (place_in rows.old.items moved.now.from.directory)
         (place_in rows.old.items moved.now.directory) from to inode.inode moved.now.from.name.now moved.now.name.now time) free.old) }
     ensures unchanged { IfErr result (λ e. (e ≡ RefusalValue.Stopped → ⊥) → LeavesRows memory.old memory.new free.old free.new rows.old.items rows.new.items) }
-    ensures stopped { IfErr result (λ e. e ≡ RefusalValue.Stopped → IsTrue (P.fuse memory.new).has_burnt) }
-    ensures limit { rows.new.sup ≡ rows.old.sup }
-    ensures lists { free.new.sup ≡ free.old.sup }
-    ensures length { size (P.region memory.new) ≡ size (P.region memory.old) }
-    ensures keeps_fuse { KeepsFuse (λ limit. size (P.region memory.old) ≤ limit) (P.fuse memory.old) (P.fuse memory.new) }
+    ensures tables { (rows.new.sup ≡ rows.old.sup) × (rows.new.sizes ≡ rows.old.sizes) }
     // Every word outside these places is as it was.
     ensures wrote { (from to inode : RowValue) (held : Store) (h k : Held) → row_of rows.old.items moved.now.from.directory ≡ Option.Some from
         → row_of rows.old.items moved.now.directory ≡ Option.Some to → row_of rows.old.items moved.now.from.target ≡ Option.Some inode

@@ -1,11 +1,8 @@
-//! Towards `replace`, within one directory: another name for an inode, which it gets from an inode that goes or loses a link. No
-//! call makes this step yet.
+//! `replace` within one directory: another name for an inode, which it gets from an inode that goes or loses a link.
 
-ghost use Rattle.std.specs.Prelude.{◌≡◌, ◌≢◌, ◌+◌, ◌-◌, ◌%◌, ◌<◌, ◌≤◌, Option, IsTrue, IfErr, OnOk, true, false};
+ghost use Rattle.std.specs.Prelude.{◌≡◌, ◌≢◌, ◌+◌, ◌-◌, ◌%◌, ◌<◌, ◌≤◌, Option, IfErr, OnOk, true, false};
 ghost use Rattle.nv_super.specs.Layout.{fixed_layout, slot_address};
-ghost use Rattle.nv_region.specs.Region.{size};
 ghost use Rattle.nv_region.specs.Stops.{LeavesOnly, NothingPending};
-ghost use Rattle.nv_region.specs.Fuses.{KeepsFuse};
 ghost use Rattle.nv_alloc.specs.Taking.{all_blocks};
 ghost use Rattle.nv_logpage.specs.Append.{needed};
 ghost use Rattle.nv_names.specs.Names.{IsName};
@@ -23,6 +20,7 @@ ghost use Rattle.nv_steps.specs.Steps.{RefusesStep, ShowsRow};
 ghost use Rattle.nv_steps.specs.InOrder.{TailIsFirst, tail_address};
 ghost use Rattle.nv_steps.specs.Stores.{StoresIn, one_less, two_logs};
 ghost use Rattle.nv_steps.specs.Takes.{TookWithin, take_entries};
+ghost use Rattle.nv_steps.specs.Keeping.{SettlesStep};
 ghost use Rattle.nv_calls.specs.AtPlaces.{LeavesRows};
 ghost use Rattle.nv_calls.specs.ReplaceCalls.{ReplacedHere, ReplacesHere, TakesAt, keeps_others, replace_here_blocks};
 
@@ -54,7 +52,6 @@ fn take_at<P: Pmem>(
     there: u64,
     time: u64,
 ) -> Result<(), Refusal>
-    requires same { moved.now.from.directory ≡ moved.now.directory }
     requires directory { IsInUse rows.old.items moved.now.directory }
     requires there { IsInUse rows.old.items there }
     requires stands { (row : RowValue) → row_of rows.old.items moved.now.directory ≡ Option.Some row → StandsRight (P.region memory.old) sup.now free.old row }
@@ -67,15 +64,11 @@ fn take_at<P: Pmem>(
         (place_in rows.old.items there) moved.now.from.target moved.now.from.name.now moved.now.name.now time) }
     ensures enough { (row gone : RowValue) → row_of rows.old.items moved.now.directory ≡ Option.Some row → row_of rows.old.items there ≡ Option.Some gone
         → OnOk result (needed (row.tail % 4096) (take_entries moved.now.from.target gone.inode moved.now.from.name.now moved.now.name.now time) ≤ all_blocks free.old.pools) }
-    ensures settled { OnOk result (NothingPending (P.region memory.new) (P.may_hold memory.new)) }
+    ensures kept { SettlesStep P.region P.may_hold P.fuse memory.old memory.new free.old free.new result }
     ensures refused { (row gone : RowValue) → row_of rows.old.items moved.now.directory ≡ Option.Some row → row_of rows.old.items there ≡ Option.Some gone
         → IfErr result (λ e. RefusesStep e (needed (row.tail % 4096) (take_entries moved.now.from.target gone.inode moved.now.from.name.now moved.now.name.now time)) free.old) }
     ensures unchanged { IfErr result (λ e. (e ≡ RefusalValue.Stopped → ⊥) → LeavesRows memory.old memory.new free.old free.new rows.old.items rows.new.items) }
-    ensures stopped { IfErr result (λ e. e ≡ RefusalValue.Stopped → IsTrue (P.fuse memory.new).has_burnt) }
-    ensures limit { rows.new.sup ≡ rows.old.sup }
-    ensures lists { free.new.sup ≡ free.old.sup }
-    ensures length { size (P.region memory.new) ≡ size (P.region memory.old) }
-    ensures keeps_fuse { KeepsFuse (λ limit. size (P.region memory.old) ≤ limit) (P.fuse memory.old) (P.fuse memory.new) }
+    ensures tables { (rows.new.sup ≡ rows.old.sup) × (rows.new.sizes ≡ rows.old.sizes) }
     // Every word outside these places is as it was.
     ensures wrote { (row gone : RowValue) (held : Store) (h : Held) → row_of rows.old.items moved.now.directory ≡ Option.Some row → row_of rows.old.items there ≡ Option.Some gone
         → ShowsRow (P.region memory.old) sup.now held h row free.old
@@ -85,7 +78,8 @@ fn take_at<P: Pmem>(
         → ShowsRow (P.region memory.old) sup.now held h row free.old
         → TailIsFirst (P.region memory.old) (P.region memory.new) sup.now free.old.pools cpu row.inode row.tail (take_entries moved.now.from.target gone.inode moved.now.from.name.now
         moved.now.name.now time) (slot_address sup.now gone.inode) }
-    // Whatever a stop leaves: recovery finds what is held, or it with the name given and without the inode, without faults.
+    // Whatever a stop leaves: nothing is wrong with the journals, and recovery finds what is held, or it with the name given and
+    // without the inode.
     ensures any_stop { (row gone : RowValue) (held : Store) (h : Held) → row_of rows.old.items moved.now.directory ≡ Option.Some row → row_of rows.old.items there ≡ Option.Some gone
         → ShowsRow (P.region memory.old) sup.now held h row free.old → NothingPending (P.region memory.old) (P.may_hold memory.old)
         → LeavesOnly (P.region memory.new) (P.may_hold memory.new) (LeavesEither (P.region memory.old) (fixed_layout sup.now) held
@@ -120,7 +114,6 @@ fn lessen_at<P: Pmem>(
     there: u64,
     time: u64,
 ) -> Result<(), Refusal>
-    requires same { moved.now.from.directory ≡ moved.now.directory }
     requires directory { IsInUse rows.old.items moved.now.directory }
     requires there { IsInUse rows.old.items there }
     requires apart { moved.now.directory ≢ there }
@@ -136,16 +129,12 @@ fn lessen_at<P: Pmem>(
     ensures enough { (row file : RowValue) → row_of rows.old.items moved.now.directory ≡ Option.Some row → row_of rows.old.items there ≡ Option.Some file
         → OnOk result (needed (row.tail % 4096) (take_entries moved.now.from.target file.inode moved.now.from.name.now moved.now.name.now time)
         + needed (file.tail % 4096) (links_entries (file.numbers.links - 1) time) ≤ all_blocks free.old.pools) }
-    ensures settled { OnOk result (NothingPending (P.region memory.new) (P.may_hold memory.new)) }
+    ensures kept { SettlesStep P.region P.may_hold P.fuse memory.old memory.new free.old free.new result }
     ensures refused { (row file : RowValue) → row_of rows.old.items moved.now.directory ≡ Option.Some row → row_of rows.old.items there ≡ Option.Some file
         → IfErr result (λ e. RefusesStep e (needed (row.tail % 4096) (take_entries moved.now.from.target file.inode moved.now.from.name.now moved.now.name.now time)
         + needed (file.tail % 4096) (links_entries (file.numbers.links - 1) time)) free.old) }
     ensures unchanged { IfErr result (λ e. (e ≡ RefusalValue.Stopped → ⊥) → LeavesRows memory.old memory.new free.old free.new rows.old.items rows.new.items) }
-    ensures stopped { IfErr result (λ e. e ≡ RefusalValue.Stopped → IsTrue (P.fuse memory.new).has_burnt) }
-    ensures limit { rows.new.sup ≡ rows.old.sup }
-    ensures lists { free.new.sup ≡ free.old.sup }
-    ensures length { size (P.region memory.new) ≡ size (P.region memory.old) }
-    ensures keeps_fuse { KeepsFuse (λ limit. size (P.region memory.old) ≤ limit) (P.fuse memory.old) (P.fuse memory.new) }
+    ensures tables { (rows.new.sup ≡ rows.old.sup) × (rows.new.sizes ≡ rows.old.sizes) }
     // Every word outside these places is as it was.
     ensures wrote { (row file : RowValue) (held : Store) (h f : Held) → row_of rows.old.items moved.now.directory ≡ Option.Some row → row_of rows.old.items there ≡ Option.Some file
         → ShowsRow (P.region memory.old) sup.now held h row free.old → ShowsRow (P.region memory.old) sup.now held f file free.old
@@ -155,7 +144,8 @@ fn lessen_at<P: Pmem>(
         → ShowsRow (P.region memory.old) sup.now held h row free.old → ShowsRow (P.region memory.old) sup.now held f file free.old
         → TailIsFirst (P.region memory.old) (P.region memory.new) sup.now free.old.pools cpu row.inode row.tail (take_entries moved.now.from.target file.inode moved.now.from.name.now
         moved.now.name.now time) (tail_address sup.now file.inode) }
-    // Whatever a stop leaves: recovery finds what is held, or it with the name given and a link less, without faults.
+    // Whatever a stop leaves: nothing is wrong with the journals, and recovery finds what is held, or it with the name given and a
+    // link less.
     ensures any_stop { (row file : RowValue) (held : Store) (h f : Held) → row_of rows.old.items moved.now.directory ≡ Option.Some row → row_of rows.old.items there ≡ Option.Some file
         → ShowsRow (P.region memory.old) sup.now held h row free.old → ShowsRow (P.region memory.old) sup.now held f file free.old → NothingPending (P.region memory.old) (P.may_hold memory.old)
         → LeavesOnly (P.region memory.new) (P.may_hold memory.new) (LeavesEither (P.region memory.old) (fixed_layout sup.now) held
@@ -199,7 +189,6 @@ pub(crate) fn replace_within<P: Pmem>(
     there: u64,
     time: u64,
 ) -> Result<(), Refusal>
-    requires same { moved.now.from.directory ≡ moved.now.directory }
     requires directory { IsInUse rows.old.items moved.now.directory }
     requires there { IsInUse rows.old.items there }
     requires apart { moved.now.directory ≢ there }
@@ -216,32 +205,29 @@ pub(crate) fn replace_within<P: Pmem>(
         (place_in rows.old.items there) moved.now.from.target moved.now.from.name.now moved.now.name.now time) }
     ensures enough { (row file : RowValue) → row_of rows.old.items moved.now.directory ≡ Option.Some row → row_of rows.old.items there ≡ Option.Some file
         → OnOk result (replace_here_blocks row file moved.now.from.target moved.now.from.name.now moved.now.name.now time ≤ all_blocks free.old.pools) }
-    ensures settled { OnOk result (NothingPending (P.region memory.new) (P.may_hold memory.new)) }
+    ensures kept { SettlesStep P.region P.may_hold P.fuse memory.old memory.new free.old free.new result }
     ensures refused { (row file : RowValue) → row_of rows.old.items moved.now.directory ≡ Option.Some row → row_of rows.old.items there ≡ Option.Some file
         → IfErr result (λ e. RefusesStep e (replace_here_blocks row file moved.now.from.target moved.now.from.name.now moved.now.name.now time) free.old) }
     ensures unchanged { IfErr result (λ e. (e ≡ RefusalValue.Stopped → ⊥) → LeavesRows memory.old memory.new free.old free.new rows.old.items rows.new.items) }
-    ensures stopped { IfErr result (λ e. e ≡ RefusalValue.Stopped → IsTrue (P.fuse memory.new).has_burnt) }
-    ensures limit { rows.new.sup ≡ rows.old.sup }
-    ensures lists { free.new.sup ≡ free.old.sup }
-    ensures length { size (P.region memory.new) ≡ size (P.region memory.old) }
-    ensures keeps_fuse { KeepsFuse (λ limit. size (P.region memory.old) ≤ limit) (P.fuse memory.old) (P.fuse memory.new) }
+    ensures tables { (rows.new.sup ≡ rows.old.sup) × (rows.new.sizes ≡ rows.old.sizes) }
     // Every word outside these places is as it was.
     ensures wrote { (row file : RowValue) (held : Store) (h f : Held) → row_of rows.old.items moved.now.directory ≡ Option.Some row → row_of rows.old.items there ≡ Option.Some file
         → ShowsRow (P.region memory.old) sup.now held h row free.old → ShowsRow (P.region memory.old) sup.now held f file free.old → keeps_others file ≡ true
         → StoresIn sup.now held (two_logs sup.now cpu row.inode file.inode) (P.region memory.old) (P.region memory.new) }
-    ensures last_wrote { (row file : RowValue) (held : Store) (h f : Held) → row_of rows.old.items moved.now.directory ≡ Option.Some row → row_of rows.old.items there ≡ Option.Some file
-        → ShowsRow (P.region memory.old) sup.now held h row free.old → ShowsRow (P.region memory.old) sup.now held f file free.old → keeps_others file ≡ false
+    // The same where it goes.
+    ensures last_wrote { (row file : RowValue) (held : Store) (h : Held) → row_of rows.old.items moved.now.directory ≡ Option.Some row → row_of rows.old.items there ≡ Option.Some file
+        → ShowsRow (P.region memory.old) sup.now held h row free.old → keeps_others file ≡ false
         → StoresIn sup.now held (one_less sup.now cpu row.inode file.inode) (P.region memory.old) (P.region memory.new) }
-    // The directory's tail is stored first.
+    // The directory's tail is stored first, and then the file's, or the valid word.
     ensures in_order { (row file : RowValue) (held : Store) (h f : Held) → row_of rows.old.items moved.now.directory ≡ Option.Some row → row_of rows.old.items there ≡ Option.Some file
         → ShowsRow (P.region memory.old) sup.now held h row free.old → ShowsRow (P.region memory.old) sup.now held f file free.old → keeps_others file ≡ true
         → TailIsFirst (P.region memory.old) (P.region memory.new) sup.now free.old.pools cpu row.inode row.tail (take_entries moved.now.from.target file.inode moved.now.from.name.now
         moved.now.name.now time) (tail_address sup.now file.inode) }
-    ensures last_in_order { (row file : RowValue) (held : Store) (h f : Held) → row_of rows.old.items moved.now.directory ≡ Option.Some row → row_of rows.old.items there ≡ Option.Some file
-        → ShowsRow (P.region memory.old) sup.now held h row free.old → ShowsRow (P.region memory.old) sup.now held f file free.old → keeps_others file ≡ false
+    ensures last_in_order { (row file : RowValue) (held : Store) (h : Held) → row_of rows.old.items moved.now.directory ≡ Option.Some row → row_of rows.old.items there ≡ Option.Some file
+        → ShowsRow (P.region memory.old) sup.now held h row free.old → keeps_others file ≡ false
         → TailIsFirst (P.region memory.old) (P.region memory.new) sup.now free.old.pools cpu row.inode row.tail (take_entries moved.now.from.target file.inode moved.now.from.name.now
         moved.now.name.now time) (slot_address sup.now file.inode) }
-    // Whatever a stop leaves: recovery finds what is held, or it with the name given, without faults.
+    // Whatever a stop leaves: nothing is wrong with the journals, and recovery finds what is held, or it with the name given.
     ensures any_stop { (row file : RowValue) (held : Store) (h f : Held) → row_of rows.old.items moved.now.directory ≡ Option.Some row → row_of rows.old.items there ≡ Option.Some file
         → ShowsRow (P.region memory.old) sup.now held h row free.old → ShowsRow (P.region memory.old) sup.now held f file free.old → NothingPending (P.region memory.old) (P.may_hold memory.old)
         → LeavesOnly (P.region memory.new) (P.may_hold memory.new) (LeavesEither (P.region memory.old) (fixed_layout sup.now) held

@@ -1,11 +1,8 @@
-//! Towards `replace`, from one directory to another: a name of one inode that is given to another, by the logs of both. No call makes
-//! these steps yet.
+//! `replace` from one directory to another: a name of one inode that is given to another, by the logs of both.
 
 ghost use Rattle.std.specs.Prelude.{◌≡◌, ◌≢◌, ◌+◌, ◌-◌, ◌%◌, ◌<◌, ◌≤◌, Option, IsTrue, IfErr, OnOk, true, false};
 ghost use Rattle.nv_super.specs.Layout.{fixed_layout, is_number, slot_address};
-ghost use Rattle.nv_region.specs.Region.{size};
 ghost use Rattle.nv_region.specs.Stops.{LeavesOnly, NothingPending};
-ghost use Rattle.nv_region.specs.Fuses.{KeepsFuse};
 ghost use Rattle.nv_alloc.specs.Taking.{all_blocks};
 ghost use Rattle.nv_logpage.specs.Append.{needed};
 ghost use Rattle.nv_names.specs.Names.{IsName};
@@ -22,6 +19,7 @@ ghost use Rattle.nv_steps.specs.NameEntries.{links_entries};
 ghost use Rattle.nv_steps.specs.NewNames.{CanName};
 ghost use Rattle.nv_steps.specs.Steps.{RefusesStep, ShowsRow};
 ghost use Rattle.nv_steps.specs.Stores.{StoresIn, three_logs, two_less};
+ghost use Rattle.nv_steps.specs.Keeping.{SettlesStep};
 ghost use Rattle.nv_calls.specs.AtPlaces.{LeavesRows};
 ghost use Rattle.nv_calls.specs.ReplaceCalls.{HandsInOrder, LessensOver, ReplacedOver, ReplacesOver, TakesOver, hand_blocks, keeps_others, replace_over_blocks};
 
@@ -65,33 +63,35 @@ fn take_over<P: Pmem>(
     requires owns { (gone : RowValue) → row_of rows.old.items there ≡ Option.Some gone → OwnsBlocks free.old gone }
     requires name { IsName moved.now.from.name.now }
     requires other { IsName moved.now.name.now }
-    ensures taken { OnOk result (TakesOver (P.region memory.old) (P.region memory.new) sup.now free.old free.new cpu rows.old.items rows.new.items (place_in rows.old.items moved.now.from.directory) (place_in rows.old.items moved.now.directory)
+    ensures taken { OnOk result (TakesOver (P.region memory.old) (P.region memory.new) sup.now free.old free.new cpu rows.old.items rows.new.items
+        (place_in rows.old.items moved.now.from.directory) (place_in rows.old.items moved.now.directory)
         (place_in rows.old.items there) moved.now.from.target moved.now.from.name.now moved.now.name.now time) }
     ensures enough { (from to gone : RowValue) → row_of rows.old.items moved.now.from.directory ≡ Option.Some from → row_of rows.old.items moved.now.directory ≡ Option.Some to
         → row_of rows.old.items there ≡ Option.Some gone
         → OnOk result (hand_blocks from to moved.now.from.target gone.inode moved.now.from.name.now moved.now.name.now time ≤ all_blocks free.old.pools) }
-    ensures settled { OnOk result (NothingPending (P.region memory.new) (P.may_hold memory.new)) }
+    ensures kept { SettlesStep P.region P.may_hold P.fuse memory.old memory.new free.old free.new result }
     ensures refused { (from to gone : RowValue) → row_of rows.old.items moved.now.from.directory ≡ Option.Some from → row_of rows.old.items moved.now.directory ≡ Option.Some to
         → row_of rows.old.items there ≡ Option.Some gone
         → IfErr result (λ e. RefusesStep e (hand_blocks from to moved.now.from.target gone.inode moved.now.from.name.now moved.now.name.now time) free.old) }
     ensures unchanged { IfErr result (λ e. (e ≡ RefusalValue.Stopped → ⊥) → LeavesRows memory.old memory.new free.old free.new rows.old.items rows.new.items) }
-    ensures stopped { IfErr result (λ e. e ≡ RefusalValue.Stopped → IsTrue (P.fuse memory.new).has_burnt) }
-    ensures limit { rows.new.sup ≡ rows.old.sup }
-    ensures lists { free.new.sup ≡ free.old.sup }
-    ensures length { size (P.region memory.new) ≡ size (P.region memory.old) }
-    ensures keeps_fuse { KeepsFuse (λ limit. size (P.region memory.old) ≤ limit) (P.fuse memory.old) (P.fuse memory.new) }
+    ensures tables { (rows.new.sup ≡ rows.old.sup) × (rows.new.sizes ≡ rows.old.sizes) }
     // Every word outside these places is as it was.
-    ensures wrote { (from to gone : RowValue) (held : Store) (h g : Held) → row_of rows.old.items moved.now.from.directory ≡ Option.Some from → row_of rows.old.items moved.now.directory ≡ Option.Some to
+    ensures wrote { (from to gone : RowValue) (held : Store) (h g : Held) → row_of rows.old.items moved.now.from.directory ≡ Option.Some from
+        → row_of rows.old.items moved.now.directory ≡ Option.Some to
         → row_of rows.old.items there ≡ Option.Some gone
         → ShowsRow (P.region memory.old) sup.now held h from free.old → ShowsRow (P.region memory.old) sup.now held g to free.old
         → StoresIn sup.now held (two_less sup.now cpu from.inode to.inode gone.inode) (P.region memory.old) (P.region memory.new) }
     // The old directory's tail is stored first, then that of the new one, and then the valid word.
-    ensures in_order { (from to gone : RowValue) (held : Store) (h g : Held) → row_of rows.old.items moved.now.from.directory ≡ Option.Some from → row_of rows.old.items moved.now.directory ≡ Option.Some to
+    ensures in_order { (from to gone : RowValue) (held : Store) (h g : Held) → row_of rows.old.items moved.now.from.directory ≡ Option.Some from
+        → row_of rows.old.items moved.now.directory ≡ Option.Some to
         → row_of rows.old.items there ≡ Option.Some gone
         → ShowsRow (P.region memory.old) sup.now held h from free.old → ShowsRow (P.region memory.old) sup.now held g to free.old
-        → HandsInOrder (P.region memory.old) (P.region memory.new) sup.now free.old cpu from to moved.now.from.target gone.inode moved.now.from.name.now moved.now.name.now time (slot_address sup.now gone.inode) }
-    // Whatever a stop leaves: recovery finds what is held, or it with the name given and without the inode, without faults.
-    ensures any_stop { (from to gone : RowValue) (held : Store) (h g : Held) → row_of rows.old.items moved.now.from.directory ≡ Option.Some from → row_of rows.old.items moved.now.directory ≡ Option.Some to
+        → HandsInOrder (P.region memory.old) (P.region memory.new) sup.now free.old cpu from to moved.now.from.target gone.inode moved.now.from.name.now moved.now.name.now time
+        (slot_address sup.now gone.inode) }
+    // Whatever a stop leaves: nothing is wrong with the journals, and recovery finds what is held, or it with the name given and
+    // without the inode.
+    ensures any_stop { (from to gone : RowValue) (held : Store) (h g : Held) → row_of rows.old.items moved.now.from.directory ≡ Option.Some from
+        → row_of rows.old.items moved.now.directory ≡ Option.Some to
         → row_of rows.old.items there ≡ Option.Some gone
         → ShowsRow (P.region memory.old) sup.now held h from free.old → ShowsRow (P.region memory.old) sup.now held g to free.old → NothingPending (P.region memory.old) (P.may_hold memory.old)
         → LeavesOnly (P.region memory.new) (P.may_hold memory.new) (LeavesEither (P.region memory.old) (fixed_layout sup.now) held
@@ -143,37 +143,39 @@ fn lessen_over<P: Pmem>(
     requires more { (file : RowValue) → row_of rows.old.items there ≡ Option.Some file → 1 < file.numbers.links }
     requires name { IsName moved.now.from.name.now }
     requires other { IsName moved.now.name.now }
-    ensures lessened { OnOk result (LessensOver (P.region memory.old) (P.region memory.new) sup.now free.old free.new cpu rows.old.items rows.new.items (place_in rows.old.items moved.now.from.directory) (place_in rows.old.items moved.now.directory)
+    ensures lessened { OnOk result (LessensOver (P.region memory.old) (P.region memory.new) sup.now free.old free.new cpu rows.old.items rows.new.items
+        (place_in rows.old.items moved.now.from.directory) (place_in rows.old.items moved.now.directory)
         (place_in rows.old.items there) moved.now.from.target moved.now.from.name.now moved.now.name.now time) }
     ensures enough { (from to file : RowValue) → row_of rows.old.items moved.now.from.directory ≡ Option.Some from → row_of rows.old.items moved.now.directory ≡ Option.Some to
         → row_of rows.old.items there ≡ Option.Some file
         → OnOk result (hand_blocks from to moved.now.from.target file.inode moved.now.from.name.now moved.now.name.now time
         + needed (file.tail % 4096) (links_entries (file.numbers.links - 1) time) ≤ all_blocks free.old.pools) }
-    ensures settled { OnOk result (NothingPending (P.region memory.new) (P.may_hold memory.new)) }
+    ensures kept { SettlesStep P.region P.may_hold P.fuse memory.old memory.new free.old free.new result }
     ensures refused { (from to file : RowValue) → row_of rows.old.items moved.now.from.directory ≡ Option.Some from → row_of rows.old.items moved.now.directory ≡ Option.Some to
         → row_of rows.old.items there ≡ Option.Some file
         → IfErr result (λ e. RefusesStep e (hand_blocks from to moved.now.from.target file.inode moved.now.from.name.now moved.now.name.now time
         + needed (file.tail % 4096) (links_entries (file.numbers.links - 1) time)) free.old) }
     ensures unchanged { IfErr result (λ e. (e ≡ RefusalValue.Stopped → ⊥) → LeavesRows memory.old memory.new free.old free.new rows.old.items rows.new.items) }
-    ensures stopped { IfErr result (λ e. e ≡ RefusalValue.Stopped → IsTrue (P.fuse memory.new).has_burnt) }
-    ensures limit { rows.new.sup ≡ rows.old.sup }
-    ensures lists { free.new.sup ≡ free.old.sup }
-    ensures length { size (P.region memory.new) ≡ size (P.region memory.old) }
-    ensures keeps_fuse { KeepsFuse (λ limit. size (P.region memory.old) ≤ limit) (P.fuse memory.old) (P.fuse memory.new) }
+    ensures tables { (rows.new.sup ≡ rows.old.sup) × (rows.new.sizes ≡ rows.old.sizes) }
     // Every word outside these places is as it was.
-    ensures wrote { (from to file : RowValue) (held : Store) (h g f : Held) → row_of rows.old.items moved.now.from.directory ≡ Option.Some from → row_of rows.old.items moved.now.directory ≡ Option.Some to
+    ensures wrote { (from to file : RowValue) (held : Store) (h g f : Held) → row_of rows.old.items moved.now.from.directory ≡ Option.Some from
+        → row_of rows.old.items moved.now.directory ≡ Option.Some to
         → row_of rows.old.items there ≡ Option.Some file
         → ShowsRow (P.region memory.old) sup.now held h from free.old → ShowsRow (P.region memory.old) sup.now held g to free.old
         → ShowsRow (P.region memory.old) sup.now held f file free.old
         → StoresIn sup.now held (three_logs sup.now cpu from.inode to.inode file.inode) (P.region memory.old) (P.region memory.new) }
     // The old directory's tail is stored first, then that of the new one, and then that of the file.
-    ensures in_order { (from to file : RowValue) (held : Store) (h g f : Held) → row_of rows.old.items moved.now.from.directory ≡ Option.Some from → row_of rows.old.items moved.now.directory ≡ Option.Some to
+    ensures in_order { (from to file : RowValue) (held : Store) (h g f : Held) → row_of rows.old.items moved.now.from.directory ≡ Option.Some from
+        → row_of rows.old.items moved.now.directory ≡ Option.Some to
         → row_of rows.old.items there ≡ Option.Some file
         → ShowsRow (P.region memory.old) sup.now held h from free.old → ShowsRow (P.region memory.old) sup.now held g to free.old
         → ShowsRow (P.region memory.old) sup.now held f file free.old
-        → HandsInOrder (P.region memory.old) (P.region memory.new) sup.now free.old cpu from to moved.now.from.target file.inode moved.now.from.name.now moved.now.name.now time (tail_address sup.now file.inode) }
-    // Whatever a stop leaves: recovery finds what is held, or it with the name given and a link less, without faults.
-    ensures any_stop { (from to file : RowValue) (held : Store) (h g f : Held) → row_of rows.old.items moved.now.from.directory ≡ Option.Some from → row_of rows.old.items moved.now.directory ≡ Option.Some to
+        → HandsInOrder (P.region memory.old) (P.region memory.new) sup.now free.old cpu from to moved.now.from.target file.inode moved.now.from.name.now moved.now.name.now time
+        (tail_address sup.now file.inode) }
+    // Whatever a stop leaves: nothing is wrong with the journals, and recovery finds what is held, or it with the name given and a
+    // link less.
+    ensures any_stop { (from to file : RowValue) (held : Store) (h g f : Held) → row_of rows.old.items moved.now.from.directory ≡ Option.Some from
+        → row_of rows.old.items moved.now.directory ≡ Option.Some to
         → row_of rows.old.items there ≡ Option.Some file
         → ShowsRow (P.region memory.old) sup.now held h from free.old → ShowsRow (P.region memory.old) sup.now held g to free.old
         → ShowsRow (P.region memory.old) sup.now held f file free.old → NothingPending (P.region memory.old) (P.may_hold memory.old)
@@ -220,45 +222,48 @@ pub(crate) fn replace_over<P: Pmem>(
     requires owns { (file : RowValue) → row_of rows.old.items there ≡ Option.Some file → OwnsBlocks free.old file }
     requires name { IsName moved.now.from.name.now }
     requires other { IsName moved.now.name.now }
-    ensures replaced { OnOk result (ReplacesOver (P.region memory.old) (P.region memory.new) sup.now free.old free.new cpu rows.old.items rows.new.items (place_in rows.old.items moved.now.from.directory) (place_in rows.old.items moved.now.directory)
+    ensures replaced { OnOk result (ReplacesOver (P.region memory.old) (P.region memory.new) sup.now free.old free.new cpu rows.old.items rows.new.items
+        (place_in rows.old.items moved.now.from.directory) (place_in rows.old.items moved.now.directory)
         (place_in rows.old.items there) moved.now.from.target moved.now.from.name.now moved.now.name.now time) }
     ensures enough { (from to file : RowValue) → row_of rows.old.items moved.now.from.directory ≡ Option.Some from → row_of rows.old.items moved.now.directory ≡ Option.Some to
         → row_of rows.old.items there ≡ Option.Some file
         → OnOk result (replace_over_blocks from to file moved.now.from.target moved.now.from.name.now moved.now.name.now time ≤ all_blocks free.old.pools) }
-    ensures settled { OnOk result (NothingPending (P.region memory.new) (P.may_hold memory.new)) }
+    ensures kept { SettlesStep P.region P.may_hold P.fuse memory.old memory.new free.old free.new result }
     ensures refused { (from to file : RowValue) → row_of rows.old.items moved.now.from.directory ≡ Option.Some from → row_of rows.old.items moved.now.directory ≡ Option.Some to
         → row_of rows.old.items there ≡ Option.Some file
         → IfErr result (λ e. RefusesStep e (replace_over_blocks from to file moved.now.from.target moved.now.from.name.now moved.now.name.now time) free.old) }
     ensures unchanged { IfErr result (λ e. (e ≡ RefusalValue.Stopped → ⊥) → LeavesRows memory.old memory.new free.old free.new rows.old.items rows.new.items) }
-    ensures stopped { IfErr result (λ e. e ≡ RefusalValue.Stopped → IsTrue (P.fuse memory.new).has_burnt) }
-    ensures limit { rows.new.sup ≡ rows.old.sup }
-    ensures lists { free.new.sup ≡ free.old.sup }
-    ensures length { size (P.region memory.new) ≡ size (P.region memory.old) }
-    ensures keeps_fuse { KeepsFuse (λ limit. size (P.region memory.old) ≤ limit) (P.fuse memory.old) (P.fuse memory.new) }
+    ensures tables { (rows.new.sup ≡ rows.old.sup) × (rows.new.sizes ≡ rows.old.sizes) }
     // Every word outside these places is as it was.
-    ensures wrote { (from to file : RowValue) (held : Store) (h g f : Held) → row_of rows.old.items moved.now.from.directory ≡ Option.Some from → row_of rows.old.items moved.now.directory ≡ Option.Some to
+    ensures wrote { (from to file : RowValue) (held : Store) (h g f : Held) → row_of rows.old.items moved.now.from.directory ≡ Option.Some from
+        → row_of rows.old.items moved.now.directory ≡ Option.Some to
         → row_of rows.old.items there ≡ Option.Some file
         → ShowsRow (P.region memory.old) sup.now held h from free.old → ShowsRow (P.region memory.old) sup.now held g to free.old
         → ShowsRow (P.region memory.old) sup.now held f file free.old → keeps_others file ≡ true
         → StoresIn sup.now held (three_logs sup.now cpu from.inode to.inode file.inode) (P.region memory.old) (P.region memory.new) }
-    ensures last_wrote { (from to file : RowValue) (held : Store) (h g f : Held) → row_of rows.old.items moved.now.from.directory ≡ Option.Some from → row_of rows.old.items moved.now.directory ≡ Option.Some to
+    // The same where it goes.
+    ensures last_wrote { (from to file : RowValue) (held : Store) (h g : Held) → row_of rows.old.items moved.now.from.directory ≡ Option.Some from
+        → row_of rows.old.items moved.now.directory ≡ Option.Some to
         → row_of rows.old.items there ≡ Option.Some file
-        → ShowsRow (P.region memory.old) sup.now held h from free.old → ShowsRow (P.region memory.old) sup.now held g to free.old
-        → ShowsRow (P.region memory.old) sup.now held f file free.old → keeps_others file ≡ false
+        → ShowsRow (P.region memory.old) sup.now held h from free.old → ShowsRow (P.region memory.old) sup.now held g to free.old → keeps_others file ≡ false
         → StoresIn sup.now held (two_less sup.now cpu from.inode to.inode file.inode) (P.region memory.old) (P.region memory.new) }
-    // The old directory's tail is stored first, then that of the new one.
-    ensures in_order { (from to file : RowValue) (held : Store) (h g f : Held) → row_of rows.old.items moved.now.from.directory ≡ Option.Some from → row_of rows.old.items moved.now.directory ≡ Option.Some to
+    // The old directory's tail is stored first, then that of the new one, and then the file's tail, or the valid word.
+    ensures in_order { (from to file : RowValue) (held : Store) (h g f : Held) → row_of rows.old.items moved.now.from.directory ≡ Option.Some from
+        → row_of rows.old.items moved.now.directory ≡ Option.Some to
         → row_of rows.old.items there ≡ Option.Some file
         → ShowsRow (P.region memory.old) sup.now held h from free.old → ShowsRow (P.region memory.old) sup.now held g to free.old
         → ShowsRow (P.region memory.old) sup.now held f file free.old → keeps_others file ≡ true
-        → HandsInOrder (P.region memory.old) (P.region memory.new) sup.now free.old cpu from to moved.now.from.target file.inode moved.now.from.name.now moved.now.name.now time (tail_address sup.now file.inode) }
-    ensures last_in_order { (from to file : RowValue) (held : Store) (h g f : Held) → row_of rows.old.items moved.now.from.directory ≡ Option.Some from → row_of rows.old.items moved.now.directory ≡ Option.Some to
+        → HandsInOrder (P.region memory.old) (P.region memory.new) sup.now free.old cpu from to moved.now.from.target file.inode moved.now.from.name.now moved.now.name.now time
+        (tail_address sup.now file.inode) }
+    ensures last_in_order { (from to file : RowValue) (held : Store) (h g : Held) → row_of rows.old.items moved.now.from.directory ≡ Option.Some from
+        → row_of rows.old.items moved.now.directory ≡ Option.Some to
         → row_of rows.old.items there ≡ Option.Some file
-        → ShowsRow (P.region memory.old) sup.now held h from free.old → ShowsRow (P.region memory.old) sup.now held g to free.old
-        → ShowsRow (P.region memory.old) sup.now held f file free.old → keeps_others file ≡ false
-        → HandsInOrder (P.region memory.old) (P.region memory.new) sup.now free.old cpu from to moved.now.from.target file.inode moved.now.from.name.now moved.now.name.now time (slot_address sup.now file.inode) }
-    // Whatever a stop leaves: recovery finds what is held, or it with the name given, without faults.
-    ensures any_stop { (from to file : RowValue) (held : Store) (h g f : Held) → row_of rows.old.items moved.now.from.directory ≡ Option.Some from → row_of rows.old.items moved.now.directory ≡ Option.Some to
+        → ShowsRow (P.region memory.old) sup.now held h from free.old → ShowsRow (P.region memory.old) sup.now held g to free.old → keeps_others file ≡ false
+        → HandsInOrder (P.region memory.old) (P.region memory.new) sup.now free.old cpu from to moved.now.from.target file.inode moved.now.from.name.now moved.now.name.now time
+        (slot_address sup.now file.inode) }
+    // Whatever a stop leaves: nothing is wrong with the journals, and recovery finds what is held, or it with the name given.
+    ensures any_stop { (from to file : RowValue) (held : Store) (h g f : Held) → row_of rows.old.items moved.now.from.directory ≡ Option.Some from
+        → row_of rows.old.items moved.now.directory ≡ Option.Some to
         → row_of rows.old.items there ≡ Option.Some file
         → ShowsRow (P.region memory.old) sup.now held h from free.old → ShowsRow (P.region memory.old) sup.now held g to free.old
         → ShowsRow (P.region memory.old) sup.now held f file free.old → NothingPending (P.region memory.old) (P.may_hold memory.old)

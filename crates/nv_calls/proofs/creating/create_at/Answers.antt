@@ -1,14 +1,15 @@
-use Rattle.std.proofs.Common.{◌≡◌, ◌≢◌, ◌∙◌, ◌+◌, ◌%◌, ◌<◌, ◌≤◌, List, ℕ, Some, None, ap, refl, subst, sym, inl}
+use Rattle.std.proofs.Common.{◌≡◌, ◌≢◌, ◌∙◌, ◌+◌, ◌%◌, ◌≤◌, List, ℕ, Some, None, ap, refl, subst, sym, inl}
 use Rattle.nv_steps.specs.InOrder.{tail_address}
 use Rattle.nv_journal.specs.InOrder.{FirstIsFirst}
 use Rattle.std.proofs.lemmas.Result.{err_from_is_err_and}
 use Rattle.std.proofs.lemmas.Option.{same_Some}
-use Rattle.nv_super.specs.Layout.{fixed_layout, inode_limit, slot_address}
+use Rattle.nv_super.specs.Layout.{fixed_layout, slot_address}
 use Rattle.nv_super.specs.declared.superblock.Super.{Super}
 use Rattle.nv_alloc.specs.Taking.{all_blocks}
 use Rattle.nv_entry.specs.declared.entry.Operation.TheVariants.{Add}
 use Rattle.nv_logpage.specs.Append.{needed}
 use Rattle.nv_rows.specs.Rows.{HasInserted, IsLent, row_of}
+use Rattle.nv_rows.specs.Unused.{IsTableNumber}
 use Rattle.nv_rows.proofs.Places.{at_place, in_use}
 use Rattle.nv_scan.specs.declared.piece.Row.{Row}
 use Rattle.nv_tree.specs.declared.refusal.Refusal.{Refusal}
@@ -55,7 +56,7 @@ returns-in_err-made-clause-refused g c row is =
     let w = err_from_is_err_and c.from_residual.result c.from_residual.ensures.1 in
     refused_by c.from_residual.result c.in_err-made.field-0.0 w.0
     (λ (e : Refusal). RefusesStep e (1 + needed (row.tail % 4096) (name_entries Add c.args.new.now.inode c.args.new.now.name.now c.args.new.now.time)) c.args.free.now) w.1 w.2
-    (subst (λ (r : Row). RefusesStep c.in_err-made.field-0.0 (1 + needed (r.tail % 4096) (name_entries Add c.args.new.now.inode c.args.new.now.name.now c.args.new.now.time)) c.args.free.now) (same_Some _ _ (sym at ∙ is)) c.in_err-made.ensures.refused)
+    (subst (λ (r : Row). RefusesStep c.in_err-made.field-0.0 (1 + needed (r.tail % 4096) (name_entries Add c.args.new.now.inode c.args.new.now.name.now c.args.new.now.time)) c.args.free.now) (same_Some _ _ (sym at ∙ is)) c.in_err-made.ensures.needs.refused)
 
 pub returns-in_err-made-clause-unchanged : goal.returns-in_err-made-clause-unchanged
 returns-in_err-made-clause-unchanged g c =
@@ -71,7 +72,10 @@ pub insert-requires-clause-within : goal.insert-requires-clause-within
 insert-requires-clause-within g c =
     let sup : c.give_back.new.self.sup ≡ c.args.rows.now.sup = c.give_back.ensures.sup ∙ c.lend-row.ensures.sup ∙ c.reserve.ensures.sup in
     let number : c.in_ok-made.field-0.inode ≡ c.args.new.now.inode = c.in_ok-made.ensures.made.row.inode in
-    subst (λ (i : ℕ). i < inode_limit c.give_back.new.self.sup) (sym number) (subst (λ (s : Super). c.args.new.now.inode < inode_limit s) (sym sup) c.requires.limit)
+    let sizes : c.give_back.new.self.sizes ≡ c.args.rows.now.sizes = c.give_back.ensures.sizes ∙ c.lend-row.ensures.sizes ∙ c.reserve.ensures.sizes in
+    subst (λ (i : ℕ). IsTableNumber c.give_back.new.self.sup.cpus c.give_back.new.self.sizes i) (sym number)
+    (subst (λ (all : List ℕ). IsTableNumber c.give_back.new.self.sup.cpus all c.args.new.now.inode) (sym sizes)
+    (subst (λ (s : Super). IsTableNumber s.cpus c.args.rows.now.sizes c.args.new.now.inode) (sym sup) c.requires.limit))
 
 pub insert-requires-clause-vacant : goal.insert-requires-clause-vacant
 insert-requires-clause-vacant g c =
@@ -97,7 +101,7 @@ returns-clause-created g c =
 pub returns-clause-enough : goal.returns-clause-enough
 returns-clause-enough g c row is =
     let at : row_of c.args.rows.now.items c.args.directory ≡ Some c.lend-row.result = ap (λ (rows : List Row). row_of rows c.args.directory) (sym c.reserve.ensures.rows) ∙ c.lend-row.ensures.row in
-    subst (λ (r : Row). 1 + needed (r.tail % 4096) (name_entries Add c.args.new.now.inode c.args.new.now.name.now c.args.new.now.time) ≤ all_blocks c.args.free.now.pools) (same_Some _ _ (sym at ∙ is)) c.in_ok-made.ensures.enough
+    subst (λ (r : Row). 1 + needed (r.tail % 4096) (name_entries Add c.args.new.now.inode c.args.new.now.name.now c.args.new.now.time) ≤ all_blocks c.args.free.now.pools) (same_Some _ _ (sym at ∙ is)) c.in_ok-made.ensures.needs.enough
 
 pub returns-then-free_blocks-pages_needed-clause-any_stop : goal.returns-then-free_blocks-pages_needed-clause-any_stop
 returns-then-free_blocks-pages_needed-clause-any_stop g c row held h is shows out absent settled = still _ _ c.args.sup.now held (Named (g.P.Pmem.region c.args.memory.now) c.args.sup.now c.args.free.now c.args.cpu row c.args.new.now.kind c.args.new.now.mode c.args.new.now.time c.args.new.now.inode c.args.new.now.name.now) shows.sound settled

@@ -1,4 +1,5 @@
 use Rattle.nv_calls.proofs.CallsAlike.{attributes_alike_too, creates_alike, links_alike, removes_alike, renames_alike, sizes_alike, unlinks_alike, writes_alike}
+use Rattle.nv_calls.proofs.ReplaceAlike.{replaces_alike}
 use Rattle.nv_calls.proofs.CleanAlike.{cleans_alike, cleans_answer}
 use Rattle.nv_calls.proofs.laws.calls_keep_regions_alike.Goals as goal
 
@@ -31,3 +32,6 @@ returns-clause-clean c = cleans_alike
 
 pub returns-clause-cleaned : goal.returns-clause-cleaned
 returns-clause-cleaned c = cleans_answer
+
+pub returns-clause-replace : goal.returns-clause-replace
+returns-clause-replace c = replaces_alike

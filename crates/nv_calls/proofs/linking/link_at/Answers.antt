@@ -53,14 +53,14 @@ returns-clause-enough g c row directory at other_at =
     let there = row_stays c.args.rows.now.items c.lend-file.new.self.items c.args.named.now.target c.args.named.now.directory c.requires.apart c.requires.target c.lend-file.ensures.lent c.lend-directory.result c.lend-directory.ensures.row in
     let same : c.lend-file.result ≡ row = same_Some _ _ (sym c.lend-file.ensures.row ∙ at) in
     let other_same : c.lend-directory.result ≡ directory = same_Some _ _ (sym there ∙ other_at) in
-    on_ok_weaker c.link_both-done.result (λ enough. subst (λ (n : ℕ). n ≤ all_blocks c.args.free.now.pools) (ap (λ (r : Row). needed (r.tail % 4096) (links_entries (r.numbers.links + 1) c.args.time) + needed (c.lend-directory.result.tail % 4096) (name_entries Add r.inode c.args.named.now.name.now c.args.time)) same ∙ ap (λ (r : Row). needed (row.tail % 4096) (links_entries (row.numbers.links + 1) c.args.time) + needed (r.tail % 4096) (name_entries Add row.inode c.args.named.now.name.now c.args.time)) other_same) enough) c.link_both-done.ensures.enough
+    on_ok_weaker c.link_both-done.result (λ enough. subst (λ (n : ℕ). n ≤ all_blocks c.args.free.now.pools) (ap (λ (r : Row). needed (r.tail % 4096) (links_entries (r.numbers.links + 1) c.args.time) + needed (c.lend-directory.result.tail % 4096) (name_entries Add r.inode c.args.named.now.name.now c.args.time)) same ∙ ap (λ (r : Row). needed (row.tail % 4096) (links_entries (row.numbers.links + 1) c.args.time) + needed (r.tail % 4096) (name_entries Add row.inode c.args.named.now.name.now c.args.time)) other_same) enough) c.link_both-done.ensures.needs.enough
 
 pub returns-clause-refused : goal.returns-clause-refused
 returns-clause-refused g c row directory at other_at =
     let there = row_stays c.args.rows.now.items c.lend-file.new.self.items c.args.named.now.target c.args.named.now.directory c.requires.apart c.requires.target c.lend-file.ensures.lent c.lend-directory.result c.lend-directory.ensures.row in
     let same : c.lend-file.result ≡ row = same_Some _ _ (sym c.lend-file.ensures.row ∙ at) in
     let other_same : c.lend-directory.result ≡ directory = same_Some _ _ (sym there ∙ other_at) in
-    IfErr-weaker c.link_both-done.result _ _ (λ (e : Refusal) refused. subst (λ (n : ℕ). RefusesStep e n c.args.free.now) (ap (λ (r : Row). needed (r.tail % 4096) (links_entries (r.numbers.links + 1) c.args.time) + needed (c.lend-directory.result.tail % 4096) (name_entries Add r.inode c.args.named.now.name.now c.args.time)) same ∙ ap (λ (r : Row). needed (row.tail % 4096) (links_entries (row.numbers.links + 1) c.args.time) + needed (r.tail % 4096) (name_entries Add row.inode c.args.named.now.name.now c.args.time)) other_same) refused) c.link_both-done.ensures.refused
+    IfErr-weaker c.link_both-done.result _ _ (λ (e : Refusal) refused. subst (λ (n : ℕ). RefusesStep e n c.args.free.now) (ap (λ (r : Row). needed (r.tail % 4096) (links_entries (r.numbers.links + 1) c.args.time) + needed (c.lend-directory.result.tail % 4096) (name_entries Add r.inode c.args.named.now.name.now c.args.time)) same ∙ ap (λ (r : Row). needed (row.tail % 4096) (links_entries (row.numbers.links + 1) c.args.time) + needed (r.tail % 4096) (name_entries Add row.inode c.args.named.now.name.now c.args.time)) other_same) refused) c.link_both-done.ensures.needs.refused
 
 pub returns-clause-unchanged : goal.returns-clause-unchanged
 returns-clause-unchanged g c =

@@ -51,7 +51,7 @@ returns-in_err-cut-clause-refused g c row gone at gone_at =
     let w = err_from_is_err_and c.from_residual.result c.from_residual.ensures.1 in
     refused_by c.from_residual.result c.in_err-cut.field-0.0 w.0
     (λ (e : Refusal). RefusesStep e (needed (row.tail % 4096) (name_entries Remove gone.inode c.args.named.now.name.now c.args.time)) c.args.free.now) w.1 w.2
-    (subst (λ (n : ℕ). RefusesStep c.in_err-cut.field-0.0 n c.args.free.now) count c.in_err-cut.ensures.refused)
+    (subst (λ (n : ℕ). RefusesStep c.in_err-cut.field-0.0 n c.args.free.now) count c.in_err-cut.ensures.needs.refused)
 
 pub returns-in_err-cut-clause-unchanged : goal.returns-in_err-cut-clause-unchanged
 returns-in_err-cut-clause-unchanged g c =
@@ -105,7 +105,7 @@ returns-clause-enough g c row gone at gone_at =
     let row_is = same_Some _ _ (sym c.lend-directory.ensures.row ∙ at) in
     let number = sym (numbered c.args.rows.now.items c.args.named.now.target gone gone_at) in
     let count : needed (c.lend-directory.result.tail % 4096) (name_entries Remove c.args.named.now.target c.args.named.now.name.now c.args.time) ≡ needed (row.tail % 4096) (name_entries Remove gone.inode c.args.named.now.name.now c.args.time) = λ k. needed ((row_is k).tail % 4096) (name_entries Remove (number k) c.args.named.now.name.now c.args.time) in
-    subst (λ (n : ℕ). n ≤ all_blocks c.args.free.now.pools) count c.in_ok-cut.ensures.enough
+    subst (λ (n : ℕ). n ≤ all_blocks c.args.free.now.pools) count c.in_ok-cut.ensures.needs.enough
 
 pub returns-in_err-cut-clause-any_stop : goal.returns-in_err-cut-clause-any_stop
 returns-in_err-cut-clause-any_stop g c row gone held h at gone_at shows settled =

@@ -62,7 +62,7 @@ returns-clause-enough g c from to inode at other_at inode_at =
     let there = row_stays rows c.lend-from.new.self.items c.args.moved.now.from.directory c.args.moved.now.directory c.requires.apart c.requires.from c.lend-from.ensures.lent c.lend-to.result c.lend-to.ensures.row in
     let number = c.other_name-other.ensures.inode ∙ sym (numbered rows c.args.moved.now.from.target inode inode_at) in
     let count = both_count (same_Some _ _ (sym c.lend-from.ensures.row ∙ at)) (same_Some _ _ (sym there ∙ other_at)) number c.other_name-other.ensures.name c.other_name-other.ensures.other c.other_name-other.ensures.time in
-    on_ok_weaker c.move_both-done.result (subst (λ (n : ℕ). n ≤ all_blocks c.args.free.now.pools) count) c.move_both-done.ensures.enough
+    on_ok_weaker c.move_both-done.result (subst (λ (n : ℕ). n ≤ all_blocks c.args.free.now.pools) count) c.move_both-done.ensures.needs.enough
 
 pub returns-clause-refused : goal.returns-clause-refused
 returns-clause-refused g c from to inode at other_at inode_at =
@@ -70,7 +70,7 @@ returns-clause-refused g c from to inode at other_at inode_at =
     let there = row_stays rows c.lend-from.new.self.items c.args.moved.now.from.directory c.args.moved.now.directory c.requires.apart c.requires.from c.lend-from.ensures.lent c.lend-to.result c.lend-to.ensures.row in
     let number = c.other_name-other.ensures.inode ∙ sym (numbered rows c.args.moved.now.from.target inode inode_at) in
     let count = both_count (same_Some _ _ (sym c.lend-from.ensures.row ∙ at)) (same_Some _ _ (sym there ∙ other_at)) number c.other_name-other.ensures.name c.other_name-other.ensures.other c.other_name-other.ensures.time in
-    IfErr-weaker c.move_both-done.result _ _ (λ (e : Refusal). subst (λ (n : ℕ). RefusesStep e n c.args.free.now) count) c.move_both-done.ensures.refused
+    IfErr-weaker c.move_both-done.result _ _ (λ (e : Refusal). subst (λ (n : ℕ). RefusesStep e n c.args.free.now) count) c.move_both-done.ensures.needs.refused
 
 pub returns-clause-unchanged : goal.returns-clause-unchanged
 returns-clause-unchanged g c =

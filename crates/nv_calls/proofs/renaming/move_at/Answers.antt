@@ -54,7 +54,7 @@ returns-clause-enough g c from to inode at other_at inode_at =
     let one = same_Some _ _ (sym c.lend-directory.ensures.row ∙ sym (ap (row_of rows) c.if-moved.false) ∙ at) in
     let number = c.other_name-other.ensures.inode ∙ sym (numbered rows c.args.moved.now.from.target inode inode_at) in
     let count = here_count one number c.other_name-other.ensures.name c.other_name-other.ensures.other c.other_name-other.ensures.time ∙ sym (within_count (place_in rows c.args.moved.now.from.directory) (place_in rows c.args.moved.now.directory) from to inode.inode c.args.moved.now.from.name.now c.args.moved.now.name.now c.args.time (ap (place_in rows) c.if-moved.false)) in
-    on_ok_weaker c.move_within-done.result (subst (λ (n : ℕ). n ≤ all_blocks c.args.free.now.pools) count) c.move_within-done.ensures.enough
+    on_ok_weaker c.move_within-done.result (subst (λ (n : ℕ). n ≤ all_blocks c.args.free.now.pools) count) c.move_within-done.ensures.needs.enough
 
 pub returns-clause-refused : goal.returns-clause-refused
 returns-clause-refused g c from to inode at other_at inode_at =
@@ -62,7 +62,7 @@ returns-clause-refused g c from to inode at other_at inode_at =
     let one = same_Some _ _ (sym c.lend-directory.ensures.row ∙ sym (ap (row_of rows) c.if-moved.false) ∙ at) in
     let number = c.other_name-other.ensures.inode ∙ sym (numbered rows c.args.moved.now.from.target inode inode_at) in
     let count = here_count one number c.other_name-other.ensures.name c.other_name-other.ensures.other c.other_name-other.ensures.time ∙ sym (within_count (place_in rows c.args.moved.now.from.directory) (place_in rows c.args.moved.now.directory) from to inode.inode c.args.moved.now.from.name.now c.args.moved.now.name.now c.args.time (ap (place_in rows) c.if-moved.false)) in
-    IfErr-weaker c.move_within-done.result _ _ (λ (e : Refusal). subst (λ (n : ℕ). RefusesStep e n c.args.free.now) count) c.move_within-done.ensures.refused
+    IfErr-weaker c.move_within-done.result _ _ (λ (e : Refusal). subst (λ (n : ℕ). RefusesStep e n c.args.free.now) count) c.move_within-done.ensures.needs.refused
 
 pub returns-clause-unchanged : goal.returns-clause-unchanged
 returns-clause-unchanged g c =

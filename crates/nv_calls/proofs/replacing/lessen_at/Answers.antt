@@ -1,4 +1,4 @@
-use Rattle.std.proofs.Common.{◌≡◌, ◌∙◌, ◌+◌, ◌-◌, ◌%◌, ◌≤◌, ◌∷◌, [], ℕ, List, sym}
+use Rattle.std.proofs.Common.{◌∙◌, ◌+◌, ◌-◌, ◌%◌, ◌≤◌, ◌∷◌, [], ℕ, List, sym}
 use Rattle.std.proofs.lemmas.Result.{IfErr-weaker, on_ok_weaker}
 use Rattle.nv_super.specs.Layout.{fixed_layout}
 use Rattle.nv_region.specs.Stops.{LeavesOnly}
@@ -63,13 +63,13 @@ pub returns-clause-enough : goal.returns-clause-enough
 returns-clause-enough g c row file at other_at =
     on_ok_weaker c.lessen_within-done.result
     (λ enough. of_lent c.args.rows.now.items c.lend-directory.new.self.items c.args.moved.now.directory c.args.there c.requires.apart c.requires.directory c.lend-directory.ensures.lent (λ (r d : Row). needed (r.tail % 4096) (take_entries c.args.moved.now.from.target d.inode c.args.moved.now.from.name.now c.args.moved.now.name.now c.args.time) + needed (d.tail % 4096) (links_entries (d.numbers.links - 1) c.args.time) ≤ all_blocks c.args.free.now.pools) c.lend-directory.result c.lend-file.result row file c.lend-directory.ensures.row c.lend-file.ensures.row
-    (by_words (λ (i k : ℕ) (n o : List ℕ) (t : ℕ). needed (c.lend-directory.result.tail % 4096) (take_entries i c.lend-file.result.inode n o t) + needed (c.lend-file.result.tail % 4096) (links_entries (c.lend-file.result.numbers.links - 1) t) ≤ all_blocks c.args.free.now.pools) c.other_name-other.ensures.inode (λ x. 0) c.other_name-other.ensures.name c.other_name-other.ensures.other c.other_name-other.ensures.time enough) at other_at) c.lessen_within-done.ensures.enough
+    (by_words (λ (i k : ℕ) (n o : List ℕ) (t : ℕ). needed (c.lend-directory.result.tail % 4096) (take_entries i c.lend-file.result.inode n o t) + needed (c.lend-file.result.tail % 4096) (links_entries (c.lend-file.result.numbers.links - 1) t) ≤ all_blocks c.args.free.now.pools) c.other_name-other.ensures.inode (λ x. 0) c.other_name-other.ensures.name c.other_name-other.ensures.other c.other_name-other.ensures.time enough) at other_at) c.lessen_within-done.ensures.needs.enough
 
 pub returns-clause-refused : goal.returns-clause-refused
 returns-clause-refused g c row file at other_at =
     IfErr-weaker c.lessen_within-done.result _ _
     (λ (e : Refusal) refused. of_lent c.args.rows.now.items c.lend-directory.new.self.items c.args.moved.now.directory c.args.there c.requires.apart c.requires.directory c.lend-directory.ensures.lent (λ (r d : Row). RefusesStep e (needed (r.tail % 4096) (take_entries c.args.moved.now.from.target d.inode c.args.moved.now.from.name.now c.args.moved.now.name.now c.args.time) + needed (d.tail % 4096) (links_entries (d.numbers.links - 1) c.args.time)) c.args.free.now) c.lend-directory.result c.lend-file.result row file c.lend-directory.ensures.row c.lend-file.ensures.row
-    (by_words (λ (i k : ℕ) (n o : List ℕ) (t : ℕ). RefusesStep e (needed (c.lend-directory.result.tail % 4096) (take_entries i c.lend-file.result.inode n o t) + needed (c.lend-file.result.tail % 4096) (links_entries (c.lend-file.result.numbers.links - 1) t)) c.args.free.now) c.other_name-other.ensures.inode (λ x. 0) c.other_name-other.ensures.name c.other_name-other.ensures.other c.other_name-other.ensures.time refused) at other_at) c.lessen_within-done.ensures.refused
+    (by_words (λ (i k : ℕ) (n o : List ℕ) (t : ℕ). RefusesStep e (needed (c.lend-directory.result.tail % 4096) (take_entries i c.lend-file.result.inode n o t) + needed (c.lend-file.result.tail % 4096) (links_entries (c.lend-file.result.numbers.links - 1) t)) c.args.free.now) c.other_name-other.ensures.inode (λ x. 0) c.other_name-other.ensures.name c.other_name-other.ensures.other c.other_name-other.ensures.time refused) at other_at) c.lessen_within-done.ensures.needs.refused
 
 pub returns-clause-unchanged : goal.returns-clause-unchanged
 returns-clause-unchanged g c =

@@ -42,7 +42,7 @@ pub returns-then-keeps_others-clause-in_order : goal.returns-then-keeps_others-c
 returns-then-keeps_others-clause-in_order g c row file held h f at there here other said = c.lessen_at.ensures.in_order row file held h f at there here other
 
 pub returns-then-keeps_others-clause-last_in_order : goal.returns-then-keeps_others-clause-last_in_order
-returns-then-keeps_others-clause-last_in_order g c row file held h f at there here other said =
+returns-then-keeps_others-clause-last_in_order g c row file held h at there here said =
     let clash : true ≡ false = sym (stays_at true c.args.rows.now.items (place_in c.args.rows.now.items c.args.there) c.row.result.now c.keeps_others.result (at_place c.args.rows.now.items c.args.there ∙ c.row.ensures) c.keeps_others.ensures c.if-keeps_others.true file (at_place c.args.rows.now.items c.args.there ∙ there)) ∙ said in
     absurd (cc)
 
@@ -50,7 +50,7 @@ pub returns-then-keeps_others-clause-wrote : goal.returns-then-keeps_others-clau
 returns-then-keeps_others-clause-wrote g c row file held h f at there here other said = c.lessen_at.ensures.wrote row file held h f at there here other
 
 pub returns-then-keeps_others-clause-last_wrote : goal.returns-then-keeps_others-clause-last_wrote
-returns-then-keeps_others-clause-last_wrote g c row file held h f at there here other said =
+returns-then-keeps_others-clause-last_wrote g c row file held h at there here said =
     let clash : true ≡ false = sym (stays_at true c.args.rows.now.items (place_in c.args.rows.now.items c.args.there) c.row.result.now c.keeps_others.result (at_place c.args.rows.now.items c.args.there ∙ c.row.ensures) c.keeps_others.ensures c.if-keeps_others.true file (at_place c.args.rows.now.items c.args.there ∙ there)) ∙ said in
     absurd (cc)
 
@@ -79,7 +79,7 @@ returns-else-keeps_others-clause-in_order g c row file held h f at there here ot
     absurd (cc)
 
 pub returns-else-keeps_others-clause-last_in_order : goal.returns-else-keeps_others-clause-last_in_order
-returns-else-keeps_others-clause-last_in_order g c row file held h f at there here other said = c.take_at.ensures.in_order row file held h at there here
+returns-else-keeps_others-clause-last_in_order g c row file held h at there here said = c.take_at.ensures.in_order row file held h at there here
 
 pub returns-else-keeps_others-clause-wrote : goal.returns-else-keeps_others-clause-wrote
 returns-else-keeps_others-clause-wrote g c row file held h f at there here other said =
@@ -87,4 +87,4 @@ returns-else-keeps_others-clause-wrote g c row file held h f at there here other
     absurd (cc)
 
 pub returns-else-keeps_others-clause-last_wrote : goal.returns-else-keeps_others-clause-last_wrote
-returns-else-keeps_others-clause-last_wrote g c row file held h f at there here other said = c.take_at.ensures.wrote row file held h at there here
+returns-else-keeps_others-clause-last_wrote g c row file held h at there here said = c.take_at.ensures.wrote row file held h at there here

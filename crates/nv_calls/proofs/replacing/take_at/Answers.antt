@@ -48,7 +48,7 @@ returns-in_err-taken-clause-refused g c row gone at gone_at =
     let w = err_from_is_err_and c.from_residual.result c.from_residual.ensures.1 in
     refused_by c.from_residual.result c.in_err-taken.field-0.0 w.0 (λ (e : Refusal). RefusesStep e (needed (row.tail % 4096) (take_entries c.args.moved.now.from.target gone.inode c.args.moved.now.from.name.now c.args.moved.now.name.now c.args.time)) c.args.free.now) w.1 w.2
     (subst (λ (r : Row). RefusesStep c.in_err-taken.field-0.0 (needed (r.tail % 4096) (take_entries c.args.moved.now.from.target gone.inode c.args.moved.now.from.name.now c.args.moved.now.name.now c.args.time)) c.args.free.now) same
-    (by_words (λ (i k : ℕ) (n o : List ℕ) (t : ℕ). RefusesStep c.in_err-taken.field-0.0 (needed (c.lend-directory.result.tail % 4096) (take_entries i k n o t)) c.args.free.now) c.other_name-other.ensures.inode number c.other_name-other.ensures.name c.other_name-other.ensures.other c.other_name-other.ensures.time c.in_err-taken.ensures.refused))
+    (by_words (λ (i k : ℕ) (n o : List ℕ) (t : ℕ). RefusesStep c.in_err-taken.field-0.0 (needed (c.lend-directory.result.tail % 4096) (take_entries i k n o t)) c.args.free.now) c.other_name-other.ensures.inode number c.other_name-other.ensures.name c.other_name-other.ensures.other c.other_name-other.ensures.time c.in_err-taken.ensures.needs.refused))
 
 pub returns-in_err-taken-clause-unchanged : goal.returns-in_err-taken-clause-unchanged
 returns-in_err-taken-clause-unchanged g c =
@@ -96,7 +96,7 @@ returns-clause-enough g c row gone at gone_at =
     let same : c.lend-directory.result ≡ row = same_Some _ _ (sym c.lend-directory.ensures.row ∙ at) in
     let number = sym (numbered c.args.rows.now.items c.args.there gone gone_at) in
     subst (λ (r : Row). needed (r.tail % 4096) (take_entries c.args.moved.now.from.target gone.inode c.args.moved.now.from.name.now c.args.moved.now.name.now c.args.time) ≤ all_blocks c.args.free.now.pools) same
-    (by_words (λ (i k : ℕ) (n o : List ℕ) (t : ℕ). needed (c.lend-directory.result.tail % 4096) (take_entries i k n o t) ≤ all_blocks c.args.free.now.pools) c.other_name-other.ensures.inode number c.other_name-other.ensures.name c.other_name-other.ensures.other c.other_name-other.ensures.time c.in_ok-taken.ensures.enough)
+    (by_words (λ (i k : ℕ) (n o : List ℕ) (t : ℕ). needed (c.lend-directory.result.tail % 4096) (take_entries i k n o t) ≤ all_blocks c.args.free.now.pools) c.other_name-other.ensures.inode number c.other_name-other.ensures.name c.other_name-other.ensures.other c.other_name-other.ensures.time c.in_ok-taken.ensures.needs.enough)
 
 pub returns-in_err-taken-clause-any_stop : goal.returns-in_err-taken-clause-any_stop
 returns-in_err-taken-clause-any_stop g c row gone held h at gone_at shows settled =

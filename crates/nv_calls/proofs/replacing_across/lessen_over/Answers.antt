@@ -1,4 +1,4 @@
-use Rattle.std.proofs.Common.{◌≡◌, ◌≢◌, ◌∙◌, ◌+◌, ◌-◌, ◌%◌, ◌≤◌, ℕ, List, sym}
+use Rattle.std.proofs.Common.{◌∙◌, ◌+◌, ◌-◌, ◌%◌, ◌≤◌, ℕ, List, sym}
 use Rattle.std.proofs.lemmas.Result.{IfErr-weaker, on_ok_weaker}
 use Rattle.nv_super.specs.Layout.{fixed_layout}
 use Rattle.nv_region.specs.Stops.{LeavesOnly}
@@ -77,13 +77,13 @@ pub returns-clause-enough : goal.returns-clause-enough
 returns-clause-enough g c from to file at to_at file_at =
     on_ok_weaker c.lessen_across-done.result
     (λ enough. of_three c.args.rows.now.items c.lend-from.new.self.items c.lend-to.new.self.items c.args.moved.now.from.directory c.args.moved.now.directory c.args.there c.requires.apart.0 c.requires.apart.1 c.requires.apart.2 c.requires.from c.requires.directory c.requires.there c.lend-from.ensures.lent c.lend-to.ensures.lent (λ (r d b : Row). hand_blocks r d c.args.moved.now.from.target b.inode c.args.moved.now.from.name.now c.args.moved.now.name.now c.args.time + needed (b.tail % 4096) (links_entries (b.numbers.links - 1) c.args.time) ≤ all_blocks c.args.free.now.pools) c.lend-from.result c.lend-to.result c.lend-file.result from to file c.lend-from.ensures.row c.lend-to.ensures.row c.lend-file.ensures.row
-    (by_words (λ (i k : ℕ) (n o : List ℕ) (t : ℕ). hand_blocks c.lend-from.result c.lend-to.result i c.lend-file.result.inode n o t + needed (c.lend-file.result.tail % 4096) (links_entries (c.lend-file.result.numbers.links - 1) t) ≤ all_blocks c.args.free.now.pools) c.other_name-other.ensures.inode (λ x. 0) c.other_name-other.ensures.name c.other_name-other.ensures.other c.other_name-other.ensures.time enough) at to_at file_at) c.lessen_across-done.ensures.enough
+    (by_words (λ (i k : ℕ) (n o : List ℕ) (t : ℕ). hand_blocks c.lend-from.result c.lend-to.result i c.lend-file.result.inode n o t + needed (c.lend-file.result.tail % 4096) (links_entries (c.lend-file.result.numbers.links - 1) t) ≤ all_blocks c.args.free.now.pools) c.other_name-other.ensures.inode (λ x. 0) c.other_name-other.ensures.name c.other_name-other.ensures.other c.other_name-other.ensures.time enough) at to_at file_at) c.lessen_across-done.ensures.needs.enough
 
 pub returns-clause-refused : goal.returns-clause-refused
 returns-clause-refused g c from to file at to_at file_at =
     IfErr-weaker c.lessen_across-done.result _ _
     (λ (e : Refusal) refused. of_three c.args.rows.now.items c.lend-from.new.self.items c.lend-to.new.self.items c.args.moved.now.from.directory c.args.moved.now.directory c.args.there c.requires.apart.0 c.requires.apart.1 c.requires.apart.2 c.requires.from c.requires.directory c.requires.there c.lend-from.ensures.lent c.lend-to.ensures.lent (λ (r d b : Row). RefusesStep e (hand_blocks r d c.args.moved.now.from.target b.inode c.args.moved.now.from.name.now c.args.moved.now.name.now c.args.time + needed (b.tail % 4096) (links_entries (b.numbers.links - 1) c.args.time)) c.args.free.now) c.lend-from.result c.lend-to.result c.lend-file.result from to file c.lend-from.ensures.row c.lend-to.ensures.row c.lend-file.ensures.row
-    (by_words (λ (i k : ℕ) (n o : List ℕ) (t : ℕ). RefusesStep e (hand_blocks c.lend-from.result c.lend-to.result i c.lend-file.result.inode n o t + needed (c.lend-file.result.tail % 4096) (links_entries (c.lend-file.result.numbers.links - 1) t)) c.args.free.now) c.other_name-other.ensures.inode (λ x. 0) c.other_name-other.ensures.name c.other_name-other.ensures.other c.other_name-other.ensures.time refused) at to_at file_at) c.lessen_across-done.ensures.refused
+    (by_words (λ (i k : ℕ) (n o : List ℕ) (t : ℕ). RefusesStep e (hand_blocks c.lend-from.result c.lend-to.result i c.lend-file.result.inode n o t + needed (c.lend-file.result.tail % 4096) (links_entries (c.lend-file.result.numbers.links - 1) t)) c.args.free.now) c.other_name-other.ensures.inode (λ x. 0) c.other_name-other.ensures.name c.other_name-other.ensures.other c.other_name-other.ensures.time refused) at to_at file_at) c.lessen_across-done.ensures.needs.refused
 
 pub returns-clause-unchanged : goal.returns-clause-unchanged
 returns-clause-unchanged g c =

@@ -38,7 +38,7 @@ pub returns-then-keeps_others-clause-in_order : goal.returns-then-keeps_others-c
 returns-then-keeps_others-clause-in_order g c from to file held h k f at to_at there here other last said = c.lessen_over.ensures.in_order from to file held h k f at to_at there here other last
 
 pub returns-then-keeps_others-clause-last_in_order : goal.returns-then-keeps_others-clause-last_in_order
-returns-then-keeps_others-clause-last_in_order g c from to file held h k f at to_at there here other last said =
+returns-then-keeps_others-clause-last_in_order g c from to file held h k at to_at there here other said =
     let clash : true ≡ false = sym (stays_at true c.args.rows.now.items (place_in c.args.rows.now.items c.args.there) c.row.result.now c.keeps_others.result (at_place c.args.rows.now.items c.args.there ∙ c.row.ensures) c.keeps_others.ensures c.if-keeps_others.true file (at_place c.args.rows.now.items c.args.there ∙ there)) ∙ said in
     absurd (cc)
 
@@ -46,7 +46,7 @@ pub returns-then-keeps_others-clause-wrote : goal.returns-then-keeps_others-clau
 returns-then-keeps_others-clause-wrote g c from to file held h k f at to_at there here other last said = c.lessen_over.ensures.wrote from to file held h k f at to_at there here other last
 
 pub returns-then-keeps_others-clause-last_wrote : goal.returns-then-keeps_others-clause-last_wrote
-returns-then-keeps_others-clause-last_wrote g c from to file held h k f at to_at there here other last said =
+returns-then-keeps_others-clause-last_wrote g c from to file held h k at to_at there here other said =
     let clash : true ≡ false = sym (stays_at true c.args.rows.now.items (place_in c.args.rows.now.items c.args.there) c.row.result.now c.keeps_others.result (at_place c.args.rows.now.items c.args.there ∙ c.row.ensures) c.keeps_others.ensures c.if-keeps_others.true file (at_place c.args.rows.now.items c.args.there ∙ there)) ∙ said in
     absurd (cc)
 
@@ -75,7 +75,7 @@ returns-else-keeps_others-clause-in_order g c from to file held h k f at to_at t
     absurd (cc)
 
 pub returns-else-keeps_others-clause-last_in_order : goal.returns-else-keeps_others-clause-last_in_order
-returns-else-keeps_others-clause-last_in_order g c from to file held h k f at to_at there here other last said = c.take_over.ensures.in_order from to file held h k at to_at there here other
+returns-else-keeps_others-clause-last_in_order g c from to file held h k at to_at there here other said = c.take_over.ensures.in_order from to file held h k at to_at there here other
 
 pub returns-else-keeps_others-clause-wrote : goal.returns-else-keeps_others-clause-wrote
 returns-else-keeps_others-clause-wrote g c from to file held h k f at to_at there here other last said =
@@ -83,4 +83,4 @@ returns-else-keeps_others-clause-wrote g c from to file held h k f at to_at ther
     absurd (cc)
 
 pub returns-else-keeps_others-clause-last_wrote : goal.returns-else-keeps_others-clause-last_wrote
-returns-else-keeps_others-clause-last_wrote g c from to file held h k f at to_at there here other last said = c.take_over.ensures.wrote from to file held h k at to_at there here other
+returns-else-keeps_others-clause-last_wrote g c from to file held h k at to_at there here other said = c.take_over.ensures.wrote from to file held h k at to_at there here other

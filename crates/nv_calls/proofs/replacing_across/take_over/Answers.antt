@@ -1,4 +1,4 @@
-use Rattle.std.proofs.Common.{◌≡◌, ◌≢◌, ◌∙◌, ◌+◌, ◌≤◌, ℕ, List, length, subst, sym}
+use Rattle.std.proofs.Common.{◌≡◌, ◌∙◌, ◌+◌, ◌≤◌, ℕ, List, length, subst, sym}
 use Rattle.std.specs.Int.{div_ceil}
 use Rattle.std.proofs.lemmas.Option.{same_Some}
 use Rattle.std.proofs.lemmas.Result.{err_from_is_err_and}
@@ -43,26 +43,26 @@ take_across-taken-requires-clause-to_differs g c = λ same. c.requires.apart.2 (
 pub give_back-requires : goal.give_back-requires
 give_back-requires g c =
     let used = used_still c.args.rows.now.items c.lend-from.new.self.items c.args.moved.now.from.directory c.args.moved.now.directory c.requires.apart.0 c.requires.from c.lend-from.ensures.lent c.requires.directory in
-    last_used c.lend-from.new.self.items c.lend-to.new.self.items c.args.moved.now.directory c.take_across-taken.new.to used c.lend-to.ensures.lent (c.take_across-taken.ensures.to_inode ∙ c.lend-to.ensures.number)
+    last_used c.lend-from.new.self.items c.lend-to.new.self.items c.args.moved.now.directory c.take_across-taken.new.to used c.lend-to.ensures.lent (c.take_across-taken.ensures.inodes.1 ∙ c.lend-to.ensures.number)
 
 pub give_back-requires-2 : goal.give_back-requires-2
 give_back-requires-2 g c =
     first_used c.args.rows.now.items c.lend-from.new.self.items c.lend-to.new.self.items c.give_back.new.self.items c.args.moved.now.from.directory c.args.moved.now.directory c.take_across-taken.new.from c.take_across-taken.new.to c.requires.apart.0 c.requires.from c.requires.directory c.lend-from.ensures.lent c.lend-to.ensures.lent
-    (c.take_across-taken.ensures.to_inode ∙ c.lend-to.ensures.number) c.give_back.ensures.rows (c.take_across-taken.ensures.inode ∙ c.lend-from.ensures.number)
+    (c.take_across-taken.ensures.inodes.1 ∙ c.lend-to.ensures.number) c.give_back.ensures.rows (c.take_across-taken.ensures.inodes.0 ∙ c.lend-from.ensures.number)
 
 pub take-requires : goal.take-requires
 take-requires g c =
     let to_at = row_stays c.args.rows.now.items c.lend-from.new.self.items c.args.moved.now.from.directory c.args.moved.now.directory c.requires.apart.0 c.requires.from c.lend-from.ensures.lent c.lend-to.result c.lend-to.ensures.row in
     let put = back_two c.args.rows.now.items c.lend-from.new.self.items c.lend-to.new.self.items c.give_back.new.self.items c.give_back-2.new.self.items c.args.moved.now.from.directory c.args.moved.now.directory c.take_across-taken.new.from c.take_across-taken.new.to c.requires.apart.0 c.requires.from c.requires.directory
-    c.lend-from.ensures.lent c.lend-to.ensures.lent (c.take_across-taken.ensures.to_inode ∙ c.lend-to.ensures.number) c.give_back.ensures.rows (c.take_across-taken.ensures.inode ∙ c.lend-from.ensures.number) c.give_back-2.ensures.rows in
-    third_used c.args.rows.now.items c.give_back-2.new.self.items c.args.moved.now.from.directory c.args.moved.now.directory c.lend-from.result c.lend-to.result c.take_across-taken.new.from c.take_across-taken.new.to c.requires.apart.0 c.lend-from.ensures.row to_at (c.take_across-taken.ensures.inode ∙ c.lend-from.ensures.number) (c.take_across-taken.ensures.to_inode ∙ c.lend-to.ensures.number) put c.args.there c.requires.apart.1 c.requires.apart.2 c.requires.there
+    c.lend-from.ensures.lent c.lend-to.ensures.lent (c.take_across-taken.ensures.inodes.1 ∙ c.lend-to.ensures.number) c.give_back.ensures.rows (c.take_across-taken.ensures.inodes.0 ∙ c.lend-from.ensures.number) c.give_back-2.ensures.rows in
+    third_used c.args.rows.now.items c.give_back-2.new.self.items c.args.moved.now.from.directory c.args.moved.now.directory c.lend-from.result c.lend-to.result c.take_across-taken.new.from c.take_across-taken.new.to c.requires.apart.0 c.lend-from.ensures.row to_at (c.take_across-taken.ensures.inodes.0 ∙ c.lend-from.ensures.number) (c.take_across-taken.ensures.inodes.1 ∙ c.lend-to.ensures.number) put c.args.there c.requires.apart.1 c.requires.apart.2 c.requires.there
 
 pub give_row-requires-clause-own : goal.give_row-requires-clause-own
 give_row-requires-clause-own g c =
     let to_at = row_stays c.args.rows.now.items c.lend-from.new.self.items c.args.moved.now.from.directory c.args.moved.now.directory c.requires.apart.0 c.requires.from c.lend-from.ensures.lent c.lend-to.result c.lend-to.ensures.row in
     let put = back_two c.args.rows.now.items c.lend-from.new.self.items c.lend-to.new.self.items c.give_back.new.self.items c.give_back-2.new.self.items c.args.moved.now.from.directory c.args.moved.now.directory c.take_across-taken.new.from c.take_across-taken.new.to c.requires.apart.0 c.requires.from c.requires.directory
-    c.lend-from.ensures.lent c.lend-to.ensures.lent (c.take_across-taken.ensures.to_inode ∙ c.lend-to.ensures.number) c.give_back.ensures.rows (c.take_across-taken.ensures.inode ∙ c.lend-from.ensures.number) c.give_back-2.ensures.rows in
-    let at_there = sym (third_row c.args.rows.now.items c.give_back-2.new.self.items c.args.moved.now.from.directory c.args.moved.now.directory c.lend-from.result c.lend-to.result c.take_across-taken.new.from c.take_across-taken.new.to c.requires.apart.0 c.lend-from.ensures.row to_at (c.take_across-taken.ensures.inode ∙ c.lend-from.ensures.number) (c.take_across-taken.ensures.to_inode ∙ c.lend-to.ensures.number) put c.args.there c.requires.apart.1 c.requires.apart.2) ∙ c.take.ensures.row in
+    c.lend-from.ensures.lent c.lend-to.ensures.lent (c.take_across-taken.ensures.inodes.1 ∙ c.lend-to.ensures.number) c.give_back.ensures.rows (c.take_across-taken.ensures.inodes.0 ∙ c.lend-from.ensures.number) c.give_back-2.ensures.rows in
+    let at_there = sym (third_row c.args.rows.now.items c.give_back-2.new.self.items c.args.moved.now.from.directory c.args.moved.now.directory c.lend-from.result c.lend-to.result c.take_across-taken.new.from c.take_across-taken.new.to c.requires.apart.0 c.lend-from.ensures.row to_at (c.take_across-taken.ensures.inodes.0 ∙ c.lend-from.ensures.number) (c.take_across-taken.ensures.inodes.1 ∙ c.lend-to.ensures.number) put c.args.there c.requires.apart.1 c.requires.apart.2) ∙ c.take.ensures.row in
     let taken = c.in_ok-taken.ensures.taken in
     owns_taken taken.taken (c.requires.owns c.take.result at_there)
 
@@ -70,8 +70,8 @@ pub give_row-requires-clause-room : goal.give_row-requires-clause-room
 give_row-requires-clause-room g c =
     let to_at = row_stays c.args.rows.now.items c.lend-from.new.self.items c.args.moved.now.from.directory c.args.moved.now.directory c.requires.apart.0 c.requires.from c.lend-from.ensures.lent c.lend-to.result c.lend-to.ensures.row in
     let put = back_two c.args.rows.now.items c.lend-from.new.self.items c.lend-to.new.self.items c.give_back.new.self.items c.give_back-2.new.self.items c.args.moved.now.from.directory c.args.moved.now.directory c.take_across-taken.new.from c.take_across-taken.new.to c.requires.apart.0 c.requires.from c.requires.directory
-    c.lend-from.ensures.lent c.lend-to.ensures.lent (c.take_across-taken.ensures.to_inode ∙ c.lend-to.ensures.number) c.give_back.ensures.rows (c.take_across-taken.ensures.inode ∙ c.lend-from.ensures.number) c.give_back-2.ensures.rows in
-    let at_there = sym (third_row c.args.rows.now.items c.give_back-2.new.self.items c.args.moved.now.from.directory c.args.moved.now.directory c.lend-from.result c.lend-to.result c.take_across-taken.new.from c.take_across-taken.new.to c.requires.apart.0 c.lend-from.ensures.row to_at (c.take_across-taken.ensures.inode ∙ c.lend-from.ensures.number) (c.take_across-taken.ensures.to_inode ∙ c.lend-to.ensures.number) put c.args.there c.requires.apart.1 c.requires.apart.2) ∙ c.take.ensures.row in
+    c.lend-from.ensures.lent c.lend-to.ensures.lent (c.take_across-taken.ensures.inodes.1 ∙ c.lend-to.ensures.number) c.give_back.ensures.rows (c.take_across-taken.ensures.inodes.0 ∙ c.lend-from.ensures.number) c.give_back-2.ensures.rows in
+    let at_there = sym (third_row c.args.rows.now.items c.give_back-2.new.self.items c.args.moved.now.from.directory c.args.moved.now.directory c.lend-from.result c.lend-to.result c.take_across-taken.new.from c.take_across-taken.new.to c.requires.apart.0 c.lend-from.ensures.row to_at (c.take_across-taken.ensures.inodes.0 ∙ c.lend-from.ensures.number) (c.take_across-taken.ensures.inodes.1 ∙ c.lend-to.ensures.number) put c.args.there c.requires.apart.1 c.requires.apart.2) ∙ c.take.ensures.row in
     let same : c.row.result.now ≡ c.take.result = same_Some _ _ (sym c.row.ensures ∙ at_there) in
     subst (λ (r : Row). length r.pages.items + div_ceil r.numbers.size 4096 ≤ c.take_across-taken.new.free.room) same (subst (λ (n : ℕ). n ≤ c.take_across-taken.new.free.room) c.most_blocks.ensures c.in_ok-taken.ensures.room)
 
@@ -79,8 +79,8 @@ pub returns-clause-taken : goal.returns-clause-taken
 returns-clause-taken g c =
     let to_at = row_stays c.args.rows.now.items c.lend-from.new.self.items c.args.moved.now.from.directory c.args.moved.now.directory c.requires.apart.0 c.requires.from c.lend-from.ensures.lent c.lend-to.result c.lend-to.ensures.row in
     let put = back_two c.args.rows.now.items c.lend-from.new.self.items c.lend-to.new.self.items c.give_back.new.self.items c.give_back-2.new.self.items c.args.moved.now.from.directory c.args.moved.now.directory c.take_across-taken.new.from c.take_across-taken.new.to c.requires.apart.0 c.requires.from c.requires.directory
-    c.lend-from.ensures.lent c.lend-to.ensures.lent (c.take_across-taken.ensures.to_inode ∙ c.lend-to.ensures.number) c.give_back.ensures.rows (c.take_across-taken.ensures.inode ∙ c.lend-from.ensures.number) c.give_back-2.ensures.rows in
-    let at_there = sym (third_row c.args.rows.now.items c.give_back-2.new.self.items c.args.moved.now.from.directory c.args.moved.now.directory c.lend-from.result c.lend-to.result c.take_across-taken.new.from c.take_across-taken.new.to c.requires.apart.0 c.lend-from.ensures.row to_at (c.take_across-taken.ensures.inode ∙ c.lend-from.ensures.number) (c.take_across-taken.ensures.to_inode ∙ c.lend-to.ensures.number) put c.args.there c.requires.apart.1 c.requires.apart.2) ∙ c.take.ensures.row in
+    c.lend-from.ensures.lent c.lend-to.ensures.lent (c.take_across-taken.ensures.inodes.1 ∙ c.lend-to.ensures.number) c.give_back.ensures.rows (c.take_across-taken.ensures.inodes.0 ∙ c.lend-from.ensures.number) c.give_back-2.ensures.rows in
+    let at_there = sym (third_row c.args.rows.now.items c.give_back-2.new.self.items c.args.moved.now.from.directory c.args.moved.now.directory c.lend-from.result c.lend-to.result c.take_across-taken.new.from c.take_across-taken.new.to c.requires.apart.0 c.lend-from.ensures.row to_at (c.take_across-taken.ensures.inodes.0 ∙ c.lend-from.ensures.number) (c.take_across-taken.ensures.inodes.1 ∙ c.lend-to.ensures.number) put c.args.there c.requires.apart.1 c.requires.apart.2) ∙ c.take.ensures.row in
     record {
       from = c.lend-from.result;
       to = c.lend-to.result;
@@ -93,14 +93,14 @@ returns-clause-taken g c =
       gone_at = at_place c.args.rows.now.items c.args.there ∙ at_there;
       step = by_words (λ (i k : ℕ) (n o : List ℕ) (t : ℕ). TakesAcross (g.P.Pmem.region c.args.memory.now) (g.P.Pmem.region c.take_across-taken.new.memory) c.args.sup.now c.args.free.now c.take_across-taken.new.free c.args.cpu c.lend-from.result c.take_across-taken.new.from c.lend-to.result c.take_across-taken.new.to i k n o t) c.other_name-other.ensures.inode (sym c.take.ensures.number) c.other_name-other.ensures.name c.other_name-other.ensures.other c.other_name-other.ensures.time c.in_ok-taken.ensures.taken;
       given = c.give_row.ensures.given;
-      put = third_out c.args.rows.now.items c.give_back-2.new.self.items c.args.moved.now.from.directory c.args.moved.now.directory c.lend-from.result c.lend-to.result c.take_across-taken.new.from c.take_across-taken.new.to c.requires.apart.0 c.lend-from.ensures.row to_at (c.take_across-taken.ensures.inode ∙ c.lend-from.ensures.number) (c.take_across-taken.ensures.to_inode ∙ c.lend-to.ensures.number) put c.args.there c.requires.apart.1 c.requires.apart.2 c.take.ensures.rows;
+      put = third_out c.args.rows.now.items c.give_back-2.new.self.items c.args.moved.now.from.directory c.args.moved.now.directory c.lend-from.result c.lend-to.result c.take_across-taken.new.from c.take_across-taken.new.to c.requires.apart.0 c.lend-from.ensures.row to_at (c.take_across-taken.ensures.inodes.0 ∙ c.lend-from.ensures.number) (c.take_across-taken.ensures.inodes.1 ∙ c.lend-to.ensures.number) put c.args.there c.requires.apart.1 c.requires.apart.2 c.take.ensures.rows;
     }
 
 pub returns-in_err-taken-clause-unchanged : goal.returns-in_err-taken-clause-unchanged
 returns-in_err-taken-clause-unchanged g c =
     let to_at = row_stays c.args.rows.now.items c.lend-from.new.self.items c.args.moved.now.from.directory c.args.moved.now.directory c.requires.apart.0 c.requires.from c.lend-from.ensures.lent c.lend-to.result c.lend-to.ensures.row in
     let put = back_two c.args.rows.now.items c.lend-from.new.self.items c.lend-to.new.self.items c.give_back.new.self.items c.give_back-2.new.self.items c.args.moved.now.from.directory c.args.moved.now.directory c.take_across-taken.new.from c.take_across-taken.new.to c.requires.apart.0 c.requires.from c.requires.directory
-    c.lend-from.ensures.lent c.lend-to.ensures.lent (c.take_across-taken.ensures.to_inode ∙ c.lend-to.ensures.number) c.give_back.ensures.rows (c.take_across-taken.ensures.inode ∙ c.lend-from.ensures.number) c.give_back-2.ensures.rows in
+    c.lend-from.ensures.lent c.lend-to.ensures.lent (c.take_across-taken.ensures.inodes.1 ∙ c.lend-to.ensures.number) c.give_back.ensures.rows (c.take_across-taken.ensures.inodes.0 ∙ c.lend-from.ensures.number) c.give_back-2.ensures.rows in
     let w = err_from_is_err_and c.from_residual.result c.from_residual.ensures.1 in
     refused_by c.from_residual.result c.in_err-taken.field-0.0 w.0 (λ (e : Refusal). (e ≡ Stopped → ⊥) → LeavesRows c.args.memory.now c.take_across-taken.new.memory c.args.free.now c.take_across-taken.new.free c.args.rows.now.items c.give_back-2.new.self.items) w.1 w.2
     (λ off. (let left = c.in_err-taken.ensures.unchanged off in left_two c.args.rows.now.items c.give_back-2.new.self.items c.args.moved.now.from.directory c.args.moved.now.directory c.lend-from.result c.lend-to.result c.take_across-taken.new.from c.take_across-taken.new.to c.requires.apart.0 c.lend-from.ensures.row to_at put c.args.memory.now c.take_across-taken.new.memory c.args.free.now c.take_across-taken.new.free left.0 left.1))
@@ -111,13 +111,13 @@ returns-in_err-taken-clause-refused g c from to gone at to_at gone_at =
     let w = err_from_is_err_and c.from_residual.result c.from_residual.ensures.1 in
     refused_by c.from_residual.result c.in_err-taken.field-0.0 w.0 (λ (e : Refusal). RefusesStep e (hand_blocks from to c.args.moved.now.from.target gone.inode c.args.moved.now.from.name.now c.args.moved.now.name.now c.args.time) c.args.free.now) w.1 w.2
     (of_lent c.args.rows.now.items c.lend-from.new.self.items c.args.moved.now.from.directory c.args.moved.now.directory c.requires.apart.0 c.requires.from c.lend-from.ensures.lent (λ (r d : Row). RefusesStep c.in_err-taken.field-0.0 (hand_blocks r d c.args.moved.now.from.target gone.inode c.args.moved.now.from.name.now c.args.moved.now.name.now c.args.time) c.args.free.now) c.lend-from.result c.lend-to.result from to c.lend-from.ensures.row c.lend-to.ensures.row
-    (by_words (λ (i k : ℕ) (n o : List ℕ) (t : ℕ). RefusesStep c.in_err-taken.field-0.0 (hand_blocks c.lend-from.result c.lend-to.result i k n o t) c.args.free.now) c.other_name-other.ensures.inode number c.other_name-other.ensures.name c.other_name-other.ensures.other c.other_name-other.ensures.time c.in_err-taken.ensures.refused) at to_at)
+    (by_words (λ (i k : ℕ) (n o : List ℕ) (t : ℕ). RefusesStep c.in_err-taken.field-0.0 (hand_blocks c.lend-from.result c.lend-to.result i k n o t) c.args.free.now) c.other_name-other.ensures.inode number c.other_name-other.ensures.name c.other_name-other.ensures.other c.other_name-other.ensures.time c.in_err-taken.ensures.needs.refused) at to_at)
 
 pub returns-clause-enough : goal.returns-clause-enough
 returns-clause-enough g c from to gone at to_at gone_at =
     let number = sym (numbered c.args.rows.now.items c.args.there gone gone_at) in
     of_lent c.args.rows.now.items c.lend-from.new.self.items c.args.moved.now.from.directory c.args.moved.now.directory c.requires.apart.0 c.requires.from c.lend-from.ensures.lent (λ (r d : Row). hand_blocks r d c.args.moved.now.from.target gone.inode c.args.moved.now.from.name.now c.args.moved.now.name.now c.args.time ≤ all_blocks c.args.free.now.pools) c.lend-from.result c.lend-to.result from to c.lend-from.ensures.row c.lend-to.ensures.row
-    (by_words (λ (i k : ℕ) (n o : List ℕ) (t : ℕ). hand_blocks c.lend-from.result c.lend-to.result i k n o t ≤ all_blocks c.args.free.now.pools) c.other_name-other.ensures.inode number c.other_name-other.ensures.name c.other_name-other.ensures.other c.other_name-other.ensures.time c.in_ok-taken.ensures.enough) at to_at
+    (by_words (λ (i k : ℕ) (n o : List ℕ) (t : ℕ). hand_blocks c.lend-from.result c.lend-to.result i k n o t ≤ all_blocks c.args.free.now.pools) c.other_name-other.ensures.inode number c.other_name-other.ensures.name c.other_name-other.ensures.other c.other_name-other.ensures.time c.in_ok-taken.ensures.needs.enough) at to_at
 
 pub returns-in_err-taken-clause-any_stop : goal.returns-in_err-taken-clause-any_stop
 returns-in_err-taken-clause-any_stop g c from to gone held h k at to_at gone_at here other settled =

@@ -1,5 +1,6 @@
 use Rattle.std.proofs.Common.{◌≡◌, ◌∙◌, ◌≤◌, [], ◌∷◌, Some, false, true, inr, ap, set, subst, sym, refl, is_none}
 use Rattle.std.proofs.lemmas.Result.{err_from_is_err_and, IfOk-from_err}
+use Rattle.nv_rows.proofs.TableNumbers.{numbers_kept}
 use Rattle.nv_region.specs.Region.{size}
 use Rattle.nv_region.specs.Fuses.{KeepsFuse}
 use Rattle.nv_super.proofs.Members.{stands}
@@ -98,7 +99,7 @@ invariant_of-self g c =
     let inode = c.args.inode in
     let at = at_place rows inode ∙ c.lend-row.ensures.row in
     let put = back_one rows c.lend-row.new.self.items c.give_back.new.self.items inode c.clean_log-cleaned.new.row c.lend-row.ensures.lent (c.clean_log-cleaned.ensures.file.inode ∙ c.lend-row.ensures.number) c.give_back.ensures.rows in
-    (rw put (kept_cleaned c.self.invariant.0 runs writes (place_in rows inode) c.lend-row.result c.clean_log-cleaned.new.row at (g.P.Pmem.region c.clean_log-cleaned.new.memory) c.clean_log-cleaned.new.free c.in-Ok.block (λ held h shows. c.in-Ok.ensures.log held h shows (known_here g.P.Pmem.region c.self.view_is c.args.known c.lend-row.ensures.number c.requires held h shows.sound shows.holds)) c.clean_log-cleaned.ensures.lists c.self.inside.stopped), c.give_back.ensures.sup ∙ c.lend-row.ensures.sup ∙ c.self.invariant.1, λ on. c.in-Ok.ensures.settled (c.self.invariant.2 runs))
+    (rw put (kept_cleaned c.self.invariant.0 runs writes (place_in rows inode) c.lend-row.result c.clean_log-cleaned.new.row at (g.P.Pmem.region c.clean_log-cleaned.new.memory) c.clean_log-cleaned.new.free c.in-Ok.block (λ held h shows. c.in-Ok.ensures.log held h shows (known_here g.P.Pmem.region c.self.view_is c.args.known c.lend-row.ensures.number c.requires held h shows.sound shows.holds)) c.clean_log-cleaned.ensures.kept.lists c.self.inside.stopped), numbers_kept (c.give_back.ensures.sup ∙ c.lend-row.ensures.sup) (c.give_back.ensures.sizes ∙ c.lend-row.ensures.sizes) c.self.invariant.1, λ on. c.in-Ok.ensures.settled (c.self.invariant.2 runs))
 
 pub invariant_of-self-in-Err : goal.invariant_of-self-in-Err
 invariant_of-self-in-Err g c =
@@ -108,8 +109,8 @@ invariant_of-self-in-Err g c =
     let inode = c.args.inode in
     let at = at_place rows inode ∙ c.lend-row.ensures.row in
     let put = back_one rows c.lend-row.new.self.items c.give_back.new.self.items inode c.clean_log-cleaned.new.row c.lend-row.ensures.lent (c.clean_log-cleaned.ensures.file.inode ∙ c.lend-row.ensures.number) c.give_back.ensures.rows in (
-      rw put (kept_or_stopped g.P.Pmem.region c.self.invariant.0 runs writes (place_in rows inode) c.lend-row.result c.clean_log-cleaned.new.row at c.in-Err.refusal c.is_stop-self-inside.result c.is_stop-self-inside.ensures.yes c.is_stop-self-inside.ensures.no c.clean_log-cleaned.ensures.lists c.in-Err.ensures.unchanged),
-      c.give_back.ensures.sup ∙ c.lend-row.ensures.sup ∙ c.self.invariant.1,
+      rw put (kept_or_stopped g.P.Pmem.region c.self.invariant.0 runs writes (place_in rows inode) c.lend-row.result c.clean_log-cleaned.new.row at c.in-Err.refusal c.is_stop-self-inside.result c.is_stop-self-inside.ensures.yes c.is_stop-self-inside.ensures.no c.clean_log-cleaned.ensures.kept.lists c.in-Err.ensures.unchanged),
+      numbers_kept (c.give_back.ensures.sup ∙ c.lend-row.ensures.sup) (c.give_back.ensures.sizes ∙ c.lend-row.ensures.sizes) c.self.invariant.1,
       settled_or_stopped g.P.Pmem.region g.P.Pmem.may_hold c.in-Err.refusal c.is_stop-self-inside.result c.is_stop-self-inside.ensures.no (λ off. (c.in-Err.ensures.unchanged off).memory) (c.self.invariant.2 runs),
     )
 
@@ -240,22 +241,22 @@ returns-in-Ok-clause-keeps g c = record { sup = ap (λ (m : Mount g.row.P.Denot)
 
 pub returns-in-Ok-clause-length : goal.returns-in-Ok-clause-length
 returns-in-Ok-clause-length g c =
-    subst (λ (m : Mount g.row.P.Denot). size (g.P.Pmem.region c.clean_log-cleaned.new.memory) ≡ size (g.P.Pmem.region m.memory)) c.self.view_is c.clean_log-cleaned.ensures.length
+    subst (λ (m : Mount g.row.P.Denot). size (g.P.Pmem.region c.clean_log-cleaned.new.memory) ≡ size (g.P.Pmem.region m.memory)) c.self.view_is c.clean_log-cleaned.ensures.kept.length
 
 pub returns-in-Ok-clause-keeps_fuse : goal.returns-in-Ok-clause-keeps_fuse
 returns-in-Ok-clause-keeps_fuse g c =
-    subst (λ (m : Mount g.row.P.Denot). KeepsFuse (λ limit. size (g.P.Pmem.region m.memory) ≤ limit) (g.P.Pmem.fuse m.memory) (g.P.Pmem.fuse c.clean_log-cleaned.new.memory)) c.self.view_is c.clean_log-cleaned.ensures.keeps_fuse
+    subst (λ (m : Mount g.row.P.Denot). KeepsFuse (λ limit. size (g.P.Pmem.region m.memory) ≤ limit) (g.P.Pmem.fuse m.memory) (g.P.Pmem.fuse c.clean_log-cleaned.new.memory)) c.self.view_is c.clean_log-cleaned.ensures.kept.keeps_fuse
 
 pub returns-in-Err-clause-keeps : goal.returns-in-Err-clause-keeps
 returns-in-Err-clause-keeps g c = record { sup = ap (λ (m : Mount g.row.P.Denot). m.sup) c.self.view_is; faults = ap (λ (m : Mount g.row.P.Denot). m.faults) c.self.view_is; read_only = ap (λ (m : Mount g.row.P.Denot). m.read_only) c.self.view_is }
 
 pub returns-in-Err-clause-length : goal.returns-in-Err-clause-length
 returns-in-Err-clause-length g c =
-    subst (λ (m : Mount g.row.P.Denot). size (g.P.Pmem.region c.clean_log-cleaned.new.memory) ≡ size (g.P.Pmem.region m.memory)) c.self.view_is c.clean_log-cleaned.ensures.length
+    subst (λ (m : Mount g.row.P.Denot). size (g.P.Pmem.region c.clean_log-cleaned.new.memory) ≡ size (g.P.Pmem.region m.memory)) c.self.view_is c.clean_log-cleaned.ensures.kept.length
 
 pub returns-in-Err-clause-keeps_fuse : goal.returns-in-Err-clause-keeps_fuse
 returns-in-Err-clause-keeps_fuse g c =
-    subst (λ (m : Mount g.row.P.Denot). KeepsFuse (λ limit. size (g.P.Pmem.region m.memory) ≤ limit) (g.P.Pmem.fuse m.memory) (g.P.Pmem.fuse c.clean_log-cleaned.new.memory)) c.self.view_is c.clean_log-cleaned.ensures.keeps_fuse
+    subst (λ (m : Mount g.row.P.Denot). KeepsFuse (λ limit. size (g.P.Pmem.region m.memory) ≤ limit) (g.P.Pmem.fuse m.memory) (g.P.Pmem.fuse c.clean_log-cleaned.new.memory)) c.self.view_is c.clean_log-cleaned.ensures.kept.keeps_fuse
 
 pub returns-in-Err-clause-refused : goal.returns-in-Err-clause-refused
 returns-in-Err-clause-refused g c still =
@@ -273,7 +274,7 @@ returns-in-Err-clause-unchanged g c off =
     rw put (unchanged_step c.self.view_is c.clean_log-cleaned.new.memory c.clean_log-cleaned.new.free (place_in rows inode) c.lend-row.result c.clean_log-cleaned.new.row c.is_stop-self-inside.result at runs (not_stop c.in-Err.refusal c.is_stop-self-inside.result c.is_stop-self-inside.ensures.yes off) (c.in-Err.ensures.unchanged off))
 
 pub returns-in-Err-clause-stopped : goal.returns-in-Err-clause-stopped
-returns-in-Err-clause-stopped g c still = late_reply c.in-Err.refusal c.is_stop-self-inside.result c.is_stop-self-inside.ensures.yes c.is_stop-self-inside.ensures.no c.in-Err.ensures.stopped
+returns-in-Err-clause-stopped g c still = late_reply c.in-Err.refusal c.is_stop-self-inside.result c.is_stop-self-inside.ensures.yes c.is_stop-self-inside.ensures.no c.in-Err.ensures.kept.stopped
 
 pub returns-in-Err-clause-allowed : goal.returns-in-Err-clause-allowed
 returns-in-Err-clause-allowed g c = tt

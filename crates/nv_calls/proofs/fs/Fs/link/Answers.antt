@@ -1,5 +1,6 @@
 use Rattle.std.proofs.Common.{◌≡◌, ◌∙◌, ◌<◌, ◌++◌, ◌+◌, ◌∷◌, [], List, ℕ, Some, None, Ok, false, true, inr, ap, subst, sym, inl, refl}
 use Rattle.std.proofs.lemmas.Result.{err_from_is_err_and}
+use Rattle.nv_rows.proofs.TableNumbers.{numbers_kept}
 use Rattle.nv_rows.specs.Rows.{place_in}
 use Rattle.nv_rows.proofs.Places.{at_place, own_row, row_in_use}
 use Rattle.nv_held.specs.nv_graph.Read.{row_of}
@@ -119,14 +120,14 @@ invariant_of-self g c =
     let spot : (names others : List (List ℕ)) → IsPath c.args.old.now names → IsPath c.args.new.now others → IsLinkSpot (tree_of (g.P.Pmem.region c.self.inside.memory) c.self.inside.rows.items) c.self.inside.rows.items names others (place_in c.self.inside.rows.items c.in_ok-named.named.directory) c.in_ok-named.named.name.now (place_in c.self.inside.rows.items c.in_ok-named.named.target) =
     λ names others path other_path. c.in_ok-named.ensures.spot (g.P.Pmem.region c.self.inside.memory) names others path other_path in
     let paths = c.in_ok-named.ensures.paths in
-    (linked_kept c.self.invariant.0 runs writes c.in-Ok.ensures.linked c.in_ok-named.ensures.name paths.0.0 paths.1.0 (spot paths.0.0 paths.1.0 paths.0.1 paths.1.1) c.self.inside.stopped, c.link_at.ensures.limit ∙ c.self.invariant.1, λ on. c.in-Ok.ensures.settled)
+    (linked_kept c.self.invariant.0 runs writes c.in-Ok.ensures.linked c.in_ok-named.ensures.name paths.0.0 paths.1.0 (spot paths.0.0 paths.1.0 paths.0.1 paths.1.1) c.self.inside.stopped, numbers_kept c.link_at.ensures.tables.0 c.link_at.ensures.tables.1 c.self.invariant.1, λ on. c.in-Ok.ensures.kept.settled)
 
 pub invariant_of-self-in-Err : goal.invariant_of-self-in-Err
 invariant_of-self-in-Err g c =
     let runs : c.self.inside.stopped ≡ false = ap (λ (m : Mount g.row.P.Denot). m.stopped) c.self.view_is ∙ c.in_ok-writable.ensures.runs in
     let writes : c.self.inside.read_only ≡ false = ap (λ (m : Mount g.row.P.Denot). m.read_only) c.self.view_is ∙ c.in_ok-writable.ensures.writes in (
-      kept_or_stopped g.P.Pmem.region c.self.invariant.0 runs writes c.in-Err.refusal c.is_stop-self-inside.result c.is_stop-self-inside.ensures.yes c.is_stop-self-inside.ensures.no c.link_at.ensures.lists c.in-Err.ensures.unchanged,
-      c.link_at.ensures.limit ∙ c.self.invariant.1,
+      kept_or_stopped g.P.Pmem.region c.self.invariant.0 runs writes c.in-Err.refusal c.is_stop-self-inside.result c.is_stop-self-inside.ensures.yes c.is_stop-self-inside.ensures.no c.link_at.ensures.kept.lists c.in-Err.ensures.unchanged,
+      numbers_kept c.link_at.ensures.tables.0 c.link_at.ensures.tables.1 c.self.invariant.1,
       settled_or_stopped g.P.Pmem.region g.P.Pmem.may_hold c.in-Err.refusal c.is_stop-self-inside.result c.is_stop-self-inside.ensures.no (λ off. (c.in-Err.ensures.unchanged off).memory) (c.self.invariant.2 runs),
     )
 
@@ -200,7 +201,7 @@ returns-in-Err-clause-unchanged g c off =
 
 pub returns-in-Err-clause-stopped : goal.returns-in-Err-clause-stopped
 returns-in-Err-clause-stopped g c still =
-    late_reply c.in-Err.refusal c.is_stop-self-inside.result c.is_stop-self-inside.ensures.yes c.is_stop-self-inside.ensures.no c.in-Err.ensures.stopped
+    late_reply c.in-Err.refusal c.is_stop-self-inside.result c.is_stop-self-inside.ensures.yes c.is_stop-self-inside.ensures.no c.in-Err.ensures.kept.stopped
 
 pub returns-in_err-writable-clause-read_only : goal.returns-in_err-writable-clause-read_only
 returns-in_err-writable-clause-read_only g c only = same_mount c.args.self.now

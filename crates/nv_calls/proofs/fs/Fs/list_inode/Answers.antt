@@ -1,9 +1,9 @@
-use Rattle.std.proofs.Common.{[], ◌∷◌, inr, Some, ap, ◌∙◌, ◌≡◌, not}
+use Rattle.std.proofs.Common.{[], ◌∷◌, inr, not}
 use Rattle.std.proofs.lemmas.Result.{err_from_is_err_and}
 use Rattle.nv_tree.specs.Refusals.{first_refusal, is_directory_at, IsReadRefusedBy}
 use Rattle.nv_tree.specs.declared.refusal.Refusal.TheVariants.{NotDirectory}
 use Rattle.nv_tree.proofs.Replies.{refused_by}
-use Rattle.nv_paths.specs.Seen.{node_of, tree_of}
+use Rattle.nv_paths.specs.Seen.{tree_of}
 use Rattle.nv_calls.specs.ByNumber.{list_inode_tests}
 use Rattle.nv_calls.proofs.Listed.{lists_row}
 use Rattle.nv_calls.proofs.Numbered.{told_missing}

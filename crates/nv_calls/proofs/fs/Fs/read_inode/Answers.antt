@@ -1,4 +1,4 @@
-use Rattle.std.proofs.Common.{[], ◌∷◌, inr, Some, ap, ◌∙◌, ◌≡◌}
+use Rattle.std.proofs.Common.{[], ◌∷◌, inr}
 use Rattle.std.proofs.lemmas.Result.{err_from_is_err_and}
 use Rattle.nv_tree.specs.Refusals.{first_refusal, is_directory_at, IsReadRefusedBy}
 use Rattle.nv_tree.specs.declared.refusal.Refusal.TheVariants.{IsDirectory}

@@ -1,5 +1,6 @@
 use Rattle.std.proofs.Common.{◌≡◌, ◌∙◌, ◌<◌, ◌++◌, ◌∷◌, [], List, ℕ, Some, Ok, false, true, inr, ap, subst, sym, slice_get, inl, refl}
 use Rattle.std.proofs.lemmas.Result.{err_from_is_err_and}
+use Rattle.nv_rows.proofs.TableNumbers.{numbers_kept}
 use Rattle.nv_tree.specs.declared.refusal.Refusal.{Refusal}
 use Rattle.nv_held.specs.Mounted.{ShowsSound}
 use Rattle.nv_rows.specs.Rows.{place_in}
@@ -106,14 +107,14 @@ invariant_of-self g c =
     let paths = c.in_ok-moved.ensures.paths in
     let old_path = paths.0 in
     let new_path = paths.1 in
-    (moved_kept c.self.invariant.0 runs writes c.in_ok-moved.ensures.former c.in_ok-moved.ensures.name old_path.0 new_path.0 new_path.1 (spot old_path.0 (new_path.0 ∷ new_path.1) old_path.1 new_path.2) c.in-Ok.ensures.moved c.self.inside.stopped, c.move_at.ensures.limit ∙ c.self.invariant.1, λ on. c.in-Ok.ensures.settled)
+    (moved_kept c.self.invariant.0 runs writes c.in_ok-moved.ensures.former c.in_ok-moved.ensures.name old_path.0 new_path.0 new_path.1 (spot old_path.0 (new_path.0 ∷ new_path.1) old_path.1 new_path.2) c.in-Ok.ensures.moved c.self.inside.stopped, numbers_kept c.move_at.ensures.tables.0 c.move_at.ensures.tables.1 c.self.invariant.1, λ on. c.in-Ok.ensures.kept.settled)
 
 pub invariant_of-self-in-Err : goal.invariant_of-self-in-Err
 invariant_of-self-in-Err g c =
     let runs : c.self.inside.stopped ≡ false = ap (λ (m : Mount g.row.P.Denot). m.stopped) c.self.view_is ∙ c.in_ok-writable.ensures.runs in
     let writes : c.self.inside.read_only ≡ false = ap (λ (m : Mount g.row.P.Denot). m.read_only) c.self.view_is ∙ c.in_ok-writable.ensures.writes in (
-      kept_or_stopped g.P.Pmem.region c.self.invariant.0 runs writes c.in-Err.refusal c.is_stop-self-inside.result c.is_stop-self-inside.ensures.yes c.is_stop-self-inside.ensures.no c.move_at.ensures.lists c.in-Err.ensures.unchanged,
-      c.move_at.ensures.limit ∙ c.self.invariant.1,
+      kept_or_stopped g.P.Pmem.region c.self.invariant.0 runs writes c.in-Err.refusal c.is_stop-self-inside.result c.is_stop-self-inside.ensures.yes c.is_stop-self-inside.ensures.no c.move_at.ensures.kept.lists c.in-Err.ensures.unchanged,
+      numbers_kept c.move_at.ensures.tables.0 c.move_at.ensures.tables.1 c.self.invariant.1,
       settled_or_stopped g.P.Pmem.region g.P.Pmem.may_hold c.in-Err.refusal c.is_stop-self-inside.result c.is_stop-self-inside.ensures.no (λ off. (c.in-Err.ensures.unchanged off).memory) (c.self.invariant.2 runs),
     )
 
@@ -210,7 +211,7 @@ returns-in-Err-clause-unchanged g c off =
 
 pub returns-in-Err-clause-stopped : goal.returns-in-Err-clause-stopped
 returns-in-Err-clause-stopped g c still =
-    late_reply c.in-Err.refusal c.is_stop-self-inside.result c.is_stop-self-inside.ensures.yes c.is_stop-self-inside.ensures.no c.in-Err.ensures.stopped
+    late_reply c.in-Err.refusal c.is_stop-self-inside.result c.is_stop-self-inside.ensures.yes c.is_stop-self-inside.ensures.no c.in-Err.ensures.kept.stopped
 
 pub returns-in_err-writable-clause-read_only : goal.returns-in_err-writable-clause-read_only
 returns-in_err-writable-clause-read_only g c only = same_mount c.args.self.now

@@ -1,5 +1,6 @@
 use Rattle.std.proofs.Common.{◌≡◌, ◌∙◌, ◌<◌, ◌%◌, ◌++◌, ◌∷◌, [], Some, Ok, false, true, inl, inr, ap, slice_get, subst, sym, refl}
 use Rattle.std.proofs.lemmas.Result.{err_from_is_err_and}
+use Rattle.nv_rows.proofs.TableNumbers.{numbers_kept}
 use Rattle.nv_entry.specs.declared.entry.Operation.TheVariants.{Remove}
 use Rattle.nv_logpage.specs.Append.{needed}
 use Rattle.nv_scan.specs.declared.piece.Row.{Row}
@@ -115,14 +116,14 @@ invariant_of-self g c =
     let path = c.in_ok-named.ensures.path in
     let can_go : (gone : Row) → slice_get c.self.inside.rows.items (place_in c.self.inside.rows.items c.in_ok-named.named.target) ≡ Some gone → CanGo gone = λ gone at. inl (c.in_ok-named.ensures.empty gone (sym (at_place c.self.inside.rows.items c.in_ok-named.named.target) ∙ at)) in
     let step = c.in-Ok.ensures.removed in
-    (removed_kept c.self.invariant.0 runs writes (cut_of step) c.in_ok-named.ensures.name (can_go step.gone step.gone_at) path.0 (spot path.0 path.1) step.given c.self.inside.stopped, c.remove_named.ensures.limit ∙ c.self.invariant.1, λ on. c.in-Ok.ensures.settled)
+    (removed_kept c.self.invariant.0 runs writes (cut_of step) c.in_ok-named.ensures.name (can_go step.gone step.gone_at) path.0 (spot path.0 path.1) step.given c.self.inside.stopped, numbers_kept c.remove_named.ensures.tables.0 c.remove_named.ensures.tables.1 c.self.invariant.1, λ on. c.in-Ok.ensures.kept.settled)
 
 pub invariant_of-self-in-Err : goal.invariant_of-self-in-Err
 invariant_of-self-in-Err g c =
     let runs : c.self.inside.stopped ≡ false = ap (λ (m : Mount g.row.P.Denot). m.stopped) c.self.view_is ∙ c.in_ok-writable.ensures.runs in
     let writes : c.self.inside.read_only ≡ false = ap (λ (m : Mount g.row.P.Denot). m.read_only) c.self.view_is ∙ c.in_ok-writable.ensures.writes in (
-      kept_or_stopped g.P.Pmem.region c.self.invariant.0 runs writes c.in-Err.refusal c.is_stop-self-inside.result c.is_stop-self-inside.ensures.yes c.is_stop-self-inside.ensures.no c.remove_named.ensures.lists c.in-Err.ensures.unchanged,
-      c.remove_named.ensures.limit ∙ c.self.invariant.1,
+      kept_or_stopped g.P.Pmem.region c.self.invariant.0 runs writes c.in-Err.refusal c.is_stop-self-inside.result c.is_stop-self-inside.ensures.yes c.is_stop-self-inside.ensures.no c.remove_named.ensures.kept.lists c.in-Err.ensures.unchanged,
+      numbers_kept c.remove_named.ensures.tables.0 c.remove_named.ensures.tables.1 c.self.invariant.1,
       settled_or_stopped g.P.Pmem.region g.P.Pmem.may_hold c.in-Err.refusal c.is_stop-self-inside.result c.is_stop-self-inside.ensures.no (λ off. (c.in-Err.ensures.unchanged off).memory) (c.self.invariant.2 runs),
     )
 
@@ -196,7 +197,7 @@ returns-in-Err-clause-unchanged g c off =
 
 pub returns-in-Err-clause-stopped : goal.returns-in-Err-clause-stopped
 returns-in-Err-clause-stopped g c still =
-    late_reply c.in-Err.refusal c.is_stop-self-inside.result c.is_stop-self-inside.ensures.yes c.is_stop-self-inside.ensures.no c.in-Err.ensures.stopped
+    late_reply c.in-Err.refusal c.is_stop-self-inside.result c.is_stop-self-inside.ensures.yes c.is_stop-self-inside.ensures.no c.in-Err.ensures.kept.stopped
 
 pub returns-in_err-writable-clause-read_only : goal.returns-in_err-writable-clause-read_only
 returns-in_err-writable-clause-read_only g c only = same_mount c.args.self.now

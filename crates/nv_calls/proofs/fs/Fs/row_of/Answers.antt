@@ -1,4 +1,4 @@
-use Rattle.std.proofs.Common.{◌≡◌, Option, Some, None, sym, ap, subst, refl, ◌∙◌}
+use Rattle.std.proofs.Common.{◌≡◌, Some, None, sym, ap, subst, refl, ◌∙◌}
 use Rattle.std.specs.Option.{option_map, option_copied}
 use Rattle.nv_held.specs.nv_graph.Read.{row_of}
 use Rattle.nv_paths.specs.Seen.{node_of}

@@ -1,6 +1,7 @@
 use Rattle.std.proofs.Common.{◌≡◌, ◌∙◌, ◌<◌, ◌++◌, ◌∷◌, [], List, ℕ, Some, false, inr, ap, set, subst, sym, refl, true, ◌≤◌}
 use Rattle.std.proofs.lemmas.Result.{err_from_is_err_and, IfOk-from_err}
 use Rattle.std.proofs.lemmas.Option.{same_Some}
+use Rattle.nv_rows.proofs.TableNumbers.{numbers_kept}
 use Rattle.nv_region.specs.Region.{size}
 use Rattle.nv_region.specs.Fuses.{KeepsFuse}
 use Rattle.nv_held.specs.Held.{Held, Store}
@@ -97,7 +98,7 @@ invariant_of-self g c =
     let inode = c.in_ok-inode.field-0.now.inode in
     let at = at_place rows inode ∙ c.lend-row.ensures.row in
     let put = back_one rows c.lend-row.new.self.items c.give_back.new.self.items inode c.change_attributes-changed.new.row c.lend-row.ensures.lent (c.change_attributes-changed.ensures.inode ∙ c.lend-row.ensures.number) c.give_back.ensures.rows in
-    (rw put (kept_after c.self.invariant.0 runs writes (place_in rows inode) c.lend-row.result c.change_attributes-changed.new.row at (attributes c.lend-row.result.numbers.size c.args.mode c.args.owner c.args.group c.time.inside.0) (λ held h shows. c.in-Ok.ensures.log held h shows) c.change_attributes-changed.ensures.lists c.self.inside.stopped), c.give_back.ensures.sup ∙ c.lend-row.ensures.sup ∙ c.self.invariant.1, λ on. c.in-Ok.ensures.settled)
+    (rw put (kept_after c.self.invariant.0 runs writes (place_in rows inode) c.lend-row.result c.change_attributes-changed.new.row at (attributes c.lend-row.result.numbers.size c.args.mode c.args.owner c.args.group c.time.inside.0) (λ held h shows. c.in-Ok.ensures.log held h shows) c.change_attributes-changed.ensures.kept.lists c.self.inside.stopped), numbers_kept (c.give_back.ensures.sup ∙ c.lend-row.ensures.sup) (c.give_back.ensures.sizes ∙ c.lend-row.ensures.sizes) c.self.invariant.1, λ on. c.in-Ok.ensures.kept.settled)
 
 pub invariant_of-self-in-Err : goal.invariant_of-self-in-Err
 invariant_of-self-in-Err g c =
@@ -107,8 +108,8 @@ invariant_of-self-in-Err g c =
     let inode = c.in_ok-inode.field-0.now.inode in
     let at = at_place rows inode ∙ c.lend-row.ensures.row in
     let put = back_one rows c.lend-row.new.self.items c.give_back.new.self.items inode c.change_attributes-changed.new.row c.lend-row.ensures.lent (c.change_attributes-changed.ensures.inode ∙ c.lend-row.ensures.number) c.give_back.ensures.rows in (
-      rw put (kept_or_stopped g.P.Pmem.region c.self.invariant.0 runs writes (place_in rows inode) c.lend-row.result c.change_attributes-changed.new.row at c.in-Err.refusal c.is_stop-self-inside.result c.is_stop-self-inside.ensures.yes c.is_stop-self-inside.ensures.no c.change_attributes-changed.ensures.lists c.in-Err.ensures.unchanged),
-      c.give_back.ensures.sup ∙ c.lend-row.ensures.sup ∙ c.self.invariant.1,
+      rw put (kept_or_stopped g.P.Pmem.region c.self.invariant.0 runs writes (place_in rows inode) c.lend-row.result c.change_attributes-changed.new.row at c.in-Err.refusal c.is_stop-self-inside.result c.is_stop-self-inside.ensures.yes c.is_stop-self-inside.ensures.no c.change_attributes-changed.ensures.kept.lists c.in-Err.ensures.unchanged),
+      numbers_kept (c.give_back.ensures.sup ∙ c.lend-row.ensures.sup) (c.give_back.ensures.sizes ∙ c.lend-row.ensures.sizes) c.self.invariant.1,
       settled_or_stopped g.P.Pmem.region g.P.Pmem.may_hold c.in-Err.refusal c.is_stop-self-inside.result c.is_stop-self-inside.ensures.no (λ off. (c.in-Err.ensures.unchanged off).memory) (c.self.invariant.2 runs),
     )
 
@@ -123,7 +124,7 @@ returns-in-Ok-clause-allowed g c =
     let leads : (names : List (List ℕ)) → IsPath c.args.path.now names → LeadsTo (tree_of (g.P.Pmem.region c.self.inside.memory) rows) names c.lend-row.result.inode (node_of (g.P.Pmem.region c.self.inside.memory) c.lend-row.result) = λ names path. subst (λ (r : Row). LeadsTo (tree_of (g.P.Pmem.region c.self.inside.memory) rows) names r.inode (node_of (g.P.Pmem.region c.self.inside.memory) r)) (same_Some _ _ (sym c.in_ok-inode.ensures.held ∙ c.lend-row.ensures.row)) (c.in_ok-inode.ensures.row (g.P.Pmem.region c.self.inside.memory) names path) in
     let numbered = own_row rows inode c.lend-row.result c.lend-row.ensures.row in
     let none = c.in_ok-inode.ensures.refused (g.P.Pmem.region c.self.inside.memory) p says in
-    attr_allowed g.P.Pmem.region c.self.view_is c.cpu.inside.0 c.in_ok-writable.ensures.passed c.args.path.now c.lend-row.result (node_of (g.P.Pmem.region c.self.inside.memory) c.lend-row.result) numbered leads p says none c.in-Ok.ensures.enough
+    attr_allowed g.P.Pmem.region c.self.view_is c.cpu.inside.0 c.in_ok-writable.ensures.passed c.args.path.now c.lend-row.result (node_of (g.P.Pmem.region c.self.inside.memory) c.lend-row.result) numbered leads p says none c.in-Ok.ensures.needs.enough
     )
 
 pub returns-in-Ok-clause-changed : goal.returns-in-Ok-clause-changed
@@ -169,7 +170,7 @@ returns-in-Err-clause-refused g c =
     let leads : (names : List (List ℕ)) → IsPath c.args.path.now names → LeadsTo (tree_of (g.P.Pmem.region c.self.inside.memory) rows) names c.lend-row.result.inode (node_of (g.P.Pmem.region c.self.inside.memory) c.lend-row.result) = λ names path. subst (λ (r : Row). LeadsTo (tree_of (g.P.Pmem.region c.self.inside.memory) rows) names r.inode (node_of (g.P.Pmem.region c.self.inside.memory) r)) (same_Some _ _ (sym c.in_ok-inode.ensures.held ∙ c.lend-row.ensures.row)) (c.in_ok-inode.ensures.row (g.P.Pmem.region c.self.inside.memory) names path) in
     let numbered = own_row rows inode c.lend-row.result c.lend-row.ensures.row in
     let none = c.in_ok-inode.ensures.refused (g.P.Pmem.region c.self.inside.memory) p says in
-    attr_refused g.P.Pmem.region c.self.view_is c.cpu.inside.0 c.in_ok-writable.ensures.passed c.args.path.now c.lend-row.result (node_of (g.P.Pmem.region c.self.inside.memory) c.lend-row.result) numbered leads p says none c.in-Err.refusal c.in-Err.ensures.refused
+    attr_refused g.P.Pmem.region c.self.view_is c.cpu.inside.0 c.in_ok-writable.ensures.passed c.args.path.now c.lend-row.result (node_of (g.P.Pmem.region c.self.inside.memory) c.lend-row.result) numbered leads p says none c.in-Err.refusal c.in-Err.ensures.needs.refused
     )
 
 pub returns-in-Err-clause-unchanged : goal.returns-in-Err-clause-unchanged
@@ -183,7 +184,7 @@ returns-in-Err-clause-unchanged g c off =
     rw put (unchanged_step c.self.view_is c.change_attributes-changed.new.memory c.change_attributes-changed.new.free (place_in rows inode) c.lend-row.result c.change_attributes-changed.new.row c.is_stop-self-inside.result at runs (not_stop c.in-Err.refusal c.is_stop-self-inside.result c.is_stop-self-inside.ensures.yes off) (c.in-Err.ensures.unchanged off))
 
 pub returns-in-Err-clause-stopped : goal.returns-in-Err-clause-stopped
-returns-in-Err-clause-stopped g c still = late_reply c.in-Err.refusal c.is_stop-self-inside.result c.is_stop-self-inside.ensures.yes c.is_stop-self-inside.ensures.no c.in-Err.ensures.stopped
+returns-in-Err-clause-stopped g c still = late_reply c.in-Err.refusal c.is_stop-self-inside.result c.is_stop-self-inside.ensures.yes c.is_stop-self-inside.ensures.no c.in-Err.ensures.kept.stopped
 
 pub returns-in_err-writable-clause-allowed : goal.returns-in_err-writable-clause-allowed
 returns-in_err-writable-clause-allowed g c p says = IfOk-from_err c.from_residual.result _ c.from_residual.ensures.0
@@ -234,17 +235,17 @@ pub returns-in-Ok-clause-unchanged : goal.returns-in-Ok-clause-unchanged
 returns-in-Ok-clause-unchanged g c = tt
 
 pub returns-in-Ok-clause-settled : goal.returns-in-Ok-clause-settled
-returns-in-Ok-clause-settled g c = c.in-Ok.ensures.settled
+returns-in-Ok-clause-settled g c = c.in-Ok.ensures.kept.settled
 
 pub returns-in-Ok-clause-keeps : goal.returns-in-Ok-clause-keeps
 returns-in-Ok-clause-keeps g c = record { sup = ap (λ (m : Mount g.row.P.Denot). m.sup) c.self.view_is; faults = ap (λ (m : Mount g.row.P.Denot). m.faults) c.self.view_is; read_only = ap (λ (m : Mount g.row.P.Denot). m.read_only) c.self.view_is }
 
 pub returns-in-Ok-clause-length : goal.returns-in-Ok-clause-length
-returns-in-Ok-clause-length g c = subst (λ (m : Mount g.row.P.Denot). size (g.P.Pmem.region c.change_attributes-changed.new.memory) ≡ size (g.P.Pmem.region m.memory)) c.self.view_is c.change_attributes-changed.ensures.length
+returns-in-Ok-clause-length g c = subst (λ (m : Mount g.row.P.Denot). size (g.P.Pmem.region c.change_attributes-changed.new.memory) ≡ size (g.P.Pmem.region m.memory)) c.self.view_is c.change_attributes-changed.ensures.kept.length
 
 pub returns-in-Ok-clause-keeps_fuse : goal.returns-in-Ok-clause-keeps_fuse
 returns-in-Ok-clause-keeps_fuse g c =
-    subst (λ (m : Mount g.row.P.Denot). KeepsFuse (λ limit. size (g.P.Pmem.region m.memory) ≤ limit) (g.P.Pmem.fuse m.memory) (g.P.Pmem.fuse c.change_attributes-changed.new.memory)) c.self.view_is c.change_attributes-changed.ensures.keeps_fuse
+    subst (λ (m : Mount g.row.P.Denot). KeepsFuse (λ limit. size (g.P.Pmem.region m.memory) ≤ limit) (g.P.Pmem.fuse m.memory) (g.P.Pmem.fuse c.change_attributes-changed.new.memory)) c.self.view_is c.change_attributes-changed.ensures.kept.keeps_fuse
 
 pub returns-in-Err-clause-stopped_before : goal.returns-in-Err-clause-stopped_before
 returns-in-Err-clause-stopped_before g c stopped = absurd (let no : true ≡ false = sym stopped ∙ c.in_ok-writable.ensures.runs in cc)
@@ -265,11 +266,11 @@ pub returns-in-Err-clause-keeps : goal.returns-in-Err-clause-keeps
 returns-in-Err-clause-keeps g c = record { sup = ap (λ (m : Mount g.row.P.Denot). m.sup) c.self.view_is; faults = ap (λ (m : Mount g.row.P.Denot). m.faults) c.self.view_is; read_only = ap (λ (m : Mount g.row.P.Denot). m.read_only) c.self.view_is }
 
 pub returns-in-Err-clause-length : goal.returns-in-Err-clause-length
-returns-in-Err-clause-length g c = subst (λ (m : Mount g.row.P.Denot). size (g.P.Pmem.region c.change_attributes-changed.new.memory) ≡ size (g.P.Pmem.region m.memory)) c.self.view_is c.change_attributes-changed.ensures.length
+returns-in-Err-clause-length g c = subst (λ (m : Mount g.row.P.Denot). size (g.P.Pmem.region c.change_attributes-changed.new.memory) ≡ size (g.P.Pmem.region m.memory)) c.self.view_is c.change_attributes-changed.ensures.kept.length
 
 pub returns-in-Err-clause-keeps_fuse : goal.returns-in-Err-clause-keeps_fuse
 returns-in-Err-clause-keeps_fuse g c =
-    subst (λ (m : Mount g.row.P.Denot). KeepsFuse (λ limit. size (g.P.Pmem.region m.memory) ≤ limit) (g.P.Pmem.fuse m.memory) (g.P.Pmem.fuse c.change_attributes-changed.new.memory)) c.self.view_is c.change_attributes-changed.ensures.keeps_fuse
+    subst (λ (m : Mount g.row.P.Denot). KeepsFuse (λ limit. size (g.P.Pmem.region m.memory) ≤ limit) (g.P.Pmem.fuse m.memory) (g.P.Pmem.fuse c.change_attributes-changed.new.memory)) c.self.view_is c.change_attributes-changed.ensures.kept.keeps_fuse
 
 pub change_attributes-changed-requires-clause-cpu : goal.change_attributes-changed-requires-clause-cpu
 change_attributes-changed-requires-clause-cpu g c =

@@ -1,6 +1,7 @@
 use Rattle.std.proofs.Common.{◌≡◌, ◌∙◌, ◌≤◌, ◌++◌, ◌∷◌, [], List, ℕ, Some, false, true, inr, ap, set, subst, sym, refl}
 use Rattle.std.proofs.lemmas.Result.{err_from_is_err_and}
 use Rattle.std.proofs.lemmas.Option.{same_Some}
+use Rattle.nv_rows.proofs.TableNumbers.{numbers_kept}
 use Rattle.nv_alloc.specs.Taking.{all_blocks}
 use Rattle.nv_radix.specs.Pages.{block_at}
 use Rattle.nv_held.specs.Held.{Held, Store}
@@ -96,9 +97,9 @@ invariant_of-self g c =
     let at = at_place rows inode ∙ c.lend-row.ensures.row in
     let put = back_one rows c.lend-row.new.self.items c.give_back.new.self.items inode c.resize-resized.new.row c.lend-row.ensures.lent (c.resize-resized.ensures.inode ∙ c.lend-row.ensures.number) c.give_back.ensures.rows in (
       rw put (kept_after c.self.invariant.0 runs writes (place_in rows inode) c.lend-row.result c.resize-resized.new.row at (resizing c.lend-row.result.numbers.size (sized (node_of (g.P.Pmem.region c.self.inside.memory) c.lend-row.result) c.args.size c.time.inside.0) c.in-Ok.ensures.resized.to)
-          (λ held h shows. c.in-Ok.ensures.resized.follows held h shows) c.resize-resized.ensures.lists c.self.inside.stopped),
-      c.give_back.ensures.sup ∙ c.lend-row.ensures.sup ∙ c.self.invariant.1,
-      λ on. c.in-Ok.ensures.settled,
+          (λ held h shows. c.in-Ok.ensures.resized.follows held h shows) c.resize-resized.ensures.kept.lists c.self.inside.stopped),
+      numbers_kept (c.give_back.ensures.sup ∙ c.lend-row.ensures.sup) (c.give_back.ensures.sizes ∙ c.lend-row.ensures.sizes) c.self.invariant.1,
+      λ on. c.in-Ok.ensures.kept.settled,
     )
 
 pub invariant_of-self-in-Err : goal.invariant_of-self-in-Err
@@ -109,8 +110,8 @@ invariant_of-self-in-Err g c =
     let inode = c.in_ok-inode.field-0.now.inode in
     let at = at_place rows inode ∙ c.lend-row.ensures.row in
     let put = back_one rows c.lend-row.new.self.items c.give_back.new.self.items inode c.resize-resized.new.row c.lend-row.ensures.lent (c.resize-resized.ensures.inode ∙ c.lend-row.ensures.number) c.give_back.ensures.rows in (
-      rw put (kept_or_stopped g.P.Pmem.region c.self.invariant.0 runs writes (place_in rows inode) c.lend-row.result c.resize-resized.new.row at c.in-Err.refusal c.is_stop-self-inside.result c.is_stop-self-inside.ensures.yes c.is_stop-self-inside.ensures.no c.resize-resized.ensures.lists c.in-Err.ensures.unchanged),
-      c.give_back.ensures.sup ∙ c.lend-row.ensures.sup ∙ c.self.invariant.1,
+      rw put (kept_or_stopped g.P.Pmem.region c.self.invariant.0 runs writes (place_in rows inode) c.lend-row.result c.resize-resized.new.row at c.in-Err.refusal c.is_stop-self-inside.result c.is_stop-self-inside.ensures.yes c.is_stop-self-inside.ensures.no c.resize-resized.ensures.kept.lists c.in-Err.ensures.unchanged),
+      numbers_kept (c.give_back.ensures.sup ∙ c.lend-row.ensures.sup) (c.give_back.ensures.sizes ∙ c.lend-row.ensures.sizes) c.self.invariant.1,
       settled_or_stopped g.P.Pmem.region g.P.Pmem.may_hold c.in-Err.refusal c.is_stop-self-inside.result c.is_stop-self-inside.ensures.no (λ off. (c.in-Err.ensures.unchanged off).memory) (c.self.invariant.2 runs),
     )
 
@@ -127,7 +128,7 @@ returns-in-Ok-clause-allowed g c =
     let count = blocks_same c.lend-row.result.tail (sized (node_of (g.P.Pmem.region c.self.inside.memory) c.lend-row.result) c.args.size c.time.inside.0) (record { mode = 0; size = 0; time = 0; owner = 0; group = 0 })
     (end_block (block_at c.lend-row.result.index) c.lend-row.result.numbers.size c.args.size) in
     size_allowed g.P.Pmem.region c.self.view_is c.cpu.inside.0 c.args.size c.in_ok-writable.ensures.passed p c.args.path.now c.lend-row.result (node_of (g.P.Pmem.region c.self.inside.memory) c.lend-row.result) numbered leads says none
-    (subst (λ (n : ℕ). n ≤ all_blocks c.self.inside.free.pools) count c.in-Ok.ensures.enough)
+    (subst (λ (n : ℕ). n ≤ all_blocks c.self.inside.free.pools) count c.in-Ok.ensures.needs.enough)
     )
 
 pub returns-in-Ok-clause-changed : goal.returns-in-Ok-clause-changed
@@ -176,7 +177,7 @@ returns-in-Err-clause-refused g c =
     let count = blocks_same c.lend-row.result.tail (sized (node_of (g.P.Pmem.region c.self.inside.memory) c.lend-row.result) c.args.size c.time.inside.0) (record { mode = 0; size = 0; time = 0; owner = 0; group = 0 })
     (end_block (block_at c.lend-row.result.index) c.lend-row.result.numbers.size c.args.size) in
     size_refused g.P.Pmem.region c.self.view_is c.cpu.inside.0 c.args.size c.in_ok-writable.ensures.passed p c.args.path.now c.lend-row.result (node_of (g.P.Pmem.region c.self.inside.memory) c.lend-row.result) numbered leads says none c.in-Err.refusal
-    (subst (λ (n : ℕ). RefusesStep c.in-Err.refusal n c.self.inside.free) count c.in-Err.ensures.refused)
+    (subst (λ (n : ℕ). RefusesStep c.in-Err.refusal n c.self.inside.free) count c.in-Err.ensures.needs.refused)
     )
 
 pub returns-in-Err-clause-unchanged : goal.returns-in-Err-clause-unchanged
@@ -189,7 +190,7 @@ returns-in-Err-clause-unchanged g c off =
     rw put (unchanged_step c.self.view_is c.resize-resized.new.memory c.resize-resized.new.free (place_in rows inode) c.lend-row.result c.resize-resized.new.row c.is_stop-self-inside.result at runs (not_stop c.in-Err.refusal c.is_stop-self-inside.result c.is_stop-self-inside.ensures.yes off) (c.in-Err.ensures.unchanged off))
 
 pub returns-in-Err-clause-stopped : goal.returns-in-Err-clause-stopped
-returns-in-Err-clause-stopped g c still = late_reply c.in-Err.refusal c.is_stop-self-inside.result c.is_stop-self-inside.ensures.yes c.is_stop-self-inside.ensures.no c.in-Err.ensures.stopped
+returns-in-Err-clause-stopped g c still = late_reply c.in-Err.refusal c.is_stop-self-inside.result c.is_stop-self-inside.ensures.yes c.is_stop-self-inside.ensures.no c.in-Err.ensures.kept.stopped
 
 pub returns-in_err-writable-clause-read_only : goal.returns-in_err-writable-clause-read_only
 returns-in_err-writable-clause-read_only g c only = same_mount c.args.self.now

@@ -1,5 +1,6 @@
 use Rattle.std.proofs.Common.{◌≡◌, ◌∙◌, ◌<◌, ◌≤◌, ◌-◌, ◌++◌, ◌∷◌, [], List, ℕ, Some, None, Ok, false, true, inr, ap, slice_get, subst, sym, inl, refl}
 use Rattle.std.proofs.lemmas.Result.{err_from_is_err_and}
+use Rattle.nv_rows.proofs.TableNumbers.{numbers_kept}
 use Rattle.nv_super.specs.declared.kind.Kind.TheVariants.{File}
 use Rattle.nv_entry.specs.declared.entry.Operation.TheVariants.{Remove}
 use Rattle.nv_scan.specs.declared.piece.Row.{Row}
@@ -126,14 +127,14 @@ invariant_of-self g c =
     λ names path. c.in_ok-named.ensures.spot (g.P.Pmem.region c.self.inside.memory) names path in
     let path = c.in_ok-named.ensures.path in
     let files : (row : Row) → slice_get c.self.inside.rows.items (place_in c.self.inside.rows.items c.in_ok-named.named.target) ≡ Some row → row.kind ≡ File = λ row at. c.in_ok-named.ensures.file row (sym (at_place c.self.inside.rows.items c.in_ok-named.named.target) ∙ at) in
-    (unlink_kept c.self.invariant.0 runs writes c.in-Ok.ensures.released c.in_ok-named.ensures.name files path.0 (spot path.0 path.1) c.self.inside.stopped, c.release_at.ensures.limit ∙ c.self.invariant.1, λ on. c.in-Ok.ensures.settled)
+    (unlink_kept c.self.invariant.0 runs writes c.in-Ok.ensures.released c.in_ok-named.ensures.name files path.0 (spot path.0 path.1) c.self.inside.stopped, numbers_kept c.release_at.ensures.tables.0 c.release_at.ensures.tables.1 c.self.invariant.1, λ on. c.in-Ok.ensures.kept.settled)
 
 pub invariant_of-self-in-Err : goal.invariant_of-self-in-Err
 invariant_of-self-in-Err g c =
     let runs : c.self.inside.stopped ≡ false = ap (λ (m : Mount g.row.P.Denot). m.stopped) c.self.view_is ∙ c.in_ok-writable.ensures.runs in
     let writes : c.self.inside.read_only ≡ false = ap (λ (m : Mount g.row.P.Denot). m.read_only) c.self.view_is ∙ c.in_ok-writable.ensures.writes in (
-      kept_or_stopped g.P.Pmem.region c.self.invariant.0 runs writes c.in-Err.refusal c.is_stop-self-inside.result c.is_stop-self-inside.ensures.yes c.is_stop-self-inside.ensures.no c.release_at.ensures.lists c.in-Err.ensures.unchanged,
-      c.release_at.ensures.limit ∙ c.self.invariant.1,
+      kept_or_stopped g.P.Pmem.region c.self.invariant.0 runs writes c.in-Err.refusal c.is_stop-self-inside.result c.is_stop-self-inside.ensures.yes c.is_stop-self-inside.ensures.no c.release_at.ensures.kept.lists c.in-Err.ensures.unchanged,
+      numbers_kept c.release_at.ensures.tables.0 c.release_at.ensures.tables.1 c.self.invariant.1,
       settled_or_stopped g.P.Pmem.region g.P.Pmem.may_hold c.in-Err.refusal c.is_stop-self-inside.result c.is_stop-self-inside.ensures.no (λ off. (c.in-Err.ensures.unchanged off).memory) (c.self.invariant.2 runs),
     )
 
@@ -210,7 +211,7 @@ returns-in-Err-clause-unchanged g c off =
 
 pub returns-in-Err-clause-stopped : goal.returns-in-Err-clause-stopped
 returns-in-Err-clause-stopped g c still =
-    late_reply c.in-Err.refusal c.is_stop-self-inside.result c.is_stop-self-inside.ensures.yes c.is_stop-self-inside.ensures.no c.in-Err.ensures.stopped
+    late_reply c.in-Err.refusal c.is_stop-self-inside.result c.is_stop-self-inside.ensures.yes c.is_stop-self-inside.ensures.no c.in-Err.ensures.kept.stopped
 
 pub release_at-requires-clause-apart : goal.release_at-requires-clause-apart
 release_at-requires-clause-apart g c =

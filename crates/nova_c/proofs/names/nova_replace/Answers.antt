@@ -1,0 +1,37 @@
+use Rattle.std.proofs.Common.{◌∙◌, Some}
+use Rattle.nv_region.specs.Region.{Region}
+use Rattle.nv_calls.specs.Mount.{Mount}
+use Rattle.nv_calls.specs.Effects.{logs_replace, makes_replace}
+use Rattle.nova_c.specs.Refused.{replace_refusal}
+use Rattle.nova_c.proofs.Calls.{changed_of, logs_of, any_stop_of, refused_by, unchanged_by}
+use Rattle.nova_c.proofs.names.nova_replace.Goals as goal
+
+pub returns-in-Ok-clause-changed : goal.returns-in-Ok-clause-changed
+returns-in-Ok-clause-changed c owns done names others is goes =
+    changed_of _ _ _ _ (c.deref_mut.ensures.value ∙ c.in-Some.ensures.mount.1) c.put.ensures.mount (λ (m : Mount Region). makes_replace c.args.time (Some others) m.memory m names)
+    (c.in-Ok.ensures.changed names others is goes)
+
+pub returns-in-Ok-clause-logs : goal.returns-in-Ok-clause-logs
+returns-in-Ok-clause-logs c owns done names others is goes =
+    logs_of _ _ _ _ (c.deref_mut.ensures.value ∙ c.in-Some.ensures.mount.1) c.put.ensures.mount (logs_replace c.args.cpu c.args.time (Some others)) names
+    (c.in-Ok.ensures.log names others is goes)
+
+pub returns-in-Ok-clause-any_stop : goal.returns-in-Ok-clause-any_stop
+returns-in-Ok-clause-any_stop c running writes names others is goes =
+    any_stop_of _ _ _ _ (c.deref_mut.ensures.value ∙ c.in-Some.ensures.mount.1) c.put.ensures.mount (makes_replace c.args.time (Some others)) (logs_replace c.args.cpu c.args.time (Some others)) names
+    (λ runs writes. c.replace-done.ensures.any_stop names others is goes runs writes) running.runs writes
+
+pub returns-in-Err-clause-refused : goal.returns-in-Err-clause-refused
+returns-in-Err-clause-refused c running some p q says goes =
+    refused_by (λ (m : Mount Region). replace_refusal m c.args.cpu p q) _ _ c.in-Err.refusal c.code.result (c.deref_mut.ensures.value ∙ c.in-Some.ensures.mount.1) c.code.ensures.says
+    (λ runs. c.in-Err.ensures.refused runs p q says goes) running.runs
+
+pub returns-in-Err-clause-unchanged : goal.returns-in-Err-clause-unchanged
+returns-in-Err-clause-unchanged c owns some =
+    unchanged_by _ _ _ _ (c.deref_mut.ensures.value ∙ c.in-Some.ensures.mount.1) c.put.ensures.mount c.replace-done.result c.in-Err.refusal c.in-Err.is
+    c.replace-done.ensures.stopped_before c.replace-done.ensures.stopped c.in-Err.ensures.unchanged
+
+pub returns-in-Err-clause-any_stop : goal.returns-in-Err-clause-any_stop
+returns-in-Err-clause-any_stop c running writes names others is goes =
+    any_stop_of _ _ _ _ (c.deref_mut.ensures.value ∙ c.in-Some.ensures.mount.1) c.put.ensures.mount (makes_replace c.args.time (Some others)) (logs_replace c.args.cpu c.args.time (Some others)) names
+    (λ runs writes. c.replace-done.ensures.any_stop names others is goes runs writes) running.runs writes
