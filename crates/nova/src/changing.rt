@@ -9,12 +9,14 @@ use nv_changes::{Change, Changed, change_image};
 use nv_cli::CallRefusal;
 use nv_images::{
     Failure, Held, Image, Loaded, Lock, Reason, Target, hold, image_at, refuse_length, region_at,
-    save_region, see_ready, tell_length, tell_unaccepted, why_region_refused,
+    save_region, see_ready, tell_failure, tell_length, tell_unaccepted, why_region_refused,
 };
 use nv_stream::write_text;
-use std::io::Write;
+use std::io::{ErrorKind, Write};
 use std::rt::Files;
 use std::time::Clock;
+
+const REFUSED_STATUS: u8 = 2;
 
 // What is told to be unreadable where the system has no time.
 const CLOCK: &str = "the clock";
@@ -45,8 +47,10 @@ where
         force: true,
     };
     let first = path_of(rt.alloc(), first_word(asked.change))?;
-    let Some(second) = second_bytes(rt, asked.change)? else {
-        return refuse(rt, errors, CallRefusal::TooLarge);
+    let second = match second_bytes(rt, asked.change) {
+        Ok(Some(second)) => second,
+        Ok(None) => return refuse(rt, errors, CallRefusal::TooLarge),
+        Err(failure) => return tell_unread(rt, failure),
     };
     let held = hold(rt, target)?;
     match region_at(rt, image)? {
@@ -85,6 +89,19 @@ where
         refused => tell_refused(rt, errors, refused)?,
     }
     Ok(changed.status())
+}
+
+// Says which command puts a directory, where one is in the place of a file. Answers the exit status.
+fn tell_unread<'a, H: Eprint>(rt: &H, failure: Failure<'a>) -> Result<u8, Failure<'a>> {
+    match failure {
+        Failure::CannotRead(_, Reason::System(error)) if error.kind() == ErrorKind::IsADirectory =>
+            {
+                tell_failure(rt, failure);
+                let _ = eprintln!(rt; "nova put -r puts a directory into an image");
+                Ok(REFUSED_STATUS)
+            }
+        failure => Err(failure),
+    }
 }
 
 // Says why no region is left.

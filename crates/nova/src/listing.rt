@@ -32,9 +32,8 @@ pub(crate) enum Told {
 }
 
 /// Recovers the image in a file in memory, and prints what is to be told of an inode there, or says among the errors why that can't
-/// be told. Answers the exit status, 0 or 2. An image with faults is shown all the same, and a line says
-/// that it has some. Of a plain file the metadata alone are read, or the first block
-/// where its superblock isn't accepted; else the image is read whole.
+/// be told. Answers the exit status, 0 or 2. An image with faults is shown all the same, and a line says that it has some. Of a
+/// plain file the metadata alone are read, or the first block where its superblock isn't accepted; else the image is read whole.
 pub(crate) fn tell<'a, H: Files + AllocGlobal + Print + Eprint + Threads + Sync, E: Write>(
     rt: &H,
     errors: &mut E,

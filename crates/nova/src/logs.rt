@@ -26,9 +26,8 @@ enum Whose {
 
 /// Recovers the image in a file in memory, and prints the log of an inode there entry by entry, or where none is named those of all
 /// inodes in use; or says among the errors why it can't be shown. Answers the exit status, 0 or 2. An image with faults is shown
-/// all the same, and a line says that it has some.
-/// Of a plain file the metadata alone are read, or the first block where its superblock isn't accepted; else the image is read
-/// whole.
+/// all the same, and a line says that it has some. Of a plain file the metadata alone are read, or the first block where its
+/// superblock isn't accepted; else the image is read whole.
 pub(crate) fn show_log<'a, H: Files + AllocGlobal + Print + Eprint + Threads + Sync, E: Write>(
     rt: &H,
     errors: &mut E,

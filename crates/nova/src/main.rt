@@ -3,8 +3,8 @@
 //! `run` runs a script, on the region of an image or on none, and saves the region that it leaves. `shell` runs the commands that
 //! are typed. `show` shows what is in an image, `listing` names with the numbers of their inodes and counts of blocks, `logs` the
 //! logs of inodes, `blocks` what a block is, `comparing` what differs between two images, and `views` further looks. `cleaning`
-//! shortens logs, `changing` changes an image by the calls of one command, `unpacking` by an archive, `recovering` rolls its journals
-//! back, `names` reads paths in it, and `saving` makes one.
+//! shortens logs, `changing` changes an image by the calls of one command, `unpacking` by an archive, `putting` by a tree of the
+//! host, `recovering` rolls its journals back, `names` reads paths in it, and `saving` makes one.
 //! Checks and maps of images are those of `nova_check`.
 //!
 //! Behind a bad line, and a region that is refused for its length, a line on standard error says more.
@@ -22,6 +22,7 @@ mod hints;
 mod listing;
 mod logs;
 mod names;
+mod putting;
 mod recovering;
 mod run;
 mod saving;
@@ -40,6 +41,7 @@ use nv_checking::{Blocks, Output, check_file, check_files, explain_file, map_fil
 use nv_cli::suiting_areas;
 use nv_images::{Failure, Lock, Target, ended, explain, print_line, refuse_words, words_of};
 use nv_pending::check_journals;
+use putting::put_tree;
 use recovering::{recover, show_pending};
 use run::{Images, run, script_at, script_on};
 use saving::mkfs;
@@ -147,6 +149,13 @@ where
             };
             change(rt, &mut errors, image, asked)
         }
+        Todo::PutTree {
+            image,
+            host,
+            path,
+            cpu,
+            time,
+        } => put_tree(rt, &mut errors, Place { image, path, cpu }, host, time),
         Todo::Untar { image, path, cpu } => untar(rt, &mut errors, Place { image, path, cpu }),
         Todo::Recover {
             image,

@@ -1,4 +1,4 @@
-//! Putting an archive on standard input into the image in a file: `untar`.
+//! Putting an archive on standard input into the image in a file: `untar`, and whatever else has items.
 
 use crate::names::path_of;
 use nv_cli::CallRefusal;
@@ -18,7 +18,7 @@ const ARCHIVE: &str = "-";
 
 const REFUSED_STATUS: u8 = 2;
 
-/// Where the members of an archive go, and in whose name.
+/// Where items go, and in whose name.
 #[derive(Clone, Copy)]
 pub(crate) struct Place<'a> {
     pub image: &'a str,
@@ -54,7 +54,8 @@ where
     }
 }
 
-fn unpack<'a, H: Files + AllocGlobal + Print + Eprint, E: Write>(
+/// Puts items into an image, as `untar` does. Answers the exit status, 0 or 2.
+pub(crate) fn unpack<'a, H: Files + AllocGlobal + Print + Eprint, E: Write>(
     rt: &H,
     errors: &mut E,
     place: Place<'a>,

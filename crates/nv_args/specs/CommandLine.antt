@@ -131,6 +131,10 @@ one_path_app name = change_app name (needed_rule (codes "path") ∷ [])
 abbrev pub two_paths_app : Text → App
 two_paths_app name = change_app name (needed_rule (codes "old") ∷ needed_rule (codes "new") ∷ [])
 
+-- `put`: a file of the host, its path in an image, and whether all that is below a directory is put there too
+abbrev pub put_app : App
+put_app = change_app (codes "put") (needed_rule (codes "host") ∷ needed_rule (codes "path") ∷ letter_rule 114 (codes "recursive") ∷ [])
+
 -- `untar`: an image's file, the directory that members go to, and a CPU
 abbrev pub untar_app : App
 untar_app = command (codes "untar") (needed_rule (codes "image") ∷ place_rule (codes "path") ∷ number_rule (codes "cpu") ∷ [])
@@ -145,7 +149,7 @@ change_apps = one_path_app (codes "mkdir") ∷ one_path_app (codes "rm") ∷ one
     ∷ change_app (codes "truncate") (needed_rule (codes "size") ∷ needed_rule (codes "path") ∷ [])
     ∷ change_app (codes "chmod") (needed_rule (codes "mode") ∷ needed_rule (codes "path") ∷ [])
     ∷ change_app (codes "chown") (needed_rule (codes "owner") ∷ needed_rule (codes "path") ∷ [])
-    ∷ change_app (codes "put") (needed_rule (codes "host") ∷ needed_rule (codes "path") ∷ []) ∷ untar_app ∷ recover_app ∷ []
+    ∷ put_app ∷ untar_app ∷ recover_app ∷ []
 
 -- the program with its commands
 abbrev pub nova_app : App

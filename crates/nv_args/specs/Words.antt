@@ -12,7 +12,7 @@ use Rattle.nv_args.specs.declared.change.NamedChange.{NamedChange}
 use Rattle.nv_args.specs.declared.change.NamedChange.TheVariants.{Mkdir, Rm, Rmdir, Mv, Ln, Truncate, Chmod, Chown, Put}
 use Rattle.nv_args.specs.declared.todo.CheckOutput.TheVariants.{Report, Summary, OnlyFaults, Json, Explained, Journal}
 use Rattle.nv_args.specs.declared.todo.Todo.{Todo}
-use Rattle.nv_args.specs.declared.todo.Todo.TheVariants.{Version, Run, Shell, Check, Mkfs, Clean, Change, Untar, Recover, Ls, Stat, Cat, Tar, Log, View, Explain, Map}
+use Rattle.nv_args.specs.declared.todo.Todo.TheVariants.{Version, Run, Shell, Check, Mkfs, Clean, Change, PutTree, Untar, Recover, Ls, Stat, Cat, Tar, Log, View, Explain, Map}
 use Rattle.nv_args.specs.declared.todo.Which.{Which}
 use Rattle.nv_args.specs.declared.todo.Which.TheVariants.{Path, Number}
 use Rattle.nv_args.specs.declared.views.View.{View as ViewValue}
@@ -143,7 +143,7 @@ HasChange values (Ln old new) = (first_of (codes "old") values ≡ Some old.now)
 HasChange values (Truncate path size) = (first_of (codes "path") values ≡ Some path.now) × IsNumber (first_of (codes "size") values) size
 HasChange values (Chmod path mode) = (first_of (codes "path") values ≡ Some path.now) × WritesMode (first_of (codes "mode") values) mode
 HasChange values (Chown path owner group) = (first_of (codes "path") values ≡ Some path.now) × WritesOwners (first_of (codes "owner") values) owner group
-HasChange values (Put host path) = (first_of (codes "host") values ≡ Some host.now) × (first_of (codes "path") values ≡ Some path.now)
+HasChange values (Put host path) = (first_of (codes "host") values ≡ Some host.now) × (first_of (codes "path") values ≡ Some path.now) × (¬ IsGiven (codes "recursive") values)
 
 -- this command, with the values written for its arguments, asks for this change
 abbrev pub AsksChange : Text → List Row → NamedChange → Type 0
@@ -168,6 +168,7 @@ command_of (Check paths workers output) = codes "check"
 command_of (Mkfs image blocks cpus tables force) = codes "mkfs"
 command_of (Clean image path) = codes "clean"
 command_of (Change image change cpu time) = change_command change
+command_of (PutTree image host path cpu time) = codes "put"
 command_of (Untar image path cpu) = codes "untar"
 command_of (Recover image dry_run) = codes "recover"
 command_of (Ls image which long) = codes "ls"
@@ -217,6 +218,9 @@ HasValues values (Mkfs image blocks cpus tables force) = (first_of (codes "image
 HasValues values (Clean image path) = (first_of (codes "image") values ≡ Some image.now) × (first_of (codes "path") values ≡ option_map (λ text. text.now) path)
 HasValues values (Change image change cpu time) = (first_of (codes "image") values ≡ Some image.now) × HasChange values change
     × IsCpu (first_of (codes "cpu") values) cpu × MayBeNumber (first_of (codes "time") values) time
+HasValues values (PutTree image host path cpu time) = (first_of (codes "image") values ≡ Some image.now) × (first_of (codes "host") values ≡ Some host.now)
+    × (first_of (codes "path") values ≡ Some path.now) × IsCpu (first_of (codes "cpu") values) cpu × MayBeNumber (first_of (codes "time") values) time
+    × IsGiven (codes "recursive") values
 -- the root, where none is written
 HasValues values (Untar image path cpu) = (first_of (codes "image") values ≡ Some image.now) × (path.now ≡ unwrap_or (first_of (codes "path") values) (codes "/"))
     × IsCpu (first_of (codes "cpu") values) cpu

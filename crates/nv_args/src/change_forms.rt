@@ -170,19 +170,24 @@ pub(crate) const CHANGES: [CommandForm<'static>; 11] = [
     },
     CommandForm {
         name: "put",
-        about: "Copies a file of the host into an image",
+        about: "Copies a file of the host into an image, or a directory with all that is below it",
         notes: NOTES,
         arguments: &[
             IMAGE,
             Argument {
                 written: Written::Needed,
                 name: "host",
-                help: "The file of the host",
+                help: "The file of the host, or with -r the directory",
             },
             Argument {
                 written: Written::Needed,
                 name: "path",
                 help: "The path that it gets; the bytes of a file that is there go",
+            },
+            Argument {
+                written: Written::LetterFlag('r'),
+                name: "recursive",
+                help: "Copy a directory with all that is below it, and with modes, owners and times",
             },
             CPU,
             TIME,

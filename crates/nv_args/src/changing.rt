@@ -3,7 +3,7 @@
 ghost use Rattle.std.specs.Prelude.{◌≡◌, ◌≢◌, ℕ, Some, Option, IfSome, IsNone, option_map, codes};
 ghost use Rattle.clap.specs.Walk.{first_of, rows_of};
 ghost use Rattle.clap.specs.Matches.{found_of};
-ghost use Rattle.nv_args.specs.Words.{Asks, AsksChange, IsCpu, WritesMode, WritesOwners};
+ghost use Rattle.nv_args.specs.Words.{Asks, AsksChange, IsCpu, IsGiven, WritesMode, WritesOwners};
 ghost use Rattle.nv_args.specs.declared.todo.Todo.{Todo as TodoValue};
 ghost use Rattle.nv_args.specs.declared.change.NamedChange.{NamedChange as ChangeValue};
 
@@ -27,6 +27,36 @@ pub(crate) fn change_of<'a>(name: &str, values: &ArgMatches<'a>) -> Option<Todo<
         change,
         cpu,
         time,
+    })
+}
+
+/// What `put` asks for: one file, or a whole tree.
+pub(crate) fn put_of<'a>(values: &ArgMatches<'a>) -> Option<Todo<'a>>
+    ensures some { IfSome result (λ todo. Asks (codes "put") (rows_of (found_of values.now)) todo) }
+    ensures none { IsNone result → (todo : TodoValue) → ¬ Asks (codes "put") (rows_of (found_of values.now)) todo }
+{
+    if is_given(values, "recursive") {
+        put_tree_of(values)
+    } else {
+        change_of("put", values)
+    }
+}
+
+fn put_tree_of<'a>(values: &ArgMatches<'a>) -> Option<Todo<'a>>
+    requires { IsGiven (codes "recursive") (rows_of (found_of values.now)) }
+    ensures some { IfSome result (λ todo. Asks (codes "put") (rows_of (found_of values.now)) todo) }
+    ensures none { IsNone result → (todo : TodoValue) → ¬ Asks (codes "put") (rows_of (found_of values.now)) todo }
+{
+    let image = text_of(values, "image")?;
+    let host = text_of(values, "host")?;
+    let path = text_of(values, "path")?;
+    let cpu = cpu_of(text_of(values, "cpu"))?;
+    Some(Todo::PutTree {
+        image,
+        host,
+        path,
+        cpu,
+        time: may_be_number(text_of(values, "time"))?,
     })
 }
 
@@ -74,7 +104,7 @@ fn named_change<'a>(name: &str, values: &ArgMatches<'a>) -> Option<NamedChange<'
         "truncate" => truncate_of(values),
         "chmod" => chmod_of(values),
         "chown" => chown_of(values),
-        "put" => put_of(values),
+        "put" => put_file_of(values),
         _ => None,
     }
 }
@@ -148,10 +178,14 @@ fn chown_of<'a>(values: &ArgMatches<'a>) -> Option<NamedChange<'a>>
     Some(NamedChange::Chown { path, owner, group })
 }
 
-fn put_of<'a>(values: &ArgMatches<'a>) -> Option<NamedChange<'a>>
+// A file alone.
+fn put_file_of<'a>(values: &ArgMatches<'a>) -> Option<NamedChange<'a>>
     ensures some { IfSome result (AsksChange (codes "put") (rows_of (found_of values.now))) }
     ensures none { IsNone result → (change : ChangeValue) → ¬ AsksChange (codes "put") (rows_of (found_of values.now)) change }
 {
+    if is_given(values, "recursive") {
+        return None;
+    }
     let host = text_of(values, "host")?;
     let path = text_of(values, "path")?;
     Some(NamedChange::Put { host, path })

@@ -41,7 +41,7 @@ const DIFF_NOTES: &str = "\
 Exit status:
   0  nothing differs
   1  something differs
-  2  an image was refused, or it failed";
+  2  an image was refused, or can't be read; the output failed; or memory ran out";
 
 pub(crate) const NOTES: &str = "\
 Exit status:

@@ -7,7 +7,7 @@ ghost use Rattle.clap.specs.Matches.{found_of};
 ghost use Rattle.nv_args.specs.Words.{AreNumbers, AreWorkers, AskVersion, Asks, CommandSays, IsBetween, IsGiven, IsNumber, IsOutput, IsVersion, MayBeNumber, Names, Says, SizeOf, SpellsNumber};
 ghost use Rattle.nv_args.specs.Words.{WordsSay, WantsMemory};
 
-use crate::changing::{change_of, recover_of, untar_of};
+use crate::changing::{change_of, put_of, recover_of, untar_of};
 use crate::command_line::nova;
 use crate::sizes::size_of;
 use crate::todo::{CheckOutput, Todo, Which};
@@ -334,6 +334,7 @@ fn command_of<'a>(name: &str, values: &ArgMatches<'a>) -> Option<Todo<'a>>
         "diff" => diff_of(values),
         "explain" => explain_of(values),
         "map" => map_of(values),
+        "put" => put_of(values),
         "untar" => untar_of(values),
         "recover" => recover_of(values),
         _ => change_of(name, values),

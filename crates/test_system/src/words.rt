@@ -44,7 +44,7 @@ const REFUSED: [&[&str]; 28] = [
 ];
 
 /// Words, and what they ask for.
-const ASKED: [(&[&str], Todo<'static>); 29] = [
+const ASKED: [(&[&str], Todo<'static>); 31] = [
     (&["--version"], Todo::Version),
     (&["-V"], Todo::Version),
     (
@@ -256,6 +256,26 @@ const ASKED: [(&[&str], Todo<'static>); 29] = [
         Todo::Shell {
             image: "i",
             force: true,
+        },
+    ),
+    (
+        &["put", "-r", "i", "h", "/p", "--cpu", "1"],
+        Todo::PutTree {
+            image: "i",
+            host: "h",
+            path: "/p",
+            cpu: 1,
+            time: None,
+        },
+    ),
+    (
+        &["put", "i", "h", "/p", "--recursive", "--time", "7"],
+        Todo::PutTree {
+            image: "i",
+            host: "h",
+            path: "/p",
+            cpu: 0,
+            time: Some(7),
         },
     ),
     (&["explain", "l2"], Todo::Explain { class: "l2" }),

@@ -2,7 +2,7 @@ use Rattle.clap.specs.Walk.{rows_of}
 use Rattle.clap.specs.Matches.{found_of}
 use Rattle.nv_args.specs.Words.{Asks}
 use Rattle.nv_args.specs.declared.todo.Todo.{Todo}
-use Rattle.nv_args.specs.declared.todo.Todo.TheVariants.{Version, Run, Shell, Check, Mkfs, Clean, Change, Untar, Recover, Ls, Stat, Cat, Tar, Log, View, Explain, Map}
+use Rattle.nv_args.specs.declared.todo.Todo.TheVariants.{Version, Run, Shell, Check, Mkfs, Clean, Change, PutTree, Untar, Recover, Ls, Stat, Cat, Tar, Log, View, Explain, Map}
 use Rattle.nv_args.specs.declared.views.View.TheVariants.{Logs, Block, Usage, Folders, Difference}
 use Rattle.nv_args.proofs.reading.command_of.Goals as goal
 
@@ -18,6 +18,7 @@ returns-in_default-clause-none c none check = other
     other (Mkfs image blocks cpus tables force) asks = c.in_default.not-mkfs asks.0
     other (Clean image path) asks = c.in_default.not-clean asks.0
     other (Change image change cpu time) asks = c.change_of.ensures.none none image change cpu time asks
+    other (PutTree image host path cpu time) asks = c.in_default.not-put asks.0
     other (Untar image path cpu) asks = c.in_default.not-untar asks.0
     other (Recover image dry_run) asks = c.in_default.not-recover asks.0
     other (Ls image which long) asks = c.in_default.not-ls asks.0

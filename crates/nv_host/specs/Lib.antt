@@ -1,0 +1,5 @@
+pub mod Found
+pub mod Names
+pub mod Places
+pub mod Links
+pub mod Items
