@@ -1,6 +1,6 @@
 #!/usr/bin/env python3
-"""Changes copies of an image by calls at random, lets `nova diff` compare each with the image, and compares what it tells with
-what `diff -rq` tells of the trees that `nova tar` and tar put on the disk, and with the numbers that `nova stat` prints.
+"""Changes copies of an image by calls at random, and compares what `nova diff` tells of names, kinds, sizes and bytes with what
+`diff -rq` tells of the trees on the disk. An image that is refused is named. It closes with 'N passed, M failed'.
 
 usage: tests/differences.py PROGRAM [--cases N] [--seed N]          PROGRAM is nova
 """
@@ -136,6 +136,17 @@ def case(program, room, dice):
     return bool(done.stdout)
 
 
+def refusals(program, room):
+    """A file without a byte is refused by its length, A's before B's."""
+    image, empty = room / "image", room / "empty"
+    run(program, "mkfs", image, "--size", "4M", "--force")
+    empty.write_bytes(b"")
+    for first, second, letter in ((empty, image, "A"), (image, empty, "B"), (empty, empty, "A")):
+        done = subprocess.run([program, "diff", first, second], capture_output=True)
+        if (done.returncode, done.stdout) != (2, b"") or not done.stderr.startswith(f"{letter}: refused S1\n".encode()):
+            raise SystemExit(f"refused as {done.returncode}, {done.stdout!r}, {done.stderr!r}, and not as {letter}")
+
+
 def main():
     parser = argparse.ArgumentParser(description=__doc__, formatter_class=argparse.RawDescriptionHelpFormatter)
     parser.add_argument("program", type=lambda path: Path(path).resolve())
@@ -146,7 +157,10 @@ def main():
     for number in range(given.cases):
         with tempfile.TemporaryDirectory() as room:
             differ += case(given.program, Path(room), random.Random(given.seed * 1_000_003 + number))
-    print(f"{given.cases} passed, of which {differ} differ")
+    with tempfile.TemporaryDirectory() as room:
+        refusals(given.program, Path(room))
+    print(f"of {given.cases} pairs {differ} differ")
+    print(f"{given.cases + 3} passed, 0 failed")
 
 
 if __name__ == "__main__":

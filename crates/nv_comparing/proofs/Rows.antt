@@ -1,6 +1,5 @@
 -- The rows of an outcome lie in the region whose journals are rolled back, and what they show there.
-use Rattle.std.proofs.Common.{◌≡◌, ◌∙◌, ◌<◌, ℕ, false, IsTrue, is_some, List, Option, Some, None, refl, sym, ap, subst}
-use Rattle.std.specs.Option.{option_map}
+use Rattle.std.proofs.Common.{◌<◌, ℕ, false, IsTrue, is_some, List, refl}
 use Rattle.nv_region.specs.Region.{Region}
 use Rattle.nv_outcome.specs.nv_journal.Undo.{undone}
 use Rattle.nv_outcome.specs.Outcome.{Outcome, IsOutcome}
@@ -9,15 +8,12 @@ use Rattle.nv_outcome.proofs.Fixed.{fixed_outcome}
 use Rattle.nv_outcome.proofs.SuperOf.{layout_of_super}
 use Rattle.nv_outcome.proofs.Tickets.{slot_number}
 use Rattle.nv_super.specs.Layout.{HasAreas, inode_limit}
-use Rattle.nv_rows.specs.Rows.{IsInUse, row_of}
-use Rattle.nv_rows.proofs.Places.{numbered}
 use Rattle.nv_scan.specs.declared.piece.Row.{Row}
-use Rattle.nv_tree.specs.Tree.{Node}
-use Rattle.nv_paths.specs.Seen.{node_of, tree_of}
+use Rattle.nv_paths.specs.Seen.{tree_of}
 use Rattle.nv_scan.proofs.Only.{slot_in_use}
 use Rattle.nv_calls.specs.Mount.{IsKept, has_faults}
-use Rattle.nv_calls.proofs.RowChange.{row_there}
 use Rattle.nv_calls.proofs.FileBytes.{blocks_inside, row_size}
+use Rattle.nv_archive.proofs.Shows.{all_above, used_in_tree}
 use Rattle.nv_comparing.specs.Shown.{AreBelow, AreHeld}
 
 module _ (S : Region) (o : Outcome) (is : IsOutcome S o) where
@@ -40,18 +36,5 @@ module _ (S : Region) (o : Outcome) (is : IsOutcome S o) where
 
 -- ---- what stands for a row
 
-module _ (R : Region) (rows : List Row) (i : ℕ) where
-  pub used_below : (limit : ℕ) → AreBelow rows limit → IsTrue (is_some (tree_of R rows i)) → i < limit
-  used_below limit below used = by (row_of rows i) refl used where
-    by : (o : Option Row) → row_of rows i ≡ o → IsTrue (is_some (option_map (node_of R) o)) → i < limit
-    by None is used = absurd (cc)
-    by (Some row) is used = subst (λ (j : ℕ). j < limit) (numbered rows i row is) (below row (row_there rows i row is))
-
-  pub used_by_node : (node : Node) → tree_of R rows i ≡ Some node → IsInUse rows i
-  used_by_node node e = by (row_of rows i) refl e where
-    by : (o : Option Row) → row_of rows i ≡ o → option_map (node_of R) o ≡ Some node → IsInUse rows i
-    by None is e = absurd (cc)
-    by (Some row) is e = ap is_some is
-
-  pub node_is : (row : Row) (node : Node) → row_of rows i ≡ Some row → tree_of R rows i ≡ Some node → node_of R row ≡ node
-  node_is row node is e = let s : Some (node_of R row) ≡ Some node = sym (ap (option_map (node_of R)) is) ∙ e in cc
+pub used_below : (R : Region) (rows : List Row) (i limit : ℕ) → AreBelow rows limit → IsTrue (is_some (tree_of R rows i)) → i < limit
+used_below R rows i limit below used = all_above rows limit below i (used_in_tree R rows i used)

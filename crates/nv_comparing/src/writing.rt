@@ -13,8 +13,8 @@ const REFUSED_STATUS: u8 = 2;
 /// Writes what differs between the regions of these bytes, A and B, as `difference_text` tells it of their trees; or to the errors
 /// `A: refused NAME` or `B: refused NAME`, where the superblock of one isn't accepted.
 ///
-/// The regions are recovered in memory, and faults don't keep them from being compared. Errors: `Write` where the output failed, and
-/// `Memory`, where nothing is written.
+/// The regions are recovered in memory, and faults don't keep them from being compared. If both are refused, A is named. Errors:
+/// `Write` where the output failed, of which a front was written, and `Memory`, where nothing is.
 pub fn compare_images<W: Write, E: Write>(
     alloc: Global,
     a: &[u8],

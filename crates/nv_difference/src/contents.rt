@@ -16,9 +16,10 @@ pub struct Numbers {
     pub mode: u32,
     pub owner: u32,
     pub group: u32,
+    /// In bytes.
     pub size: u64,
     pub links: u32,
-    /// In seconds.
+    /// In seconds since 1970.
     pub time: u64,
 }
 
@@ -32,7 +33,7 @@ pub trait Contents: Inodes {
     fn named(&self, directory: u64, name: &[u8]) -> Option<u64>
         ensures { result ≡ name_in (Self.tree self.now) directory name.now };
 
-    /// Fills a buffer with the bytes of a file from one on.
+    /// Fills a buffer with the bytes of a file from one on, all of which it has. Holes are zeros.
     fn read(&self, inode: u64, at: u64, buffer: &mut [u8])
         requires within { (node : Node) × (Self.tree self.now inode ≡ Some node) × (node.kind ≡ Kind.File) × (at + length buffer.old ≤ node.size) }
         ensures read { (node : Node) → Self.tree self.now inode ≡ Some node → buffer.new ≡ map node.bytes (range_with_len at (length buffer.old)) };

@@ -91,7 +91,7 @@ fn push_differ(out: &mut String, place: u64) -> Result<(), AllocError>
     writeln!(out, "differ from byte {place}")
 }
 
-/// There is an inode in the first tree alone.
+/// There is an inode in A alone.
 pub(crate) fn push_only_a(out: &mut String, path: &[u8]) -> Result<(), AllocError>
     ensures { OnOk result (string_bytes out.new ≡ string_bytes out.old ++ only_a_line path.now) }
 {
@@ -100,7 +100,7 @@ pub(crate) fn push_only_a(out: &mut String, path: &[u8]) -> Result<(), AllocErro
     out.push_str("\n")
 }
 
-/// There is one in the second alone.
+/// There is one in B alone.
 pub(crate) fn push_only_b(out: &mut String, path: &[u8]) -> Result<(), AllocError>
     ensures { OnOk result (string_bytes out.new ≡ string_bytes out.old ++ only_b_line path.now) }
 {

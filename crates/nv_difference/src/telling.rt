@@ -27,7 +27,7 @@ const ROOT: u64 = 1;
 /// - `bytes PATH: differ from byte N`: two files differ there, below both sizes. Holes are zeros.
 /// - `names PATH: not compared, one directory has an earlier path`: only where a directory has several names.
 ///
-/// It is empty where nothing differs. Errors: `AllocError` where a growth was refused.
+/// It is empty where none of this differs: the numbers of inodes, and which names are of one file, aren't compared. Errors: `AllocError` where a growth was refused.
 pub fn difference_text<S: Contents, T: Contents>(
     alloc: Global,
     first: &S,

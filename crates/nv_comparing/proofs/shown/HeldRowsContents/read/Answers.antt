@@ -2,7 +2,7 @@ use Rattle.std.proofs.Common.{◌∙◌, ℕ, length, map, ap, sym, arith}
 use Rattle.std.specs.List.{range_with_len}
 use Rattle.nv_tree.specs.Tree.{Node}
 use Rattle.nv_calls.proofs.RowChange.{row_there}
-use Rattle.nv_comparing.proofs.Rows.{node_is, used_by_node}
+use Rattle.nv_archive.proofs.Shows.{node_is, used_by_node}
 use Rattle.nv_comparing.proofs.shown.HeldRowsContents.read.Goals as goal
 
 pub row-requires : goal.row-requires
