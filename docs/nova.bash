@@ -29,7 +29,7 @@ _nova() {
             truncate) words="--cpu --time --help" ;;
             chmod) words="--cpu --time --help" ;;
             chown) words="--cpu --time --help" ;;
-            put) words="--cpu --time --help" ;;
+            put) words="--recursive --cpu --time --help" ;;
             untar) words="--cpu --help" ;;
             recover) words="--dry-run --help" ;;
             help) words="run shell check mkfs clean ls stat cat du tar log block diff explain map mkdir rm rmdir mv ln truncate chmod chown put untar recover" ;;
