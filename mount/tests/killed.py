@@ -227,7 +227,7 @@ def main():
     chance = random.Random(int(seed))
     image, folder = f"{room}/killed.img", f"{room}/killed"
     os.makedirs(folder, exist_ok=True)
-    subprocess.run([nova, "mkfs", image, "--blocks", str(BLOCKS), "--cpus", "4", "--tables", "16"], check=True)
+    subprocess.run([nova, "mkfs", image, "--blocks", str(BLOCKS), "--cpus", "4", "--tables", "16", "--force"], check=True)
     tree, calls, under_way, failed = Tree(), 0, 0, 0
     for number in range(int(kills)):
         mount = Mount(program, image, folder, options)
