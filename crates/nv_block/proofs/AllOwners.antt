@@ -1,29 +1,27 @@
--- The owners by all rows are those of the region.
-use Rattle.std.proofs.Common.{◌∙◌, ℕ, ◌<◌, inl, inr, List, [], ◌∷◌, ◌++◌, ap, sym, subst, arith}
+-- The owners by the tables and all rows are those of the region.
+use Rattle.std.proofs.Common.{◌≡◌, ◌∙◌, ℕ, ◌+◌, ◌<◌, inl, inr, List, [], ◌∷◌, ◌++◌, length, take, get_or, ap, sym, subst, arith, append_assoc}
 use Rattle.std.specs.List.{Contains}
-use Rattle.std.proofs.lemmas.List.Elements.{Contains-append_left, Contains-append_right, Contains-append_cases}
+use Rattle.std.proofs.lemmas.List.Elements.{Contains-append_cases}
 use Rattle.nv_region.specs.Region.{Region}
 use Rattle.nv_super.specs.declared.owners.Owner.{Owner}
 use Rattle.nv_super.specs.declared.owners.Owner.TheVariants as owners
-use Rattle.nv_super.specs.Layout.{IsLayout, Layout}
+use Rattle.nv_super.specs.Layout.{IsLayout, Layout, chain_of}
 use Rattle.nv_super.specs.Order.{Rises, Lists, owner_key}
-use Rattle.nv_super.proofs.Rising.{Below, Contains-cons, Contains-head, Contains-tail, below_first, below_rest, head_least, rises_append, tail_rises}
+use Rattle.nv_super.proofs.Rising.{Below, Contains-head, Contains-tail, below_first, below_rest, head_least, rises_append, tail_rises}
+use Rattle.nv_inode.specs.Chains.{IsLaid}
 use Rattle.nv_radix.specs.Pages.{block_at}
 use Rattle.nv_scan.specs.Claims.{AreClaimsOf, AreSmall, IsClaim, of_log, of_page}
-use Rattle.nv_scan.specs.ChainBlocks.{IsChainless}
-use Rattle.nv_scan.specs.Inode.{Log, IsInode}
-use Rattle.nv_scan.specs.Owners.{Owns, teller}
+use Rattle.nv_scan.specs.ChainBlocks.{chain_claims, claims_of_chains}
+use Rattle.nv_scan.specs.Owners.{Owns}
 use Rattle.nv_scan.specs.Rows.{row_key}
 use Rattle.nv_scan.specs.declared.piece.Row.{Row}
 use Rattle.nv_scan.proofs.Blocks.{data_pages}
-use Rattle.nv_scan.proofs.ChainBlocks.{none_told}
-use Rattle.nv_scan.proofs.Only.{owned_log, owned_page, no_table}
-use Rattle.nv_scan.proofs.Pieces.{owned, owns}
+use Rattle.nv_scan.proofs.AllClaims.{are_all, chain_more, chains_more}
 use Rattle.nv_scan.proofs.RowClaims.{one_row_more}
 use Rattle.nv_scan.proofs.RowKeys.{key_less}
 use Rattle.nv_outcome.specs.Outcome.{AreRows}
-use Rattle.nv_outcome.proofs.CrossLaw.{stands}
-use Rattle.nv_block.specs.Owned.{AddsOwners, AreOwnersBy, owners_at}
+use Rattle.nv_block.specs.Owned.{AddsOwners, AddsOwnersOf, owners_at}
+use Rattle.nv_block.proofs.Chains.{chains_rise, claim_of_table}
 use Rattle.nv_block.proofs.OwnersAt.{key, owners_at-append, owners_list}
 
 -- the claims of one row
@@ -48,44 +46,37 @@ claims_from (row ∷ rows) claims (own, rest, split, lists, more) x c = elim (Co
   | inr w ↦ (let r = claims_from rows rest more x w in (r.0, Contains-tail row rows r.0 r.1, r.2))
 ]
 
-claims_to : (rows : List Row) (claims : List (ℕ × Owner)) → AreClaimsOf rows claims → (x : ℕ × Owner) (r : Row) → Contains rows r → OfRow r x → Contains claims x
-claims_to [] claims none x r c is = absurd (omega (arith, c.1))
-claims_to (row ∷ rows) claims (own, rest, split, lists, more) x r c is = subst (λ (xs : List (ℕ × Owner)). Contains xs x) (sym split) (elim (Contains-cons row rows r c) [
-  | inl same ↦ Contains-append_left own rest x (lists.all x (subst (λ (q : Row). OfRow q x) same is))
-  | inr w ↦ Contains-append_right own rest x (claims_to rows rest more x r w is)
-])
-
 claims_rise : (rows : List Row) (claims : List (ℕ × Owner)) → Rises row_key rows → AreClaimsOf rows claims → Rises key claims
 claims_rise [] claims rising none = subst (Rises key) (sym none) tt
 claims_rise (row ∷ rows) claims rising (own, rest, split, lists, more) = subst (Rises key) (sym split)
     (rises_append key own rest lists.rising (claims_rise rows rest (tail_rises row_key row rows rising) more)
     (λ x y c d. (let r = claims_from rows rest more y d in before row r.0 x y (lists.each x c) r.2 (key_less row.inode r.0.inode (head_least row_key row rows rising r.0 r.1)))))
 
-in_use_of : {R : Region} {l : Layout} → IsChainless l → (b : ℕ) (o : Owner) → Owns R l b o → (a : ℕ) × (log : Log) × IsInode R l (teller l o) a log
-in_use_of none b (owners.Table c k) h = absurd (no_table none h)
-in_use_of none b (owners.Log i k) h = let w = owned_log h in (w.a, w.log, w.is)
-in_use_of none b (owners.Data i p) h = let w = owned_page h in (w.a, w.log, w.is)
+-- a chain's blocks come before all that inodes own
+tables_first : (x y : ℕ × Owner) → (c : ℕ) × (k : ℕ) × (x.1 ≡ owners.Table c k) → (row : Row) → OfRow row y → Below (key x) (key y)
+tables_first x y (c, k, is) row of = subst (λ (o : Owner). Below (key (x.0, o)) (key y)) (sym is) (by y of) where
+  by : (y : ℕ × Owner) → OfRow row y → Below (key (x.0, owners.Table c k)) (key y)
+  by _ (of_log n b h) = below_first 0 1 (c ∷ k ∷ 0 ∷ []) (row.inode ∷ 0 ∷ n ∷ []) (omega arith)
+  by _ (of_page p b h) = below_first 0 1 (c ∷ k ∷ 0 ∷ []) (row.inode ∷ 1 ∷ p ∷ []) (omega arith)
 
-module _ (R : Region) (l : Layout) (rows : List Row) (are : AreRows R l rows) (chainless : IsChainless l) where
-  claim_owns : (x : ℕ × Owner) → OfRows rows x → Owns R l x.0 x.1
-  claim_owns x w = let q = are.each w.0 w.1 in (owns q.2.inode w.0.pages.items w.0.index q.2.pages q.2.index x w.2).0
+module _ (R : Region) (l : Layout) (rows : List Row) (are : AreRows R l rows) (laid : IsLaid l) (own : List (ℕ × Owner)) (of : AreClaimsOf rows own) where
+  -- the claims of the chains, and behind them those of the rows
+  abbrev all : List (ℕ × Owner)
+  all = claims_of_chains l l.sup.cpus ++ own
 
-  owner_claims : (x : ℕ × Owner) → Owns R l x.0 x.1 → OfRows rows x
-  owner_claims x h =
-      let u = in_use_of chainless x.0 x.1 h in
-      let s = stands are (teller l x.1) u.0 u.1 u.2 in
-      (s.row, s.here, elim (owned s.is.inode s.row.pages.items s.row.index s.is.pages s.is.index x.0 x.1 h (sym s.inode)) [ inl w ↦ absurd (none_told l s.row.inode (x.0, x.1) chainless w) | inr w ↦ w ])
+  all_claims : Lists key (λ (x : ℕ × Owner). Owns R l x.0 x.1) all
+  all_claims =
+      let claimed = are_all R l rows (record { each = are.each; all = are.all }) laid own of in
+      record {
+        rising = rises_append key (claims_of_chains l l.sup.cpus) own (chains_rise l l.sup.cpus) (claims_rise rows own are.rising of)
+            (λ x y first later. (let w = claims_from rows own of y later in tables_first x y (claim_of_table l l.sup.cpus x first) w.0 w.2));
+        each = λ x c. (claimed x.0 x.1).0 c;
+        all = λ x h. (claimed x.0 x.1).1 h;
+      }
 
-  all_claims : (claims : List (ℕ × Owner)) → AreClaimsOf rows claims → Lists key (λ (x : ℕ × Owner). Owns R l x.0 x.1) claims
-  all_claims claims of = record {
-    rising = claims_rise rows claims are.rising of;
-    each = λ x c. claim_owns x (claims_from rows claims of x c);
-    all = λ x h. (let w = owner_claims x h in claims_to rows claims of x w.0 w.1 w.2);
-  }
-
-  -- the owners by the claims of all rows are those of the region
-  pub all_owners : (b : ℕ) (os : List Owner) → AreOwnersBy rows b os → Lists owner_key (Owns R l b) os
-  all_owners b os by = subst (Lists owner_key (Owns R l b)) (sym by.2) (owners_list b (λ (x : ℕ × Owner). Owns R l x.0 x.1) by.0 (all_claims by.0 by.1))
+  -- the owners by the claims of the tables and of all rows are those of the region
+  pub all_owners : (b : ℕ) (os : List Owner) → os ≡ owners_at b (claims_of_chains l l.sup.cpus) ++ owners_at b own → Lists owner_key (Owns R l b) os
+  all_owners b os is = subst (Lists owner_key (Owns R l b)) (sym (is ∙ sym (owners_at-append b (claims_of_chains l l.sup.cpus) own))) (owners_list b (λ (x : ℕ × Owner). Owns R l x.0 x.1) all all_claims)
 
 -- pages and blocks of files have small numbers
 pub small_row : (R : Region) (l : Layout) (rows : List Row) → AreRows R l rows → IsLayout l.sup → (row : Row) → Contains rows row → AreSmall (block_at row.index)
@@ -96,6 +87,19 @@ small_row R l rows are layout row c p b e =
     (d.0, omega (arith, d.2, most))
 
 -- one row more
-pub one_more : (rows : List Row) (row : Row) (b : ℕ) (old new : List Owner) → AreOwnersBy rows b old → AddsOwners row b old new → AreOwnersBy (rows ++ row ∷ []) b new
-one_more rows row b old new by adds =
-    (by.0 ++ adds.0, one_row_more rows row by.0 adds.0 by.1 adds.1, adds.2 ∙ ap (λ (os : List Owner). os ++ owners_at b adds.0) by.2 ∙ sym (owners_at-append b by.0 adds.0))
+pub one_more : (rows : List Row) (row : Row) (b : ℕ) (old mid new : List Owner) → AddsOwnersOf rows b old mid → AddsOwners row b mid new → AddsOwnersOf (rows ++ row ∷ []) b old new
+one_more rows row b old mid new by adds = (
+  by.0 ++ adds.0,
+  one_row_more rows row by.0 adds.0 by.1 adds.1,
+  adds.2 ∙ ap (λ (os : List Owner). os ++ owners_at b adds.0) by.2 ∙ append_assoc old (owners_at b by.0) (owners_at b adds.0) ∙ ap (λ (os : List Owner). old ++ os) (sym (owners_at-append b by.0 adds.0)),
+)
+
+-- one block of a chain more
+pub block_more : (c n : ℕ) (blocks : List ℕ) (b : ℕ) → n < length blocks → owners_at b (chain_claims c 0 (take (n + 1) blocks)) ≡ owners_at b (chain_claims c 0 (take n blocks)) ++ owners_at b ((get_or blocks n 0, owners.Table c n) ∷ [])
+block_more c n blocks b less =
+    ap (owners_at b) (chain_more c 0 n blocks 0 less ∙ ap (λ (k : ℕ). chain_claims c 0 (take n blocks) ++ (get_or blocks n 0, owners.Table c k) ∷ []) (let e : 0 + n ≡ n = omega arith in e))
+    ∙ owners_at-append b (chain_claims c 0 (take n blocks)) ((get_or blocks n 0, owners.Table c n) ∷ [])
+
+-- one chain more
+pub chain_owners_more : (l : Layout) (cpu : ℕ) (b : ℕ) → owners_at b (claims_of_chains l (cpu + 1)) ≡ owners_at b (claims_of_chains l cpu) ++ owners_at b (chain_claims cpu 0 (chain_of l cpu))
+chain_owners_more l cpu b = ap (owners_at b) (chains_more l cpu) ∙ owners_at-append b (claims_of_chains l cpu) (chain_claims cpu 0 (chain_of l cpu))

@@ -1,4 +1,5 @@
 pub mod OwnersAt
+pub mod Chains
 pub mod AllOwners
 pub mod HexRows
 pub mod Told

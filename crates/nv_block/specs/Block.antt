@@ -4,7 +4,7 @@ use Rattle.nv_region.specs.Region.{Region}
 use Rattle.nv_super.specs.declared.superblock.Super.{Super}
 use Rattle.nv_super.specs.declared.owners.Owner.{Owner}
 use Rattle.nv_super.specs.FaultText.{owner_text}
-use Rattle.nv_super.specs.Layout.{Layout, system_blocks, fixed_layout}
+use Rattle.nv_super.specs.Layout.{Layout, system_blocks}
 use Rattle.nv_super.specs.Order.{Lists, owner_key}
 use Rattle.nv_outcome.specs.nv_scan.Owners.{Owns}
 use Rattle.nv_text.specs.Answers.{line}
@@ -38,6 +38,6 @@ owners_text b (o ∷ os) = flat_map (owner_line b) (o ∷ os)
 abbrev pub IsOwnersText : Region → Layout → ℕ → List ℕ → Type 0
 IsOwnersText R l b text = (os : List Owner) × Lists owner_key (Owns R l b) os × (text ≡ owners_text b os)
 
--- what a block is by the owners that a region with its journals rolled back has
-abbrev pub IsBlockText : Region → Super → ℕ → List ℕ → Type 0
-IsBlockText R s b text = MatchBool (nat_lt b (system_blocks s)) (text ≡ system_line s b) (IsOwnersText R (fixed_layout s) b text)
+-- what a block is by the owners that a region with its journals rolled back has by its layout
+abbrev pub IsBlockText : Region → Layout → ℕ → List ℕ → Type 0
+IsBlockText R l b text = MatchBool (nat_lt b (system_blocks l.sup)) (text ≡ system_line l.sup b) (IsOwnersText R l b text)

@@ -23,6 +23,6 @@ run_owners i x b = if has_block x b then owners.Data i (x.page + (b - x.block)) 
 abbrev pub AddsOwners : Row → ℕ → List Owner → List Owner → Type 0
 AddsOwners row b old new = (own : List (ℕ × Owner)) × AreRowClaims row own × (new ≡ old ++ owners_at b own)
 
--- these are the owners by the claims of all rows
-abbrev pub AreOwnersBy : List Row → ℕ → List Owner → Type 0
-AreOwnersBy rows b os = (claims : List (ℕ × Owner)) × AreClaimsOf rows claims × (os ≡ owners_at b claims)
+-- the owners among these that all rows give were added
+abbrev pub AddsOwnersOf : List Row → ℕ → List Owner → List Owner → Type 0
+AddsOwnersOf rows b old new = (own : List (ℕ × Owner)) × AreClaimsOf rows own × (new ≡ old ++ owners_at b own)

@@ -2,36 +2,38 @@
 
 ghost use Rattle.std.specs.Prelude.{◌≡◌, ◌<◌, ◌++◌, ◌*◌, OnOk, flat_map, string_bytes};
 ghost use Rattle.nv_region.specs.Region.{Region};
-ghost use Rattle.nv_super.specs.Layout.{IsLayout, fixed_layout, system_blocks};
+ghost use Rattle.nv_super.specs.Layout.{IsLayout, system_blocks};
 ghost use Rattle.nv_outcome.specs.Outcome.{AreRows};
 ghost use Rattle.nv_report.specs.Texts.{AddsText};
 ghost use Rattle.nv_block.specs.Block.{IsBlockText, block_head, owner_line, owners_text, system_line, table_text};
 
 use crate::owners::owners_of;
+use nv_inode::Tables;
 use nv_rows::Rows;
 use nv_super::{Owner, Super};
 use std::alloc::{AllocError, Global};
 use std::fmt::Write;
 
 /// Puts what a block is to a text: the superblock, the journal of a CPU, a block of a CPU's table by its place there, a line for
-/// each owner, or that it is free. The rows are those of the inodes in use.
+/// each owner, or that it is free. The tables and the rows of the inodes in use are those of one region.
 ///
 /// Errors: `AllocError` where a growth was refused; of the text nothing is said then.
 pub fn push_block(
     out: &mut String,
     alloc: Global,
-    sup: &Super,
+    tables: &Tables,
     rows: &Rows,
     block: u64,
 ) -> Result<(), AllocError>
-    requires layout { IsLayout sup.now }
-    requires rows { (region : Region) × AreRows region (fixed_layout sup.now) rows.now.items }
-    ensures { (region : Region) → AreRows region (fixed_layout sup.now) rows.now.items → OnOk result (AddsText (IsBlockText region sup.now block) (string_bytes out.old) (string_bytes out.new)) }
+    requires { (region : Region) × AreRows region tables.now.layout rows.now.items }
+    ensures { (region : Region) → AreRows region tables.now.layout rows.now.items → OnOk result (AddsText (IsBlockText region tables.now.layout block) (string_bytes out.old) (string_bytes out.new)) }
 {
+    tables.are_laid();
+    let sup = tables.sup();
     if block < sup.system_blocks() {
         return push_system(out, sup, block);
     }
-    let owners = owners_of(alloc, rows, block)?;
+    let owners = owners_of(alloc, tables, rows, block)?;
     push_owners(out, block, &owners)
 }
 

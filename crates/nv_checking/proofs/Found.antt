@@ -18,7 +18,7 @@ module _ (R S : Region) (answer : Answer) (may : MayAnswer R 1 [] answer S) wher
   found r memory is region lists =
       let recovered : MayAnswer R 1 [] (answers.Recovered r) S = subst (λ (x : Answer). MayAnswer R 1 [] x S) is may in
       let of : IsOfItsSuper (Some (answers.Recovered r)) = subst (λ (x : Answer). IsOfItsSuper (Some x)) is lists in
-      (recovered.2, region ∙ recovered.3, of.0, of.1)
+      (recovered.2, region ∙ recovered.3, of.0, of.1, of.2)
 
   -- one worker without a schedule is refused for the superblock alone
   refused : (refusal : Refusal) → RefusesRecovery R 1 [] refusal → IsSuperRefused R refusal

@@ -28,7 +28,7 @@ module _ (S T : Region) (answer : Answer) (may : MayAnswer S 1 [] answer T) wher
   found_by r m is region lists =
       let recovered : MayAnswer S 1 [] (answers.Recovered r) T = subst (λ (x : Answer). MayAnswer S 1 [] x T) is may in
       let of : IsOfItsSuper (Some (answers.Recovered r)) = subst (λ (x : Answer). IsOfItsSuper (Some x)) is lists in
-      (recovered.2, region ∙ recovered.3, of.0, of.1)
+      (recovered.2, region ∙ recovered.3, of.0, of.1, of.2)
 
   -- a superblock that is accepted isn't refused
   pub not_refused : (s : Super) → IsSuper S s → (refusal : Refusal) → answer ≡ answers.Refused refusal → ⊥

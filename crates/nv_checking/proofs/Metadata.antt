@@ -7,7 +7,9 @@ use Rattle.nv_super.specs.declared.superblock.Super.{Super}
 use Rattle.nv_super.specs.Layout.{system_blocks}
 use Rattle.nv_super.specs.Super.{IsSuper}
 use Rattle.nv_super.specs.declared.faults.Fault.{Fault}
-use Rattle.nv_report.proofs.nv_outcome.SuperOf.{one_super}
+use Rattle.nv_journal.specs.Permitted.{slots_end}
+use Rattle.nv_journal.proofs.Fixed.{end_fixed}
+use Rattle.nv_report.proofs.nv_outcome.SuperOf.{one_super, version_of_super}
 use Rattle.nv_report.specs.Last.{status_of, how_it_went}
 use Rattle.nv_metadata.specs.Memory.{MetadataState, IsReady}
 use Rattle.nv_metadata.specs.Gathered.{IsGathered}
@@ -20,11 +22,13 @@ use Rattle.nv_checking.specs.declared.output.Output.{Output}
 use Rattle.nv_checking.specs.Workers.{is_worker_count}
 use Rattle.nv_checking.specs.Checking.{IsRefusal, IsSuperRefusal, IsOutput, IsCheckAs, FailsCheckAs}
 
--- the memory takes each store in front of the data blocks
+-- the memory takes each store to a block in which slots can stand: it holds a region of version 1
 pub ready_open : (s : Super) (m : MetadataState) → IsReady s m → IsOpenInFront m.memory.region (is_open_to m.memory)
 ready_open s m ready t is =
     let same : t ≡ s = one_super m.memory.region s t ready.superblock is in
-    subst (λ (x : Super). IsTrue (is_open_to m.memory (4096 * system_blocks x))) (sym same) (let front = ready.front in let unburnt = ready.unburnt in grind arith)
+    let front : IsTrue (is_open_to m.memory (4096 * system_blocks s)) = (let front = ready.front in let unburnt = ready.unburnt in grind arith) in
+    subst (λ (x : Super). IsTrue (is_open_to m.memory (4096 * slots_end x))) (sym same)
+    (subst (λ (n : ℕ). IsTrue (is_open_to m.memory (4096 * n))) (sym (end_fixed s (version_of_super m.memory.region s ready.superblock))) front)
 
 -- by the outcome, which is the same
 module _ (s : Super) (R S : Region) (is : IsSuper R s) (g : IsGathered s R S) (output : Output) (text : List ℕ) (status : ℕ) where

@@ -3,16 +3,16 @@ use Rattle.std.proofs.Common.{◌≡◌, ◌≢◌, ◌*◌, ℕ, None, List, in
 use Rattle.nv_region.specs.Fuses.{FuseState}
 use Rattle.nv_region.specs.Region.{Region}
 use Rattle.nv_super.specs.declared.superblock.Super.{Super}
-use Rattle.nv_super.specs.Layout.{system_blocks}
 use Rattle.nv_super.specs.Super.{IsSuper}
+use Rattle.nv_journal.specs.Permitted.{slots_end}
 use Rattle.nv_recover.specs.Errors.{Fails, UndoesAsBefore, AsBeforeOrUndone}
 use Rattle.nv_recover.specs.declared.errors.RecoverError.{RecoverError}
 use Rattle.nv_recover.specs.declared.errors.RecoverError.TheVariants as errors
 use Rattle.nv_checking.specs.Answering.{refusal_of, TakesRecovery}
 
--- without a fuse, and where the stores in front of the data blocks are taken, there is no stop
+-- without a fuse, and where the stores to blocks in which slots can stand are taken, there is no stop
 pub never_stopped : (R R' : Region) (workers : ℕ) (schedule : List ℕ) (e : RecoverError) → Fails workers schedule e R R' → (fuse : FuseState) → TakesRecovery R fuse
-    → (IsTrue fuse.is_steady → e ≢ errors.Stopped) → ((s : Super) → IsSuper R s → IsTrue (fuse.is_open (4096 * system_blocks s)) → e ≢ errors.Stopped) → e ≢ errors.Stopped
+    → (IsTrue fuse.is_steady → e ≢ errors.Stopped) → ((s : Super) → IsSuper R s → IsTrue (fuse.is_open (4096 * slots_end s)) → e ≢ errors.Stopped) → e ≢ errors.Stopped
 never_stopped R R' workers schedule e fails fuse (inl steady) by_steady by_open = by_steady steady
 never_stopped R R' workers schedule e fails fuse (inr front) by_steady by_open = λ same.
     let left : UndoesAsBefore R R' = subst (λ (x : RecoverError). Fails workers schedule x R R') same fails in

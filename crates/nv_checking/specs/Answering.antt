@@ -4,8 +4,8 @@ use Rattle.nv_recover.specs.nv_outcome.nv_rows.RowList.{HasNumbersOf}
 use Rattle.nv_region.specs.Fuses.{FuseState}
 use Rattle.nv_region.specs.Region.{Region}
 use Rattle.nv_super.specs.declared.superblock.Super.{Super}
-use Rattle.nv_super.specs.Layout.{system_blocks, fixed_layout}
 use Rattle.nv_super.specs.Super.{IsSuper, IsRefused}
+use Rattle.nv_journal.specs.Permitted.{slots_end}
 use Rattle.nv_journal.specs.Undo.{undone}
 use Rattle.nv_recover.specs.nv_outcome.Outcome.{IsOutcome}
 use Rattle.nv_recover.specs.nv_outcome.Answer.{outcome_of}
@@ -18,11 +18,11 @@ use Rattle.nv_checking.specs.Workers.{is_worker_count, names_stranger}
 use Rattle.nv_checking.specs.declared.recovery.Answer.{Answer}
 use Rattle.nv_checking.specs.declared.recovery.Answer.TheVariants as answers
 
--- where its region has a superblock, the memory takes stores up to the first data block
+-- where its region has a superblock, the memory takes stores up to where slots end: in version 1 up to the first data block
 abbrev pub IsOpenInFront : Region → (ℕ → Bool) → Type 0
-IsOpenInFront R is_open = (s : Super) → IsSuper R s → IsTrue (is_open (4096 * system_blocks s))
+IsOpenInFront R is_open = (s : Super) → IsSuper R s → IsTrue (is_open (4096 * slots_end s))
 
--- nothing stops a recovery: no fuse is set, or each store in front of the data blocks is taken
+-- nothing stops a recovery: no fuse is set, or each store to a block in which slots can stand is taken
 abbrev pub TakesRecovery : Region → FuseState → Type 0
 TakesRecovery R fuse = IsTrue fuse.is_steady ⊎ IsOpenInFront R fuse.is_open
 
@@ -63,9 +63,9 @@ abbrev pub MayEnd : Region → ℕ → List ℕ → Option Answer → Region →
 MayEnd old workers schedule (Some answer) new = MayAnswer old workers schedule answer new
 MayEnd old workers schedule None new = (is_worker_count workers ≡ true) × (names_stranger workers schedule ≡ false) × UndoesAsBefore old new
 
--- the free lists and the rows that were found are those of the superblock that was found
+-- the free lists, the rows and the tables that were found are those of the superblock that was found
 abbrev pub IsOfItsSuper : Option Answer → Type 0
-IsOfItsSuper (Some (answers.Recovered r)) = (r.free.sup ≡ r.sup) × HasNumbersOf (fixed_layout r.sup) r.rows
+IsOfItsSuper (Some (answers.Recovered r)) = (r.free.sup ≡ r.sup) × HasNumbersOf r.tables.layout r.rows × (r.tables.layout.sup ≡ r.sup)
 IsOfItsSuper (Some (answers.Refused refusal)) = ⊤
 IsOfItsSuper None = ⊤
 

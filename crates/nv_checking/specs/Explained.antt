@@ -2,6 +2,7 @@
 use Rattle.std.specs.Prelude.{◌≡◌, ◌⊎◌, ◌++◌, ℕ, MatchBool, List, Option, codes}
 use Rattle.std.specs.Io.KnownBytes.{Appends, Keeps}
 use Rattle.nv_region.specs.Region.{Region, region_of}
+use Rattle.nv_super.specs.Layout.{Layout}
 use Rattle.nv_report.specs.nv_outcome.nv_journal.Undo.{undone}
 use Rattle.nv_report.specs.nv_outcome.Outcome.{Outcome, IsOutcome}
 use Rattle.nv_report.specs.Texts.{IsReportText}
@@ -13,9 +14,13 @@ use Rattle.nv_checking.specs.Workers.{is_worker_count}
 use Rattle.nv_checking.specs.Checking.{IsRefusal, IsSuperRefusal}
 use Rattle.nv_checking.specs.Sentences.{sentences}
 
+-- where an outcome has its slots
+abbrev pub layout_in : Outcome → Layout
+layout_in o = record { sup = o.sup; chains = o.tables }
+
 -- the report of an outcome, and below it a sentence for each fault, by the words of this region
 abbrev pub IsExplainedText : Region → Outcome → List ℕ → Type 0
-IsExplainedText R o text = (report : List ℕ) × IsReportText o report × (text ≡ report ++ sentences R o.sup o.faults)
+IsExplainedText R o text = (report : List ℕ) × IsReportText o report × (text ≡ report ++ sentences R (layout_in o) o.faults)
 
 -- the same of the region's outcome, by the words that stand there once its journals are rolled back; the status says whether there are faults
 abbrev pub IsExplainedReport : Region → List ℕ → ℕ → Type 0

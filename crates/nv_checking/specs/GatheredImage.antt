@@ -1,6 +1,5 @@
 -- What recovering the metadata of a region finds.
 use Rattle.std.specs.Prelude.{◌≡◌}
-use Rattle.nv_super.specs.Layout.{fixed_layout}
 use Rattle.nv_recover.specs.nv_outcome.nv_rows.RowList.{HasNumbersOf}
 use Rattle.nv_region.specs.Region.{Region}
 use Rattle.nv_report.specs.nv_outcome.nv_journal.Undo.{undone}
@@ -21,7 +20,7 @@ IsAccepted memory = (s : Super) × IsReady s memory
 -- the outcome of this region was found, and its journals are rolled back in the memory
 abbrev pub IsFoundBy : Region → GatheredImage → Type 0
 IsFoundBy S (images.Recovered memory found) = IsOutcome S (outcome_of found) × (memory.memory.region ≡ undone found.sup S) × (found.free.sup ≡ found.sup)
-    × HasNumbersOf (fixed_layout found.sup) found.rows
+    × HasNumbersOf found.tables.layout found.rows × (found.tables.layout.sup ≡ found.sup)
 IsFoundBy S (images.Refused refusal) = ⊥
 
 -- the same of the metadata that were gathered, or the fault for which the superblock was refused

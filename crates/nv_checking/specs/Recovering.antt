@@ -1,6 +1,5 @@
 -- What recovering the region of some bytes finds.
 use Rattle.std.specs.Prelude.{◌≡◌}
-use Rattle.nv_super.specs.Layout.{fixed_layout}
 use Rattle.nv_recover.specs.nv_outcome.nv_rows.RowList.{HasNumbersOf}
 use Rattle.nv_region.specs.Region.{Region}
 use Rattle.nv_super.specs.declared.superblock.SuperFault.{SuperFault}
@@ -19,5 +18,5 @@ IsSuperRefused R refusal = (fault : SuperFault) × IsRefused R fault × (refusal
 
 -- the region with its journals rolled back, and its outcome; or why it has none
 abbrev pub IsRecovered : Region → Image → Type 0
-IsRecovered R (images.Recovered memory found) = IsOutcome R (outcome_of found) × (memory.region ≡ undone found.sup R) × (found.free.sup ≡ found.sup) × HasNumbersOf (fixed_layout found.sup) found.rows
+IsRecovered R (images.Recovered memory found) = IsOutcome R (outcome_of found) × (memory.region ≡ undone found.sup R) × (found.free.sup ≡ found.sup) × HasNumbersOf found.tables.layout found.rows × (found.tables.layout.sup ≡ found.sup)
 IsRecovered R (images.Refused refusal) = IsSuperRefused R refusal

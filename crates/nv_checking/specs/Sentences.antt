@@ -1,11 +1,11 @@
 -- What is wrong with a region, in sentences.
-use Rattle.std.specs.Prelude.{ℕ, ◌+◌, ◌*◌, ◌/◌, ◌%◌, ◌==◌, ◌&&◌, nat_le, nat_lt, Bool, if◌then◌else◌, List, [], ◌++◌, flat_map, Option, Some, None, codes, decimal}
+use Rattle.std.specs.Prelude.{ℕ, ◌+◌, ◌*◌, ◌/◌, ◌%◌, ◌==◌, ◌&&◌, nat_le, nat_lt, Bool, if◌then◌else◌, List, [], ◌++◌, flat_map, Option, Some, None, option_map, codes, decimal}
 use Rattle.nv_region.specs.Region.{Region, size, word}
 use Rattle.nv_super.specs.declared.superblock.Super.{Super}
 use Rattle.nv_super.specs.declared.faults.Fault.{Fault}
 use Rattle.nv_super.specs.declared.faults.Fault.TheVariants.{J1, J2, H1, H2, I1, I2, I3, L1, L2, L3, L4, E1, E2, E3, E4, C1, C2, C3, C4, C5, B1}
 use Rattle.nv_super.specs.FaultText.{fault_text}
-use Rattle.nv_super.specs.Layout.{slot_address, is_number}
+use Rattle.nv_super.specs.Layout.{Layout, slot_of}
 
 -- the address of the dequeue number of the journal of a CPU
 abbrev pub journal_place : Super → ℕ → Option ℕ
@@ -16,33 +16,33 @@ abbrev pub record_place : Super → ℕ → ℕ → Option ℕ
 record_place s c k = if nat_lt c s.cpus && nat_lt k 252 then Some (4096 * (1 + c) + 64 + 16 * k) else None
 
 -- the address of a word of the slot of an inode
-abbrev pub slot_place : Super → ℕ → ℕ → Option ℕ
-slot_place s i offset = if is_number s i then Some (slot_address s i + offset) else None
+abbrev pub slot_place : Layout → ℕ → ℕ → Option ℕ
+slot_place l i offset = option_map (λ at. at + offset) (slot_of l i)
 
 -- The address of the word that a fault is about: a journal's dequeue number, a record's address, the valid word, the kind or the
 -- head of a slot, a link of a log or of a table's chain, or the first word of an entry. Others are about none.
-abbrev pub place_of : Super → Fault → Option ℕ
-place_of s (J1 c) = journal_place s c
-place_of s (J2 c k) = record_place s c k
-place_of s (H1 c a) = Some a
-place_of s (H2 c a) = Some a
-place_of s (I1 i) = slot_place s i 0
-place_of s (I2 i) = slot_place s i 8
-place_of s (I3 i) = slot_place s i 16
-place_of s (L1 i a) = Some a
-place_of s (L2 i a) = Some a
-place_of s (L3 i a) = Some a
-place_of s (L4 i a) = Some a
-place_of s (E1 i a) = Some a
-place_of s (E2 i a) = Some a
-place_of s (E3 i a) = Some a
-place_of s (E4 i a) = Some a
-place_of s (C1 d a) = Some a
-place_of s (C2 i) = None
-place_of s (C3 i) = None
-place_of s (C4 i) = None
-place_of s C5 = None
-place_of s (B1 b o) = None
+abbrev pub place_of : Layout → Fault → Option ℕ
+place_of l (J1 c) = journal_place l.sup c
+place_of l (J2 c k) = record_place l.sup c k
+place_of l (H1 c a) = Some a
+place_of l (H2 c a) = Some a
+place_of l (I1 i) = slot_place l i 0
+place_of l (I2 i) = slot_place l i 8
+place_of l (I3 i) = slot_place l i 16
+place_of l (L1 i a) = Some a
+place_of l (L2 i a) = Some a
+place_of l (L3 i a) = Some a
+place_of l (L4 i a) = Some a
+place_of l (E1 i a) = Some a
+place_of l (E2 i a) = Some a
+place_of l (E3 i a) = Some a
+place_of l (E4 i a) = Some a
+place_of l (C1 d a) = Some a
+place_of l (C2 i) = None
+place_of l (C3 i) = None
+place_of l (C4 i) = None
+place_of l C5 = None
+place_of l (B1 b o) = None
 
 -- what stands at the place of a fault in a sound region, or what holds there
 abbrev pub rule_text : Fault → List ℕ
@@ -84,9 +84,9 @@ found_text R None = []
 found_text R (Some at) = word_text R at
 
 -- a fault, the word that it is about, and what holds in a sound region
-abbrev pub sentence : Region → Super → Fault → List ℕ
-sentence R s f = fault_text f ++ codes ": " ++ found_text R (place_of s f) ++ rule_text f ++ codes "\n"
+abbrev pub sentence : Region → Layout → Fault → List ℕ
+sentence R l f = fault_text f ++ codes ": " ++ found_text R (place_of l f) ++ rule_text f ++ codes "\n"
 
 -- the same of some faults, a line each
-abbrev pub sentences : Region → Super → List Fault → List ℕ
-sentences R s faults = flat_map (λ f. sentence R s f) faults
+abbrev pub sentences : Region → Layout → List Fault → List ℕ
+sentences R l faults = flat_map (λ f. sentence R l f) faults

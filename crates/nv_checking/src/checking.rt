@@ -1,7 +1,7 @@
 //! Checking a region that is given as bytes: it is recovered over them, and its report is written.
 //!
-//! A recovery stores words in front of the data blocks alone, and only where it rolls journals back. So the bytes are copied
-//! up to the last of these words, and else not at all.
+//! A recovery stores words in blocks in which slots can stand alone, and only where it rolls journals back. In version 1 those
+//! are the blocks in front of the data blocks. So the bytes are copied up to the last of these words, and else not at all.
 
 ghost use Rattle.std.specs.Prelude.{◌≡◌, false, IfOk, IfErr, OnOk, string_bytes};
 ghost use Rattle.nv_region.specs.Region.{region_of};
@@ -15,7 +15,7 @@ ghost use Rattle.nv_checking.specs.Checking.{IsCheckAs, IsRefusal, WritesCheck, 
 use crate::output::{Output, output_text};
 use crate::recovering::recover_region;
 use crate::recovery::Answer;
-use nv_recover::MOST_WORKERS;
+use nv_recover::{MOST_WORKERS, slots_end};
 use nv_region::{ImageRegion, Pmem, RegionRefusal};
 use nv_report::{Last, how_it_went, refused_text};
 use nv_stream::{ScriptError, write_text};
@@ -95,19 +95,19 @@ pub(crate) fn check_bytes<H: Threads + Sync>(
     }
 }
 
-// Opens all blocks in front of the data blocks, where the superblock is accepted.
+// Opens all blocks in which slots can stand, where the superblock is accepted: in version 1 those in front of the data blocks.
 pub(crate) fn open_system(image: &mut ImageRegion) -> Result<(), AllocError>
     requires { image.old.burnt ≡ false }
     ensures same { image.new.region ≡ image.old.region }
     ensures open { OnOk result (IsOpenInFront image.new.region (is_open_to image.new)) }
 {
     match read_super(image) {
-        Ok(sup) => image.open_front(sup.system_blocks()),
+        Ok(sup) => image.open_front(slots_end(&sup)),
         Err(_) => Ok(()),
     }
 }
 
-/// Checks the region that a memory holds whose blocks in front of the data blocks take stores.
+/// Checks the region that a memory holds whose blocks in which slots can stand take stores.
 pub(crate) fn check_memory<P: Pmem + Sync, H: Threads + Sync>(
     rt: &H,
     alloc: Global,

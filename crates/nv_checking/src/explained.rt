@@ -2,7 +2,6 @@
 
 ghost use Rattle.std.specs.Prelude.{◌≡◌, IfOk, IfErr, string_bytes};
 ghost use Rattle.nv_region.specs.Region.{region_of};
-ghost use Rattle.nv_super.specs.Layout.{IsLayout};
 ghost use Rattle.nv_report.specs.nv_outcome.Answer.{outcome_of};
 ghost use Rattle.nv_report.specs.nv_outcome.nv_journal.Undo.{undone};
 ghost use Rattle.nv_checking.specs.Answering.{IsOpenInFront};
@@ -59,7 +58,7 @@ fn explain_bytes<H: Threads + Sync>(
     }
 }
 
-// Checks the region that a memory holds whose blocks in front of the data blocks take stores.
+// Checks the region that a memory holds whose blocks in which slots can stand take stores.
 fn explain_memory<P: Pmem + Sync, H: Threads + Sync>(
     rt: &H,
     alloc: Global,
@@ -85,10 +84,10 @@ fn explained_text<P: Pmem>(
     memory: &P,
     recovered: &Recovered,
 ) -> Result<String, AllocError>
-    requires { IsLayout recovered.now.sup }
+    requires { recovered.now.tables.layout.sup ≡ recovered.now.sup }
     ensures { IfOk result (λ text. IsExplainedText (P.region memory.now) (outcome_of recovered.now) (string_bytes text)) }
 {
     let mut text = part_text(alloc, recovered, Part::Report)?;
-    push_sentences(&mut text, memory, &recovered.sup, &recovered.faults)?;
+    push_sentences(&mut text, memory, &recovered.tables, &recovered.faults)?;
     Ok(text)
 }

@@ -5,7 +5,7 @@ ghost use Rattle.nv_region.specs.Fuses.{KeepsFuse};
 ghost use Rattle.nv_region.specs.Stops.{LeavesOnly, NothingPending};
 ghost use Rattle.nv_super.specs.declared.superblock.Super.{Super as SuperValue};
 ghost use Rattle.nv_super.specs.Super.{IsSuper};
-ghost use Rattle.nv_recover.specs.Behind.{BehindSystem};
+ghost use Rattle.nv_recover.specs.Behind.{BehindSlots};
 ghost use Rattle.nv_recover.specs.Errors.{AsBeforeOrUndone, UndoesAsBefore};
 ghost use Rattle.nv_recover.specs.declared.errors.RecoverError.TheVariants as errors;
 ghost use Rattle.nv_checking.specs.Answering.{TakesRecovery, MayAnswer, MayEnd, IsOfItsSuper, IsToldAs, EndsAs, refusal_of, worker_number};
@@ -17,8 +17,8 @@ use nv_text::Refusal;
 use std::alloc::{AllocError, Global};
 use std::thread::Threads;
 
-/// Recovers by 1 to 64 workers on threads of their own, where the memory has no fuse or is open up to the first data
-/// block. Answers what was found, or the first refusal that applies, which leaves the region as before: `Workers`, or
+/// Recovers by 1 to 64 workers on threads of their own, where the memory has no fuse or is open up to where slots
+/// end. Answers what was found, or the first refusal that applies, which leaves the region as before: `Workers`, or
 /// the first fault of the superblock.
 ///
 /// Errors: `AllocError` where a growth was refused. The region is as before then, or its journals are rolled back.
@@ -30,9 +30,10 @@ pub fn recover_region<P: Pmem + Sync, H: Threads + Sync>(
 ) -> Result<Answer, AllocError>
     requires taken { TakesRecovery (P.region memory.old) (P.fuse memory.old) }
     ensures ok { IfOk result (λ answer. MayAnswer (P.region memory.old) workers [] answer (P.region memory.new)) }
+    ensures lists { IfOk result (λ answer. IsOfItsSuper (Some answer)) }
     // Only want of memory prevents an answer.
     ensures err { OnErr result (AsBeforeOrUndone (P.region memory.old) (P.region memory.new)) }
-    ensures keeps_fuse { KeepsFuse (BehindSystem (P.region memory.old)) (P.fuse memory.old) (P.fuse memory.new) }
+    ensures keeps_fuse { KeepsFuse (BehindSlots (P.region memory.old)) (P.fuse memory.old) (P.fuse memory.new) }
 {
     match recover(rt, alloc, memory, workers, &NoGate) {
         Ok(recovered) => Ok(Answer::Recovered(recovered)),
@@ -40,7 +41,7 @@ pub fn recover_region<P: Pmem + Sync, H: Threads + Sync>(
     }
 }
 
-/// Recovers on this thread, where the memory has no fuse or is open up to the first data block. Answers what was found,
+/// Recovers on this thread, where the memory has no fuse or is open up to where slots end. Answers what was found,
 /// or the first fault of the superblock, which leaves the region as before.
 ///
 /// Errors: `AllocError` where a growth was refused. The region is as before then, or its journals are rolled back.
@@ -52,7 +53,7 @@ pub fn recover_alone<P: Pmem>(alloc: Global, memory: &mut P) -> Result<Answer, A
     ensures err { OnErr result (AsBeforeOrUndone (P.region memory.old) (P.region memory.new)) }
     // Nothing is pending behind an answer, where nothing was before.
     ensures settled { NothingPending (P.region memory.old) (P.may_hold memory.old) → IfOk result (λ _. NothingPending (P.region memory.new) (P.may_hold memory.new)) }
-    ensures keeps_fuse { KeepsFuse (BehindSystem (P.region memory.old)) (P.fuse memory.old) (P.fuse memory.new) }
+    ensures keeps_fuse { KeepsFuse (BehindSlots (P.region memory.old)) (P.fuse memory.old) (P.fuse memory.new) }
 {
     match recover_one(alloc, memory) {
         Ok(recovered) => Ok(Answer::Recovered(recovered)),

@@ -5,24 +5,24 @@ ghost use Rattle.std.specs.Prelude.{◌≡◌, ◌<◌, ◌++◌, OnOk, string_b
 ghost use Rattle.nv_super.specs.Layout.{IsLayout};
 ghost use Rattle.nv_checking.specs.Sentences.{place_of, journal_place, slot_place, record_place, rule_text, holds_word, word_text, found_text, sentence, sentences};
 
+use nv_inode::Tables;
 use nv_region::Pmem;
 use nv_super::{Fault, Super};
 use std::alloc::AllocError;
 use std::fmt::Write;
 
-/// Adds a line for each of the faults of a region with this superblock, by the words of the region. Errors: `AllocError` where a
+/// Adds a line for each of the faults of a region with these tables, by the words of the region. Errors: `AllocError` where a
 /// growth was refused.
 pub(crate) fn push_sentences<P: Pmem>(
     out: &mut String,
     memory: &P,
-    sup: &Super,
+    tables: &Tables,
     faults: &[Fault],
 ) -> Result<(), AllocError>
-    requires { IsLayout sup.now }
-    ensures { OnOk result (string_bytes out.new ≡ string_bytes out.old ++ sentences (P.region memory.now) sup.now faults.now) }
+    ensures { OnOk result (string_bytes out.new ≡ string_bytes out.old ++ sentences (P.region memory.now) tables.now.layout faults.now) }
 {
     for fault in faults {
-        push_sentence(out, memory, sup, *fault)?;
+        push_sentence(out, memory, tables, *fault)?;
     }
     Ok(())
 }
@@ -30,14 +30,13 @@ pub(crate) fn push_sentences<P: Pmem>(
 fn push_sentence<P: Pmem>(
     out: &mut String,
     memory: &P,
-    sup: &Super,
+    tables: &Tables,
     fault: Fault,
 ) -> Result<(), AllocError>
-    requires { IsLayout sup.now }
-    ensures { OnOk result (string_bytes out.new ≡ string_bytes out.old ++ sentence (P.region memory.now) sup.now fault) }
+    ensures { OnOk result (string_bytes out.new ≡ string_bytes out.old ++ sentence (P.region memory.now) tables.now.layout fault) }
 {
     write!(out, "{fault}: ")?;
-    push_found(out, memory, place_of(sup, fault))?;
+    push_found(out, memory, place_of(tables, fault))?;
     out.push_str(rule_of(fault))?;
     out.push('\n')
 }
@@ -75,16 +74,16 @@ fn holds_word<P: Pmem>(memory: &P, at: u64) -> bool
 }
 
 // The byte address of the word that a fault is about, if it is about one.
-fn place_of(sup: &Super, fault: Fault) -> Option<u64>
-    requires { IsLayout sup.now }
-    ensures { result ≡ place_of sup.now fault }
+fn place_of(tables: &Tables, fault: Fault) -> Option<u64>
+    ensures { result ≡ place_of tables.now.layout fault }
 {
+    tables.are_laid();
     match fault {
-        Fault::J1 { cpu } => journal_place(sup, cpu),
-        Fault::J2 { cpu, record } => record_place(sup, cpu, record),
-        Fault::I1 { inode } => slot_place(sup, inode, 0),
-        Fault::I2 { inode } => slot_place(sup, inode, 8),
-        Fault::I3 { inode } => slot_place(sup, inode, 16),
+        Fault::J1 { cpu } => journal_place(tables.sup(), cpu),
+        Fault::J2 { cpu, record } => record_place(tables.sup(), cpu, record),
+        Fault::I1 { inode } => slot_place(tables, inode, 0),
+        Fault::I2 { inode } => slot_place(tables, inode, 8),
+        Fault::I3 { inode } => slot_place(tables, inode, 16),
         Fault::H1 { at, .. }
         | Fault::H2 { at, .. }
         | Fault::L1 { at, .. }
@@ -127,16 +126,12 @@ fn record_place(sup: &Super, cpu: u64, number: u64) -> Option<u64>
 }
 
 // Of a word of the slot of an inode.
-fn slot_place(sup: &Super, inode: u64, offset: u64) -> Option<u64>
-    requires layout { IsLayout sup.now }
-    requires offset { offset < 128 }
-    ensures { result ≡ slot_place sup.now inode offset }
+fn slot_place(tables: &Tables, inode: u64, offset: u64) -> Option<u64>
+    requires { offset < 128 }
+    ensures { result ≡ slot_place tables.now.layout inode offset }
 {
-    if sup.is_number(inode) {
-        Some(sup.slot_address(inode) + offset)
-    } else {
-        None
-    }
+    let at = tables.slot_address(inode)?;
+    Some(at + offset)
 }
 
 // What stands at the place of a fault in a sound region, or what holds there.

@@ -73,7 +73,7 @@ module _ {left : Region} {s : Super} {after : Store} (can : CanRecover s left) (
     pub left_same : (rows : List Row) (free : List (List Run)) → Keeps (fixed_layout s) after rows free → SameOutcome (faultless_outcome s rows free) o
     left_same rows free keeps =
         let same = same_outcome (undone s left) (faultless_outcome s rows free) (lasting_outcome o) (closing sound rows free keeps) rolled in
-        record { sup = same_super; rows = same.rows; free = same.free; doubled = same.doubled; faults = left_faultless }
+        record { sup = same_super; tables = same.tables; rows = same.rows; free = same.free; doubled = same.doubled; faults = left_faultless }
 
 -- ---- a region that is its own undo
 

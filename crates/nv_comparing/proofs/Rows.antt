@@ -1,13 +1,14 @@
 -- The rows of an outcome lie in the region whose journals are rolled back, and what they show there.
-use Rattle.std.proofs.Common.{◌<◌, ℕ, false, IsTrue, is_some, List, refl}
+use Rattle.std.proofs.Common.{◌<◌, ℕ, false, IsTrue, is_some, List, refl, subst}
 use Rattle.nv_region.specs.Region.{Region}
 use Rattle.nv_outcome.specs.nv_journal.Undo.{undone}
 use Rattle.nv_outcome.specs.Outcome.{Outcome, IsOutcome}
+use Rattle.nv_outcome.specs.Same.{lasting_outcome}
 use Rattle.nv_outcome.proofs.Again.{rolled_back, stays}
 use Rattle.nv_outcome.proofs.Fixed.{fixed_outcome}
 use Rattle.nv_outcome.proofs.SuperOf.{layout_of_super}
 use Rattle.nv_outcome.proofs.Tickets.{slot_number}
-use Rattle.nv_super.specs.Layout.{HasAreas, inode_limit}
+use Rattle.nv_super.specs.Layout.{HasAreas, fixed_layout, inode_limit}
 use Rattle.nv_scan.specs.declared.piece.Row.{Row}
 use Rattle.nv_paths.specs.Seen.{tree_of}
 use Rattle.nv_scan.proofs.Only.{slot_in_use}
@@ -18,7 +19,10 @@ use Rattle.nv_comparing.specs.Shown.{AreBelow, AreHeld}
 
 module _ (S : Region) (o : Outcome) (is : IsOutcome S o) where
   kept : IsKept (undone o.sup S) o.sup o.rows (record { sup = o.sup; pools = o.free; room = 0 }) o.faults (has_faults o.faults) false
-  kept = record { writes = refl; lists = refl; own = λ runs. stays S o.sup is.sup; shown = λ runs. ∣ (o.doubled, rolled_back S o is) ∣₁ }
+  kept = record { writes = refl; lists = refl; own = λ runs. stays S o.sup is.sup; shown = λ runs. ∣ (o.doubled, by_tables) ∣₁ }
+    where
+      by_tables : IsOutcome (undone o.sup S) (lasting_outcome (record o { tables = (fixed_layout o.sup).chains }))
+      by_tables = subst (λ (chains : List (List ℕ)). IsOutcome (undone o.sup S) (lasting_outcome (record o { tables = chains }))) (fixed_outcome S o is).tables (rolled_back S o is)
 
   pub held_rows : AreHeld (undone o.sup S) o.rows
   held_rows row c = record {

@@ -126,6 +126,7 @@ module _ {R : Region} {s : Super} {held : Store} (m : ShowsSound R s held) where
   pub closing : (rows : List Row) (free : List (List Run)) → Keeps (fixed_layout s) held rows free → IsOutcome R (faultless_outcome s rows free)
   closing rows free keeps = record {
     sup = m.sup;
+    tables = own_fixed (λ Q l. (fixed_layout s).chains ≡ l.chains) refl;
     rows = own_fixed (λ Q l. AreRows Q l rows) (rows_there m.shows rows keeps.in_rows);
     free = own_fixed (λ Q l. AreFreeLists Q l free) (lists_there m.shows (fixed_chainless s) free keeps.in_lists);
     doubled = nothing_listed claim_key _ (λ x d. none_doubled m.shows (fixed_chainless s) m.faultless.undoubled x.0 x.1 (fixed_own (λ Q l. IsDoubled Q l x.0 x.1) d));

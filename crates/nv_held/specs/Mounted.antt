@@ -69,6 +69,6 @@ pub record IsMounted (R : Region) (s : Super) (held : Store) (rows : List Row) (
   pub sound : ShowsSound R s held
   pub keeps : Keeps (fixed_layout s) held rows free
 
--- the outcome without a fault that has these rows and these free lists
+-- the outcome without a fault that has the fixed tables, these rows and these free lists
 abbrev pub faultless_outcome : Super → List Row → List (List Run) → Outcome
-faultless_outcome s rows free = record { sup = s; rows = rows; free = free; doubled = []; faults = [] }
+faultless_outcome s rows free = record { sup = s; tables = (fixed_layout s).chains; rows = rows; free = free; doubled = []; faults = [] }

@@ -1,8 +1,9 @@
 -- The drawing of a map.
-use Rattle.std.specs.Prelude.{ℕ, ◌+◌, ◌*◌, ◌/◌, ◌%◌, ◌==◌, nat_lt, nat_le, if◌then◌else◌, List, [], ◌∷◌, ◌++◌, length, flat_map, codes, decimal}
+use Rattle.std.specs.Prelude.{ℕ, ◌+◌, ◌*◌, ◌/◌, ◌%◌, ◌==◌, nat_lt, nat_le, if◌then◌else◌, Bool, List, [], ◌∷◌, ◌++◌, length, flat_map, codes, decimal}
 use Rattle.std.specs.Int.{div_ceil}
+use Rattle.std.specs.List.{list_any}
 use Rattle.nv_map.specs.declared.uses.BlockUse.{BlockUse}
-use Rattle.nv_map.specs.declared.uses.BlockUse.TheVariants.{Free, System, Data, Log, Doubled}
+use Rattle.nv_map.specs.declared.uses.BlockUse.TheVariants.{Free, System, Table, Data, Log, Doubled}
 use Rattle.nv_map.specs.declared.cells.Cells.{Cells}
 use Rattle.nv_map.specs.declared.shares.Share.{Share}
 use Rattle.nv_map.specs.Shares.{told_by}
@@ -11,6 +12,7 @@ use Rattle.nv_map.specs.Shares.{told_by}
 abbrev pub colour : BlockUse → List ℕ
 colour Free = codes "#e6e6e6"
 colour System = codes "#7f7f7f"
+colour Table = codes "#b07aa1"
 colour Data = codes "#4c8ed9"
 colour Log = codes "#59a14f"
 colour Doubled = codes "#d62728"
@@ -19,6 +21,7 @@ colour Doubled = codes "#d62728"
 abbrev pub use_name : BlockUse → List ℕ
 use_name Free = codes "free"
 use_name System = codes "system"
+use_name Table = codes "table"
 use_name Data = codes "data"
 use_name Log = codes "log"
 use_name Doubled = codes "doubled"
@@ -27,6 +30,7 @@ use_name Doubled = codes "doubled"
 abbrev pub use_phrase : BlockUse → List ℕ
 use_phrase Free = codes "free"
 use_phrase System = codes "of the system"
+use_phrase Table = codes "of tables"
 use_phrase Data = codes "of data"
 use_phrase Log = codes "of logs"
 use_phrase Doubled = codes "doubled"
@@ -36,6 +40,7 @@ abbrev pub told_use : Share → BlockUse
 told_use share = if nat_lt 0 share.doubled then Doubled
     else if nat_lt 0 share.logs then Log
     else if nat_lt 0 share.files then Data
+    else if nat_lt 0 share.tables then Table
     else if nat_lt 0 share.system then System
     else Free
 
@@ -87,7 +92,7 @@ free_text free = decimal free ++ codes " free"
 
 -- which blocks a cell has, and how many of them have each use
 unfoldable pub title_text : Share → List ℕ
-title_text share = range_text share.first share.last ++ parts_text share (Doubled ∷ Log ∷ Data ∷ System ∷ []) ++ free_text share.free
+title_text share = range_text share.first share.last ++ parts_text share (Doubled ∷ Log ∷ Data ∷ Table ∷ System ∷ []) ++ free_text share.free
 
 -- where a square is, and its colour
 unfoldable pub place_text : ℕ → ℕ → BlockUse → List ℕ
@@ -124,15 +129,23 @@ use_lines y place [] = []
 use_lines y place (kind ∷ kinds) =
     square_line (40 + place * 8 * 10) y kind ++ words_line (40 + place * 8 * 10 + 14) y (use_name kind) ++ use_lines y (place + 1) kinds
 
--- how many blocks a cell has
-unfoldable pub each_line : ℕ → ℕ → List ℕ
-each_line y each =
-    codes "<text x=\"" ++ decimal 440 ++ codes "\" y=\"" ++ decimal (y + 9)
+-- whether a cell has a block of a table's chain
+abbrev pub has_tables : List Share → Bool
+has_tables shares = list_any (λ share. nat_lt 0 share.tables) shares
+
+-- the uses that are told below: that of tables where a cell has it, which a region of version 1 has not
+abbrev pub told_uses : List Share → List BlockUse
+told_uses shares = if has_tables shares then Free ∷ System ∷ Table ∷ Data ∷ Log ∷ Doubled ∷ [] else Free ∷ System ∷ Data ∷ Log ∷ Doubled ∷ []
+
+-- how many blocks a cell has, behind so many uses
+unfoldable pub each_line : ℕ → ℕ → ℕ → List ℕ
+each_line y count each =
+    codes "<text x=\"" ++ decimal (40 + count * 8 * 10) ++ codes "\" y=\"" ++ decimal (y + 9)
     ++ codes "\">blocks in a cell: " ++ decimal each ++ codes "</text>\n"
 
 -- what the colours mean, and how many blocks a cell has
-abbrev pub legend_lines : ℕ → ℕ → List ℕ
-legend_lines y each = use_lines y 0 (Free ∷ System ∷ Data ∷ Log ∷ Doubled ∷ []) ++ each_line y each
+abbrev pub legend_lines : ℕ → List BlockUse → ℕ → List ℕ
+legend_lines y uses each = use_lines y 0 uses ++ each_line y (length uses) each
 
 -- the height of all rows of so many cells
 abbrev pub rows_height : ℕ → ℕ
@@ -142,4 +155,4 @@ rows_height count = div_ceil count 64 * 10
 abbrev pub drawing : Cells → List ℕ
 drawing cells =
     head_line (rows_height (length cells.shares.items)) ++ cell_lines 0 cells.shares.items
-    ++ legend_lines (rows_height (length cells.shares.items) + 10) cells.each ++ codes "</svg>\n"
+    ++ legend_lines (rows_height (length cells.shares.items) + 10) (told_uses cells.shares.items) cells.each ++ codes "</svg>\n"

@@ -3,9 +3,9 @@
 //! The square has the colour of the last use that one of its blocks has, paler where few of them have it, and a title that
 //! counts them.
 
-ghost use Rattle.std.specs.Prelude.{◌≡◌, ◌++◌, ◌+◌, ◌*◌, ◌/◌, ◌<◌, ◌^◌, IfOk, OnOk, length, string_bytes};
+ghost use Rattle.std.specs.Prelude.{◌≡◌, ◌++◌, ◌+◌, ◌*◌, ◌/◌, ◌<◌, ◌≤◌, ◌^◌, IfOk, OnOk, length, string_bytes};
 ghost use Rattle.nv_images.specs.Drawing.{colour, use_name, use_phrase, told_use, shaded_blocks, shade_text, head_line, square_line, number_line, number_at, title_text, range_text, free_text};
-ghost use Rattle.nv_images.specs.Drawing.{place_text, part_text, kind_text, parts_text, cell_line, words_line, each_line, cell_lines, use_lines, legend_lines, rows_height, drawing};
+ghost use Rattle.nv_images.specs.Drawing.{place_text, part_text, kind_text, parts_text, cell_line, words_line, each_line, cell_lines, use_lines, legend_lines, rows_height, drawing, has_tables, told_uses};
 
 use nv_map::{BlockUse, Cells, Share};
 use std::alloc::{AllocError, Global};
@@ -31,11 +31,22 @@ const USES: [BlockUse; 5] = [
     BlockUse::Doubled,
 ];
 
+// The same where a table has a chain.
+const USES_WITH_TABLES: [BlockUse; 6] = [
+    BlockUse::Free,
+    BlockUse::System,
+    BlockUse::Table,
+    BlockUse::Data,
+    BlockUse::Log,
+    BlockUse::Doubled,
+];
+
 // In the order in which a title has them, before the free ones.
-const COUNTED: [BlockUse; 4] = [
+const COUNTED: [BlockUse; 5] = [
     BlockUse::Doubled,
     BlockUse::Log,
     BlockUse::Data,
+    BlockUse::Table,
     BlockUse::System,
 ];
 
@@ -47,7 +58,12 @@ pub fn svg_text(alloc: Global, cells: &Cells) -> Result<String, AllocError>
     let height = rows_height(cells.shares.len());
     push_head(&mut out, height)?;
     push_cells(&mut out, &cells.shares)?;
-    push_legend(&mut out, height + SIDE, cells.each)?;
+    push_legend(
+        &mut out,
+        height + SIDE,
+        told_uses(&cells.shares),
+        cells.each,
+    )?;
     out.push_str("</svg>\n")?;
     Ok(out)
 }
@@ -146,6 +162,8 @@ fn told_use(share: &Share) -> BlockUse
         BlockUse::Log
     } else if share.files > 0 {
         BlockUse::Data
+    } else if share.tables > 0 {
+        BlockUse::Table
     } else if share.system > 0 {
         BlockUse::System
     } else {
@@ -243,20 +261,39 @@ fn push_words(out: &mut String, x: usize, y: usize, words: &str) -> Result<(), A
     writeln!(out, "<text x=\"{x}\" y=\"{base}\">{words}</text>")
 }
 
-// What the colours mean, and how many blocks a cell has.
-fn push_legend(out: &mut String, y: usize, each: u64) -> Result<(), AllocError>
-    requires { y < 2 ^ 63 }
-    ensures { OnOk result (string_bytes out.new ≡ string_bytes out.old ++ legend_lines y each) }
+// The uses whose colours are told: that of tables where a cell has it.
+fn told_uses(shares: &[Share]) -> &'static [BlockUse]
+    ensures { result.now ≡ told_uses shares.now }
 {
-    push_uses(out, y)?;
-    push_each(out, y, each)
+    if has_tables(shares) {
+        &USES_WITH_TABLES
+    } else {
+        &USES
+    }
 }
 
-fn push_each(out: &mut String, y: usize, each: u64) -> Result<(), AllocError>
-    requires { y < 2 ^ 63 }
-    ensures { OnOk result (string_bytes out.new ≡ string_bytes out.old ++ each_line y each) }
+fn has_tables(shares: &[Share]) -> bool
+    ensures { result ≡ has_tables shares.now }
 {
-    let x = MARGIN + USES.len() * LEGEND_CELLS * SIDE;
+    shares.iter().any(|share| share.tables > 0)
+}
+
+// What the colours of these uses mean, and how many blocks a cell has.
+fn push_legend(out: &mut String, y: usize, uses: &[BlockUse], each: u64) -> Result<(), AllocError>
+    requires height { y < 2 ^ 63 }
+    requires few { length uses.now ≤ 6 }
+    ensures { OnOk result (string_bytes out.new ≡ string_bytes out.old ++ legend_lines y uses.now each) }
+{
+    push_uses(out, y, uses)?;
+    push_each(out, y, uses.len(), each)
+}
+
+fn push_each(out: &mut String, y: usize, count: usize, each: u64) -> Result<(), AllocError>
+    requires height { y < 2 ^ 63 }
+    requires few { count ≤ 6 }
+    ensures { OnOk result (string_bytes out.new ≡ string_bytes out.old ++ each_line y count each) }
+{
+    let x = MARGIN + count * LEGEND_CELLS * SIDE;
     let base = y + 9;
     writeln!(
         out,
@@ -264,11 +301,12 @@ fn push_each(out: &mut String, y: usize, each: u64) -> Result<(), AllocError>
     )
 }
 
-fn push_uses(out: &mut String, y: usize) -> Result<(), AllocError>
-    requires { y < 2 ^ 63 }
-    ensures { OnOk result (string_bytes out.new ≡ string_bytes out.old ++ use_lines y 0 USES) }
+fn push_uses(out: &mut String, y: usize, uses: &[BlockUse]) -> Result<(), AllocError>
+    requires height { y < 2 ^ 63 }
+    requires few { length uses.now ≤ 6 }
+    ensures { OnOk result (string_bytes out.new ≡ string_bytes out.old ++ use_lines y 0 uses.now) }
 {
-    for (place, kind) in USES.iter().enumerate() {
+    for (place, kind) in uses.iter().enumerate() {
         let x = MARGIN + place * LEGEND_CELLS * SIDE;
         push_square(out, x, y, *kind)?;
         push_words(out, x + 14, y, name(*kind))?;
@@ -282,6 +320,7 @@ fn colour(kind: BlockUse) -> &'static str
     match kind {
         BlockUse::Free => "#e6e6e6",
         BlockUse::System => "#7f7f7f",
+        BlockUse::Table => "#b07aa1",
         BlockUse::Data => "#4c8ed9",
         BlockUse::Log => "#59a14f",
         BlockUse::Doubled => "#d62728",
@@ -294,6 +333,7 @@ fn name(kind: BlockUse) -> &'static str
     match kind {
         BlockUse::Free => "free",
         BlockUse::System => "system",
+        BlockUse::Table => "table",
         BlockUse::Data => "data",
         BlockUse::Log => "log",
         BlockUse::Doubled => "doubled",
@@ -307,6 +347,7 @@ fn phrase(kind: BlockUse) -> &'static str
     match kind {
         BlockUse::Free => "free",
         BlockUse::System => "of the system",
+        BlockUse::Table => "of tables",
         BlockUse::Data => "of data",
         BlockUse::Log => "of logs",
         BlockUse::Doubled => "doubled",

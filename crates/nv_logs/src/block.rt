@@ -2,7 +2,6 @@
 
 ghost use Rattle.std.specs.Prelude.{◌≡◌, ◌<◌, ◌≤◌, ◌^◌, ◌++◌, IfOk, IfErr, OnOk, length, string_bytes};
 ghost use Rattle.nv_region.specs.Region.{Region};
-ghost use Rattle.nv_super.specs.Layout.{IsLayout, fixed_layout};
 ghost use Rattle.nv_report.specs.nv_outcome.Outcome.{AreRows};
 ghost use Rattle.nv_logs.specs.Block.{IsBlockLook, IsShown, TellsBlock, bytes_text};
 ghost use Rattle.nv_logs.specs.Writing.{WritesTold, FailsTold};
@@ -57,14 +56,14 @@ fn look_in(
     block: u64,
     hex: bool,
 ) -> Result<Look, AllocError>
-    requires layout { IsLayout found.now.sup }
-    requires rows { (region : Region) × AreRows region (fixed_layout found.now.sup) found.now.rows.items }
-    ensures told { (region : Region) → AreRows region (fixed_layout found.now.sup) found.now.rows.items
-        → IfOk result (λ look. TellsBlock region found.now.sup bytes.now block hex (string_bytes look.text) look.answered.status) }
+    requires { (region : Region) × AreRows region found.now.tables.layout found.now.rows.items }
+    ensures told { (region : Region) → AreRows region found.now.tables.layout found.now.rows.items
+        → IfOk result (λ look. TellsBlock region found.now.tables.layout bytes.now block hex (string_bytes look.text) look.answered.status) }
     ensures faults { IfOk result (λ look. look.answered.faults ≡ length found.now.faults.items) }
 {
     let faults = found.faults.len();
-    if block >= found.sup.blocks {
+    let sup = found.tables.sup();
+    if block >= sup.blocks {
         return refused_look(alloc, Refusal::NotFound, faults);
     }
     Ok(Look {
@@ -83,14 +82,14 @@ fn shown_text(
     block: u64,
     hex: bool,
 ) -> Result<String, AllocError>
-    requires layout { IsLayout found.now.sup }
-    requires rows { (region : Region) × AreRows region (fixed_layout found.now.sup) found.now.rows.items }
-    requires block { block < found.now.sup.blocks }
-    ensures { (region : Region) → AreRows region (fixed_layout found.now.sup) found.now.rows.items
-        → IfOk result (λ text. IsShown region found.now.sup bytes.now block hex (string_bytes text)) }
+    requires rows { (region : Region) × AreRows region found.now.tables.layout found.now.rows.items }
+    requires block { block < found.now.tables.layout.sup.blocks }
+    ensures { (region : Region) → AreRows region found.now.tables.layout found.now.rows.items
+        → IfOk result (λ text. IsShown region found.now.tables.layout bytes.now block hex (string_bytes text)) }
 {
+    found.tables.are_laid();
     let mut text = String::new(alloc);
-    push_block(&mut text, alloc, &found.sup, &found.rows, block)?;
+    push_block(&mut text, alloc, &found.tables, &found.rows, block)?;
     push_bytes(&mut text, bytes, block, hex)?;
     Ok(text)
 }

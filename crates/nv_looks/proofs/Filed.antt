@@ -3,12 +3,14 @@ use Rattle.std.proofs.Common.{◌≡◌, ◌∙◌, ◌+◌, ◌-◌, ◌*◌, �
 use Rattle.std.specs.Prelude.{IfOk, IfErr, OnOk}
 use Rattle.std.specs.List.{Contains, range_with_len}
 use Rattle.nv_region.specs.Region.{Region, region_of}
-use Rattle.nv_super.specs.Layout.{IsLayout, system_blocks}
+use Rattle.nv_super.specs.Layout.{IsLayout, fixed_layout, system_blocks}
 use Rattle.nv_super.specs.declared.superblock.Super.{Super}
 use Rattle.nv_report.specs.nv_outcome.nv_journal.Undo.{undone}
 use Rattle.nv_report.specs.nv_outcome.Outcome.{Outcome, IsOutcome}
+use Rattle.nv_report.specs.nv_outcome.Same.{lasting_outcome}
 use Rattle.nv_report.proofs.nv_outcome.SuperOf.{blocks_of_super, layout_of_super, one_super, version_of_super}
 use Rattle.nv_report.proofs.nv_outcome.Again.{rolled_back, stays}
+use Rattle.nv_report.proofs.nv_outcome.Fixed.{fixed_outcome}
 use Rattle.nv_report.proofs.nv_outcome.nv_journal.High.{data_word}
 use Rattle.nv_metadata.specs.Memory.{MetadataState}
 use Rattle.nv_metadata.specs.Gathered.{AreGathered}
@@ -54,7 +56,10 @@ module _ (S : Region) (o : Outcome) (is : IsOutcome S o) where
   bounds row c p b at = let r = is.rows.each row c in let inside = data_pages o.sup r.1.kind r.1.entries p b (sym (r.2.index p) ∙ at) in (inside.1, inside.2)
 
   kept : IsKept (undone o.sup S) o.sup o.rows (record { sup = o.sup; pools = o.free; room = 0 }) o.faults (has_faults o.faults) false
-  kept = record { writes = refl; lists = refl; own = λ runs. stays S o.sup is.sup; shown = λ runs. ∣ (o.doubled, rolled_back S o is) ∣₁ }
+  kept = record { writes = refl; lists = refl; own = λ runs. stays S o.sup is.sup; shown = λ runs. ∣ (o.doubled, by_tables) ∣₁ }
+    where
+      by_tables : IsOutcome (undone o.sup S) (lasting_outcome (record o { tables = (fixed_layout o.sup).chains }))
+      by_tables = subst (λ (chains : List (List ℕ)). IsOutcome (undone o.sup S) (lasting_outcome (record o { tables = chains }))) (fixed_outcome S o is).tables (rolled_back S o is)
 
   pub small_rows : AreSmallRows o.rows
   small_rows row c = record {

@@ -30,7 +30,7 @@ use Rattle.nv_looks.specs.declared.gathered.OpenedMetadata.TheVariants as opened
 
 -- what was found can be mounted
 pub can_open : (g : Gathered) (memory : MetadataState) (r : Recovered) → IsFoundIn g (images.Recovered memory r) → CanMount memory.memory.region (Some (answers.Recovered r))
-can_open (gatherings.Metadata s held) memory r is = can_mount held.memory.region memory.memory.region 1 [] (Some (answers.Recovered r)) (refl, refl, is.0, is.1) (is.2, is.3)
+can_open (gatherings.Metadata s held) memory r is = can_mount held.memory.region memory.memory.region 1 [] (Some (answers.Recovered r)) (refl, refl, is.0, is.1) (is.2, is.3, is.4)
 can_open (gatherings.Refused fault) memory r is = absurd is
 
 -- and the mount shows it

@@ -16,7 +16,7 @@ use Rattle.nv_looks.specs.declared.looking.Opened.TheVariants as opened
 module _ (R : Region) (memory : ImageState) (r : Recovered) (is : IsRecovered R (images.Recovered memory r)) where
   -- what was found can be mounted
   pub opens : CanMount memory.region (Some (answers.Recovered r))
-  opens = can_mount R memory.region 1 [] (Some (answers.Recovered r)) (refl, refl, is.0, is.1) (is.2, is.3)
+  opens = can_mount R memory.region 1 [] (Some (answers.Recovered r)) (refl, refl, is.0, is.1) (is.2, is.3, is.4)
 
   -- and the mount shows it
   pub mounted : (m : Mount ImageState) → m.memory ≡ memory → m.rows ≡ r.rows.items → m.faults ≡ r.faults.items → m.stopped ≡ false → IsOpened R (opened.Mounted m)

@@ -1,4 +1,4 @@
--- What a row, a page, an extent and a claim of a doubled block say of blocks.
+-- What a chain of a table, a row, a page, an extent and a claim of a doubled block say of blocks.
 use Rattle.std.proofs.Common.{◌≡◌, ◌⊎◌, inl, inr, ℕ, suc, ◌+◌, ◌-◌, ◌<◌, ◌≤◌, List, [], ◌∷◌, ◌++◌, length, get_or, take, Some, IsSome, refl, ap, sym, ◌∙◌, subst, arith, add-one, Option}
 use Rattle.std.proofs.Math.Seq.{take-suc}
 use Rattle.std.specs.List.{Contains}
@@ -11,8 +11,8 @@ use Rattle.nv_radix.specs.Extents.{AreExtents, IsMapped}
 use Rattle.nv_scan.specs.declared.piece.Row.{Row}
 use Rattle.nv_map.specs.declared.uses.BlockUse.{BlockUse}
 use Rattle.nv_map.specs.declared.marks.Marks.{Marks}
-use Rattle.nv_map.specs.Map.{IsUsedBy, for_file, for_log, IsUsedTwice}
-use Rattle.nv_map.specs.Marks.{Raises, SaysOne, SaysPage, SaysExtent, SaysClaim}
+use Rattle.nv_map.specs.Map.{IsUsedBy, for_file, for_log, IsUsedForTables, IsUsedTwice}
+use Rattle.nv_map.specs.Marks.{Raises, SaysOne, SaysChain, SaysPage, SaysExtent, SaysClaim}
 use Rattle.nv_map.proofs.Raising.{raises_as, raises_both, says_more}
 
 -- one more of a slice is heard
@@ -57,6 +57,16 @@ module _ (row : Row) (extents : List Extent) (are : AreExtents row.index extents
   -- the pages of its log and the extents of its file say what a row says
   pub raises_row : (a b c : Marks) → Raises (SaysOne SaysPage row.pages.items) a b → Raises (SaysOne SaysExtent extents) b c → Raises (IsUsedBy row) a c
   raises_row a b c p q = raises_both (SaysOne SaysPage row.pages.items) (SaysOne SaysExtent extents) (IsUsedBy row) page_says extent_says row_says a b c p q
+
+chain_says : (chains : List (List ℕ)) (b : ℕ) (kind : BlockUse) → SaysOne SaysChain chains b kind → IsUsedForTables chains b kind
+chain_says chains b kind (chain, has, (x, stands, (in', is))) = ((chain, has, subst (λ (n : ℕ). Contains chain n) (sym (only_block x b in'.0 in'.1)) stands), is)
+
+says_chain : (chains : List (List ℕ)) (b : ℕ) (kind : BlockUse) → IsUsedForTables chains b kind → SaysOne SaysChain chains b kind
+says_chain chains b kind h = (h.0.0, h.0.1, (b, h.0.2, ((omega arith, omega arith), h.1)))
+
+-- the chains say which blocks they have
+pub raises_chains : (chains : List (List ℕ)) (a b : Marks) → Raises (SaysOne SaysChain chains) a b → Raises (IsUsedForTables chains) a b
+raises_chains chains a b p = raises_as (SaysOne SaysChain chains) (IsUsedForTables chains) a b (chain_says chains) (says_chain chains) p
 
 claim_says : (doubled : List (ℕ × Owner)) (b : ℕ) (kind : BlockUse) → SaysOne SaysClaim doubled b kind → IsUsedTwice doubled b kind
 claim_says doubled b kind (x, stands, (in', is)) =

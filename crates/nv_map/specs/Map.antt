@@ -7,7 +7,7 @@ use Rattle.nv_radix.specs.Pages.{block_at}
 use Rattle.nv_scan.specs.declared.piece.Row.{Row}
 use Rattle.nv_outcome.specs.Outcome.{Outcome}
 use Rattle.nv_map.specs.declared.uses.BlockUse.{BlockUse}
-use Rattle.nv_map.specs.declared.uses.BlockUse.TheVariants.{Free, System, Data, Log, Doubled}
+use Rattle.nv_map.specs.declared.uses.BlockUse.TheVariants.{Free, System, Table, Data, Log, Doubled}
 use Rattle.nv_map.specs.declared.cells.Cells.{Cells}
 use Rattle.nv_map.specs.Rank.{rank}
 use Rattle.nv_map.specs.Shares.{shares_of}
@@ -21,6 +21,10 @@ pub data IsUsedBy (row : Row) (b : ℕ) : BlockUse → Type 0 where
 abbrev pub IsUsedByOne : List Row → ℕ → BlockUse → Type 0
 IsUsedByOne rows b kind = (row : Row) × Contains rows row × IsUsedBy row b kind
 
+-- it stands in the chain of a CPU's table
+abbrev pub IsUsedForTables : List (List ℕ) → ℕ → BlockUse → Type 0
+IsUsedForTables chains b kind = ((chain : List ℕ) × Contains chains chain × Contains chain b) × (kind ≡ Table)
+
 -- it stands among the doubled blocks
 abbrev pub IsUsedTwice : List (ℕ × Owner) → ℕ → BlockUse → Type 0
 IsUsedTwice doubled b kind = ((owner : Owner) × Contains doubled (b, owner)) × (kind ≡ Doubled)
@@ -28,6 +32,7 @@ IsUsedTwice doubled b kind = ((owner : Owner) × Contains doubled (b, owner)) ×
 -- What a block is used for by an outcome. A block for which nothing stands here is free.
 pub data IsUsed (o : Outcome) (b : ℕ) : BlockUse → Type 0 where
   system : b < system_blocks o.sup → IsUsed o b System
+  chained : {kind : BlockUse} → IsUsedForTables o.tables b kind → IsUsed o b kind
   owned : {kind : BlockUse} → IsUsedByOne o.rows b kind → IsUsed o b kind
   doubled : {kind : BlockUse} → IsUsedTwice o.doubled b kind → IsUsed o b kind
 

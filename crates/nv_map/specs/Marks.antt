@@ -4,7 +4,7 @@ use Rattle.std.specs.Int.{div_ceil}
 use Rattle.nv_super.specs.declared.owners.Owner.{Owner}
 use Rattle.nv_radix.specs.declared.extent.Extent.{Extent}
 use Rattle.nv_map.specs.declared.uses.BlockUse.{BlockUse}
-use Rattle.nv_map.specs.declared.uses.BlockUse.TheVariants.{Free, Data, Log, Doubled}
+use Rattle.nv_map.specs.declared.uses.BlockUse.TheVariants.{Free, Table, Data, Log, Doubled}
 use Rattle.nv_map.specs.declared.marks.Marks.{Marks}
 use Rattle.nv_map.specs.Map.{InCell}
 use Rattle.nv_map.specs.Rank.{rank}
@@ -36,6 +36,14 @@ AreUsed start count kind b other = IsIn start count b × (other ≡ kind)
 -- one of some things says so of the block
 abbrev pub SaysOne : {X : Type 0} → (X → ℕ → BlockUse → Type 0) → List X → ℕ → BlockUse → Type 0
 SaysOne {X} says xs b other = (x : X) × Contains xs x × says x b other
+
+-- what a block of a chain says
+abbrev pub SaysBlock : ℕ → ℕ → BlockUse → Type 0
+SaysBlock block b other = AreUsed block 1 Table b other
+
+-- what a chain says
+abbrev pub SaysChain : List ℕ → ℕ → BlockUse → Type 0
+SaysChain chain b other = SaysOne SaysBlock chain b other
 
 -- what a page of a log, an extent of a file and a claim of a doubled block say
 abbrev pub SaysPage : ℕ → ℕ → BlockUse → Type 0

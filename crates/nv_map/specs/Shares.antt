@@ -3,7 +3,7 @@ use Rattle.std.specs.Prelude.{ℕ, ◌+◌, ◌-◌, ◌*◌, ◌==◌, List, le
 use Rattle.std.specs.Int.{div_ceil}
 use Rattle.std.specs.List.{count_by, range_with_len}
 use Rattle.nv_map.specs.declared.uses.BlockUse.{BlockUse}
-use Rattle.nv_map.specs.declared.uses.BlockUse.TheVariants.{Free, System, Data, Log, Doubled}
+use Rattle.nv_map.specs.declared.uses.BlockUse.TheVariants.{Free, System, Table, Data, Log, Doubled}
 use Rattle.nv_map.specs.declared.shares.Share.{Share}
 use Rattle.nv_map.specs.Rank.{rank}
 
@@ -19,6 +19,7 @@ share_of first uses = record {
   blocks = length uses;
   free = count_of Free uses;
   system = count_of System uses;
+  tables = count_of Table uses;
   files = count_of Data uses;
   logs = count_of Log uses;
   doubled = count_of Doubled uses;
@@ -36,6 +37,7 @@ shares_of each uses = map (share_at each uses) (range_with_len 0 (div_ceil (leng
 abbrev pub told_by : Share → BlockUse → ℕ
 told_by share Free = share.free
 told_by share System = share.system
+told_by share Table = share.tables
 told_by share Data = share.files
 told_by share Log = share.logs
 told_by share Doubled = share.doubled

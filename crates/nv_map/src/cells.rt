@@ -45,6 +45,7 @@ fn mark_all(alloc: Global, recovered: &Recovered, most: u64) -> Result<Marks, Al
 {
     let mut marks = Marks::new(alloc, recovered.sup.blocks, most)?;
     marks.mark(0, recovered.sup.system_blocks(), BlockUse::System);
+    marks.mark_tables(&recovered.tables);
     marks.mark_rows(&recovered.rows)?;
     marks.mark_doubled(&recovered.doubled);
     Ok(marks)

@@ -2,9 +2,10 @@
 
 ghost use Rattle.std.specs.Prelude.{◌<◌, suc, length, OnOk, IfOk};
 ghost use Rattle.nv_map.specs.Map.{IsUsedBy};
-ghost use Rattle.nv_map.specs.Marks.{AreFree, HasRoom, Raises, AreRaised, AreUsed, SaysOne, SaysPage, SaysExtent, SaysClaim};
+ghost use Rattle.nv_map.specs.Marks.{AreFree, HasRoom, Raises, AreRaised, AreUsed, SaysOne, SaysChain, SaysBlock, SaysPage, SaysExtent, SaysClaim};
 
 use crate::uses::BlockUse;
+use nv_inode::Tables;
 use nv_outcome::Rows;
 use nv_radix::Extent;
 use nv_scan::Row;
@@ -56,6 +57,26 @@ impl Marks {
     {
         if self.uses[place].rank() < kind.rank() {
             self.uses[place] = kind;
+        }
+    }
+
+    /// Tells of the blocks of all chains of tables.
+    pub(crate) fn mark_tables(&mut self, tables: &Tables)
+        requires { HasRoom self.old }
+        ensures { Raises (SaysOne SaysChain tables.now.layout.chains) self.old self.new }
+    {
+        tables.are_laid();
+        for cpu in 0..tables.cpus() {
+            self.mark_chain(tables.chain(cpu));
+        }
+    }
+
+    fn mark_chain(&mut self, chain: &[u64])
+        requires { HasRoom self.old }
+        ensures { Raises (SaysOne SaysBlock chain.now) self.old self.new }
+    {
+        for block in chain {
+            self.mark(*block, 1, BlockUse::Table);
         }
     }
 

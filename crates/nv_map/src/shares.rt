@@ -17,6 +17,7 @@ pub struct Share {
     pub blocks: u64,
     pub free: u64,
     pub system: u64,
+    pub tables: u64,
     pub files: u64,
     pub logs: u64,
     pub doubled: u64,
@@ -30,6 +31,7 @@ impl Share {
         match kind {
             BlockUse::Free => self.free,
             BlockUse::System => self.system,
+            BlockUse::Table => self.tables,
             BlockUse::Data => self.files,
             BlockUse::Log => self.logs,
             BlockUse::Doubled => self.doubled,
@@ -70,6 +72,7 @@ fn share_of(first: u64, uses: &[BlockUse]) -> Share
         blocks: uses.len() as u64,
         free: count_of(uses, BlockUse::Free),
         system: count_of(uses, BlockUse::System),
+        tables: count_of(uses, BlockUse::Table),
         files: count_of(uses, BlockUse::Data),
         logs: count_of(uses, BlockUse::Log),
         doubled: count_of(uses, BlockUse::Doubled),

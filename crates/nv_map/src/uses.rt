@@ -11,6 +11,8 @@ pub enum BlockUse {
     Free,
     /// It stands before the data blocks: the superblock, a journal or a part of a table.
     System,
+    /// It is a block of a table's chain, behind those of the system.
+    Table,
     /// It holds a page of a file.
     Data,
     /// It is a page of a log.
@@ -27,6 +29,7 @@ impl BlockUse {
         match self {
             BlockUse::Free => ".",
             BlockUse::System => "S",
+            BlockUse::Table => "T",
             BlockUse::Data => "D",
             BlockUse::Log => "L",
             BlockUse::Doubled => "!",
@@ -40,9 +43,10 @@ impl BlockUse {
         match self {
             BlockUse::Free => 0,
             BlockUse::System => 1,
-            BlockUse::Data => 2,
-            BlockUse::Log => 3,
-            BlockUse::Doubled => 4,
+            BlockUse::Table => 2,
+            BlockUse::Data => 3,
+            BlockUse::Log => 4,
+            BlockUse::Doubled => 5,
         }
     }
 }

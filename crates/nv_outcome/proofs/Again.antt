@@ -1,5 +1,5 @@
 -- Recovering again shows the same, but for pending records.
-use Rattle.std.proofs.Common.{◌≡◌, inl, inr, ◌==◌, if◌then◌else◌, Bool, true, false, ℕ, List, [], ◌∷◌, Option, Some, None, sym, refl, subst}
+use Rattle.std.proofs.Common.{◌≡◌, inl, inr, ◌==◌, if◌then◌else◌, Bool, true, false, ℕ, List, [], ◌∷◌, Option, Some, None, sym, ◌∙◌, refl, subst}
 use Rattle.std.specs.List.{Contains, cons_option, filter_map, range_with_len}
 use Rattle.nv_region.specs.Region.{Region}
 use Rattle.nv_super.specs.declared.superblock.Super.{Super}
@@ -12,7 +12,7 @@ use Rattle.nv_super.specs.Super.{IsSuper}
 use Rattle.nv_super.proofs.Members.{none_in}
 use Rattle.nv_super.proofs.Rising.{Contains-cons, Lists-only}
 use Rattle.nv_super.proofs.Filters.{rises_filter, from_filter, into_filter}
-use Rattle.nv_inode.specs.Chains.{chain_faults, end_fault, fault_behind, chain_in, layout_of, link_fault}
+use Rattle.nv_inode.specs.Chains.{chain_faults, end_fault, fault_behind, chain_in, chains_in, layout_of, link_fault}
 use Rattle.nv_journal.specs.Undo.{undone}
 use Rattle.nv_journal.specs.Faults.{HasFault, IsPointerFault}
 use Rattle.nv_check.specs.nv_scan.Faults.{IsFaultOf, IsEntryFault, e1, e2, e3, e4, i1, i2, i3, l1, l2, l3, l4, entry}
@@ -112,6 +112,7 @@ module _ (R : Region) (s : Super) (is : IsSuper R s) where
 pub shows_again : (R : Region) (a b : Outcome) → IsOutcome R a → IsOutcome (undone a.sup R) b → ShowsAgain a b
 shows_again R a b p q = record {
   sup = e;
+  tables = as_first (λ U s. b.tables ≡ chains_in s U) q.tables ∙ sym p.tables;
   rows = same_rows a.rows b.rows p.rows (as_first (λ U s. AreRows U (layout_of s U) b.rows) q.rows);
   free = same_free a.free b.free p.free (as_first (λ U s. AreFreeLists U (layout_of s U) b.free) q.free);
   doubled = Lists-only claim_key _ b.doubled a.doubled (as_first (λ U s. Lists claim_key (λ (x : ℕ × Owner). IsDoubled U (layout_of s U) x.0 x.1) b.doubled) q.doubled) p.doubled;
@@ -136,6 +137,7 @@ shows_again R a b p q = record {
 pub rolled_back : (R : Region) (o : Outcome) → IsOutcome R o → IsOutcome (undone o.sup R) (lasting_outcome o)
 rolled_back R o is = record {
   sup = super_undone o.sup R (layout_of_super R o.sup is.sup) is.sup;
+  tables = (let P : Region → Type 0 = λ Q. o.tables ≡ chains_in o.sup Q in subst P (sym same) is.tables);
   rows = (let P : Region → Type 0 = λ Q. AreRows Q (layout_of o.sup Q) o.rows in subst P (sym same) is.rows);
   free = (let P : Region → Type 0 = λ Q. AreFreeLists Q (layout_of o.sup Q) o.free in subst P (sym same) is.free);
   doubled = (let P : Region → Type 0 = λ Q. Lists claim_key (λ (x : ℕ × Owner). IsDoubled Q (layout_of o.sup Q) x.0 x.1) o.doubled in subst P (sym same) is.doubled);

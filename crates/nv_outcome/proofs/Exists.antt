@@ -18,7 +18,7 @@ use Rattle.nv_super.proofs.Pools.{pools_from, pools_to}
 use Rattle.nv_super.proofs.Rising.{Contains-cons, Contains-head, below_first, rises_append}
 use Rattle.nv_super.proofs.Sorted.{one_owner, fault_key_only, claim_key_only}
 use Rattle.nv_super.proofs.Members.{none_in}
-use Rattle.nv_inode.specs.Chains.{IsLaid, chain_faults, layout_of}
+use Rattle.nv_inode.specs.Chains.{IsLaid, chain_faults, chains_in, layout_of}
 use Rattle.nv_inode.proofs.NameNumbers.{slot_named}
 use Rattle.nv_inode.proofs.ReadChains.{region_laid}
 use Rattle.nv_journal.specs.Undo.{undone}
@@ -228,7 +228,7 @@ module _ (R : Region) (s : Super) (is : IsSuper R s) where
         let free = free_lists (undone s R) l laid all are in
         let twice = in_order claim_key claim_key_only (doubled (undone s R) l laid all are) in
         let found = in_order fault_key fault_key_only all_faults in
-        (record { sup = s; rows = all; free = free.0; doubled = twice.0; faults = found.0 }, refl, record { sup = is; rows = are; free = free.1; doubled = twice.1; faults = found.1 })
+        (record { sup = s; tables = chains_in s (undone s R); rows = all; free = free.0; doubled = twice.0; faults = found.0 }, refl, record { sup = is; tables = refl; rows = are; free = free.1; doubled = twice.1; faults = found.1 })
 
   pub has_outcome : (o : Outcome) × (o.sup ≡ s) × IsOutcome R o
   has_outcome = let r = rows (undone s R) l laid in with_rows r.0 r.1

@@ -1,5 +1,5 @@
 -- In version 1 an outcome is that by the fixed tables.
-use Rattle.std.proofs.Common.{◌≡◌, ℕ, List, [], sym, subst}
+use Rattle.std.proofs.Common.{◌≡◌, ℕ, List, [], sym, ◌∙◌, subst}
 use Rattle.std.specs.List.{Contains}
 use Rattle.nv_region.specs.Region.{Region}
 use Rattle.nv_super.specs.declared.superblock.Super.{Super}
@@ -42,13 +42,19 @@ module _ (R : Region) (s : Super) (is : IsSuper R s) where
 
 -- An outcome by the fixed tables.
 pub record IsFixed (R : Region) (o : Outcome) : Type 0 where
+  pub tables : o.tables ≡ (fixed_layout o.sup).chains
   pub rows : AreRows (undone o.sup R) (fixed_layout o.sup) o.rows
   pub free : AreFreeLists (undone o.sup R) (fixed_layout o.sup) o.free
   pub doubled : Lists claim_key (λ x. IsDoubled (undone o.sup R) (fixed_layout o.sup) x.0 x.1) o.doubled
 
 pub fixed_outcome : (R : Region) (o : Outcome) → IsOutcome R o → IsFixed R o
 fixed_outcome R o is = record {
+  tables = to_fixed R o.sup is.sup (undone o.sup R) (λ l. o.tables ≡ l.chains) is.tables;
   rows = to_fixed R o.sup is.sup (undone o.sup R) (λ l. AreRows (undone o.sup R) l o.rows) is.rows;
   free = to_fixed R o.sup is.sup (undone o.sup R) (λ l. AreFreeLists (undone o.sup R) l o.free) is.free;
   doubled = to_fixed R o.sup is.sup (undone o.sup R) (λ l. Lists claim_key (λ (x : ℕ × Owner). IsDoubled (undone o.sup R) l x.0 x.1) o.doubled) is.doubled;
 }
+
+-- tables whose chains are those of an outcome
+pub tables_fixed : (R : Region) (o : Outcome) (l : Layout) → IsOutcome R o → l.sup ≡ o.sup → l.chains ≡ o.tables → l ≡ fixed_layout o.sup
+tables_fixed R o l is sup chains = λ i. record { sup = sup i; chains = (chains ∙ (fixed_outcome R o is).tables) i }

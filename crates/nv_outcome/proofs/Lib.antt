@@ -16,6 +16,7 @@ pub mod Again
 pub mod Reordered
 pub mod Tickets
 pub mod Fixed
+pub mod Tabled
 pub mod Exists
 pub mod SameInodes
 pub mod Metadata

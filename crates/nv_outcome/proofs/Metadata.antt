@@ -121,6 +121,7 @@ module _ (s : Super) (R S : Region) (is : IsSuper R s) (same : SameMetadata s R 
 pub metadata_alone : (R S : Region) (o : Outcome) → SameMetadata o.sup R S → IsOutcome R o → IsOutcome S o
 metadata_alone R S o same is = record {
   sup = super_there o.sup R S is.sup same;
+  tables = back (λ l. o.tables ≡ l.chains) fixed.tables;
   rows = back (λ l. AreRows (undone o.sup S) l o.rows) (rows_there inodes fixed.rows);
   free = back (λ l. AreFreeLists (undone o.sup S) l o.free) (free_there inodes fixed.free);
   doubled = back (λ l. Lists claim_key (λ (x : ℕ × Owner). IsDoubled (undone o.sup S) l x.0 x.1) o.doubled)

@@ -1,5 +1,5 @@
 -- A region has one outcome.
-use Rattle.std.proofs.Common.{◌≡◌, ℕ, ◌<◌, List, [], ◌∷◌, map, sym, ◌∙◌, subst, arith}
+use Rattle.std.proofs.Common.{◌≡◌, ℕ, ◌<◌, List, [], ◌∷◌, map, ap, sym, ◌∙◌, subst, arith}
 use Rattle.std.specs.List.{Contains}
 use Rattle.std.proofs.lemmas.List.{same_lists, get_or_default}
 use Rattle.nv_region.specs.Region.{Region}
@@ -11,7 +11,7 @@ use Rattle.nv_super.specs.Order.{Rises, Lists, claim_key, fault_key}
 use Rattle.nv_super.proofs.Rising.{Contains-head, Contains-tail, Lists-only}
 use Rattle.nv_super.proofs.Runs.{AreRuns-only}
 use Rattle.nv_super.proofs.Members.{into_map, from_map}
-use Rattle.nv_inode.specs.Chains.{layout_of}
+use Rattle.nv_inode.specs.Chains.{chains_in, layout_of}
 use Rattle.nv_journal.specs.Undo.{undone}
 use Rattle.nv_alloc.specs.Taking.{pool_at}
 use Rattle.nv_check.specs.nv_scan.Inode.{Log, IsInode, IsInUse}
@@ -104,6 +104,7 @@ module _ {R : Region} {l : Layout} where
 pub same_outcome : (R : Region) (a b : Outcome) → IsOutcome R a → IsOutcome R b → SameOutcome a b
 same_outcome R a b p q = record {
   sup = e;
+  tables = q.tables ∙ ap (λ (s : Super). chains_in s (undone s R)) e ∙ sym p.tables;
   rows = same_rows a.rows b.rows p.rows (subst (λ (s : Super). AreRows (undone s R) (layout_of s (undone s R)) b.rows) e q.rows);
   free = same_free a.free b.free p.free (subst (λ (s : Super). AreFreeLists (undone s R) (layout_of s (undone s R)) b.free) e q.free);
   doubled = Lists-only claim_key _ b.doubled a.doubled (subst (λ (s : Super). Lists claim_key (λ (x : ℕ × Owner). IsDoubled (undone s R) (layout_of s (undone s R)) x.0 x.1) b.doubled) e q.doubled) p.doubled;

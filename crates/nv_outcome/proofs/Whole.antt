@@ -18,7 +18,7 @@ use Rattle.nv_super.proofs.Sorted.{one_owner}
 use Rattle.nv_super.specs.Owners.{claims_of}
 use Rattle.nv_super.proofs.Members.{into_map, from_map}
 use Rattle.nv_super.proofs.Rising.{Lists-same}
-use Rattle.nv_inode.specs.Chains.{IsLaid, chain_faults, layout_of}
+use Rattle.nv_inode.specs.Chains.{IsLaid, chain_faults, chains_in, layout_of}
 use Rattle.nv_journal.specs.Undo.{undone}
 use Rattle.nv_alloc.specs.FreeValue.{FreeLists}
 use Rattle.nv_alloc.proofs.Changed.{AreRuns-same}
@@ -126,9 +126,10 @@ module _ {R : Region} {s : Super} {ps : List Piece} {cs : List (ℕ × Owner)} {
     none (suc n) f = absurd (f (omega arith))
 
   pub parts_outcome : IsSuper R s → AreParts R s ps cs first second free doubled js xs found
-      → IsOutcome R (record { sup = s; rows = rows_in ps; free = free.pools; doubled = doubled; faults = found })
+      → IsOutcome R (record { sup = s; tables = chains_in s (undone s R); rows = rows_in ps; free = free.pools; doubled = doubled; faults = found })
   parts_outcome is h = record {
     sup = is;
+    tables = refl;
     rows = rows_are ps h.scanned;
     free = record {
       pools = h.outside.count;

@@ -12,7 +12,7 @@ use Rattle.nv_super.specs.Layout.{Layout, system_blocks, InPool}
 use Rattle.nv_super.specs.Order.{fault_key, claim_key, Lists, Rises}
 use Rattle.nv_super.specs.Runs.{AreRuns}
 use Rattle.nv_super.specs.Super.{IsSuper}
-use Rattle.nv_inode.specs.Chains.{chain_faults, layout_of}
+use Rattle.nv_inode.specs.Chains.{chain_faults, chains_in, layout_of}
 use Rattle.nv_journal.specs.Undo.{undone}
 use Rattle.nv_journal.specs.Faults.{HasFault}
 use Rattle.nv_alloc.specs.Taking.{pool_at}
@@ -95,9 +95,11 @@ pub data IsFaulty (R : Region) (s : Super) : Fault → Type 0 where
 
 -- ---- the outcome
 
--- The superblock's numbers, the rows of the inodes in use, for each CPU the free runs of its pool, the doubled blocks with their owners, and the faults.
+-- The superblock's numbers, for each CPU the blocks of its table's chain, the rows of the inodes in use, for each CPU the free
+-- runs of its pool, the doubled blocks with their owners, and the faults.
 pub record Outcome : Type 0 where
   pub sup : Super
+  pub tables : List (List ℕ)
   pub rows : List Row
   pub free : List (List Run)
   pub doubled : List (ℕ × Owner)
@@ -106,6 +108,7 @@ pub record Outcome : Type 0 where
 -- The outcome of a region whose superblock is accepted: of the region with its journals rolled back, but for the journals' own faults.
 pub record IsOutcome (R : Region) (o : Outcome) : Type 0 where
   pub sup : IsSuper R o.sup
+  pub tables : o.tables ≡ chains_in o.sup (undone o.sup R)
   pub rows : AreRows (undone o.sup R) (layout_of o.sup (undone o.sup R)) o.rows
   pub free : AreFreeLists (undone o.sup R) (layout_of o.sup (undone o.sup R)) o.free
   pub doubled : Lists claim_key (λ x. IsDoubled (undone o.sup R) (layout_of o.sup (undone o.sup R)) x.0 x.1) o.doubled

@@ -29,6 +29,7 @@ SameRows (x ∷ xs) (y ∷ ys) = SameRow x y × SameRows xs ys
 -- the outcomes show the same
 pub record SameOutcome (a b : Outcome) : Type 0 where
   pub sup : b.sup ≡ a.sup
+  pub tables : b.tables ≡ a.tables
   pub rows : SameRows a.rows b.rows
   pub free : b.free ≡ a.free
   pub doubled : b.doubled ≡ a.doubled
@@ -50,6 +51,7 @@ lasting_outcome o = record o { faults = filter is_lasting o.faults }
 -- The second outcome shows what the first does, without the faults of pending records.
 pub record ShowsAgain (a b : Outcome) : Type 0 where
   pub sup : b.sup ≡ a.sup
+  pub tables : b.tables ≡ a.tables
   pub rows : SameRows a.rows b.rows
   pub free : b.free ≡ a.free
   pub doubled : b.doubled ≡ a.doubled

@@ -8,7 +8,7 @@ ghost use Rattle.nv_super.specs.declared.owners.Owner.{Owner};
 ghost use Rattle.nv_super.specs.declared.faults.Fault.{Fault};
 ghost use Rattle.nv_super.specs.Layout.{Layout};
 ghost use Rattle.nv_super.specs.Super.{IsSuper, IsRefused};
-ghost use Rattle.nv_inode.specs.Chains.{layout_of};
+ghost use Rattle.nv_inode.specs.Chains.{chains_in, layout_of};
 ghost use Rattle.nv_journal.specs.Undo.{undone};
 ghost use Rattle.nv_alloc.specs.FreeValue.{FreeLists};
 ghost use Rattle.nv_check.specs.nv_scan.declared.piece.Row.{Row};
@@ -36,7 +36,7 @@ pub fn each_region_has_an_outcome()
 pub fn parts_make_the_outcome()
     ensures { (region : Region) (s : Super) (pieces : List Piece) (claims : List (ℕ × Owner)) (first second : List ℕ) (free : FreeLists) (doubled : List (ℕ × Owner)) (journal cross found : List Fault)
         → IsSuper region s → AreParts region s pieces claims first second free doubled journal cross found
-        → IsOutcome region record { sup = s; rows = rows_in pieces; free = free.pools; doubled = doubled; faults = found } }
+        → IsOutcome region record { sup = s; tables = chains_in s (undone s region); rows = rows_in pieces; free = free.pools; doubled = doubled; faults = found } }
 {}
 
 /// Where an outcome has no faults, each data block stands in exactly one free list or has exactly one owner.

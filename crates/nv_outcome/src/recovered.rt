@@ -1,6 +1,7 @@
 //! What a recovery answers, and a mounted file system is opened with.
 
 use nv_alloc::Allocators;
+use nv_inode::Tables;
 use nv_rows::Rows;
 use nv_super::{Fault, Owner, Super};
 
@@ -9,6 +10,8 @@ use nv_super::{Fault, Owner, Super};
 #[derive(Drop)]
 pub struct Recovered {
     pub sup: Super,
+    /// Where the slots of the inodes stand: for each CPU the blocks of its table's chain.
+    pub tables: Tables,
     /// The inodes in use, each found by its number.
     pub rows: Rows,
     /// The free blocks of each CPU's pool.

@@ -8,9 +8,10 @@ use Rattle.nv_region.specs.Region.{HasBlocks, Region}
 use Rattle.nv_super.specs.declared.superblock.Super.{Super}
 use Rattle.nv_super.specs.declared.owners.Owner.{Owner}
 use Rattle.nv_super.specs.declared.faults.Fault.{Fault}
-use Rattle.nv_super.specs.Layout.{Layout, fixed_layout}
+use Rattle.nv_super.specs.Layout.{Layout}
 use Rattle.nv_super.specs.Order.{fault_key, SortedOf}
-use Rattle.nv_inode.specs.Chains.{chain_faults, layout_of}
+use Rattle.nv_inode.specs.Chains.{chain_faults, chains_in, layout_of}
+use Rattle.nv_inode.specs.Tables.{TableChains}
 use Rattle.nv_journal.specs.Undo.{undone}
 use Rattle.nv_alloc.specs.FreeLists.{AreOutside}
 use Rattle.nv_scan.specs.declared.piece.Row.{Row}
@@ -20,7 +21,6 @@ use Rattle.nv_outcome.specs.nv_check.Doubled.{AreDoubled}
 use Rattle.nv_outcome.specs.Outcome.{IsOutcome}
 use Rattle.nv_outcome.specs.Parts.{ArePieces, AreParts, rows_in, faults_in, double_fault}
 use Rattle.nv_outcome.specs.Shared.{SharesAll}
-use Rattle.nv_outcome.proofs.Fixed.{to_fixed}
 use Rattle.nv_outcome.proofs.RowsOf.{rows_are}
 use Rattle.nv_outcome.proofs.Whole.{parts_outcome}
 use Rattle.nv_outcome.proofs.Shared.{shares_all}
@@ -65,9 +65,10 @@ pub told_of : (journal chained own cross : List Fault) (doubled : List (ℕ × O
 told_of journal chained own cross doubled p q r s =
     s ∙ (ap (λ (xs : List Fault). xs ++ map double_fault doubled) (r ∙ ap (λ (xs : List Fault). xs ++ cross) (q ∙ ap (λ (xs : List Fault). xs ++ own) p)) ∙ grouped journal chained own cross (map double_fault doubled))
 
--- What is made of what was scanned: the rows in order, the blocks that nobody owns, the claims of doubled blocks, and all faults in order.
+-- What is made of what was scanned: the tables that were read, the rows in order, the blocks that nobody owns, the claims of doubled blocks, and all faults in order.
 pub record IsMade (o : Started) (x : Scanned) (r : Recovered) : Type 0 where
   pub sup : r.sup ≡ o.sup
+  pub tables : r.tables ≡ o.tables
   pub rows : SortedOf row_key x.inodes.rows.items r.rows.items
   pub numbers : HasNumbersOf o.tables.layout r.rows
   pub outside : AreOutside x.owned.blocks.items o.sup r.free
@@ -80,10 +81,6 @@ tables_sup started = ap (λ (l : Layout). l.sup) started.tables
 
 pub tables_blocks : {old new : Region} {o : Started} → IsStarted old new o → HasBlocks new o.tables.layout.sup.blocks
 tables_blocks {new = new} started = subst (λ (s : Super). HasBlocks new s.blocks) (sym (tables_sup started)) started.blocks
-
--- in version 1 these are the fixed ones
-pub numbers_fixed : {old new : Region} {r : Recovered} → IsAnswer old new r → HasNumbersOf (fixed_layout r.sup) r.rows
-numbers_fixed {old} {new} {r} is = to_fixed old r.sup is.ok.sup new (λ (l : Layout). HasNumbersOf l r.rows) is.numbers
 
 module _ {old new : Region} {o : Started} {x : Scanned} {r : Recovered} (started : IsStarted old new o) (scanned : IsScanned new o.tables.layout x) (made : IsMade o x r) where
   chained : o.tables.faults ≡ chain_faults o.sup (undone o.sup old)
@@ -107,9 +104,17 @@ module _ {old new : Region} {o : Started} {x : Scanned} {r : Recovered} (started
   rows = rising_stay r.rows.items (rows_in scanned.pieces) (rows_are scanned.pieces scanned.inodes.pieces_are).rising
       (sorted_otherwise row_key x.inodes.rows.items (rows_in scanned.pieces) r.rows.items scanned.inodes.rows made.rows)
 
+  -- the tables are those of the region
+  layout : r.tables.layout ≡ layout_of r.sup new
+  layout = ap (λ (t : TableChains). t.layout) made.tables ∙ started.tables ∙ ap (λ (s : Super). layout_of s new) (sym made.sup)
+
+  chains : r.tables.layout.chains ≡ chains_in o.sup (undone o.sup old)
+  chains = ap (λ (l : Layout). l.chains) (ap (λ (t : TableChains). t.layout) made.tables ∙ started.tables) ∙ ap (chains_in o.sup) started.rolled_back
+
   outcome : IsOutcome old (outcome_of r)
-  outcome = subst (λ (s : Super). IsOutcome old (record { sup = s; rows = r.rows.items; free = r.free.pools; doubled = r.doubled.items; faults = r.faults.items })) (sym made.sup)
-      (subst (λ (rows : List Row). IsOutcome old (record { sup = o.sup; rows = rows; free = r.free.pools; doubled = r.doubled.items; faults = r.faults.items })) (sym rows) (parts_outcome started.sup parts))
+  outcome = subst (λ (s : Super). IsOutcome old (record { sup = s; tables = r.tables.layout.chains; rows = r.rows.items; free = r.free.pools; doubled = r.doubled.items; faults = r.faults.items })) (sym made.sup)
+      (subst (λ (rows : List Row). IsOutcome old (record { sup = o.sup; tables = r.tables.layout.chains; rows = rows; free = r.free.pools; doubled = r.doubled.items; faults = r.faults.items })) (sym rows)
+      (subst (λ (chains : List (List ℕ)). IsOutcome old (record { sup = o.sup; tables = chains; rows = rows_in scanned.pieces; free = r.free.pools; doubled = r.doubled.items; faults = r.faults.items })) (sym chains) (parts_outcome started.sup parts)))
 
   rolled_back : new ≡ undone r.sup old
   rolled_back = started.rolled_back ∙ ap (λ (s : Super). undone s old) (sym made.sup)
@@ -118,7 +123,8 @@ module _ {old new : Region} {o : Started} {x : Scanned} {r : Recovered} (started
   answer_of = record {
     ok = outcome;
     rolled_back = rolled_back;
-    once = λ none. subst (λ (R : Region). SharesAll R (layout_of r.sup R) r.free.pools) (sym rolled_back) (shares_all outcome none);
+    once = λ none. subst (λ (l : Layout). SharesAll new l r.free.pools) (sym layout) (subst (λ (R : Region). SharesAll R (layout_of r.sup R) r.free.pools) (sym rolled_back) (shares_all outcome none));
     lists = made.outside.sup ∙ sym made.sup;
-    numbers = subst (λ (s : Super). HasNumbersOf (layout_of s new) r.rows) (sym made.sup) (subst (λ (l : Layout). HasNumbersOf l r.rows) started.tables made.numbers);
+    tables = ap (λ (l : Layout). l.sup) layout;
+    numbers = subst (λ (l : Layout). HasNumbersOf l r.rows) (ap (λ (t : TableChains). t.layout) (sym made.tables)) made.numbers;
   }

@@ -1,23 +1,19 @@
 -- What a recovery stores, and what a stop may leave of it.
-use Rattle.std.proofs.Common.{◌≡◌, ◌≤◌, ◌*◌, ℕ, IsTrue, refl, sym, subst, arith}
+use Rattle.std.proofs.Common.{◌≡◌, refl, sym, subst, arith}
 use Rattle.nv_region.specs.Region.{Region}
 use Rattle.nv_region.specs.Stops.{Choices, NothingPending, LeavesOnly}
-use Rattle.nv_region.specs.Fuses.{FuseState}
 use Rattle.nv_region.specs.Stored.{StoresOnly}
 use Rattle.nv_region.proofs.Stops.{fenced_leaves}
 use Rattle.nv_region.proofs.Wordwise.{stores_within}
 use Rattle.nv_super.specs.declared.superblock.Super.{Super}
-use Rattle.nv_super.specs.Layout.{IsLayout, system_blocks}
+use Rattle.nv_super.specs.Layout.{IsLayout}
 use Rattle.nv_super.specs.Super.{IsSuper}
 use Rattle.nv_super.proofs.Accepted.{super_stays}
-use Rattle.nv_journal.specs.Permitted.{slots_end}
 use Rattle.nv_journal.specs.Undo.{undone}
 use Rattle.nv_journal.specs.Undone.{UndoStores}
 use Rattle.nv_journal.proofs.AnyLength.{undone_size, first_word}
-use Rattle.nv_journal.proofs.Fixed.{end_fixed}
 use Rattle.nv_journal.proofs.KeptLinks.{own_rule}
 use Rattle.nv_journal.proofs.SuperKept.{super_undone}
-use Rattle.nv_outcome.proofs.SuperOf.{version_of_super}
 use Rattle.nv_recover.specs.Behind.{RecoveryStores}
 use Rattle.nv_recover.specs.Errors.{UndoesAsBefore}
 
@@ -39,10 +35,3 @@ stop_before R choices s is none = fenced_leaves R choices (UndoesAsBefore R) non
 -- what is stored once the superblock is read
 pub recovery_stores : (R S : Region) (old new : Choices) (s : Super) → IsSuper R s → StoresOnly (UndoStores s R) R S old new → StoresOnly (RecoveryStores R) R S old new
 recovery_stores R S old new s is = stores_within (RecoveryStores R) (UndoStores s R) R S old new (λ i x it. (s, is, it))
-
--- where the slots of an accepted region end, the data blocks begin
-pub front_of : (R : Region) (s : Super) (limit : ℕ) → IsSuper R s → 4096 * system_blocks s ≤ limit → 4096 * slots_end s ≤ limit
-front_of R s limit is past = subst (λ (n : ℕ). 4096 * n ≤ limit) (sym (end_fixed s (version_of_super R s is))) past
-
-pub open_front : (R : Region) (s : Super) (fuse : FuseState) → IsSuper R s → IsTrue (fuse.is_open (4096 * system_blocks s)) → IsTrue (fuse.is_open (4096 * slots_end s))
-open_front R s fuse is free = subst (λ (n : ℕ). IsTrue (fuse.is_open (4096 * n))) (sym (end_fixed s (version_of_super R s is))) free

@@ -49,6 +49,7 @@ pub(crate) fn finish(
         free,
         doubled: owned.doubled,
         faults,
+        tables: started.tables,
     })
 }
 

@@ -20,3 +20,4 @@ pub use nv_scan::{NoGate, Row};
 pub use one::recover_one;
 pub use parallel::recover;
 pub use replaying::recover_replay;
+pub use starting::slots_end;

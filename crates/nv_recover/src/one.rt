@@ -2,7 +2,6 @@
 
 ghost use Rattle.std.specs.Prelude.{◌≡◌, ◌*◌, List, [], IfOk, IfErr};
 ghost use Rattle.nv_region.specs.Region.{HasBlocks};
-ghost use Rattle.nv_super.specs.Layout.{fixed_layout};
 ghost use Rattle.std.specs.List.Sorted.{IsPermutation};
 ghost use Rattle.nv_scan.specs.Work.{claims_in};
 ghost use Rattle.nv_scan.specs.declared.piece.Piece.{Piece};
@@ -47,7 +46,9 @@ pub fn recover_one<P: Pmem>(alloc: Global, memory: &mut P) -> Result<Recovered, 
     // Where nothing is wrong, each data block stands in exactly one free list or has exactly one owner.
     ensures once { IfOk result (λ r. r.faults.items ≡ [] → SharesBlocks (P.region memory.new) r) }
     ensures lists { IfOk result (λ r. r.free.sup ≡ r.sup) }
-    ensures numbers { IfOk result (λ r. HasNumbersOf (fixed_layout r.sup) r.rows) }
+    // The tables are those of the outcome, and each row has a number in them.
+    ensures tables { IfOk result (λ r. r.tables.layout.sup ≡ r.sup) }
+    ensures numbers { IfOk result (λ r. HasNumbersOf r.tables.layout r.rows) }
     ensures err { IfErr result (λ e. Fails 1 [] e (P.region memory.old) (P.region memory.new)) }
     // What it stores, what a stop leaves, and when it is stopped.
     ensures kept { KeepsRecovering P.region P.may_hold P.fuse memory.old memory.new result }

@@ -2,7 +2,6 @@
 
 ghost use Rattle.std.specs.Prelude.{◌≡◌, ◌*◌, ◌<◌, ◌≤◌, [], IfOk, IfErr};
 ghost use Rattle.nv_region.specs.Region.{HasBlocks};
-ghost use Rattle.nv_super.specs.Layout.{fixed_layout};
 ghost use Rattle.nv_outcome.specs.nv_rows.RowList.{HasNumbersOf};
 ghost use Rattle.nv_recover.specs.declared.errors.RecoverError.TheVariants as errors;
 ghost use Rattle.nv_outcome.specs.Answer.{outcome_of, SharesBlocks};
@@ -44,7 +43,9 @@ pub fn recover<P: Pmem + Sync, G: Gate + Sync, H: Threads + Sync>(
     // Where nothing is wrong, each data block stands in exactly one free list or has exactly one owner.
     ensures once { IfOk result (λ r. r.faults.items ≡ [] → SharesBlocks (P.region memory.new) r) }
     ensures lists { IfOk result (λ r. r.free.sup ≡ r.sup) }
-    ensures numbers { IfOk result (λ r. HasNumbersOf (fixed_layout r.sup) r.rows) }
+    // The tables are those of the outcome, and each row has a number in them.
+    ensures tables { IfOk result (λ r. r.tables.layout.sup ≡ r.sup) }
+    ensures numbers { IfOk result (λ r. HasNumbersOf r.tables.layout r.rows) }
     ensures workers { IsBadCount workers → IfOk result (λ _. ⊥) × IfErr result (λ e. e ≡ errors.Workers) }
     ensures err { IfErr result (λ e. Fails workers [] e (P.region memory.old) (P.region memory.new)) }
     // What it stores, what a stop leaves, and when it is stopped.

@@ -3,7 +3,6 @@
 ghost use Rattle.std.specs.Prelude.{[], ◌≡◌, ◌*◌, ◌<◌, ℕ, List, Some, None, IfOk, IfErr, length};
 ghost use Rattle.std.specs.List.Sorted.{IsPermutation};
 ghost use Rattle.nv_region.specs.Region.{HasBlocks};
-ghost use Rattle.nv_super.specs.Layout.{fixed_layout};
 ghost use Rattle.nv_claimcore.specs.Replay.{lists, Inside, first_stranger};
 ghost use Rattle.nv_scan.specs.declared.piece.Piece.{Piece as PieceValue};
 ghost use Rattle.nv_scan.specs.Tickets.{ticket_count};
@@ -51,7 +50,9 @@ pub fn recover_replay<P: Pmem>(
     // Where nothing is wrong, each data block stands in exactly one free list or has exactly one owner.
     ensures once { IfOk result (λ r. r.faults.items ≡ [] → SharesBlocks (P.region memory.new) r) }
     ensures lists { IfOk result (λ r. r.free.sup ≡ r.sup) }
-    ensures numbers { IfOk result (λ r. HasNumbersOf (fixed_layout r.sup) r.rows) }
+    // The tables are those of the outcome, and each row has a number in them.
+    ensures tables { IfOk result (λ r. r.tables.layout.sup ≡ r.sup) }
+    ensures numbers { IfOk result (λ r. HasNumbersOf r.tables.layout r.rows) }
     ensures workers { IsBadCount workers → IfOk result (λ _. ⊥) × IfErr result (λ e. e ≡ errors.Workers) }
     ensures schedule { (place : ℕ) → (IsBadCount workers → ⊥) → first_stranger workers schedule.now ≡ Some place → IfOk result (λ _. ⊥) × IfErr result (λ e. e ≡ errors.Schedule place) }
     ensures err { IfErr result (λ e. Fails workers schedule.now e (P.region memory.old) (P.region memory.new)) }

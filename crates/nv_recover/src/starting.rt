@@ -2,6 +2,8 @@
 //! the journals are rolled back.
 
 ghost use Rattle.std.specs.Prelude.{◌≡◌, ◌<◌, ◌≤◌, ℕ, List, IfOk, IfErr, IsTrue, false};
+ghost use Rattle.nv_super.specs.Layout.{IsLayout};
+ghost use Rattle.nv_journal.specs.Permitted.{slots_end};
 ghost use Rattle.nv_recover.specs.declared.errors.RecoverError.TheVariants as errors;
 ghost use Rattle.nv_recover.specs.Errors.{Fails, IsBadCount};
 ghost use Rattle.nv_recover.specs.Keeping.{KeepsRecovering};
@@ -11,7 +13,7 @@ use crate::errors::{MOST_WORKERS, RecoverError};
 use nv_inode::{Tables, read_tables};
 use nv_journal::undo_by;
 use nv_region::Pmem;
-use nv_super::{Fault, Super, read_super};
+use nv_super::{Fault, Super, WITH_CHAINS, read_super};
 use std::alloc::Global;
 
 /// The superblock's numbers, the tables, and what is wrong with the journals as the region came.
@@ -29,6 +31,19 @@ pub(crate) fn is_worker_count(workers: u64) -> bool
     ensures bad { result ≡ false → IsBadCount workers }
 {
     (1..=MOST_WORKERS).contains(&workers)
+}
+
+/// How many of the first blocks slots can stand in. A recovery stores to no other: in version 1 to no data block.
+pub fn slots_end(sup: &Super) -> u64
+    requires { IsLayout sup.now }
+    ensures value { result ≡ slots_end sup.now }
+    ensures inside { result ≤ sup.now.blocks }
+{
+    if sup.version == WITH_CHAINS {
+        sup.blocks
+    } else {
+        sup.system_blocks()
+    }
 }
 
 /// Reads the superblock and the tables, and rolls the journals back, which leaves the tables as they are. What comes after

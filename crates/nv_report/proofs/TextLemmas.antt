@@ -72,9 +72,9 @@ adds_report o a b c d e head tree free faults =
     let all : e ≡ (((a ++ r) ++ t) ++ f) ++ u = faults ∙ ap (λ x. x ++ u) (free ∙ ap (λ x. x ++ f) (tree.2 ∙ ap (λ x. x ++ t) head)) in
     (r ++ t ++ f ++ u, (t, tree.1, refl), all ∙ ap (λ x. x ++ f ++ u) (append_assoc a r t) ∙ ap (λ x. x ++ u) (append_assoc a (r ++ t) f) ∙ append_assoc a (r ++ t ++ f) u)
 
--- no text tells of doubled blocks
-pub same_part : (part : Part) (o : Outcome) (doubled other : List (ℕ × Owner)) (text : List ℕ) → IsPartText part (record o { doubled = doubled }) text → IsPartText part (record o { doubled = other }) text
-same_part parts.Tree o doubled other text is = is
-same_part parts.Free o doubled other text is = is
-same_part parts.Faults o doubled other text is = is
-same_part parts.Report o doubled other text is = is
+-- no text tells of tables and of doubled blocks
+pub same_part : (part : Part) (o : Outcome) (tables chains : List (List ℕ)) (doubled other : List (ℕ × Owner)) (text : List ℕ) → IsPartText part (record o { tables = tables; doubled = doubled }) text → IsPartText part (record o { tables = chains; doubled = other }) text
+same_part parts.Tree o tables chains doubled other text is = is
+same_part parts.Free o tables chains doubled other text is = is
+same_part parts.Faults o tables chains doubled other text is = is
+same_part parts.Report o tables chains doubled other text is = is

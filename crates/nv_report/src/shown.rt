@@ -22,9 +22,9 @@ pub struct Shown<'a> {
 impl<'a> Shown<'a> {
     ghost use Rattle.nv_report.specs.Shown.{shown_of};
 
-    /// What a recovery found, but for the doubled blocks by themselves, of which no text tells.
+    /// What a recovery found, but for the tables and the doubled blocks by themselves, of which no text tells.
     pub fn of(recovered: &'a Recovered) -> Shown<'a>
-        ensures { shown_of result ≡ record (outcome_of recovered.now) { doubled = [] } }
+        ensures { shown_of result ≡ record (outcome_of recovered.now) { tables = []; doubled = [] } }
     {
         Shown {
             sup: &recovered.sup,

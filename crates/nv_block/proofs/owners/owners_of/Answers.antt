@@ -1,36 +1,20 @@
-use Rattle.std.proofs.Common.{◌≡◌, [], ◌∷◌, ◌++◌, List, map, refl, ap, sym, ◌∙◌, subst, append-nil}
-use Rattle.std.specs.List.{Contains}
-use Rattle.std.proofs.lemmas.List.{append_assoc}
-use Rattle.std.proofs.lemmas.List.Elements.{Contains-append_right}
-use Rattle.nv_super.proofs.Rising.{Contains-head}
-use Rattle.nv_scan.specs.declared.piece.Row.{Row}
-use Rattle.nv_block.specs.Owned.{AreOwnersBy}
-use Rattle.nv_block.proofs.AllOwners.{all_owners, one_more, small_row}
+use Rattle.std.proofs.Common.{◌++◌, ◌∙◌, List, ap}
+use Rattle.std.proofs.lemmas.List.Elements.{All-contains_itself}
+use Rattle.nv_super.specs.declared.owners.Owner.{Owner}
+use Rattle.nv_scan.specs.ChainBlocks.{claims_of_chains}
+use Rattle.nv_block.specs.Owned.{owners_at}
+use Rattle.nv_block.proofs.AllOwners.{all_owners, small_row}
 use Rattle.nv_block.proofs.owners.owners_of.Goals as goal
 
-pub loop-row-init : goal.loop-row-init
-loop-row-init c = ([], ap (map (λ entry. entry.1)) c.into_iter-row-iterator.ensures.into_iter_gives ∙ c.iter-row-items.ensures.rows, ([], refl, c.new-owners.ensures.items))
-
-pub push_row-requires : goal.push_row-requires
-push_row-requires c =
-    let (region, l, layout, are) = c.requires in
-    let (done, left, found) = c.loop-row.invariant in
-    let row = c.in-Some.row.now in
-    let more = map (λ entry. entry.1) c.next.new.self in
-    let all : done ++ row ∷ more ≡ c.args.rows.now.items = ap (λ rest. done ++ map (λ entry. entry.1) rest) (sym c.in-Some.ensures.steps) ∙ left in
-    small_row region l c.args.rows.now.items are layout row (subst (λ (rows : List Row). Contains rows row) all (Contains-append_right done (row ∷ more) row (Contains-head row more)))
-
-pub loop-row-preserved : goal.loop-row-preserved
-loop-row-preserved c =
-    let (done, left, found) = c.loop-row.invariant in
-    let row = c.in-Some.row.now in (
-      done ++ row ∷ [],
-      append_assoc done (row ∷ []) (map (λ entry. entry.1) c.next.new.self) ∙ ap (λ rest. done ++ map (λ entry. entry.1) rest) (sym c.in-Some.ensures.steps) ∙ left,
-      one_more done row c.args.block _ _ found c.in_ok-push_row.ensures,
-    )
+pub push_rows-requires : goal.push_rows-requires
+push_rows-requires c = λ k d less.
+    let (region, are) = c.requires in
+    small_row region c.args.tables.now.layout c.args.rows.now.items are c.are_laid.ensures.layout _ (All-contains_itself c.args.rows.now.items k d less)
 
 pub returns : goal.returns
-returns c region l chainless are =
-    let (done, left, found) = c.loop-row.invariant in
-    let all = sym (append-nil done) ∙ ap (λ rest. done ++ map (λ entry. entry.1) rest) (sym c.in-None.ensures.steps.0) ∙ left in
-    all_owners region l c.args.rows.now.items are chainless c.args.block c.loop-row.owners.items (subst (λ (rows : List Row). AreOwnersBy rows c.args.block c.loop-row.owners.items) all found)
+returns c region are =
+    let l = c.args.tables.now.layout in
+    let b = c.args.block in
+    let own = c.in_ok-push_rows.ensures in
+    let first = c.in_ok-push_tables.ensures ∙ ap (λ (os : List Owner). os ++ owners_at b (claims_of_chains l l.sup.cpus)) c.new-owners.ensures.items in
+    all_owners region l c.args.rows.now.items are c.are_laid.ensures own.0 own.1 b c.push_rows.new.owners.items (own.2 ∙ ap (λ (os : List Owner). os ++ owners_at b own.0) first)

@@ -3,12 +3,11 @@ use Rattle.nv_region.specs.Region.{Region}
 use Rattle.nv_super.specs.declared.faults.Fault.{Fault}
 use Rattle.nv_report.specs.Last.{how_it_went, status_of}
 use Rattle.nv_report.specs.nv_outcome.Answer.{outcome_of}
-use Rattle.nv_report.proofs.nv_outcome.SuperOf.{layout_of_super}
 use Rattle.nv_checking.specs.Explained.{IsExplainedText}
 use Rattle.nv_checking.proofs.explained.explain_memory.Goals as goal
 
 pub explained_text-requires : goal.explained_text-requires
-explained_text-requires g c = let may = rw c.in-Recovered.is at c.in_ok-answer.ensures.ok in layout_of_super (g.P.Pmem.region c.args.memory.now) c.in-Recovered.recovered.sup may.2.sup
+explained_text-requires g c = let of = rw c.in-Recovered.is at c.in_ok-answer.ensures.lists in of.2
 
 pub returns-in_ok-explained_text-in-Recovered : goal.returns-in_ok-explained_text-in-Recovered
 returns-in_ok-explained_text-in-Recovered g c =

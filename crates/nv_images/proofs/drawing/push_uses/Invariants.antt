@@ -3,4 +3,4 @@ use Rattle.nv_images.specs.Drawing.{use_lines}
 use Rattle.nv_images.proofs.drawing.push_uses.Given as goal
 
 abbrev pub invariant-loop-place : goal.invariant-loop-place
-invariant-loop-place l = string_bytes l.out ++ use_lines l.y l.place (drop l.place l.kind-items) ≡ string_bytes l.initial.out ++ use_lines l.y 0 l.kind-items
+invariant-loop-place l = string_bytes l.out ++ use_lines l.y l.place (drop l.place l.uses) ≡ string_bytes l.initial.out ++ use_lines l.y 0 l.uses

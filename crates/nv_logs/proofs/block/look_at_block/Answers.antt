@@ -2,11 +2,8 @@ use Rattle.std.proofs.Common.{string_bytes}
 use Rattle.std.proofs.lemmas.Result.{IfOk-weaker}
 use Rattle.nv_region.specs.Region.{region_of}
 use Rattle.nv_outcome.specs.nv_journal.Undo.{undone}
-use Rattle.nv_outcome.specs.Answer.{outcome_of}
-use Rattle.nv_outcome.proofs.Fixed.{fixed_outcome}
-use Rattle.nv_outcome.proofs.SuperOf.{layout_of_super}
 use Rattle.nv_checking.proofs.Found.{as_found}
-use Rattle.nv_logs.proofs.BlockLooks.{found_block, refused_block}
+use Rattle.nv_logs.proofs.BlockLooks.{found_block, found_rows, refused_block}
 use Rattle.nv_logs.proofs.block.look_at_block.Goals as goal
 
 pub look_in-requires : goal.look_in-requires
@@ -14,7 +11,7 @@ look_in-requires c =
     let R = region_of c.args.bytes.now in
     let found = c.in-Recovered.found in
     let is = as_found R c.in_ok-image.image c.in-Recovered._memory found c.in-Recovered.is c.in_ok-image.ensures in
-    record { layout = layout_of_super R found.sup is.0.sup; rows = (undone found.sup R, (fixed_outcome R (outcome_of found) is.0).rows) }
+    (undone found.sup R, found_rows R c.in-Recovered._memory found is)
 
 pub returns-in-Recovered : goal.returns-in-Recovered
 returns-in-Recovered c =

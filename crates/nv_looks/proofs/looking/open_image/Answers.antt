@@ -9,7 +9,7 @@ use Rattle.nv_looks.proofs.looking.open_image.Goals as goal
 pub open-requires : goal.open-requires
 open-requires c =
     let can = opens (region_of c.args.bytes.now) c.in-Recovered.memory c.in-Recovered.recovered (as_found (region_of c.args.bytes.now) c.in_ok-image.image c.in-Recovered.memory c.in-Recovered.recovered c.in-Recovered.is c.in_ok-image.ensures) in
-    record { outcome = can.0; lists = can.2; own = can.1; numbers = can.3; settled = λ i x reads. reads }
+    record { outcome = can.0; lists = can.2; own = can.1; numbers = can.3; tables = can.4; settled = λ i x reads. reads }
 
 pub returns-in-Recovered : goal.returns-in-Recovered
 returns-in-Recovered c = mounted (region_of c.args.bytes.now) c.in-Recovered.memory c.in-Recovered.recovered (as_found (region_of c.args.bytes.now) c.in_ok-image.image c.in-Recovered.memory c.in-Recovered.recovered c.in-Recovered.is c.in_ok-image.ensures) c.open.result

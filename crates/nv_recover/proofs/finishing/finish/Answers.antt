@@ -15,6 +15,7 @@ from_rows-requires c = rows_slotted c.are_laid.ensures c.requires.scanned.1.inod
 pub returns : goal.returns
 returns c = λ old new started scanned. answer_of started scanned record {
   sup = refl;
+  tables = refl;
   rows = c.in_ok-rows.ensures.rows;
   numbers = record { sup = c.in_ok-rows.ensures.sup; sizes = c.in_ok-rows.ensures.sizes };
   outside = subst (λ (first : List ℕ). AreOutside first c.args.started.sup c.in_ok-free.free) c.deref.ensures.value c.in_ok-free.ensures.outside;

@@ -3,7 +3,7 @@ use Rattle.std.proofs.lemmas.Result.{IfOk-from_err}
 use Rattle.nv_recover.specs.Errors.{Fails, comes_first}
 use Rattle.nv_recover.specs.declared.errors.RecoverError.{RecoverError}
 use Rattle.nv_recover.specs.declared.errors.RecoverError.TheVariants.{Stopped, Workers}
-use Rattle.nv_recover.proofs.Answers.{numbers_fixed, tables_blocks, tables_sup}
+use Rattle.nv_recover.proofs.Answers.{tables_blocks, tables_sup}
 use Rattle.nv_recover.proofs.Handed.{goes_on, handed, memory_fails, memory_goes_on, memory_not_burnt, memory_not_first}
 use Rattle.nv_recover.proofs.Stops.{stop_before}
 use Rattle.nv_region.proofs.Wordwise.{stores_none}
@@ -30,8 +30,11 @@ returns-clause-once g c = (c.in_ok-finish.ensures _ _ c.in_ok-started.ensures.ok
 pub returns-clause-lists : goal.returns-clause-lists
 returns-clause-lists g c = (c.in_ok-finish.ensures _ _ c.in_ok-started.ensures.ok c.in_ok-scanned.ensures).lists
 
+pub returns-clause-tables : goal.returns-clause-tables
+returns-clause-tables g c = (c.in_ok-finish.ensures _ _ c.in_ok-started.ensures.ok c.in_ok-scanned.ensures).tables
+
 pub returns-clause-numbers : goal.returns-clause-numbers
-returns-clause-numbers g c = numbers_fixed (c.in_ok-finish.ensures _ _ c.in_ok-started.ensures.ok c.in_ok-scanned.ensures)
+returns-clause-numbers g c = (c.in_ok-finish.ensures _ _ c.in_ok-started.ensures.ok c.in_ok-scanned.ensures).numbers
 
 pub returns-clause-kept : goal.returns-clause-kept
 returns-clause-kept g c = record {

@@ -1,9 +1,9 @@
 use Rattle.std.proofs.Common.{rules, ◌≡◌, ◌≢◌, ◌∙◌, ◌*◌, IsTrue, ap, refl, subst, sym}
 use Rattle.std.proofs.lemmas.Result.{IfOk-from_err}
 use Rattle.nv_region.proofs.Fuses.{keeps_within}
-use Rattle.nv_super.specs.Layout.{system_blocks}
 use Rattle.nv_super.specs.declared.superblock.Super.{Super}
 use Rattle.nv_super.proofs.Accepted.{super_outside}
+use Rattle.nv_journal.specs.Permitted.{slots_end}
 use Rattle.nv_journal.specs.Undone.{AllQuiet}
 use Rattle.nv_inode.specs.Chains.{chain_faults}
 use Rattle.nv_outcome.proofs.SuperOf.{one_super}
@@ -12,7 +12,7 @@ use Rattle.nv_recover.specs.Errors.{Fails, comes_first, error_of_undo}
 use Rattle.nv_recover.specs.declared.errors.RecoverError.{RecoverError}
 use Rattle.nv_recover.specs.declared.errors.RecoverError.TheVariants.{Super as Refused, Stopped}
 use Rattle.nv_recover.proofs.Handed.{burnt_of, fails_of, goes_on, handed, memory_goes_on, memory_not_burnt, memory_not_first, memory_stays, no_stop_of}
-use Rattle.nv_recover.proofs.Stops.{front_of, open_front, recovery_stores, stop_before, stop_undone}
+use Rattle.nv_recover.proofs.Stops.{recovery_stores, stop_before, stop_undone}
 use Rattle.nv_region.proofs.Wordwise.{stores_none}
 use Rattle.nv_recover.proofs.starting.start.Goals as goal
 
@@ -57,13 +57,13 @@ returns-in_err-journal-clause-kept g c = record {
         (no_stop_of c.undo_by.result c.in_err-journal.field-0.0 c.in_err-journal.was (c.undo_by.ensures.ends.quiet_done (subst (λ (t : Super). AllQuiet t.cpus R) (one_super R c.in_ok-sup.sup s c.in_ok-sup.ensures.accepted is) quiet)));
     unstopped = λ s is free. let R = g.P.Pmem.region c.args.memory.now in
         handed c.from_residual-in_err-journal.result (error_of_undo c.in_err-journal.field-0.0) (λ (e : RecoverError). e ≢ Stopped) c.from_residual-in_err-journal.ensures.1
-        (no_stop_of c.undo_by.result c.in_err-journal.field-0.0 c.in_err-journal.was (c.undo_by.ensures.ends.open_done (open_front R c.in_ok-sup.sup (g.P.Pmem.fuse c.args.memory.now) c.in_ok-sup.ensures.accepted (subst (λ (t : Super). IsTrue ((g.P.Pmem.fuse c.args.memory.now).is_open (4096 * system_blocks t))) (one_super R c.in_ok-sup.sup s c.in_ok-sup.ensures.accepted is) free))));
+        (no_stop_of c.undo_by.result c.in_err-journal.field-0.0 c.in_err-journal.was (c.undo_by.ensures.ends.open_done (subst (λ (t : Super). IsTrue ((g.P.Pmem.fuse c.args.memory.now).is_open (4096 * slots_end t))) (one_super R c.in_ok-sup.sup s c.in_ok-sup.ensures.accepted is) free)));
   };
   quiet = λ s is quiet. let R = g.P.Pmem.region c.args.memory.now in
       c.undo_by.ensures.ends.quiet (subst (λ (t : Super). AllQuiet t.cpus R) (one_super R c.in_ok-sup.sup s c.in_ok-sup.ensures.accepted is) quiet);
   untouched = search rules;
   wrote = recovery_stores _ _ _ _ c.in_ok-sup.sup c.in_ok-sup.ensures.accepted c.undo_by.ensures.stores.wrote;
-  keeps_fuse = keeps_within (λ limit past. front_of (g.P.Pmem.region c.args.memory.now) c.in_ok-sup.sup limit c.in_ok-sup.ensures.accepted (past c.in_ok-sup.sup c.in_ok-sup.ensures.accepted)) c.undo_by.ensures.ends.keeps_fuse;
+  keeps_fuse = keeps_within (λ limit past. past c.in_ok-sup.sup c.in_ok-sup.ensures.accepted) c.undo_by.ensures.ends.keeps_fuse;
   settled = λ none. IfOk-from_err c.from_residual-in_err-journal.result _ c.from_residual-in_err-journal.ensures.0;
   any_stop = λ s is none. stop_undone (g.P.Pmem.region c.args.memory.now) (g.P.Pmem.region c.undo_by.new.memory) (g.P.Pmem.may_hold c.undo_by.new.memory) c.in_ok-sup.sup c.in_ok-sup.ensures.layout c.in_ok-sup.ensures.accepted (c.undo_by.ensures.moments.any_stop none);
 }
@@ -75,7 +75,7 @@ returns-clause-kept g c = record {
       c.undo_by.ensures.ends.quiet (subst (λ (t : Super). AllQuiet t.cpus R) (one_super R c.in_ok-sup.sup s c.in_ok-sup.ensures.accepted is) quiet);
   untouched = tt;
   wrote = recovery_stores _ _ _ _ c.in_ok-sup.sup c.in_ok-sup.ensures.accepted c.undo_by.ensures.stores.wrote;
-  keeps_fuse = keeps_within (λ limit past. front_of (g.P.Pmem.region c.args.memory.now) c.in_ok-sup.sup limit c.in_ok-sup.ensures.accepted (past c.in_ok-sup.sup c.in_ok-sup.ensures.accepted)) c.undo_by.ensures.ends.keeps_fuse;
+  keeps_fuse = keeps_within (λ limit past. past c.in_ok-sup.sup c.in_ok-sup.ensures.accepted) c.undo_by.ensures.ends.keeps_fuse;
   settled = c.in_ok-journal.ensures.ends.settled;
   any_stop = λ s is none. stop_undone (g.P.Pmem.region c.args.memory.now) (g.P.Pmem.region c.undo_by.new.memory) (g.P.Pmem.may_hold c.undo_by.new.memory) c.in_ok-sup.sup c.in_ok-sup.ensures.layout c.in_ok-sup.ensures.accepted (c.undo_by.ensures.moments.any_stop none);
 }

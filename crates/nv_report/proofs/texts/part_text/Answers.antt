@@ -8,5 +8,5 @@ use Rattle.nv_report.proofs.TextLemmas.{same_part}
 use Rattle.nv_report.proofs.texts.part_text.Goals as goal
 
 pub returns : goal.returns
-returns c = IfOk-weaker c.shown_text.result _ _ (λ text is. same_part c.args.part (outcome_of c.args.recovered.now) [] c.args.recovered.now.doubled.items (string_bytes text)
+returns c = IfOk-weaker c.shown_text.result _ _ (λ text is. same_part c.args.part (outcome_of c.args.recovered.now) [] c.args.recovered.now.tables.layout.chains [] c.args.recovered.now.doubled.items (string_bytes text)
     (subst (λ (o : Outcome). IsPartText c.args.part o (string_bytes text)) c.of.ensures is)) c.shown_text.ensures
