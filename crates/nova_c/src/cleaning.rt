@@ -59,8 +59,8 @@ pub extern "C" fn nova_clean(
     ensures same_tree { IsOpen fs.old → result ≡ 0 → SameTree (shown fs.new.mount) (shown fs.old.mount) }
     // Which page went, by the log of the inode.
     ensures logs { IsOpen fs.old → result ≡ 0 → (names : List (List ℕ)) → IsPath path.now names → logs_clean (gone out.new) fs.old.mount.memory fs.old.mount names fs.new.mount.memory }
-    ensures unchanged { IsOpen fs.old → result ≢ 0 → SameMount fs.old.mount fs.new.mount }
-    ensures untouched { result ≢ 0 → out.new ≡ out.old }
+    // A refusal leaves the mount as it was, and what is told.
+    ensures unchanged { (IsOpen fs.old → result ≢ 0 → SameMount fs.old.mount fs.new.mount) × (result ≢ 0 → out.new ≡ out.old) }
     ensures runs { IsRunning fs.old → IsRunning fs.new × (result ≢ 15) }
     ensures keeps { IsOpen fs.old → IsOpen fs.new × KeepsMount fs.old.mount fs.new.mount }
     ensures any_stop { IsRunning fs.old → fs.old.mount.read_only ≡ false → (names : List (List ℕ)) → IsPath path.now names

@@ -9,6 +9,7 @@ pub mod RowChange
 pub mod Stopped
 pub mod Tests
 pub mod SetAttr
+pub mod CallKept
 pub mod FileStanding
 pub mod OwnedPages
 pub mod SetSize

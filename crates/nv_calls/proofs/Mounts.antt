@@ -75,7 +75,7 @@ kept_of_mounted R s rows free faults read_only stopped is writes lists known = r
   none = none_lasts faults (none_found faults (sym is ∙ writes))
 
   shown : (held : Store) → IsMounted R s held rows free.pools → IsOutcome R (lasting_outcome (told s rows free [] faults))
-  shown held m = subst (λ (fs : List Fault). IsOutcome R (record { sup = s; rows = rows; free = free.pools; doubled = []; faults = fs })) (sym none) (closes.closing m.sound rows free.pools m.keeps)
+  shown held m = subst (λ (fs : List Fault). IsOutcome R (record { sup = s; tables = (fixed_layout s).chains; rows = rows; free = free.pools; doubled = []; faults = fs })) (sym none) (closes.closing m.sound rows free.pools m.keeps)
 
 -- Of one that was stopped nothing more is kept.
 pub kept_when_stopped : (R : Region) (s : Super) (rows : List Row) (free : FreeLists) (faults : List Fault) (read_only stopped : Bool) → read_only ≡ has_faults faults → free.sup ≡ s → stopped ≡ true → IsKept R s rows free faults read_only stopped

@@ -8,6 +8,7 @@ use Rattle.nv_region.specs.Region.{Region, size}
 use Rattle.nv_super.specs.declared.superblock.Super.{Super}
 use Rattle.nv_super.specs.declared.superblock.SuperFault.{SuperFault}
 use Rattle.nv_super.specs.declared.superblock.SuperFault.TheVariants.{Length}
+use Rattle.nv_super.specs.Layout.{fixed_layout}
 use Rattle.nv_super.specs.Super.{IsRefused, IsSuper}
 use Rattle.nv_super.specs.declared.owners.Run.{Run}
 use Rattle.nv_super.specs.declared.kind.Kind.{Kind}
@@ -18,6 +19,7 @@ use Rattle.nv_scan.specs.declared.piece.Row.{Row}
 use Rattle.nv_held.specs.nv_outcome.Outcome.{Outcome, IsOutcome}
 use Rattle.nv_held.specs.nv_outcome.Same.{SameOutcome, SameRow, SameRows}
 use Rattle.nv_held.specs.nv_graph.Read.{row_of}
+use Rattle.nv_held.proofs.nv_outcome.Fixed.{fixed_outcome}
 use Rattle.nv_held.proofs.nv_outcome.OnlyOne.{same_outcome}
 use Rattle.nv_held.proofs.nv_outcome.SuperOf.{blocks_of_super, is_equal}
 use Rattle.nv_held.specs.Held.{Store}
@@ -67,6 +69,9 @@ none_known (x ∷ xs) known = absurd (∥∥₁_elim known never_prop (λ e. (cc
 pub pools_prop : (a b : List (List Run)) → IsProp (a ≡ b)
 pools_prop a b = hlevel (props, ℕ_set)
 
+pub chains_prop : (a b : List (List ℕ)) → IsProp (b ≡ a)
+chains_prop a b = hlevel (props, ℕ_set)
+
 super_set : (a b : Super) → IsProp (b ≡ a)
 super_set a b = hlevel (props, ℕ_set)
 
@@ -84,7 +89,7 @@ module _ {s : Super} {held : Store} {R S : Region} (w : ShowAlike s held R S) wh
     pub one_outcome : SameOutcome o other
     one_outcome =
         let here = as_faultless w.first o is in
-        record { sup = there.sup ∙ sym here.sup; rows = there.rows; free = there.free; doubled = there.doubled ∙ sym here.doubled; faults = there.faults ∙ sym here.faults }
+        record { sup = there.sup ∙ sym here.sup; tables = there.tables ∙ sym here.tables; rows = there.rows; free = there.free; doubled = there.doubled ∙ sym here.doubled; faults = there.faults ∙ sym here.faults }
 
     -- a row's file has the same bytes
     row_bytes : (row : Row) → Contains o.rows row → (x : ℕ) → x < row.numbers.size → byte_in S (block_at row.index (x / 4096)) x ≡ byte_in R (block_at row.index (x / 4096)) x
@@ -115,6 +120,7 @@ module _ {s : Super} {held : Store} {R S : Region} (w : ShowAlike s held R S) wh
 pub alike_outcome : (R S : Region) (o other : Outcome) → AreAlike R S → IsOutcome R o → IsOutcome S other → SameOutcome o other
 alike_outcome R S o other known is is_other = (let same = ∥∥₁_map known (λ w. one_outcome w.2 o other is is_other) in record {
   sup = ∥∥₁_elim same (super_set o.sup other.sup) (λ x. x.sup);
+  tables = ∥∥₁_elim same (chains_prop o.tables other.tables) (λ x. x.tables);
   rows = rows_known o.rows other.rows (∥∥₁_map same (λ x. x.rows));
   free = ∥∥₁_elim same (pools_prop other.free o.free) (λ x. x.free);
   doubled = sym (none_known other.doubled (∥∥₁_map known (λ w. (let x = as_faultless w.2.second other is_other in sym x.doubled)))) ∙ none_known o.doubled (∥∥₁_map known (λ w. (let x = as_faultless w.2.first o is in sym x.doubled)));
@@ -153,8 +159,11 @@ bare o = faultless_outcome o.sup o.rows o.free
 
 made_bare : (R : Region) (o : Outcome) → IsOutcome R o → [] ≡ o.doubled → [] ≡ o.faults → IsOutcome R (bare o)
 made_bare R o is doubled faults = subst (λ (p : Outcome). IsOutcome R p) same is where
+  tables : o.tables ≡ (fixed_layout o.sup).chains
+  tables = (fixed_outcome R o is).tables
+
   same : o ≡ bare o
-  same = λ j. record o { doubled = (sym doubled) j; faults = (sym faults) j }
+  same = λ j. record o { tables = tables j; doubled = (sym doubled) j; faults = (sym faults) j }
 
 -- the outcome of each has none
 pub alike_faultless : (R S : Region) → AreAlike R S → (o : Outcome) → IsOutcome R o → IsOutcome R (faultless_outcome o.sup o.rows o.free)

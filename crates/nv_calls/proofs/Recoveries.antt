@@ -49,6 +49,7 @@ later_same {left} {next} {s} {rows} {free} w sup same o is =
     let both = same_outcome (undone s left) (lasting_outcome e.0) (lasting_outcome o) here there in
     record {
       sup = one;
+      tables = both.tables ∙ first.tables;
       rows = rows_then rows e.0.rows o.rows first.rows both.rows;
       free = both.free ∙ first.free;
       doubled = both.doubled ∙ first.doubled;

@@ -1,7 +1,8 @@
 -- Regions that nobody can tell apart, but by words that no definition reads; and calls that leave such regions of such.
-use Rattle.std.specs.Prelude.{◌≡◌, ℕ, ◌<◌, ⊤, List, Some, None}
+use Rattle.std.specs.Prelude.{◌≡◌, ℕ, ◌+◌, ◌<◌, ⊤, List, Some, None}
 use Rattle.nv_region.specs.Region.{Region}
 use Rattle.nv_super.specs.declared.superblock.Super.{Super}
+use Rattle.nv_super.specs.declared.kind.Kind.{Kind}
 use Rattle.nv_super.specs.declared.owners.Run.{Run}
 use Rattle.nv_super.specs.Layout.{Layout, fixed_layout}
 use Rattle.nv_scan.specs.State.{size_of}
@@ -11,10 +12,13 @@ use Rattle.nv_held.specs.Held.{Held, Store, good_in}
 use Rattle.nv_held.specs.Bytes.{byte_of}
 use Rattle.nv_held.specs.Mounted.{ShowsSound, faultless_outcome}
 use Rattle.nv_tree.specs.Tree.{SameTree}
-use Rattle.nv_tree.specs.Refusals.{Path, Tests, first_refusal}
+use Rattle.nv_tree.specs.Refusals.{Path, Tests, first_refusal, create_tests, link_tests, rename_tests, rmdir_tests, set_attr_tests, set_size_tests, unlink_tests, write_tests}
+use Rattle.nv_tree.specs.Replace.{replace_tests}
 use Rattle.nv_paths.specs.Seen.{tree_of}
-use Rattle.nv_calls.specs.Effects.{Logs, Makes}
+use Rattle.nv_calls.specs.Effects.{Logs, LogsBytes, LogsUnlink, Makes, logs_attributes, logs_inode, logs_link, logs_removal, logs_rename, logs_replace, logs_size}
+use Rattle.nv_calls.specs.Effects.{makes_attributes, makes_bytes, makes_inode, makes_link, makes_removal, makes_rename, makes_replace, makes_size, makes_unlink}
 use Rattle.nv_calls.specs.Mount.{Mount}
+use Rattle.nv_calls.specs.World.{world_of}
 
 -- each file that is held has the same bytes in both regions
 abbrev pub SameBytes : Layout → Store → Region → Region → Type 0
@@ -55,3 +59,20 @@ IsAllowed tests R m names = (needed : ℕ) × (first_refusal (tests R m (Some na
 abbrev pub KeepsAlike : (Region → Mount ⊤ → Path → ℕ → Tests) → Makes ⊤ → Logs ⊤ → Type 0
 KeepsAlike tests makes logs = (R S T U : Region) (m k : Mount ⊤) (names : List (List ℕ)) → AreAlike R S → IsFaultlessMount R m → IsFaultlessMount S k → IsAllowed tests R m names
     → WasDone makes logs R m names T → WasDone makes logs S k names U → AreAlike T U
+
+-- Of alike regions each call that changes names leaves alike regions.
+pub record NameCallsKeepAlike : Type 0 where
+  pub create : (kind : Kind) (cpu mode time : ℕ) → KeepsAlike (λ R m p n. create_tests (world_of m) (tree_of R m.rows) cpu p n) (makes_inode kind cpu mode time) (logs_inode kind cpu mode time)
+  pub link : (cpu time : ℕ) (q : Path) → KeepsAlike (λ R m p n. link_tests (world_of m) (tree_of R m.rows) cpu p q n) (makes_link time q) (logs_link cpu time q)
+  pub unlink : (cpu time : ℕ) → KeepsAlike (λ R m p n. unlink_tests (world_of m) (tree_of R m.rows) cpu p n) (makes_unlink time) (LogsUnlink cpu time)
+  pub rmdir : (cpu time : ℕ) → KeepsAlike (λ R m p n. rmdir_tests (world_of m) (tree_of R m.rows) cpu p n) (makes_removal time) (logs_removal cpu time)
+  pub rename : (cpu time : ℕ) (q : Path) → KeepsAlike (λ R m p n. rename_tests (world_of m) (tree_of R m.rows) cpu p q n) (makes_rename time q) (logs_rename cpu time q)
+  pub replace : (cpu time : ℕ) (q : Path) → KeepsAlike (λ R m p n. replace_tests (world_of m) (tree_of R m.rows) cpu p q n) (makes_replace time q) (logs_replace cpu time q)
+
+-- So does each that changes the bytes, the size or the attributes of an inode.
+pub record InodeCallsKeepAlike : Type 0 where
+  pub write : (cpu offset count : ℕ) (bytes : List ℕ) (time : ℕ)
+      → KeepsAlike (λ R m p n. write_tests (world_of m) (tree_of R m.rows) cpu p (offset + count) n) (makes_bytes offset bytes time) (LogsBytes cpu offset count time)
+  pub set_size : (cpu bytes time : ℕ) → KeepsAlike (λ R m p n. set_size_tests (world_of m) (tree_of R m.rows) cpu p bytes n) (makes_size bytes time) (logs_size cpu bytes time)
+  pub set_attr : (cpu mode owner group time : ℕ)
+      → KeepsAlike (λ R m p n. set_attr_tests (world_of m) (tree_of R m.rows) cpu p n) (makes_attributes mode owner group time) (logs_attributes cpu mode owner group time)

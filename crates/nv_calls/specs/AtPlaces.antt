@@ -1,11 +1,17 @@
 -- What the steps of names make of all rows.
-use Rattle.std.specs.Prelude.{◌≡◌, ℕ, List, set, slice_get, Some, ◌⊎◌, ◌≤◌, remove, None, ◌+◌, ◌-◌, ◌%◌, ◌<◌, nat_lt, if◌then◌else◌}
+use Rattle.std.specs.Prelude.{◌≡◌, ℕ, List, set, slice_get, Some, ◌⊎◌, ◌≤◌, remove, None, ◌+◌, ◌-◌, ◌%◌, ◌<◌, nat_lt, if◌then◌else◌, Result, IfErr}
 use Rattle.nv_region.specs.Region.{Region}
+use Rattle.nv_region.specs.Stops.{Choices}
+use Rattle.nv_region.specs.Fuses.{FuseState}
 use Rattle.nv_super.specs.declared.superblock.Super.{Super}
 use Rattle.nv_super.specs.declared.kind.Kind.{Kind}
 use Rattle.nv_alloc.specs.FreeValue.{FreeLists}
 use Rattle.nv_scan.specs.declared.piece.Row.{Row}
 use Rattle.nv_rows.specs.Rows.{HasInserted}
+use Rattle.nv_rows.specs.RowList.{RowList}
+use Rattle.nv_tree.specs.declared.refusal.Refusal.{Refusal}
+use Rattle.nv_tree.specs.declared.refusal.Refusal.TheVariants.{Stopped}
+use Rattle.nv_steps.specs.Keeping.{SettlesStep}
 use Rattle.nv_held.specs.nv_outcome.Same.{SameRows}
 use Rattle.nv_steps.specs.Taken.{SamePools}
 use Rattle.nv_steps.specs.NewNames.{MakesNamed}
@@ -31,6 +37,15 @@ pub record LeavesRows {P : Type 0} (old new : P) (before after : FreeLists) (had
   pub memory : new ≡ old
   pub free : SamePools before after
   pub rows : SameRows had has'
+
+-- What such a step keeps, with what every step does: where it was refused but by a stop, it has changed nothing, and the numbers
+-- that rows can have stay.
+pub record KeepsRows {M T : Type 0} (region : M → Region) (may_hold : M → Choices) (fuse : M → FuseState) (old new : M) (before after : FreeLists) (had has' : RowList)
+    (result : Result T Refusal) : Type 0 where
+  pub step : SettlesStep region may_hold fuse old new before after result
+  pub open step use *
+  pub unchanged : IfErr result (λ e. (e ≡ Stopped → ⊥) → LeavesRows old new before after had.items has'.items)
+  pub tables : (has'.sup ≡ had.sup) × (has'.sizes ≡ had.sizes)
 
 -- an inode that can go with a name: a directory without names, or a file with no further link
 abbrev pub CanGo : Row → Type 0

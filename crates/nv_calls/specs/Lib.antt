@@ -1,6 +1,8 @@
 pub mod Mount
 pub mod World
 pub mod Same
+pub mod Keeping
+pub mod Storing
 pub mod AttributesCall
 pub mod Stat
 pub mod Listing

@@ -2,6 +2,7 @@
 use Rattle.std.specs.Prelude.{◌≡◌, ℕ, nat_lt, Bool, false, List, length}
 use Rattle.nv_region.specs.Region.{Region}
 use Rattle.nv_super.specs.declared.superblock.Super.{Super}
+use Rattle.nv_super.specs.Layout.{fixed_layout}
 use Rattle.nv_super.specs.declared.faults.Fault.{Fault}
 use Rattle.nv_super.specs.declared.owners.Owner.{Owner}
 use Rattle.nv_journal.specs.Undo.{undone}
@@ -27,9 +28,9 @@ pub record Mount (P : Type 0) : Type 0 where
 abbrev pub shown : {P : Type 0} → (P → Region) → Mount P → Tree
 shown region m = tree_of (region m.memory) m.rows
 
--- these parts as an outcome
+-- these parts as an outcome, by the fixed tables
 abbrev pub told : Super → List Row → FreeLists → List (ℕ × Owner) → List Fault → Outcome
-told s rows free doubled faults = record { sup = s; rows = rows; free = free.pools; doubled = doubled; faults = faults }
+told s rows free doubled faults = record { sup = s; tables = (fixed_layout s).chains; rows = rows; free = free.pools; doubled = doubled; faults = faults }
 
 -- whether a recovery found faults
 abbrev pub has_faults : List Fault → Bool

@@ -1,9 +1,7 @@
 //! `clean`: the first page that the log of an inode can do without is taken out of it, and pages that go one after another.
 
-ghost use Rattle.std.specs.Prelude.{◌≡◌, ◌⊎◌, ◌≤◌, ◌∷◌, ℕ, List, Option, Result, IsTrue, IfOk, IfErr, OnOk, false};
-ghost use Rattle.nv_region.specs.Region.{size};
+ghost use Rattle.std.specs.Prelude.{◌≡◌, ◌⊎◌, ◌∷◌, ℕ, List, Option, Result, IsTrue, IfOk, IfErr, OnOk, false};
 ghost use Rattle.nv_region.specs.Stops.{LeavesOnly, NothingPending};
-ghost use Rattle.nv_region.specs.Fuses.{KeepsFuse};
 ghost use Rattle.nv_held.specs.Held.{Held, Store};
 ghost use Rattle.nv_deadpages.specs.Dead.{IsFirstDead};
 ghost use Rattle.nv_held.specs.Mounted.{ShowsSound};
@@ -16,10 +14,10 @@ ghost use Rattle.nv_deadpages.specs.InTurn.{AreDeadPages};
 ghost use Rattle.nv_calls.specs.CleanCall.{IsKnown, LosesPage, ShowsCleaned, clean_inode_tests};
 ghost use Rattle.nv_calls.specs.Effects.{logs_page_less, makes_no_change};
 ghost use Rattle.nv_calls.specs.Mount.{IsKept, shown};
-ghost use Rattle.nv_calls.specs.Same.{KeepsMount, SameMount};
 ghost use Rattle.nv_calls.specs.Stopped.{LeavesCall, StopLeaves};
 ghost use Rattle.nv_paths.specs.Seen.{LeadsTo};
 ghost use Rattle.nv_calls.specs.World.{world_of};
+ghost use Rattle.nv_calls.specs.Keeping.{IsNoPath, KeepsCall, SettlesCall};
 ghost use Rattle.nv_steps.specs.Stores.{StoresIn, one_page_less};
 
 use crate::Fs;
@@ -46,7 +44,6 @@ impl<P: Pmem + Drop> Fs<P> {
     /// Besides these `Memory` where a growth was refused, and `Stopped` where the fuse burns. All but `Stopped` leave
     /// everything as it was.
     pub fn clean(&mut self, path: &[u8]) -> Result<Option<u64>, Refusal>
-        ensures stopped_before { IsTrue self.old.stopped → (result ≡ Result.Err RefusalValue.Stopped) × (self.new ≡ self.old) }
         ensures allowed { (p : Path) → Says path.now p → OnOk result (first_refusal (clean_tests (world_of self.old) (shown P.region self.old) p) ≡ Option.None) }
         ensures refused { self.old.stopped ≡ false → (p : Path) → Says path.now p
             → IfErr result (IsRefusedBy (first_refusal (clean_tests (world_of self.old) (shown P.region self.old) p))) }
@@ -55,17 +52,8 @@ impl<P: Pmem + Drop> Fs<P> {
         ensures log { (names : List (List ℕ)) (i : ℕ) (node : Node) (held : Store) (h : Held) → IsPath path.now names → LeadsTo (shown P.region self.old) names i node
             → ShowsSound (P.region self.old.memory) self.old.sup held → held i ≡ Option.Some h
             → IfOk result (ShowsCleaned (P.region self.old.memory) (P.region self.new.memory) self.old.sup held i h) }
-        ensures unchanged { IfErr result (λ e. (e ≡ RefusalValue.Stopped → ⊥) → SameMount self.old self.new) }
-        ensures stopped { self.old.stopped ≡ false → (IsTrue self.new.stopped → (result ≡ Result.Err RefusalValue.Stopped) × IsTrue (P.fuse self.new.memory).has_burnt)
-            × (result ≡ Result.Err RefusalValue.Stopped → IsTrue self.new.stopped) }
-        ensures keeps { KeepsMount self.old self.new }
-        ensures settled { OnOk result (NothingPending (P.region self.new.memory) (P.may_hold self.new.memory)) }
-        ensures length { size (P.region self.new.memory) ≡ size (P.region self.old.memory) }
-        ensures keeps_fuse { KeepsFuse (λ limit. size (P.region self.old.memory) ≤ limit) (P.fuse self.old.memory) (P.fuse self.new.memory) }
-        // Where the text is no path, all stays as it was.
-        ensures bad_text { ((names : List (List ℕ)) → IsPath path.now names → ⊥) → SameMount self.old self.new }
-        // What was mounted with faults stays as it was.
-        ensures read_only { IsTrue self.old.read_only → SameMount self.old self.new }
+        // What every call that writes keeps.
+        ensures call { SettlesCall P.region P.may_hold P.fuse (IsNoPath path.now) self.old self.new result }
         // Every word outside these places is as it was.
         ensures wrote { (names : List (List ℕ)) (i : ℕ) (node : Node) (held : Store) (h : Held) (o : Option ℕ) → IsPath path.now names → LeadsTo (shown P.region self.old) names i node
             → ShowsSound (P.region self.old.memory) self.old.sup held → held i ≡ Option.Some h → IsFirstDead self.old.sup h.kind i h.created h.entries h.pages o
@@ -89,7 +77,6 @@ impl<P: Pmem + Drop> Fs<P> {
     /// Besides these `Memory` where a growth was refused, and `Stopped` where the fuse burns. All but `Stopped` leave
     /// everything as it was.
     pub fn clean_inode(&mut self, inode: u64) -> Result<Option<u64>, Refusal>
-        ensures stopped_before { IsTrue self.old.stopped → (result ≡ Result.Err RefusalValue.Stopped) × (self.new ≡ self.old) }
         ensures allowed { OnOk result (first_refusal (clean_inode_tests (world_of self.old) (shown P.region self.old) inode) ≡ Option.None) }
         ensures refused { self.old.stopped ≡ false
             → IfErr result (IsRefusedBy (first_refusal (clean_inode_tests (world_of self.old) (shown P.region self.old) inode))) }
@@ -97,15 +84,9 @@ impl<P: Pmem + Drop> Fs<P> {
         // Which page went, by the log of the inode.
         ensures log { (held : Store) (h : Held) → ShowsSound (P.region self.old.memory) self.old.sup held → held inode ≡ Option.Some h
             → IfOk result (ShowsCleaned (P.region self.old.memory) (P.region self.new.memory) self.old.sup held inode h) }
-        ensures unchanged { IfErr result (λ e. (e ≡ RefusalValue.Stopped → ⊥) → SameMount self.old self.new) }
-        ensures stopped { self.old.stopped ≡ false → (IsTrue self.new.stopped → (result ≡ Result.Err RefusalValue.Stopped) × IsTrue (P.fuse self.new.memory).has_burnt)
-            × (result ≡ Result.Err RefusalValue.Stopped → IsTrue self.new.stopped) }
-        ensures keeps { KeepsMount self.old self.new }
+        // What every call that writes keeps.
+        ensures call { KeepsCall P.region P.fuse self.old self.new result }
         ensures settled { OnOk result (NothingPending (P.region self.new.memory) (P.may_hold self.new.memory)) }
-        ensures length { size (P.region self.new.memory) ≡ size (P.region self.old.memory) }
-        ensures keeps_fuse { KeepsFuse (λ limit. size (P.region self.old.memory) ≤ limit) (P.fuse self.old.memory) (P.fuse self.new.memory) }
-        // What was mounted with faults stays as it was.
-        ensures read_only { IsTrue self.old.read_only → SameMount self.old self.new }
         // Every word outside these places is as it was.
         ensures wrote { (held : Store) (h : Held) (o : Option ℕ) → ShowsSound (P.region self.old.memory) self.old.sup held → held inode ≡ Option.Some h
             → IsFirstDead self.old.sup h.kind inode h.created h.entries h.pages o
@@ -130,7 +111,6 @@ impl<P: Pmem + Drop> Fs<P> {
     /// everything as it was.
     pub fn clean_page(&mut self, inode: u64, known: Option<usize>) -> Result<Option<u64>, Refusal>
         requires { IsKnown (P.region self.old.memory) self.old.sup inode known }
-        ensures stopped_before { IsTrue self.old.stopped → (result ≡ Result.Err RefusalValue.Stopped) × (self.new ≡ self.old) }
         ensures allowed { OnOk result (first_refusal (clean_inode_tests (world_of self.old) (shown P.region self.old) inode) ≡ Option.None) }
         ensures refused { self.old.stopped ≡ false
             → IfErr result (IsRefusedBy (first_refusal (clean_inode_tests (world_of self.old) (shown P.region self.old) inode))) }
@@ -138,15 +118,9 @@ impl<P: Pmem + Drop> Fs<P> {
         // Which page went, by the log of the inode.
         ensures log { (held : Store) (h : Held) → ShowsSound (P.region self.old.memory) self.old.sup held → held inode ≡ Option.Some h
             → IfOk result (ShowsCleaned (P.region self.old.memory) (P.region self.new.memory) self.old.sup held inode h) }
-        ensures unchanged { IfErr result (λ e. (e ≡ RefusalValue.Stopped → ⊥) → SameMount self.old self.new) }
-        ensures stopped { self.old.stopped ≡ false → (IsTrue self.new.stopped → (result ≡ Result.Err RefusalValue.Stopped) × IsTrue (P.fuse self.new.memory).has_burnt)
-            × (result ≡ Result.Err RefusalValue.Stopped → IsTrue self.new.stopped) }
-        ensures keeps { KeepsMount self.old self.new }
+        // What every call that writes keeps.
+        ensures call { KeepsCall P.region P.fuse self.old self.new result }
         ensures settled { OnOk result (NothingPending (P.region self.new.memory) (P.may_hold self.new.memory)) }
-        ensures length { size (P.region self.new.memory) ≡ size (P.region self.old.memory) }
-        ensures keeps_fuse { KeepsFuse (λ limit. size (P.region self.old.memory) ≤ limit) (P.fuse self.old.memory) (P.fuse self.new.memory) }
-        // What was mounted with faults stays as it was.
-        ensures read_only { IsTrue self.old.read_only → SameMount self.old self.new }
         // Every word outside these places is as it was.
         ensures wrote { (held : Store) (h : Held) (o : Option ℕ) → ShowsSound (P.region self.old.memory) self.old.sup held → held inode ≡ Option.Some h
             → IsFirstDead self.old.sup h.kind inode h.created h.entries h.pages o

@@ -1,9 +1,7 @@
 //! `create` and `mkdir`: a new inode and its name.
 
-ghost use Rattle.std.specs.Prelude.{◌≡◌, ◌+◌, ◌<◌, ◌≤◌, ◌%◌, ℕ, List, Option, Result, IsTrue, IfErr, OnOk, false};
-ghost use Rattle.nv_region.specs.Region.{size};
+ghost use Rattle.std.specs.Prelude.{◌≡◌, ◌+◌, ◌<◌, ◌≤◌, ◌%◌, ℕ, List, Option, Result, IfErr, OnOk, false};
 ghost use Rattle.nv_region.specs.Stops.{LeavesOnly, NothingPending};
-ghost use Rattle.nv_region.specs.Fuses.{KeepsFuse};
 ghost use Rattle.nv_super.specs.Layout.{fixed_layout, slot_address};
 ghost use Rattle.nv_journal.specs.InOrder.{FirstIsFirst};
 ghost use Rattle.nv_super.specs.declared.kind.Kind.TheVariants.{File, Directory};
@@ -20,25 +18,22 @@ ghost use Rattle.nv_tree.specs.Path.{IsPath, Says, last_name};
 ghost use Rattle.nv_tree.specs.Tree.{SameTree, walk};
 ghost use Rattle.nv_tree.specs.Calls.{created};
 ghost use Rattle.nv_tree.specs.Refusals.{Path, create_tests, first_refusal, IsRefusedBy};
-ghost use Rattle.nv_tree.specs.declared.refusal.Refusal.{Refusal as RefusalValue};
 ghost use Rattle.nv_steps.specs.Grown.{StandsRight};
 ghost use Rattle.nv_calls.specs.NameCalls.{ShowsCreated, create_blocks};
 ghost use Rattle.nv_steps.specs.NameEntries.{name_entries};
 ghost use Rattle.nv_steps.specs.NewNames.{CanName};
-ghost use Rattle.nv_calls.specs.AtPlaces.{CreatesAt, LeavesRows};
-ghost use Rattle.nv_calls.specs.Same.{KeepsMount, SameMount};
+ghost use Rattle.nv_calls.specs.AtPlaces.{CreatesAt, KeepsRows};
 ghost use Rattle.nv_calls.specs.Effects.{logs_inode, makes_inode};
 ghost use Rattle.nv_calls.specs.Stopped.{LeavesCall};
 ghost use Rattle.nv_steps.specs.Stopped.{Named};
 ghost use Rattle.nv_steps.specs.Steps.{RefusesStep, ShowsRow};
 ghost use Rattle.nv_steps.specs.InOrder.{tail_address};
-ghost use Rattle.nv_calls.specs.InOrder.{ShowsValidFirst};
-ghost use Rattle.nv_steps.specs.Fronts.{SameFrontBut};
 ghost use Rattle.nv_rows.specs.Unused.{unused_number, IsTableNumber};
 ghost use Rattle.nv_calls.specs.World.{world_of};
 ghost use Rattle.nv_steps.specs.Stores.{StoresIn, one_more};
-ghost use Rattle.nv_steps.specs.Keeping.{SettlesStep};
 ghost use Rattle.nv_calls.specs.Mount.{shown};
+ghost use Rattle.nv_calls.specs.Keeping.{IsNoPath, SettlesCall};
+ghost use Rattle.nv_calls.specs.Storing.{CreateStores};
 
 use crate::Fs;
 use crate::arguments::{Cpu, Time};
@@ -78,11 +73,9 @@ fn create_at<P: Pmem>(
         (place_in rows.old.items directory) new.now.kind new.now.mode new.now.time new.now.inode new.now.name.now) }
     ensures enough { (row : RowValue) → row_of rows.old.items directory ≡ Option.Some row
         → OnOk result (1 + needed (row.tail % 4096) (name_entries OperationValue.Add new.now.inode new.now.name.now new.now.time) ≤ all_blocks free.old.pools) }
-    ensures kept { SettlesStep P.region P.may_hold P.fuse memory.old memory.new free.old free.new result }
+    ensures kept { KeepsRows P.region P.may_hold P.fuse memory.old memory.new free.old free.new rows.old rows.new result }
     ensures refused { (row : RowValue) → row_of rows.old.items directory ≡ Option.Some row
         → IfErr result (λ e. RefusesStep e (1 + needed (row.tail % 4096) (name_entries OperationValue.Add new.now.inode new.now.name.now new.now.time)) free.old) }
-    ensures unchanged { IfErr result (λ e. (e ≡ RefusalValue.Stopped → ⊥) → LeavesRows memory.old memory.new free.old free.new rows.old.items rows.new.items) }
-    ensures tables { (rows.new.sup ≡ rows.old.sup) × (rows.new.sizes ≡ rows.old.sizes) }
     // Every word outside these places is as it was.
     ensures wrote { (row : RowValue) (held : Store) (h : Held) → row_of rows.old.items directory ≡ Option.Some row → ShowsRow (P.region memory.old) sup.now held h row free.old
         → held new.now.inode ≡ Option.None
@@ -127,7 +120,6 @@ impl<P: Pmem + Drop> Fs<P> {
     /// Besides these `Memory` where a growth was refused, and `Stopped` where the fuse burns. All but `Stopped` leave
     /// everything as it was.
     pub fn create(&mut self, cpu: Cpu, path: &[u8], mode: u32, time: Time) -> Result<(), Refusal>
-        ensures stopped_before { IsTrue self.old.stopped → (result ≡ Result.Err RefusalValue.Stopped) × (self.new ≡ self.old) }
         ensures allowed { (p : Path) → Says path.now p
             → OnOk result (first_refusal (create_tests (world_of self.old) (shown P.region self.old) cpu p (create_blocks self.old.rows (shown P.region self.old) p)) ≡ Option.None) }
         ensures refused { self.old.stopped ≡ false → (p : Path) → Says path.now p
@@ -139,27 +131,10 @@ impl<P: Pmem + Drop> Fs<P> {
             → unused_number (fixed_layout self.old.sup) self.old.rows cpu ≡ Option.Some j
             → ShowsSound (P.region self.old.memory) self.old.sup held → held d ≡ Option.Some h
             → OnOk result (ShowsCreated (P.region self.new.memory) self.old.sup self.old.free.pools cpu held File mode time j d h (last_name names)) }
-        ensures unchanged { IfErr result (λ e. (e ≡ RefusalValue.Stopped → ⊥) → SameMount self.old self.new) }
-        ensures stopped { self.old.stopped ≡ false → (IsTrue self.new.stopped → (result ≡ Result.Err RefusalValue.Stopped) × IsTrue (P.fuse self.new.memory).has_burnt)
-            × (result ≡ Result.Err RefusalValue.Stopped → IsTrue self.new.stopped) }
-        ensures keeps { KeepsMount self.old self.new }
-        // The superblock and all journals but that of the CPU are as they were.
-        ensures journals { OnOk result (SameFrontBut self.old.sup.cpus cpu (P.region self.old.memory) (P.region self.new.memory)) }
-        ensures settled { OnOk result (NothingPending (P.region self.new.memory) (P.may_hold self.new.memory)) }
-        ensures length { size (P.region self.new.memory) ≡ size (P.region self.old.memory) }
-        ensures keeps_fuse { KeepsFuse (λ limit. size (P.region self.old.memory) ≤ limit) (P.fuse self.old.memory) (P.fuse self.new.memory) }
-        // Where the text is no path, all stays as it was.
-        ensures bad_text { ((names : List (List ℕ)) → IsPath path.now names → ⊥) → SameMount self.old self.new }
-        // What was mounted with faults stays as it was.
-        ensures read_only { IsTrue self.old.read_only → SameMount self.old self.new }
-        // Every word outside these places is as it was.
-        ensures wrote { (names : List (List ℕ)) (d j : ℕ) (held : Store) → IsPath path.now names → walk (shown P.region self.old) 1 names ≡ Result.Ok d
-            → unused_number (fixed_layout self.old.sup) self.old.rows cpu ≡ Option.Some j → ShowsSound (P.region self.old.memory) self.old.sup held
-            → StoresIn self.old.sup held (one_more self.old.sup cpu j d) (P.region self.old.memory) (P.region self.new.memory) }
-        // The new inode's valid word is stored first.
-        ensures in_order { (names : List (List ℕ)) (d j : ℕ) → IsPath path.now names → walk (shown P.region self.old) 1 names ≡ Result.Ok d
-            → unused_number (fixed_layout self.old.sup) self.old.rows cpu ≡ Option.Some j
-            → ShowsValidFirst (P.region self.old.memory) (P.region self.new.memory) self.old.sup j d }
+        // What every call that writes keeps.
+        ensures call { SettlesCall P.region P.may_hold P.fuse (IsNoPath path.now) self.old self.new result }
+        // Where it stores, and in which order.
+        ensures stores { CreateStores P.region self.old self.new cpu path.now result }
         // Whatever a stop leaves, at any exit: recovery finds what was mounted, or what the call makes, without faults.
         ensures any_stop { (names : List (List ℕ)) → IsPath path.now names → self.old.stopped ≡ false → self.old.read_only ≡ false
             → LeavesOnly (P.region self.new.memory) (P.may_hold self.new.memory) (LeavesCall (makes_inode File cpu mode time) (logs_inode File cpu mode time)
@@ -170,7 +145,6 @@ impl<P: Pmem + Drop> Fs<P> {
 
     /// Makes a directory of this mode, of which the low 12 bits are kept, with one name. Errors as `create` has them.
     pub fn mkdir(&mut self, cpu: Cpu, path: &[u8], mode: u32, time: Time) -> Result<(), Refusal>
-        ensures stopped_before { IsTrue self.old.stopped → (result ≡ Result.Err RefusalValue.Stopped) × (self.new ≡ self.old) }
         ensures allowed { (p : Path) → Says path.now p
             → OnOk result (first_refusal (create_tests (world_of self.old) (shown P.region self.old) cpu p (create_blocks self.old.rows (shown P.region self.old) p)) ≡ Option.None) }
         ensures refused { self.old.stopped ≡ false → (p : Path) → Says path.now p
@@ -182,27 +156,10 @@ impl<P: Pmem + Drop> Fs<P> {
             → unused_number (fixed_layout self.old.sup) self.old.rows cpu ≡ Option.Some j
             → ShowsSound (P.region self.old.memory) self.old.sup held → held d ≡ Option.Some h
             → OnOk result (ShowsCreated (P.region self.new.memory) self.old.sup self.old.free.pools cpu held Directory mode time j d h (last_name names)) }
-        ensures unchanged { IfErr result (λ e. (e ≡ RefusalValue.Stopped → ⊥) → SameMount self.old self.new) }
-        ensures stopped { self.old.stopped ≡ false → (IsTrue self.new.stopped → (result ≡ Result.Err RefusalValue.Stopped) × IsTrue (P.fuse self.new.memory).has_burnt)
-            × (result ≡ Result.Err RefusalValue.Stopped → IsTrue self.new.stopped) }
-        ensures keeps { KeepsMount self.old self.new }
-        // The superblock and all journals but that of the CPU are as they were.
-        ensures journals { OnOk result (SameFrontBut self.old.sup.cpus cpu (P.region self.old.memory) (P.region self.new.memory)) }
-        ensures settled { OnOk result (NothingPending (P.region self.new.memory) (P.may_hold self.new.memory)) }
-        ensures length { size (P.region self.new.memory) ≡ size (P.region self.old.memory) }
-        ensures keeps_fuse { KeepsFuse (λ limit. size (P.region self.old.memory) ≤ limit) (P.fuse self.old.memory) (P.fuse self.new.memory) }
-        // Where the text is no path, all stays as it was.
-        ensures bad_text { ((names : List (List ℕ)) → IsPath path.now names → ⊥) → SameMount self.old self.new }
-        // What was mounted with faults stays as it was.
-        ensures read_only { IsTrue self.old.read_only → SameMount self.old self.new }
-        // Every word outside these places is as it was.
-        ensures wrote { (names : List (List ℕ)) (d j : ℕ) (held : Store) → IsPath path.now names → walk (shown P.region self.old) 1 names ≡ Result.Ok d
-            → unused_number (fixed_layout self.old.sup) self.old.rows cpu ≡ Option.Some j → ShowsSound (P.region self.old.memory) self.old.sup held
-            → StoresIn self.old.sup held (one_more self.old.sup cpu j d) (P.region self.old.memory) (P.region self.new.memory) }
-        // The new inode's valid word is stored first.
-        ensures in_order { (names : List (List ℕ)) (d j : ℕ) → IsPath path.now names → walk (shown P.region self.old) 1 names ≡ Result.Ok d
-            → unused_number (fixed_layout self.old.sup) self.old.rows cpu ≡ Option.Some j
-            → ShowsValidFirst (P.region self.old.memory) (P.region self.new.memory) self.old.sup j d }
+        // What every call that writes keeps.
+        ensures call { SettlesCall P.region P.may_hold P.fuse (IsNoPath path.now) self.old self.new result }
+        // Where it stores, and in which order.
+        ensures stores { CreateStores P.region self.old self.new cpu path.now result }
         // Whatever a stop leaves, at any exit: recovery finds what was mounted, or what the call makes, without faults.
         ensures any_stop { (names : List (List ℕ)) → IsPath path.now names → self.old.stopped ≡ false → self.old.read_only ≡ false
             → LeavesOnly (P.region self.new.memory) (P.may_hold self.new.memory) (LeavesCall (makes_inode Directory cpu mode time) (logs_inode Directory cpu mode time)
@@ -220,7 +177,6 @@ impl<P: Pmem + Drop> Fs<P> {
         mode: u32,
         time: Time,
     ) -> Result<(), Refusal>
-        ensures stopped_before { IsTrue self.old.stopped → (result ≡ Result.Err RefusalValue.Stopped) × (self.new ≡ self.old) }
         ensures allowed { (p : Path) → Says path.now p
             → OnOk result (first_refusal (create_tests (world_of self.old) (shown P.region self.old) cpu p (create_blocks self.old.rows (shown P.region self.old) p)) ≡ Option.None) }
         ensures refused { self.old.stopped ≡ false → (p : Path) → Says path.now p
@@ -232,27 +188,10 @@ impl<P: Pmem + Drop> Fs<P> {
             → unused_number (fixed_layout self.old.sup) self.old.rows cpu ≡ Option.Some j
             → ShowsSound (P.region self.old.memory) self.old.sup held → held d ≡ Option.Some h
             → OnOk result (ShowsCreated (P.region self.new.memory) self.old.sup self.old.free.pools cpu held kind mode time j d h (last_name names)) }
-        ensures unchanged { IfErr result (λ e. (e ≡ RefusalValue.Stopped → ⊥) → SameMount self.old self.new) }
-        ensures stopped { self.old.stopped ≡ false → (IsTrue self.new.stopped → (result ≡ Result.Err RefusalValue.Stopped) × IsTrue (P.fuse self.new.memory).has_burnt)
-            × (result ≡ Result.Err RefusalValue.Stopped → IsTrue self.new.stopped) }
-        ensures keeps { KeepsMount self.old self.new }
-        // The superblock and all journals but that of the CPU are as they were.
-        ensures journals { OnOk result (SameFrontBut self.old.sup.cpus cpu (P.region self.old.memory) (P.region self.new.memory)) }
-        ensures settled { OnOk result (NothingPending (P.region self.new.memory) (P.may_hold self.new.memory)) }
-        ensures length { size (P.region self.new.memory) ≡ size (P.region self.old.memory) }
-        ensures keeps_fuse { KeepsFuse (λ limit. size (P.region self.old.memory) ≤ limit) (P.fuse self.old.memory) (P.fuse self.new.memory) }
-        // Where the text is no path, all stays as it was.
-        ensures bad_text { ((names : List (List ℕ)) → IsPath path.now names → ⊥) → SameMount self.old self.new }
-        // What was mounted with faults stays as it was.
-        ensures read_only { IsTrue self.old.read_only → SameMount self.old self.new }
-        // Every word outside these places is as it was.
-        ensures wrote { (names : List (List ℕ)) (d j : ℕ) (held : Store) → IsPath path.now names → walk (shown P.region self.old) 1 names ≡ Result.Ok d
-            → unused_number (fixed_layout self.old.sup) self.old.rows cpu ≡ Option.Some j → ShowsSound (P.region self.old.memory) self.old.sup held
-            → StoresIn self.old.sup held (one_more self.old.sup cpu j d) (P.region self.old.memory) (P.region self.new.memory) }
-        // The new inode's valid word is stored first.
-        ensures in_order { (names : List (List ℕ)) (d j : ℕ) → IsPath path.now names → walk (shown P.region self.old) 1 names ≡ Result.Ok d
-            → unused_number (fixed_layout self.old.sup) self.old.rows cpu ≡ Option.Some j
-            → ShowsValidFirst (P.region self.old.memory) (P.region self.new.memory) self.old.sup j d }
+        // What every call that writes keeps.
+        ensures call { SettlesCall P.region P.may_hold P.fuse (IsNoPath path.now) self.old self.new result }
+        // Where it stores, and in which order.
+        ensures stores { CreateStores P.region self.old self.new cpu path.now result }
         // Whatever a stop leaves, at any exit: recovery finds what was mounted, or what the call makes, without faults.
         ensures any_stop { (names : List (List ℕ)) → IsPath path.now names → self.old.stopped ≡ false → self.old.read_only ≡ false
             → LeavesOnly (P.region self.new.memory) (P.may_hold self.new.memory) (LeavesCall (makes_inode kind cpu mode time) (logs_inode kind cpu mode time)

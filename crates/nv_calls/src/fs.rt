@@ -68,7 +68,8 @@ impl<P: Pmem + Drop> Fs<P> {
     pub fn open(alloc: Global, memory: P, recovered: Recovered) -> Fs<P>
         requires outcome { IsOutcome (P.region memory) (lasting_outcome (outcome_of recovered)) }
         requires lists { recovered.free.sup ≡ recovered.sup }
-        requires numbers { HasNumbersOf (fixed_layout recovered.sup) recovered.rows }
+        requires tables { recovered.tables.layout.sup ≡ recovered.sup }
+        requires numbers { HasNumbersOf recovered.tables.layout recovered.rows }
         requires own { undone recovered.sup (P.region memory) ≡ P.region memory }
         requires settled { NothingPending (P.region memory) (P.may_hold memory) }
         ensures memory { result.memory ≡ memory }
@@ -81,6 +82,7 @@ impl<P: Pmem + Drop> Fs<P> {
     {
         let Recovered {
             sup,
+            tables: _,
             rows,
             free,
             doubled: _,

@@ -1,6 +1,6 @@
 //! What follows from the definitions alone.
 
-ghost use Rattle.std.specs.Prelude.{◌≡◌, ℕ, ◌+◌, List, [], Option, ⊤};
+ghost use Rattle.std.specs.Prelude.{◌≡◌, ℕ, List, [], Option, ⊤};
 ghost use Rattle.nv_region.specs.Region.{Region};
 ghost use Rattle.nv_super.specs.declared.superblock.Super.{Super};
 ghost use Rattle.nv_super.specs.declared.owners.Run.{Run};
@@ -13,12 +13,11 @@ ghost use Rattle.nv_held.specs.nv_outcome.Same.{SameOutcome};
 ghost use Rattle.nv_paths.specs.Seen.{tree_of};
 ghost use Rattle.nv_steps.specs.declared.planning.Plan.{Plan};
 ghost use Rattle.nv_tree.specs.Tree.{Node};
-ghost use Rattle.nv_tree.specs.Refusals.{Path, clean_tests, create_tests, link_tests, rename_tests, rmdir_tests, set_attr_tests, set_size_tests, unlink_tests, write_tests};
-ghost use Rattle.nv_tree.specs.Replace.{replace_tests};
-ghost use Rattle.nv_calls.specs.Alike.{AreAlike, IsAllowed, IsFaultlessMount, KeepsAlike, WasDone};
+ghost use Rattle.nv_tree.specs.Refusals.{clean_tests};
+ghost use Rattle.nv_calls.specs.Alike.{AreAlike, InodeCallsKeepAlike, IsAllowed, IsFaultlessMount, KeepsAlike, NameCallsKeepAlike, WasDone};
 ghost use Rattle.nv_calls.specs.Decided.{IsDecided};
-ghost use Rattle.nv_calls.specs.Effects.{LogsBytes, LogsUnlink, logs_attributes, logs_clean, logs_inode, logs_link, logs_removal, logs_rename, logs_replace, logs_size};
-ghost use Rattle.nv_calls.specs.Effects.{makes_attributes, makes_bytes, makes_inode, makes_link, makes_no_change, makes_removal, makes_rename, makes_replace, makes_size, makes_unlink};
+ghost use Rattle.nv_calls.specs.Effects.{logs_clean};
+ghost use Rattle.nv_calls.specs.Effects.{makes_no_change};
 ghost use Rattle.nv_calls.specs.GrownLogs.{ShowsGrownLog};
 ghost use Rattle.nv_calls.specs.LinkCalls.{ShowsBothGrew};
 ghost use Rattle.nv_calls.specs.Mount.{Mount};
@@ -70,17 +69,9 @@ pub fn alike_regions()
 /// Of alike regions that are mounted without faults, a call that no test refuses leaves alike regions; and `clean` answers the
 /// same.
 pub fn calls_keep_regions_alike()
-    ensures create { (kind : Kind) (cpu mode time : ℕ) → KeepsAlike (λ R m p n. create_tests (world_of m) (tree_of R m.rows) cpu p n) (makes_inode kind cpu mode time) (logs_inode kind cpu mode time) }
-    ensures write { (cpu offset count : ℕ) (bytes : List ℕ) (time : ℕ)
-        → KeepsAlike (λ R m p n. write_tests (world_of m) (tree_of R m.rows) cpu p (offset + count) n) (makes_bytes offset bytes time) (LogsBytes cpu offset count time) }
-    ensures set_size { (cpu bytes time : ℕ) → KeepsAlike (λ R m p n. set_size_tests (world_of m) (tree_of R m.rows) cpu p bytes n) (makes_size bytes time) (logs_size cpu bytes time) }
-    ensures set_attr { (cpu mode owner group time : ℕ)
-        → KeepsAlike (λ R m p n. set_attr_tests (world_of m) (tree_of R m.rows) cpu p n) (makes_attributes mode owner group time) (logs_attributes cpu mode owner group time) }
-    ensures link { (cpu time : ℕ) (q : Path) → KeepsAlike (λ R m p n. link_tests (world_of m) (tree_of R m.rows) cpu p q n) (makes_link time q) (logs_link cpu time q) }
-    ensures unlink { (cpu time : ℕ) → KeepsAlike (λ R m p n. unlink_tests (world_of m) (tree_of R m.rows) cpu p n) (makes_unlink time) (LogsUnlink cpu time) }
-    ensures rmdir { (cpu time : ℕ) → KeepsAlike (λ R m p n. rmdir_tests (world_of m) (tree_of R m.rows) cpu p n) (makes_removal time) (logs_removal cpu time) }
-    ensures rename { (cpu time : ℕ) (q : Path) → KeepsAlike (λ R m p n. rename_tests (world_of m) (tree_of R m.rows) cpu p q n) (makes_rename time q) (logs_rename cpu time q) }
-    ensures replace { (cpu time : ℕ) (q : Path) → KeepsAlike (λ R m p n. replace_tests (world_of m) (tree_of R m.rows) cpu p q n) (makes_replace time q) (logs_replace cpu time q) }
+    // The calls that change names, and those that change an inode.
+    ensures names { NameCallsKeepAlike }
+    ensures inodes { InodeCallsKeepAlike }
     ensures clean { (answer : Option ℕ) → KeepsAlike (λ R m p n. clean_tests (world_of m) (tree_of R m.rows) p) makes_no_change (logs_clean answer) }
     ensures cleaned { (answer other : Option ℕ) (R S T U : Region) (m k : Mount ⊤) (names : List (List ℕ)) → AreAlike R S → IsFaultlessMount R m → IsFaultlessMount S k
         → IsAllowed (λ R m p n. clean_tests (world_of m) (tree_of R m.rows) p) R m names

@@ -1,10 +1,8 @@
 //! `link`: one more name of a file.
 
-ghost use Rattle.std.specs.Prelude.{◌≡◌, ◌≢◌, ◌+◌, ◌%◌, ◌<◌, ◌≤◌, ℕ, List, Option, Result, IsTrue, IfErr, OnOk, false};
+ghost use Rattle.std.specs.Prelude.{◌≡◌, ◌≢◌, ◌+◌, ◌%◌, ◌<◌, ◌≤◌, ℕ, List, Option, Result, IfErr, OnOk, false};
 ghost use Rattle.nv_super.specs.Layout.{fixed_layout};
-ghost use Rattle.nv_region.specs.Region.{size};
 ghost use Rattle.nv_region.specs.Stops.{LeavesOnly, NothingPending};
-ghost use Rattle.nv_region.specs.Fuses.{KeepsFuse};
 ghost use Rattle.nv_alloc.specs.Taking.{all_blocks};
 ghost use Rattle.nv_entry.specs.declared.entry.Operation.TheVariants.{Add};
 ghost use Rattle.nv_logpage.specs.Append.{needed};
@@ -18,26 +16,23 @@ ghost use Rattle.nv_tree.specs.Path.{IsPath, Says, last_name};
 ghost use Rattle.nv_tree.specs.Tree.{Node, SameTree, walk};
 ghost use Rattle.nv_tree.specs.Calls.{linked};
 ghost use Rattle.nv_tree.specs.Refusals.{Path, first_refusal, link_tests, IsRefusedBy};
-ghost use Rattle.nv_tree.specs.declared.refusal.Refusal.{Refusal as RefusalValue};
 ghost use Rattle.nv_steps.specs.Grown.{StandsRight};
 ghost use Rattle.nv_calls.specs.LinkCalls.{ShowsBothGrew, link_blocks};
 ghost use Rattle.nv_steps.specs.NameEntries.{links_entries, name_entries};
 ghost use Rattle.nv_steps.specs.MoreNames.{LinksAt};
 ghost use Rattle.nv_steps.specs.NewNames.{CanName};
-ghost use Rattle.nv_calls.specs.AtPlaces.{LeavesRows};
-ghost use Rattle.nv_calls.specs.Same.{KeepsMount, SameMount};
 ghost use Rattle.nv_calls.specs.Effects.{logs_link, makes_link};
 ghost use Rattle.nv_calls.specs.Stopped.{LeavesCall};
 ghost use Rattle.nv_steps.specs.Stopped.{Linked};
 ghost use Rattle.nv_paths.specs.Seen.{LeadsTo};
 ghost use Rattle.nv_steps.specs.Steps.{RefusesStep, ShowsRow};
 ghost use Rattle.nv_steps.specs.InOrder.{TailIsFirst, tail_address};
-ghost use Rattle.nv_calls.specs.InOrder.{ShowsTailFirst};
-ghost use Rattle.nv_steps.specs.Fronts.{SameFrontBut};
 ghost use Rattle.nv_calls.specs.World.{world_of};
 ghost use Rattle.nv_steps.specs.Stores.{StoresIn, two_logs};
-ghost use Rattle.nv_steps.specs.Keeping.{SettlesStep};
 ghost use Rattle.nv_calls.specs.Mount.{shown};
+ghost use Rattle.nv_calls.specs.Keeping.{AreNoPaths, SettlesCall};
+ghost use Rattle.nv_calls.specs.Storing.{LinkStores};
+ghost use Rattle.nv_calls.specs.AtPlaces.{KeepsRows};
 
 use crate::Fs;
 use crate::arguments::{Cpu, Time};
@@ -79,12 +74,10 @@ fn link_at<P: Pmem>(
     ensures enough { (row directory : RowValue) → row_of rows.old.items named.now.target ≡ Option.Some row → row_of rows.old.items named.now.directory ≡ Option.Some directory
         → OnOk result (needed (row.tail % 4096) (links_entries (row.numbers.links + 1) time)
         + needed (directory.tail % 4096) (name_entries Add row.inode named.now.name.now time) ≤ all_blocks free.old.pools) }
-    ensures kept { SettlesStep P.region P.may_hold P.fuse memory.old memory.new free.old free.new result }
+    ensures kept { KeepsRows P.region P.may_hold P.fuse memory.old memory.new free.old free.new rows.old rows.new result }
     ensures refused { (row directory : RowValue) → row_of rows.old.items named.now.target ≡ Option.Some row → row_of rows.old.items named.now.directory ≡ Option.Some directory
         → IfErr result (λ e. RefusesStep e (needed (row.tail % 4096) (links_entries (row.numbers.links + 1) time) + needed (directory.tail % 4096) (name_entries Add row.inode named.now.name.now time))
         free.old) }
-    ensures unchanged { IfErr result (λ e. (e ≡ RefusalValue.Stopped → ⊥) → LeavesRows memory.old memory.new free.old free.new rows.old.items rows.new.items) }
-    ensures tables { (rows.new.sup ≡ rows.old.sup) × (rows.new.sizes ≡ rows.old.sizes) }
     // Every word outside these places is as it was.
     ensures wrote { (file directory : RowValue) (held : Store) (f h : Held) → row_of rows.old.items named.now.target ≡ Option.Some file
         → row_of rows.old.items named.now.directory ≡ Option.Some directory → ShowsRow (P.region memory.old) sup.now held f file free.old
@@ -139,7 +132,6 @@ impl<P: Pmem + Drop> Fs<P> {
     /// Besides these `Memory` where a growth was refused, and `Stopped` where the fuse burns. All but `Stopped` leave
     /// everything as it was.
     pub fn link(&mut self, cpu: Cpu, old: &[u8], new: &[u8], time: Time) -> Result<(), Refusal>
-        ensures stopped_before { IsTrue self.old.stopped → (result ≡ Result.Err RefusalValue.Stopped) × (self.new ≡ self.old) }
         ensures allowed { (p q : Path) → Says old.now p → Says new.now q
             → OnOk result (first_refusal (link_tests (world_of self.old) (shown P.region self.old) cpu p q (link_blocks self.old.rows (shown P.region self.old) p q)) ≡ Option.None) }
         ensures refused { self.old.stopped ≡ false → (p q : Path) → Says old.now p → Says new.now q
@@ -152,29 +144,10 @@ impl<P: Pmem + Drop> Fs<P> {
             → ShowsSound (P.region self.old.memory) self.old.sup held → held i ≡ Option.Some f → held d ≡ Option.Some h
             → OnOk result (ShowsBothGrew (P.region self.new.memory) self.old.sup self.old.free.pools cpu held i f (links_entries (node.links + 1) time) d h
             (name_entries Add i (last_name others) time)) }
-        ensures unchanged { IfErr result (λ e. (e ≡ RefusalValue.Stopped → ⊥) → SameMount self.old self.new) }
-        ensures stopped { self.old.stopped ≡ false → (IsTrue self.new.stopped → (result ≡ Result.Err RefusalValue.Stopped) × IsTrue (P.fuse self.new.memory).has_burnt)
-            × (result ≡ Result.Err RefusalValue.Stopped → IsTrue self.new.stopped) }
-        ensures keeps { KeepsMount self.old self.new }
-        // The superblock and all journals but that of the CPU are as they were.
-        ensures journals { OnOk result (SameFrontBut self.old.sup.cpus cpu (P.region self.old.memory) (P.region self.new.memory)) }
-        ensures settled { OnOk result (NothingPending (P.region self.new.memory) (P.may_hold self.new.memory)) }
-        ensures length { size (P.region self.new.memory) ≡ size (P.region self.old.memory) }
-        ensures keeps_fuse { KeepsFuse (λ limit. size (P.region self.old.memory) ≤ limit) (P.fuse self.old.memory) (P.fuse self.new.memory) }
-        // Where one of the texts is no path, all stays as it was.
-        ensures bad_text { ((names others : List (List ℕ)) → IsPath old.now names → IsPath new.now others → ⊥) → SameMount self.old self.new }
-        // What was mounted with faults stays as it was.
-        ensures read_only { IsTrue self.old.read_only → SameMount self.old self.new }
-        // Every word outside these places is as it was.
-        ensures wrote { (names others : List (List ℕ)) (i d : ℕ) (node : Node) (held : Store) → IsPath old.now names → IsPath new.now others → LeadsTo (shown P.region self.old) names i node
-            → walk (shown P.region self.old) 1 others ≡ Result.Ok d
-            → ShowsSound (P.region self.old.memory) self.old.sup held
-            → StoresIn self.old.sup held (two_logs self.old.sup cpu i d) (P.region self.old.memory) (P.region self.new.memory) }
-        // The file's tail is stored first.
-        ensures in_order { (names others : List (List ℕ)) (i d : ℕ) (node : Node) (held : Store) (f : Held) → IsPath old.now names → IsPath new.now others
-            → LeadsTo (shown P.region self.old) names i node → walk (shown P.region self.old) 1 others ≡ Result.Ok d
-            → ShowsSound (P.region self.old.memory) self.old.sup held → held i ≡ Option.Some f
-            → ShowsTailFirst (P.region self.old.memory) (P.region self.new.memory) self.old.sup self.old.free.pools cpu i f (links_entries (node.links + 1) time) (tail_address self.old.sup d) }
+        // What every call that writes keeps.
+        ensures call { SettlesCall P.region P.may_hold P.fuse (AreNoPaths old.now new.now) self.old self.new result }
+        // Where it stores, and in which order.
+        ensures stores { LinkStores P.region self.old self.new cpu old.now new.now time result }
         // Whatever a stop leaves, at any exit: recovery finds what was mounted, or what the call makes, without faults.
         ensures any_stop { (names others : List (List ℕ)) → IsPath old.now names → IsPath new.now others → self.old.stopped ≡ false → self.old.read_only ≡ false
             → LeavesOnly (P.region self.new.memory) (P.may_hold self.new.memory) (LeavesCall (makes_link time (Option.Some others)) (logs_link cpu time (Option.Some others))

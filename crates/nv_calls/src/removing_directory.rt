@@ -1,9 +1,7 @@
 //! `rmdir`: a directory without names goes, and its name.
 
-ghost use Rattle.std.specs.Prelude.{◌≡◌, ◌≤◌, ℕ, List, Option, Result, IsTrue, IfErr, OnOk, false};
-ghost use Rattle.nv_region.specs.Region.{size};
-ghost use Rattle.nv_region.specs.Stops.{LeavesOnly, NothingPending};
-ghost use Rattle.nv_region.specs.Fuses.{KeepsFuse};
+ghost use Rattle.std.specs.Prelude.{◌≡◌, ℕ, List, Option, Result, IfErr, OnOk, false};
+ghost use Rattle.nv_region.specs.Stops.{LeavesOnly};
 ghost use Rattle.nv_entry.specs.declared.entry.Operation.TheVariants.{Remove};
 ghost use Rattle.nv_held.specs.Held.{Held, Store};
 ghost use Rattle.nv_held.specs.Mounted.{ShowsSound};
@@ -11,20 +9,16 @@ ghost use Rattle.nv_tree.specs.Path.{IsPath, Says, last_name};
 ghost use Rattle.nv_tree.specs.Tree.{Node, SameTree, walk};
 ghost use Rattle.nv_tree.specs.Calls.{removed};
 ghost use Rattle.nv_tree.specs.Refusals.{Path, first_refusal, rmdir_tests, IsRefusedBy};
-ghost use Rattle.nv_tree.specs.declared.refusal.Refusal.{Refusal as RefusalValue};
 ghost use Rattle.nv_calls.specs.NameCalls.{name_blocks};
 ghost use Rattle.nv_steps.specs.NameEntries.{name_entries};
-ghost use Rattle.nv_super.specs.Layout.{slot_address};
-ghost use Rattle.nv_calls.specs.InOrder.{ShowsTailFirst};
-ghost use Rattle.nv_steps.specs.Fronts.{SameFrontBut};
 ghost use Rattle.nv_calls.specs.RemoveCalls.{ShowsRemoved};
-ghost use Rattle.nv_calls.specs.Same.{KeepsMount, SameMount};
 ghost use Rattle.nv_calls.specs.Effects.{logs_removal, makes_removal};
 ghost use Rattle.nv_calls.specs.Stopped.{LeavesCall};
 ghost use Rattle.nv_paths.specs.Seen.{LeadsTo};
 ghost use Rattle.nv_calls.specs.World.{world_of};
-ghost use Rattle.nv_steps.specs.Stores.{StoresIn, one_less};
 ghost use Rattle.nv_calls.specs.Mount.{shown};
+ghost use Rattle.nv_calls.specs.Keeping.{IsNoPath, SettlesCall};
+ghost use Rattle.nv_calls.specs.Storing.{RemoveStores};
 
 use crate::Fs;
 use crate::arguments::{Cpu, Time};
@@ -51,7 +45,6 @@ impl<P: Pmem + Drop> Fs<P> {
     /// Besides these `Memory` where a growth was refused, and `Stopped` where the fuse burns. All but `Stopped` leave
     /// everything as it was.
     pub fn rmdir(&mut self, cpu: Cpu, path: &[u8], time: Time) -> Result<(), Refusal>
-        ensures stopped_before { IsTrue self.old.stopped → (result ≡ Result.Err RefusalValue.Stopped) × (self.new ≡ self.old) }
         ensures allowed { (p : Path) → Says path.now p
             → OnOk result (first_refusal (rmdir_tests (world_of self.old) (shown P.region self.old) cpu p (name_blocks self.old.rows (shown P.region self.old) p)) ≡ Option.None) }
         ensures refused { self.old.stopped ≡ false → (p : Path) → Says path.now p
@@ -63,30 +56,10 @@ impl<P: Pmem + Drop> Fs<P> {
             → walk (shown P.region self.old) 1 names ≡ Result.Ok d
             → ShowsSound (P.region self.old.memory) self.old.sup held → held d ≡ Option.Some h
             → OnOk result (ShowsRemoved (P.region self.new.memory) self.old.sup self.old.free.pools cpu held d h (name_entries Remove i (last_name names) time) i) }
-        ensures unchanged { IfErr result (λ e. (e ≡ RefusalValue.Stopped → ⊥) → SameMount self.old self.new) }
-        ensures stopped { self.old.stopped ≡ false → (IsTrue self.new.stopped → (result ≡ Result.Err RefusalValue.Stopped) × IsTrue (P.fuse self.new.memory).has_burnt)
-            × (result ≡ Result.Err RefusalValue.Stopped → IsTrue self.new.stopped) }
-        ensures keeps { KeepsMount self.old self.new }
-        // The superblock and all journals but that of the CPU are as they were.
-        ensures journals { OnOk result (SameFrontBut self.old.sup.cpus cpu (P.region self.old.memory) (P.region self.new.memory)) }
-        ensures settled { OnOk result (NothingPending (P.region self.new.memory) (P.may_hold self.new.memory)) }
-        ensures length { size (P.region self.new.memory) ≡ size (P.region self.old.memory) }
-        ensures keeps_fuse { KeepsFuse (λ limit. size (P.region self.old.memory) ≤ limit) (P.fuse self.old.memory) (P.fuse self.new.memory) }
-        // Where the text is no path, all stays as it was.
-        ensures bad_text { ((names : List (List ℕ)) → IsPath path.now names → ⊥) → SameMount self.old self.new }
-        // What was mounted with faults stays as it was.
-        ensures read_only { IsTrue self.old.read_only → SameMount self.old self.new }
-        // Every word outside these places is as it was.
-        ensures wrote { (names : List (List ℕ)) (i d : ℕ) (node : Node) (held : Store) → IsPath path.now names → LeadsTo (shown P.region self.old) names i node
-            → walk (shown P.region self.old) 1 names ≡ Result.Ok d
-            → ShowsSound (P.region self.old.memory) self.old.sup held
-            → StoresIn self.old.sup held (one_less self.old.sup cpu d i) (P.region self.old.memory) (P.region self.new.memory) }
-        // The tail of the directory above is stored first.
-        ensures in_order { (names : List (List ℕ)) (i d : ℕ) (node : Node) (held : Store) (h : Held) → IsPath path.now names → LeadsTo (shown P.region self.old) names i node
-            → walk (shown P.region self.old) 1 names ≡ Result.Ok d
-            → ShowsSound (P.region self.old.memory) self.old.sup held → held d ≡ Option.Some h
-            → ShowsTailFirst (P.region self.old.memory) (P.region self.new.memory) self.old.sup self.old.free.pools cpu d h (name_entries Remove i
-            (last_name names) time) (slot_address self.old.sup i) }
+        // What every call that writes keeps.
+        ensures call { SettlesCall P.region P.may_hold P.fuse (IsNoPath path.now) self.old self.new result }
+        // Where it stores, and in which order.
+        ensures stores { RemoveStores P.region self.old self.new cpu path.now time result }
         // Whatever a stop leaves, at any exit: recovery finds what was mounted, or what the call makes, without faults.
         ensures any_stop { (names : List (List ℕ)) → IsPath path.now names → self.old.stopped ≡ false → self.old.read_only ≡ false
             → LeavesOnly (P.region self.new.memory) (P.may_hold self.new.memory) (LeavesCall (makes_removal time) (logs_removal cpu time) (P.region self.old.memory) self.old names) }

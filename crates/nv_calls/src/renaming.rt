@@ -1,10 +1,8 @@
 //! `rename`: another name for an inode.
 
-ghost use Rattle.std.specs.Prelude.{◌≡◌, ◌≢◌, ◌+◌, ◌%◌, ◌<◌, ◌≤◌, ℕ, List, Option, Result, IsTrue, IfErr, OnOk, false};
+ghost use Rattle.std.specs.Prelude.{◌≡◌, ◌≢◌, ◌+◌, ◌%◌, ◌<◌, ◌≤◌, ℕ, List, Option, Result, IfErr, OnOk, false};
 ghost use Rattle.nv_super.specs.Layout.{fixed_layout};
-ghost use Rattle.nv_region.specs.Region.{size};
 ghost use Rattle.nv_region.specs.Stops.{LeavesOnly, NothingPending};
-ghost use Rattle.nv_region.specs.Fuses.{KeepsFuse};
 ghost use Rattle.nv_alloc.specs.Taking.{all_blocks};
 ghost use Rattle.nv_entry.specs.declared.entry.Operation.TheVariants.{Add, Remove};
 ghost use Rattle.nv_logpage.specs.Append.{needed};
@@ -18,7 +16,6 @@ ghost use Rattle.nv_tree.specs.Path.{IsPath, Says, last_name};
 ghost use Rattle.nv_tree.specs.Tree.{Node, SameTree, walk};
 ghost use Rattle.nv_tree.specs.Calls.{renamed};
 ghost use Rattle.nv_tree.specs.Refusals.{Path, first_refusal, rename_tests, IsRefusedBy};
-ghost use Rattle.nv_tree.specs.declared.refusal.Refusal.{Refusal as RefusalValue};
 ghost use Rattle.nv_steps.specs.Grown.{StandsRight};
 ghost use Rattle.nv_calls.specs.GrownLogs.{ShowsGrownLog};
 ghost use Rattle.nv_calls.specs.LinkCalls.{ShowsBothGrew};
@@ -26,20 +23,18 @@ ghost use Rattle.nv_calls.specs.MoveCalls.{MovesAcross, MovesAt, move_blocks, re
 ghost use Rattle.nv_steps.specs.Moves.{move_entries};
 ghost use Rattle.nv_steps.specs.NameEntries.{name_entries};
 ghost use Rattle.nv_steps.specs.NewNames.{CanName};
-ghost use Rattle.nv_calls.specs.AtPlaces.{LeavesRows};
-ghost use Rattle.nv_calls.specs.Same.{KeepsMount, SameMount};
 ghost use Rattle.nv_calls.specs.Effects.{logs_rename, makes_rename};
 ghost use Rattle.nv_calls.specs.Stopped.{LeavesCall, Renamed};
 ghost use Rattle.nv_steps.specs.Stopped.{MovedOver};
 ghost use Rattle.nv_paths.specs.Seen.{LeadsTo};
 ghost use Rattle.nv_steps.specs.Steps.{RefusesStep, ShowsRow};
 ghost use Rattle.nv_steps.specs.InOrder.{TailIsFirst, tail_address};
-ghost use Rattle.nv_calls.specs.InOrder.{ShowsTailFirst};
-ghost use Rattle.nv_steps.specs.Fronts.{SameFrontBut};
 ghost use Rattle.nv_calls.specs.World.{world_of};
 ghost use Rattle.nv_steps.specs.Stores.{StoresIn, one_log, two_logs};
-ghost use Rattle.nv_steps.specs.Keeping.{SettlesStep};
 ghost use Rattle.nv_calls.specs.Mount.{shown};
+ghost use Rattle.nv_calls.specs.Keeping.{AreNoPaths, SettlesCall};
+ghost use Rattle.nv_calls.specs.Storing.{RenameStores};
+ghost use Rattle.nv_calls.specs.AtPlaces.{KeepsRows};
 
 use crate::Fs;
 use crate::arguments::{Cpu, Time};
@@ -83,13 +78,11 @@ fn move_across<P: Pmem>(
         → row_of rows.old.items moved.now.from.target ≡ Option.Some inode
         → OnOk result (needed (from.tail % 4096) (name_entries Remove inode.inode moved.now.from.name.now time)
         + needed (to.tail % 4096) (name_entries Add inode.inode moved.now.name.now time) ≤ all_blocks free.old.pools) }
-    ensures kept { SettlesStep P.region P.may_hold P.fuse memory.old memory.new free.old free.new result }
+    ensures kept { KeepsRows P.region P.may_hold P.fuse memory.old memory.new free.old free.new rows.old rows.new result }
     ensures refused { (from to inode : RowValue) → row_of rows.old.items moved.now.from.directory ≡ Option.Some from → row_of rows.old.items moved.now.directory ≡ Option.Some to
         → row_of rows.old.items moved.now.from.target ≡ Option.Some inode
         → IfErr result (λ e. RefusesStep e (needed (from.tail % 4096) (name_entries Remove inode.inode moved.now.from.name.now time)
         + needed (to.tail % 4096) (name_entries Add inode.inode moved.now.name.now time)) free.old) }
-    ensures unchanged { IfErr result (λ e. (e ≡ RefusalValue.Stopped → ⊥) → LeavesRows memory.old memory.new free.old free.new rows.old.items rows.new.items) }
-    ensures tables { (rows.new.sup ≡ rows.old.sup) × (rows.new.sizes ≡ rows.old.sizes) }
     // Every word outside these places is as it was.
     ensures wrote { (from to inode : RowValue) (held : Store) (h k : Held) → row_of rows.old.items moved.now.from.directory ≡ Option.Some from
         → row_of rows.old.items moved.now.directory ≡ Option.Some to → row_of rows.old.items moved.now.from.target ≡ Option.Some inode
@@ -163,13 +156,11 @@ pub(crate) fn move_at<P: Pmem>(
         → row_of rows.old.items moved.now.from.target ≡ Option.Some inode
         → OnOk result (move_blocks (place_in rows.old.items moved.now.from.directory) (place_in rows.old.items moved.now.directory) from to inode.inode moved.now.from.name.now moved.now.name.now
         time ≤ all_blocks free.old.pools) }
-    ensures kept { SettlesStep P.region P.may_hold P.fuse memory.old memory.new free.old free.new result }
+    ensures kept { KeepsRows P.region P.may_hold P.fuse memory.old memory.new free.old free.new rows.old rows.new result }
     ensures refused { (from to inode : RowValue) → row_of rows.old.items moved.now.from.directory ≡ Option.Some from → row_of rows.old.items moved.now.directory ≡ Option.Some to
         → row_of rows.old.items moved.now.from.target ≡ Option.Some inode
         → IfErr result (λ e. RefusesStep e (move_blocks (place_in rows.old.items moved.now.from.directory)
         (place_in rows.old.items moved.now.directory) from to inode.inode moved.now.from.name.now moved.now.name.now time) free.old) }
-    ensures unchanged { IfErr result (λ e. (e ≡ RefusalValue.Stopped → ⊥) → LeavesRows memory.old memory.new free.old free.new rows.old.items rows.new.items) }
-    ensures tables { (rows.new.sup ≡ rows.old.sup) × (rows.new.sizes ≡ rows.old.sizes) }
     // Every word outside these places is as it was.
     ensures wrote { (from to inode : RowValue) (held : Store) (h k : Held) → row_of rows.old.items moved.now.from.directory ≡ Option.Some from
         → row_of rows.old.items moved.now.directory ≡ Option.Some to → row_of rows.old.items moved.now.from.target ≡ Option.Some inode
@@ -223,7 +214,6 @@ impl<P: Pmem + Drop> Fs<P> {
     /// Besides these `Memory` where a growth was refused, and `Stopped` where the fuse burns. All but `Stopped` leave
     /// everything as it was.
     pub fn rename(&mut self, cpu: Cpu, old: &[u8], new: &[u8], time: Time) -> Result<(), Refusal>
-        ensures stopped_before { IsTrue self.old.stopped → (result ≡ Result.Err RefusalValue.Stopped) × (self.new ≡ self.old) }
         ensures allowed { (p q : Path) → Says old.now p → Says new.now q
             → OnOk result (first_refusal (rename_tests (world_of self.old) (shown P.region self.old) cpu p q (rename_blocks self.old.rows (shown P.region self.old) p q)) ≡ Option.None) }
         ensures refused { self.old.stopped ≡ false → (p q : Path) → Says old.now p → Says new.now q
@@ -241,34 +231,10 @@ impl<P: Pmem + Drop> Fs<P> {
             → LeadsTo (shown P.region self.old) names i node → walk (shown P.region self.old) 1 names ≡ Result.Ok d → walk (shown P.region self.old) 1 others ≡ Result.Ok d
             → ShowsSound (P.region self.old.memory) self.old.sup held → held d ≡ Option.Some h
             → OnOk result (ShowsGrownLog (P.region self.new.memory) self.old.sup self.old.free.pools cpu held d h (move_entries i (last_name names) (last_name others) time)) }
-        ensures unchanged { IfErr result (λ e. (e ≡ RefusalValue.Stopped → ⊥) → SameMount self.old self.new) }
-        ensures stopped { self.old.stopped ≡ false → (IsTrue self.new.stopped → (result ≡ Result.Err RefusalValue.Stopped) × IsTrue (P.fuse self.new.memory).has_burnt)
-            × (result ≡ Result.Err RefusalValue.Stopped → IsTrue self.new.stopped) }
-        ensures keeps { KeepsMount self.old self.new }
-        // The superblock and all journals but that of the CPU are as they were.
-        ensures journals { OnOk result (SameFrontBut self.old.sup.cpus cpu (P.region self.old.memory) (P.region self.new.memory)) }
-        ensures settled { OnOk result (NothingPending (P.region self.new.memory) (P.may_hold self.new.memory)) }
-        ensures length { size (P.region self.new.memory) ≡ size (P.region self.old.memory) }
-        ensures keeps_fuse { KeepsFuse (λ limit. size (P.region self.old.memory) ≤ limit) (P.fuse self.old.memory) (P.fuse self.new.memory) }
-        // Where one of the texts is no path, all stays as it was.
-        ensures bad_text { ((names others : List (List ℕ)) → IsPath old.now names → IsPath new.now others → ⊥) → SameMount self.old self.new }
-        // What was mounted with faults stays as it was.
-        ensures read_only { IsTrue self.old.read_only → SameMount self.old self.new }
-        // Every word outside these places is as it was.
-        ensures wrote { (names others : List (List ℕ)) (i d e : ℕ) (node : Node) (held : Store) → IsPath old.now names → IsPath new.now others
-            → LeadsTo (shown P.region self.old) names i node → walk (shown P.region self.old) 1 names ≡ Result.Ok d → walk (shown P.region self.old) 1 others ≡ Result.Ok e → d ≢ e
-            → ShowsSound (P.region self.old.memory) self.old.sup held
-            → StoresIn self.old.sup held (two_logs self.old.sup cpu d e) (P.region self.old.memory) (P.region self.new.memory) }
-        // Within one directory these are the places of its log.
-        ensures within_wrote { (names others : List (List ℕ)) (d : ℕ) (held : Store) → IsPath old.now names → IsPath new.now others → walk (shown P.region self.old) 1 names ≡ Result.Ok d
-            → walk (shown P.region self.old) 1 others ≡ Result.Ok d
-            → ShowsSound (P.region self.old.memory) self.old.sup held → StoresIn self.old.sup held (one_log self.old.sup d) (P.region self.old.memory) (P.region self.new.memory) }
-        // Of two directories the old one's tail is stored first.
-        ensures in_order { (names others : List (List ℕ)) (i d e : ℕ) (node : Node) (held : Store) (h : Held) → IsPath old.now names → IsPath new.now others
-            → LeadsTo (shown P.region self.old) names i node → walk (shown P.region self.old) 1 names ≡ Result.Ok d → walk (shown P.region self.old) 1 others ≡ Result.Ok e → d ≢ e
-            → ShowsSound (P.region self.old.memory) self.old.sup held → held d ≡ Option.Some h
-            → ShowsTailFirst (P.region self.old.memory) (P.region self.new.memory) self.old.sup self.old.free.pools cpu d h (name_entries Remove i
-            (last_name names) time) (tail_address self.old.sup e) }
+        // What every call that writes keeps.
+        ensures call { SettlesCall P.region P.may_hold P.fuse (AreNoPaths old.now new.now) self.old self.new result }
+        // Where it stores, and in which order.
+        ensures stores { RenameStores P.region self.old self.new cpu old.now new.now time result }
         // Whatever a stop leaves, at any exit: recovery finds what was mounted, or what the call makes, without faults.
         ensures any_stop { (names others : List (List ℕ)) → IsPath old.now names → IsPath new.now others → self.old.stopped ≡ false → self.old.read_only ≡ false
             → LeavesOnly (P.region self.new.memory) (P.may_hold self.new.memory) (LeavesCall (makes_rename time (Option.Some others)) (logs_rename cpu time (Option.Some others))

@@ -1,45 +1,39 @@
 //! `replace`: another name for an inode, also one that stands for another inode, which goes or loses a link.
 
-ghost use Rattle.std.specs.Prelude.{◌≡◌, ◌≢◌, ◌<◌, ◌≤◌, ℕ, List, Option, Result, IsTrue, IfErr, OnOk, false};
+ghost use Rattle.std.specs.Prelude.{◌≡◌, ◌≢◌, ◌<◌, ℕ, List, Option, Result, IsTrue, IfErr, OnOk, false};
 ghost use Rattle.std.specs.Option.{option_and_then};
 ghost use Rattle.nv_super.specs.Layout.{fixed_layout, is_number};
-ghost use Rattle.nv_region.specs.Region.{size};
 ghost use Rattle.nv_region.specs.Stops.{LeavesOnly, NothingPending};
-ghost use Rattle.nv_region.specs.Fuses.{KeepsFuse};
-ghost use Rattle.nv_alloc.specs.Taking.{all_blocks};
 ghost use Rattle.nv_entry.specs.declared.entry.Operation.TheVariants.{Remove};
 ghost use Rattle.nv_names.specs.Names.{IsName, name_at};
 ghost use Rattle.nv_scan.specs.declared.piece.Row.{Row as RowValue};
 ghost use Rattle.nv_rows.specs.Rows.{IsInUse, place_in, row_of};
 ghost use Rattle.nv_held.specs.Held.{Held, Store};
-ghost use Rattle.nv_held.specs.Mounted.{ShowsSound};
 ghost use Rattle.nv_commit.specs.Stopped.{LeavesEither};
-ghost use Rattle.nv_tree.specs.Path.{IsPath, Says, last_name};
-ghost use Rattle.nv_tree.specs.Tree.{Node, SameTree, found, walk};
+ghost use Rattle.nv_tree.specs.Path.{IsPath, Says};
+ghost use Rattle.nv_tree.specs.Tree.{SameTree, found};
 ghost use Rattle.nv_tree.specs.Refusals.{Path, first_refusal, IsRefusedBy};
 ghost use Rattle.nv_tree.specs.Replace.{replaced, replace_tests};
-ghost use Rattle.nv_tree.specs.declared.refusal.Refusal.{Refusal as RefusalValue};
-ghost use Rattle.nv_steps.specs.Fronts.{SameFrontBut};
 ghost use Rattle.nv_steps.specs.Grown.{StandsRight};
 ghost use Rattle.nv_steps.specs.InOrder.{TailIsFirst, tail_address};
 ghost use Rattle.nv_steps.specs.LessNames.{OwnsBlocks};
 ghost use Rattle.nv_steps.specs.NameEntries.{name_entries};
 ghost use Rattle.nv_steps.specs.NewNames.{CanName};
-ghost use Rattle.nv_steps.specs.Steps.{RefusesStep, ShowsRow};
+ghost use Rattle.nv_steps.specs.Steps.{ShowsRow};
 ghost use Rattle.nv_steps.specs.Stores.{StoresIn};
 ghost use Rattle.nv_steps.specs.Takes.{take_entries};
-ghost use Rattle.nv_steps.specs.Keeping.{SettlesStep};
-ghost use Rattle.nv_calls.specs.AtPlaces.{LeavesRows};
+ghost use Rattle.nv_calls.specs.AtPlaces.{KeepsRows, LeavesRows};
 ghost use Rattle.nv_calls.specs.Effects.{LogsReplace, logs_replace, makes_replace};
-ghost use Rattle.nv_calls.specs.InOrder.{ShowsTailFirst};
 ghost use Rattle.nv_calls.specs.Mount.{shown};
-ghost use Rattle.nv_calls.specs.ReplaceBlocks.{is_named_twice, replace_blocks};
+ghost use Rattle.nv_calls.specs.ReplaceBlocks.{replace_blocks};
 ghost use Rattle.nv_calls.specs.ReplaceCalls.{HandsInOrder, ReplacedAt, ReplacesAt, keeps_others, keeps_others_at, replace_count};
-ghost use Rattle.nv_calls.specs.ReplaceLogs.{TakesPlace, has_others};
-ghost use Rattle.nv_calls.specs.ReplaceStores.{ShowsHandsInOrder, last_word, replace_places};
-ghost use Rattle.nv_calls.specs.Same.{KeepsMount, SameMount};
+ghost use Rattle.nv_calls.specs.ReplaceStores.{last_word, replace_places};
+ghost use Rattle.nv_calls.specs.Same.{SameMount};
 ghost use Rattle.nv_calls.specs.Stopped.{LeavesCall};
 ghost use Rattle.nv_calls.specs.World.{world_of};
+ghost use Rattle.nv_calls.specs.Keeping.{AreNoPaths, SettlesCall};
+ghost use Rattle.nv_calls.specs.Storing.{ReplaceStores};
+ghost use Rattle.nv_steps.specs.Keeping.{NeedsFree};
 
 use crate::Fs;
 use crate::arguments::{Cpu, Time};
@@ -91,18 +85,12 @@ fn replace_at<P: Pmem>(
     ensures replaced { OnOk result (ReplacesAt (P.region memory.old) (P.region memory.new) sup.now free.old free.new cpu rows.old.items rows.new.items
         (place_in rows.old.items moved.now.from.directory) (place_in rows.old.items moved.now.from.target) (place_in rows.old.items moved.now.directory)
         had moved.now.from.target moved.now.from.name.now moved.now.name.now time) }
-    ensures enough { (from to : RowValue) → row_of rows.old.items moved.now.from.directory ≡ Option.Some from → row_of rows.old.items moved.now.directory ≡ Option.Some to
-        → OnOk result (replace_count (place_in rows.old.items moved.now.from.directory) (place_in rows.old.items moved.now.directory) from to (option_and_then (row_of rows.old.items) had)
-        moved.now.from.target moved.now.from.name.now moved.now.name.now time ≤ all_blocks free.old.pools) }
-    ensures kept { SettlesStep P.region P.may_hold P.fuse memory.old memory.new free.old free.new result }
-    ensures refused { (from to : RowValue) → row_of rows.old.items moved.now.from.directory ≡ Option.Some from → row_of rows.old.items moved.now.directory ≡ Option.Some to
-        → IfErr result (λ e. RefusesStep e (replace_count (place_in rows.old.items moved.now.from.directory) (place_in rows.old.items moved.now.directory) from to (option_and_then (row_of
-        rows.old.items) had) moved.now.from.target moved.now.from.name.now moved.now.name.now time) free.old) }
-    ensures unchanged { IfErr result (λ e. (e ≡ RefusalValue.Stopped → ⊥) → LeavesRows memory.old memory.new free.old free.new rows.old.items rows.new.items) }
-    ensures tables { (rows.new.sup ≡ rows.old.sup) × (rows.new.sizes ≡ rows.old.sizes) }
+    ensures needs { (from to : RowValue) → row_of rows.old.items moved.now.from.directory ≡ Option.Some from → row_of rows.old.items moved.now.directory ≡ Option.Some to
+        → NeedsFree (replace_count (place_in rows.old.items moved.now.from.directory) (place_in rows.old.items moved.now.directory) from to (option_and_then (row_of rows.old.items) had)
+        moved.now.from.target moved.now.from.name.now moved.now.name.now time) free.old result }
+    ensures kept { KeepsRows P.region P.may_hold P.fuse memory.old memory.new free.old free.new rows.old rows.new result }
     // An inode that has the name already keeps it, and stays as it was.
-    ensures done { had ≡ Option.Some moved.now.from.target → IfErr result (λ e. ⊥) }
-    ensures same { had ≡ Option.Some moved.now.from.target → LeavesRows memory.old memory.new free.old free.new rows.old.items rows.new.items }
+    ensures same { had ≡ Option.Some moved.now.from.target → IfErr result (λ e. ⊥) × LeavesRows memory.old memory.new free.old free.new rows.old.items rows.new.items }
     // Every word outside these places is as it was.
     ensures wrote { (from to : RowValue) (held : Store) (h k : Held) → row_of rows.old.items moved.now.from.directory ≡ Option.Some from → row_of rows.old.items moved.now.directory ≡ Option.Some to
         → ShowsRow (P.region memory.old) sup.now held h from free.old → ShowsRow (P.region memory.old) sup.now held k to free.old
@@ -170,7 +158,6 @@ impl<P: Pmem + Drop> Fs<P> {
     /// Besides these `Memory` where a growth was refused, and `Stopped` where the fuse burns. All but `Stopped` leave
     /// everything as it was.
     pub fn replace(&mut self, cpu: Cpu, old: &[u8], new: &[u8], time: Time) -> Result<(), Refusal>
-        ensures stopped_before { IsTrue self.old.stopped → (result ≡ Result.Err RefusalValue.Stopped) × (self.new ≡ self.old) }
         ensures allowed { (p q : Path) → Says old.now p → Says new.now q
             → OnOk result (first_refusal (replace_tests (world_of self.old) (shown P.region self.old) cpu p q (replace_blocks self.old.rows (shown P.region self.old) p q)) ≡ Option.None) }
         ensures refused { self.old.stopped ≡ false → (p q : Path) → Says old.now p → Says new.now q
@@ -183,40 +170,10 @@ impl<P: Pmem + Drop> Fs<P> {
         // Where both paths lead to one inode, all stays as it was.
         ensures one { (names others : List (List ℕ)) (i : ℕ) → IsPath old.now names → IsPath new.now others → found (shown P.region self.old) names ≡ Option.Some i
             → found (shown P.region self.old) others ≡ Option.Some i → SameMount self.old self.new }
-        ensures unchanged { IfErr result (λ e. (e ≡ RefusalValue.Stopped → ⊥) → SameMount self.old self.new) }
-        ensures stopped { self.old.stopped ≡ false → (IsTrue self.new.stopped → (result ≡ Result.Err RefusalValue.Stopped) × IsTrue (P.fuse self.new.memory).has_burnt)
-            × (result ≡ Result.Err RefusalValue.Stopped → IsTrue self.new.stopped) }
-        ensures keeps { KeepsMount self.old self.new }
-        // The superblock and all journals but that of the CPU are as they were.
-        ensures journals { OnOk result (SameFrontBut self.old.sup.cpus cpu (P.region self.old.memory) (P.region self.new.memory)) }
-        ensures settled { OnOk result (NothingPending (P.region self.new.memory) (P.may_hold self.new.memory)) }
-        ensures length { size (P.region self.new.memory) ≡ size (P.region self.old.memory) }
-        ensures keeps_fuse { KeepsFuse (λ limit. size (P.region self.old.memory) ≤ limit) (P.fuse self.old.memory) (P.fuse self.new.memory) }
-        // Where one of the texts is no path, all stays as it was.
-        ensures bad_text { ((names others : List (List ℕ)) → IsPath old.now names → IsPath new.now others → ⊥) → SameMount self.old self.new }
-        // What was mounted with faults stays as it was.
-        ensures read_only { IsTrue self.old.read_only → SameMount self.old self.new }
-        // Every word outside these places is as it was.
-        ensures wrote { (names others : List (List ℕ)) (i d e : ℕ) (held : Store) → IsPath old.now names → IsPath new.now others → found (shown P.region self.old) names ≡ Option.Some i
-            → walk (shown P.region self.old) 1 names ≡ Result.Ok d → walk (shown P.region self.old) 1 others ≡ Result.Ok e → ShowsSound (P.region self.old.memory) self.old.sup held
-            → StoresIn self.old.sup held (replace_places self.old.sup cpu d e i (found (shown P.region self.old) others)
-            (is_named_twice (shown P.region self.old) (Option.Some others))) (P.region self.old.memory) (P.region self.new.memory) }
-        // Where the new name is free and in another directory, the old one's tail is stored first.
-        ensures free_in_order { (names others : List (List ℕ)) (i d e : ℕ) (held : Store) (h : Held) → IsPath old.now names → IsPath new.now others
-            → found (shown P.region self.old) names ≡ Option.Some i → found (shown P.region self.old) others ≡ Option.None → walk (shown P.region self.old) 1 names ≡ Result.Ok d
-            → walk (shown P.region self.old) 1 others ≡ Result.Ok e → d ≢ e → ShowsSound (P.region self.old.memory) self.old.sup held → held d ≡ Option.Some h
-            → ShowsTailFirst (P.region self.old.memory) (P.region self.new.memory) self.old.sup self.old.free.pools cpu d h (name_entries Remove i (last_name names) time)
-            (tail_address self.old.sup e) }
-        // Where another inode of the directory has it, the directory's tail is stored first, and then a word of that inode.
-        ensures within_in_order { (names others : List (List ℕ)) (i j d : ℕ) (node : Node) (held : Store) (h : Held) → IsPath old.now names → IsPath new.now others
-            → TakesPlace (shown P.region self.old) names others i j d d node → ShowsSound (P.region self.old.memory) self.old.sup held → held d ≡ Option.Some h
-            → ShowsTailFirst (P.region self.old.memory) (P.region self.new.memory) self.old.sup self.old.free.pools cpu d h (take_entries i j (last_name names) (last_name others) time)
-            (last_word self.old.sup j (has_others node)) }
-        // Where another inode has it in another directory, both tails are stored before such a word, that of the old one first.
-        ensures in_order { (names others : List (List ℕ)) (i j d e : ℕ) (node : Node) (held : Store) (h k : Held) → IsPath old.now names → IsPath new.now others
-            → TakesPlace (shown P.region self.old) names others i j d e node → d ≢ e → ShowsSound (P.region self.old.memory) self.old.sup held → held d ≡ Option.Some h → held e ≡ Option.Some k
-            → ShowsHandsInOrder (P.region self.old.memory) (P.region self.new.memory) self.old.sup self.old.free.pools cpu d h e k i j (last_name names) (last_name others) time
-            (last_word self.old.sup j (has_others node)) }
+        // What every call that writes keeps.
+        ensures call { SettlesCall P.region P.may_hold P.fuse (AreNoPaths old.now new.now) self.old self.new result }
+        // Where it stores, and in which order.
+        ensures stores { ReplaceStores P.region self.old self.new cpu old.now new.now time result }
         // Whatever a stop leaves, at any exit: recovery finds what was mounted, or what the call makes, without faults.
         ensures any_stop { (names others : List (List ℕ)) → IsPath old.now names → IsPath new.now others → self.old.stopped ≡ false → self.old.read_only ≡ false
             → LeavesOnly (P.region self.new.memory) (P.may_hold self.new.memory) (LeavesCall (makes_replace time (Option.Some others)) (logs_replace cpu time (Option.Some others))

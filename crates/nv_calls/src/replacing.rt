@@ -10,7 +10,6 @@ ghost use Rattle.nv_scan.specs.declared.piece.Row.{Row as RowValue};
 ghost use Rattle.nv_rows.specs.Rows.{IsInUse, place_in, row_of};
 ghost use Rattle.nv_held.specs.Held.{Held, Store};
 ghost use Rattle.nv_commit.specs.Stopped.{LeavesEither};
-ghost use Rattle.nv_tree.specs.declared.refusal.Refusal.{Refusal as RefusalValue};
 ghost use Rattle.nv_steps.specs.Grown.{StandsRight};
 ghost use Rattle.nv_steps.specs.LessNames.{OwnsBlocks};
 ghost use Rattle.nv_steps.specs.Lessens.{Lessened, LessensAt};
@@ -20,9 +19,8 @@ ghost use Rattle.nv_steps.specs.Steps.{RefusesStep, ShowsRow};
 ghost use Rattle.nv_steps.specs.InOrder.{TailIsFirst, tail_address};
 ghost use Rattle.nv_steps.specs.Stores.{StoresIn, one_less, two_logs};
 ghost use Rattle.nv_steps.specs.Takes.{TookWithin, take_entries};
-ghost use Rattle.nv_steps.specs.Keeping.{SettlesStep};
-ghost use Rattle.nv_calls.specs.AtPlaces.{LeavesRows};
 ghost use Rattle.nv_calls.specs.ReplaceCalls.{ReplacedHere, ReplacesHere, TakesAt, keeps_others, replace_here_blocks};
+ghost use Rattle.nv_calls.specs.AtPlaces.{KeepsRows};
 
 use crate::removing::most_blocks;
 use crate::renaming::other_name;
@@ -64,11 +62,9 @@ fn take_at<P: Pmem>(
         (place_in rows.old.items there) moved.now.from.target moved.now.from.name.now moved.now.name.now time) }
     ensures enough { (row gone : RowValue) → row_of rows.old.items moved.now.directory ≡ Option.Some row → row_of rows.old.items there ≡ Option.Some gone
         → OnOk result (needed (row.tail % 4096) (take_entries moved.now.from.target gone.inode moved.now.from.name.now moved.now.name.now time) ≤ all_blocks free.old.pools) }
-    ensures kept { SettlesStep P.region P.may_hold P.fuse memory.old memory.new free.old free.new result }
+    ensures kept { KeepsRows P.region P.may_hold P.fuse memory.old memory.new free.old free.new rows.old rows.new result }
     ensures refused { (row gone : RowValue) → row_of rows.old.items moved.now.directory ≡ Option.Some row → row_of rows.old.items there ≡ Option.Some gone
         → IfErr result (λ e. RefusesStep e (needed (row.tail % 4096) (take_entries moved.now.from.target gone.inode moved.now.from.name.now moved.now.name.now time)) free.old) }
-    ensures unchanged { IfErr result (λ e. (e ≡ RefusalValue.Stopped → ⊥) → LeavesRows memory.old memory.new free.old free.new rows.old.items rows.new.items) }
-    ensures tables { (rows.new.sup ≡ rows.old.sup) × (rows.new.sizes ≡ rows.old.sizes) }
     // Every word outside these places is as it was.
     ensures wrote { (row gone : RowValue) (held : Store) (h : Held) → row_of rows.old.items moved.now.directory ≡ Option.Some row → row_of rows.old.items there ≡ Option.Some gone
         → ShowsRow (P.region memory.old) sup.now held h row free.old
@@ -129,12 +125,10 @@ fn lessen_at<P: Pmem>(
     ensures enough { (row file : RowValue) → row_of rows.old.items moved.now.directory ≡ Option.Some row → row_of rows.old.items there ≡ Option.Some file
         → OnOk result (needed (row.tail % 4096) (take_entries moved.now.from.target file.inode moved.now.from.name.now moved.now.name.now time)
         + needed (file.tail % 4096) (links_entries (file.numbers.links - 1) time) ≤ all_blocks free.old.pools) }
-    ensures kept { SettlesStep P.region P.may_hold P.fuse memory.old memory.new free.old free.new result }
+    ensures kept { KeepsRows P.region P.may_hold P.fuse memory.old memory.new free.old free.new rows.old rows.new result }
     ensures refused { (row file : RowValue) → row_of rows.old.items moved.now.directory ≡ Option.Some row → row_of rows.old.items there ≡ Option.Some file
         → IfErr result (λ e. RefusesStep e (needed (row.tail % 4096) (take_entries moved.now.from.target file.inode moved.now.from.name.now moved.now.name.now time)
         + needed (file.tail % 4096) (links_entries (file.numbers.links - 1) time)) free.old) }
-    ensures unchanged { IfErr result (λ e. (e ≡ RefusalValue.Stopped → ⊥) → LeavesRows memory.old memory.new free.old free.new rows.old.items rows.new.items) }
-    ensures tables { (rows.new.sup ≡ rows.old.sup) × (rows.new.sizes ≡ rows.old.sizes) }
     // Every word outside these places is as it was.
     ensures wrote { (row file : RowValue) (held : Store) (h f : Held) → row_of rows.old.items moved.now.directory ≡ Option.Some row → row_of rows.old.items there ≡ Option.Some file
         → ShowsRow (P.region memory.old) sup.now held h row free.old → ShowsRow (P.region memory.old) sup.now held f file free.old
@@ -205,11 +199,9 @@ pub(crate) fn replace_within<P: Pmem>(
         (place_in rows.old.items there) moved.now.from.target moved.now.from.name.now moved.now.name.now time) }
     ensures enough { (row file : RowValue) → row_of rows.old.items moved.now.directory ≡ Option.Some row → row_of rows.old.items there ≡ Option.Some file
         → OnOk result (replace_here_blocks row file moved.now.from.target moved.now.from.name.now moved.now.name.now time ≤ all_blocks free.old.pools) }
-    ensures kept { SettlesStep P.region P.may_hold P.fuse memory.old memory.new free.old free.new result }
+    ensures kept { KeepsRows P.region P.may_hold P.fuse memory.old memory.new free.old free.new rows.old rows.new result }
     ensures refused { (row file : RowValue) → row_of rows.old.items moved.now.directory ≡ Option.Some row → row_of rows.old.items there ≡ Option.Some file
         → IfErr result (λ e. RefusesStep e (replace_here_blocks row file moved.now.from.target moved.now.from.name.now moved.now.name.now time) free.old) }
-    ensures unchanged { IfErr result (λ e. (e ≡ RefusalValue.Stopped → ⊥) → LeavesRows memory.old memory.new free.old free.new rows.old.items rows.new.items) }
-    ensures tables { (rows.new.sup ≡ rows.old.sup) × (rows.new.sizes ≡ rows.old.sizes) }
     // Every word outside these places is as it was.
     ensures wrote { (row file : RowValue) (held : Store) (h f : Held) → row_of rows.old.items moved.now.directory ≡ Option.Some row → row_of rows.old.items there ≡ Option.Some file
         → ShowsRow (P.region memory.old) sup.now held h row free.old → ShowsRow (P.region memory.old) sup.now held f file free.old → keeps_others file ≡ true

@@ -10,7 +10,6 @@ ghost use Rattle.nv_scan.specs.declared.piece.Row.{Row as RowValue};
 ghost use Rattle.nv_rows.specs.Rows.{IsInUse, place_in, row_of};
 ghost use Rattle.nv_held.specs.Held.{Held, Store};
 ghost use Rattle.nv_commit.specs.Stopped.{LeavesEither};
-ghost use Rattle.nv_tree.specs.declared.refusal.Refusal.{Refusal as RefusalValue};
 ghost use Rattle.nv_steps.specs.Across.{LessenedAcross, TookAcross};
 ghost use Rattle.nv_steps.specs.Grown.{StandsRight};
 ghost use Rattle.nv_steps.specs.InOrder.{tail_address};
@@ -19,9 +18,8 @@ ghost use Rattle.nv_steps.specs.NameEntries.{links_entries};
 ghost use Rattle.nv_steps.specs.NewNames.{CanName};
 ghost use Rattle.nv_steps.specs.Steps.{RefusesStep, ShowsRow};
 ghost use Rattle.nv_steps.specs.Stores.{StoresIn, three_logs, two_less};
-ghost use Rattle.nv_steps.specs.Keeping.{SettlesStep};
-ghost use Rattle.nv_calls.specs.AtPlaces.{LeavesRows};
 ghost use Rattle.nv_calls.specs.ReplaceCalls.{HandsInOrder, LessensOver, ReplacedOver, ReplacesOver, TakesOver, hand_blocks, keeps_others, replace_over_blocks};
+ghost use Rattle.nv_calls.specs.AtPlaces.{KeepsRows};
 
 use crate::removing::most_blocks;
 use crate::renaming::other_name;
@@ -69,12 +67,10 @@ fn take_over<P: Pmem>(
     ensures enough { (from to gone : RowValue) → row_of rows.old.items moved.now.from.directory ≡ Option.Some from → row_of rows.old.items moved.now.directory ≡ Option.Some to
         → row_of rows.old.items there ≡ Option.Some gone
         → OnOk result (hand_blocks from to moved.now.from.target gone.inode moved.now.from.name.now moved.now.name.now time ≤ all_blocks free.old.pools) }
-    ensures kept { SettlesStep P.region P.may_hold P.fuse memory.old memory.new free.old free.new result }
+    ensures kept { KeepsRows P.region P.may_hold P.fuse memory.old memory.new free.old free.new rows.old rows.new result }
     ensures refused { (from to gone : RowValue) → row_of rows.old.items moved.now.from.directory ≡ Option.Some from → row_of rows.old.items moved.now.directory ≡ Option.Some to
         → row_of rows.old.items there ≡ Option.Some gone
         → IfErr result (λ e. RefusesStep e (hand_blocks from to moved.now.from.target gone.inode moved.now.from.name.now moved.now.name.now time) free.old) }
-    ensures unchanged { IfErr result (λ e. (e ≡ RefusalValue.Stopped → ⊥) → LeavesRows memory.old memory.new free.old free.new rows.old.items rows.new.items) }
-    ensures tables { (rows.new.sup ≡ rows.old.sup) × (rows.new.sizes ≡ rows.old.sizes) }
     // Every word outside these places is as it was.
     ensures wrote { (from to gone : RowValue) (held : Store) (h g : Held) → row_of rows.old.items moved.now.from.directory ≡ Option.Some from
         → row_of rows.old.items moved.now.directory ≡ Option.Some to
@@ -150,13 +146,11 @@ fn lessen_over<P: Pmem>(
         → row_of rows.old.items there ≡ Option.Some file
         → OnOk result (hand_blocks from to moved.now.from.target file.inode moved.now.from.name.now moved.now.name.now time
         + needed (file.tail % 4096) (links_entries (file.numbers.links - 1) time) ≤ all_blocks free.old.pools) }
-    ensures kept { SettlesStep P.region P.may_hold P.fuse memory.old memory.new free.old free.new result }
+    ensures kept { KeepsRows P.region P.may_hold P.fuse memory.old memory.new free.old free.new rows.old rows.new result }
     ensures refused { (from to file : RowValue) → row_of rows.old.items moved.now.from.directory ≡ Option.Some from → row_of rows.old.items moved.now.directory ≡ Option.Some to
         → row_of rows.old.items there ≡ Option.Some file
         → IfErr result (λ e. RefusesStep e (hand_blocks from to moved.now.from.target file.inode moved.now.from.name.now moved.now.name.now time
         + needed (file.tail % 4096) (links_entries (file.numbers.links - 1) time)) free.old) }
-    ensures unchanged { IfErr result (λ e. (e ≡ RefusalValue.Stopped → ⊥) → LeavesRows memory.old memory.new free.old free.new rows.old.items rows.new.items) }
-    ensures tables { (rows.new.sup ≡ rows.old.sup) × (rows.new.sizes ≡ rows.old.sizes) }
     // Every word outside these places is as it was.
     ensures wrote { (from to file : RowValue) (held : Store) (h g f : Held) → row_of rows.old.items moved.now.from.directory ≡ Option.Some from
         → row_of rows.old.items moved.now.directory ≡ Option.Some to
@@ -228,12 +222,10 @@ pub(crate) fn replace_over<P: Pmem>(
     ensures enough { (from to file : RowValue) → row_of rows.old.items moved.now.from.directory ≡ Option.Some from → row_of rows.old.items moved.now.directory ≡ Option.Some to
         → row_of rows.old.items there ≡ Option.Some file
         → OnOk result (replace_over_blocks from to file moved.now.from.target moved.now.from.name.now moved.now.name.now time ≤ all_blocks free.old.pools) }
-    ensures kept { SettlesStep P.region P.may_hold P.fuse memory.old memory.new free.old free.new result }
+    ensures kept { KeepsRows P.region P.may_hold P.fuse memory.old memory.new free.old free.new rows.old rows.new result }
     ensures refused { (from to file : RowValue) → row_of rows.old.items moved.now.from.directory ≡ Option.Some from → row_of rows.old.items moved.now.directory ≡ Option.Some to
         → row_of rows.old.items there ≡ Option.Some file
         → IfErr result (λ e. RefusesStep e (replace_over_blocks from to file moved.now.from.target moved.now.from.name.now moved.now.name.now time) free.old) }
-    ensures unchanged { IfErr result (λ e. (e ≡ RefusalValue.Stopped → ⊥) → LeavesRows memory.old memory.new free.old free.new rows.old.items rows.new.items) }
-    ensures tables { (rows.new.sup ≡ rows.old.sup) × (rows.new.sizes ≡ rows.old.sizes) }
     // Every word outside these places is as it was.
     ensures wrote { (from to file : RowValue) (held : Store) (h g f : Held) → row_of rows.old.items moved.now.from.directory ≡ Option.Some from
         → row_of rows.old.items moved.now.directory ≡ Option.Some to

@@ -1,10 +1,9 @@
 //! `set_size`: the size of a file.
 
-ghost use Rattle.std.specs.Prelude.{◌≡◌, ◌<◌, ◌≤◌, ◌∷◌, ◌++◌, [], ℕ, List, Option, Result, IsTrue, IfOk, IfErr, OnOk, false};
+ghost use Rattle.std.specs.Prelude.{◌≡◌, ◌<◌, ◌≤◌, ◌∷◌, ◌++◌, [], ℕ, List, Option, Result, IfOk, IfErr, OnOk, false};
 ghost use Rattle.std.specs.Result.{result_err};
-ghost use Rattle.nv_region.specs.Region.{Region, size as bytes_in};
-ghost use Rattle.nv_region.specs.Stops.{LeavesOnly, NothingPending};
-ghost use Rattle.nv_region.specs.Fuses.{KeepsFuse};
+ghost use Rattle.nv_region.specs.Region.{Region};
+ghost use Rattle.nv_region.specs.Stops.{LeavesOnly};
 ghost use Rattle.nv_super.specs.declared.kind.Kind.TheVariants.{File};
 ghost use Rattle.nv_entry.specs.Content.{most_size};
 ghost use Rattle.nv_rows.specs.Rows.{row_of};
@@ -15,7 +14,6 @@ ghost use Rattle.nv_tree.specs.Tree.{Node, SameTree, is_directory};
 ghost use Rattle.nv_tree.specs.Calls.{resized};
 ghost use Rattle.nv_tree.specs.Refusals.{Path, first_refusal, is_dir, is_too_large, set_size_tests, stat_tests, IsRefusedBy};
 ghost use Rattle.nv_tree.specs.declared.refusal.Refusal.{Refusal as RefusalValue};
-ghost use Rattle.nv_calls.specs.Same.{KeepsMount, SameMount};
 ghost use Rattle.nv_calls.specs.Effects.{logs_size, makes_size};
 ghost use Rattle.nv_calls.specs.Stopped.{LeavesCall};
 ghost use Rattle.nv_paths.specs.Seen.{LeadsTo, node_of, tree_of};
@@ -23,6 +21,7 @@ ghost use Rattle.nv_calls.specs.SizeCall.{ShowsResizedLog, resized_blocks};
 ghost use Rattle.nv_calls.specs.World.{world_of};
 ghost use Rattle.nv_steps.specs.Stores.{StoresIn, one_log};
 ghost use Rattle.nv_calls.specs.Mount.{shown};
+ghost use Rattle.nv_calls.specs.Keeping.{IsNoPath, SettlesCall};
 
 use crate::Fs;
 use crate::arguments::{Cpu, Time};
@@ -53,7 +52,6 @@ impl<P: Pmem + Drop> Fs<P> {
     /// Besides these `Memory` where a growth was refused, and `Stopped` where the fuse burns. All but `Stopped` leave
     /// everything as it was.
     pub fn set_size(&mut self, cpu: Cpu, path: &[u8], size: u64, time: Time) -> Result<(), Refusal>
-        ensures stopped_before { IsTrue self.old.stopped → (result ≡ Result.Err RefusalValue.Stopped) × (self.new ≡ self.old) }
         ensures allowed { (p : Path) → Says path.now p
             → OnOk result (first_refusal (set_size_tests (world_of self.old) (shown P.region self.old) cpu p size (resized_blocks self.old.rows (shown P.region self.old) p size)) ≡ Option.None) }
         ensures refused { self.old.stopped ≡ false → (p : Path) → Says path.now p
@@ -64,17 +62,8 @@ impl<P: Pmem + Drop> Fs<P> {
         ensures log { (names : List (List ℕ)) (i : ℕ) (node : Node) (held : Store) (h : Held) → IsPath path.now names → LeadsTo (shown P.region self.old) names i node
             → ShowsSound (P.region self.old.memory) self.old.sup held → held i ≡ Option.Some h
             → OnOk result (ShowsResizedLog (P.region self.new.memory) self.old.sup self.old.free.pools cpu held i h node size time) }
-        ensures unchanged { IfErr result (λ e. (e ≡ RefusalValue.Stopped → ⊥) → SameMount self.old self.new) }
-        ensures stopped { self.old.stopped ≡ false → (IsTrue self.new.stopped → (result ≡ Result.Err RefusalValue.Stopped) × IsTrue (P.fuse self.new.memory).has_burnt)
-            × (result ≡ Result.Err RefusalValue.Stopped → IsTrue self.new.stopped) }
-        ensures keeps { KeepsMount self.old self.new }
-        ensures settled { OnOk result (NothingPending (P.region self.new.memory) (P.may_hold self.new.memory)) }
-        ensures length { bytes_in (P.region self.new.memory) ≡ bytes_in (P.region self.old.memory) }
-        ensures keeps_fuse { KeepsFuse (λ limit. bytes_in (P.region self.old.memory) ≤ limit) (P.fuse self.old.memory) (P.fuse self.new.memory) }
-        // Where the text is no path, all stays as it was.
-        ensures bad_text { ((names : List (List ℕ)) → IsPath path.now names → ⊥) → SameMount self.old self.new }
-        // What was mounted with faults stays as it was.
-        ensures read_only { IsTrue self.old.read_only → SameMount self.old self.new }
+        // What every call that writes keeps.
+        ensures call { SettlesCall P.region P.may_hold P.fuse (IsNoPath path.now) self.old self.new result }
         // Every word outside these places is as it was.
         ensures wrote { (names : List (List ℕ)) (i : ℕ) (node : Node) (held : Store) → IsPath path.now names → LeadsTo (shown P.region self.old) names i node
             → ShowsSound (P.region self.old.memory) self.old.sup held → StoresIn self.old.sup held (one_log self.old.sup i) (P.region self.old.memory) (P.region self.new.memory) }

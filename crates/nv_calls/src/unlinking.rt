@@ -1,10 +1,8 @@
 //! `unlink`: a name of a file less, and with the last one the file.
 
-ghost use Rattle.std.specs.Prelude.{◌≡◌, ◌≢◌, ◌+◌, ◌-◌, ◌%◌, ◌<◌, ◌≤◌, nat_lt, ℕ, List, Option, Result, IsTrue, IfErr, OnOk, false};
+ghost use Rattle.std.specs.Prelude.{◌≡◌, ◌≢◌, ◌+◌, ◌-◌, ◌%◌, ◌<◌, ◌≤◌, nat_lt, ℕ, List, Option, Result, IfErr, OnOk, false};
 ghost use Rattle.nv_super.specs.Layout.{fixed_layout, slot_address};
-ghost use Rattle.nv_region.specs.Region.{size};
 ghost use Rattle.nv_region.specs.Stops.{LeavesOnly, NothingPending};
-ghost use Rattle.nv_region.specs.Fuses.{KeepsFuse};
 ghost use Rattle.nv_alloc.specs.Taking.{all_blocks};
 ghost use Rattle.nv_entry.specs.declared.entry.Operation.TheVariants.{Remove};
 ghost use Rattle.nv_logpage.specs.Append.{needed};
@@ -18,29 +16,26 @@ ghost use Rattle.nv_tree.specs.Path.{IsPath, Says, last_name};
 ghost use Rattle.nv_tree.specs.Tree.{Node, SameTree, walk};
 ghost use Rattle.nv_tree.specs.Calls.{unlinked};
 ghost use Rattle.nv_tree.specs.Refusals.{Path, first_refusal, unlink_tests, IsRefusedBy};
-ghost use Rattle.nv_tree.specs.declared.refusal.Refusal.{Refusal as RefusalValue};
 ghost use Rattle.nv_steps.specs.Grown.{StandsRight};
 ghost use Rattle.nv_steps.specs.LessNames.{OwnsBlocks};
 ghost use Rattle.nv_calls.specs.LinkCalls.{ShowsBothGrew};
 ghost use Rattle.nv_steps.specs.NameEntries.{links_entries, name_entries};
 ghost use Rattle.nv_steps.specs.NewNames.{CanName};
-ghost use Rattle.nv_calls.specs.AtPlaces.{LeavesRows, Releases, release_blocks};
+ghost use Rattle.nv_calls.specs.AtPlaces.{KeepsRows, Releases, release_blocks};
 ghost use Rattle.nv_calls.specs.RemoveCalls.{ShowsRemoved};
-ghost use Rattle.nv_calls.specs.Same.{KeepsMount, SameMount};
 ghost use Rattle.nv_calls.specs.Effects.{LogsUnlink, makes_unlink};
 ghost use Rattle.nv_calls.specs.Stopped.{LeavesCall, Released};
 ghost use Rattle.nv_steps.specs.Stopped.{Unlinked};
 ghost use Rattle.nv_paths.specs.Seen.{LeadsTo};
 ghost use Rattle.nv_steps.specs.Steps.{RefusesStep, ShowsRow};
 ghost use Rattle.nv_steps.specs.InOrder.{TailIsFirst, tail_address};
-ghost use Rattle.nv_calls.specs.InOrder.{ShowsTailFirst};
 ghost use Rattle.nv_calls.specs.UnlinkCalls.{unlink_blocks};
 ghost use Rattle.nv_steps.specs.Unlinks.{UnlinksAt};
-ghost use Rattle.nv_steps.specs.Fronts.{SameFrontBut};
 ghost use Rattle.nv_calls.specs.World.{world_of};
 ghost use Rattle.nv_steps.specs.Stores.{StoresIn, one_less, two_logs};
-ghost use Rattle.nv_steps.specs.Keeping.{SettlesStep};
 ghost use Rattle.nv_calls.specs.Mount.{shown};
+ghost use Rattle.nv_calls.specs.Keeping.{IsNoPath, SettlesCall};
+ghost use Rattle.nv_calls.specs.Storing.{UnlinkStores};
 
 use crate::Fs;
 use crate::arguments::{Cpu, Time};
@@ -85,12 +80,10 @@ fn unlink_at<P: Pmem>(
     ensures enough { (row file : RowValue) → row_of rows.old.items named.now.directory ≡ Option.Some row → row_of rows.old.items named.now.target ≡ Option.Some file
         → OnOk result (needed (row.tail % 4096) (name_entries Remove file.inode named.now.name.now time)
         + needed (file.tail % 4096) (links_entries (file.numbers.links - 1) time) ≤ all_blocks free.old.pools) }
-    ensures kept { SettlesStep P.region P.may_hold P.fuse memory.old memory.new free.old free.new result }
+    ensures kept { KeepsRows P.region P.may_hold P.fuse memory.old memory.new free.old free.new rows.old rows.new result }
     ensures refused { (row file : RowValue) → row_of rows.old.items named.now.directory ≡ Option.Some row → row_of rows.old.items named.now.target ≡ Option.Some file
         → IfErr result (λ e. RefusesStep e (needed (row.tail % 4096) (name_entries Remove file.inode named.now.name.now time) + needed (file.tail % 4096) (links_entries (file.numbers.links - 1) time))
         free.old) }
-    ensures unchanged { IfErr result (λ e. (e ≡ RefusalValue.Stopped → ⊥) → LeavesRows memory.old memory.new free.old free.new rows.old.items rows.new.items) }
-    ensures tables { (rows.new.sup ≡ rows.old.sup) × (rows.new.sizes ≡ rows.old.sizes) }
     // Every word outside these places is as it was.
     ensures wrote { (row file : RowValue) (held : Store) (h f : Held) → row_of rows.old.items named.now.directory ≡ Option.Some row
         → row_of rows.old.items named.now.target ≡ Option.Some file → ShowsRow (P.region memory.old) sup.now held h row free.old → ShowsRow (P.region memory.old) sup.now held f file free.old
@@ -159,11 +152,9 @@ fn release_at<P: Pmem>(
         (place_in rows.old.items named.now.target) named.now.name.now time) }
     ensures enough { (row file : RowValue) → row_of rows.old.items named.now.directory ≡ Option.Some row → row_of rows.old.items named.now.target ≡ Option.Some file
         → OnOk result (release_blocks row file named.now.name.now time ≤ all_blocks free.old.pools) }
-    ensures kept { SettlesStep P.region P.may_hold P.fuse memory.old memory.new free.old free.new result }
+    ensures kept { KeepsRows P.region P.may_hold P.fuse memory.old memory.new free.old free.new rows.old rows.new result }
     ensures refused { (row file : RowValue) → row_of rows.old.items named.now.directory ≡ Option.Some row → row_of rows.old.items named.now.target ≡ Option.Some file
         → IfErr result (λ e. RefusesStep e (release_blocks row file named.now.name.now time) free.old) }
-    ensures unchanged { IfErr result (λ e. (e ≡ RefusalValue.Stopped → ⊥) → LeavesRows memory.old memory.new free.old free.new rows.old.items rows.new.items) }
-    ensures tables { (rows.new.sup ≡ rows.old.sup) × (rows.new.sizes ≡ rows.old.sizes) }
     // Every word outside these places is as it was.
     ensures wrote { (row file : RowValue) (held : Store) (h f : Held) → row_of rows.old.items named.now.directory ≡ Option.Some row
         → row_of rows.old.items named.now.target ≡ Option.Some file → ShowsRow (P.region memory.old) sup.now held h row free.old
@@ -214,7 +205,6 @@ impl<P: Pmem + Drop> Fs<P> {
     /// Besides these `Memory` where a growth was refused, and `Stopped` where the fuse burns. All but `Stopped` leave
     /// everything as it was.
     pub fn unlink(&mut self, cpu: Cpu, path: &[u8], time: Time) -> Result<(), Refusal>
-        ensures stopped_before { IsTrue self.old.stopped → (result ≡ Result.Err RefusalValue.Stopped) × (self.new ≡ self.old) }
         ensures allowed { (p : Path) → Says path.now p
             → OnOk result (first_refusal (unlink_tests (world_of self.old) (shown P.region self.old) cpu p (unlink_blocks self.old.rows (shown P.region self.old) p)) ≡ Option.None) }
         ensures refused { self.old.stopped ≡ false → (p : Path) → Says path.now p
@@ -232,39 +222,10 @@ impl<P: Pmem + Drop> Fs<P> {
             → walk (shown P.region self.old) 1 names ≡ Result.Ok d
             → ShowsSound (P.region self.old.memory) self.old.sup held → held d ≡ Option.Some h → node.links ≤ 1
             → OnOk result (ShowsRemoved (P.region self.new.memory) self.old.sup self.old.free.pools cpu held d h (name_entries Remove i (last_name names) time) i) }
-        ensures unchanged { IfErr result (λ e. (e ≡ RefusalValue.Stopped → ⊥) → SameMount self.old self.new) }
-        ensures stopped { self.old.stopped ≡ false → (IsTrue self.new.stopped → (result ≡ Result.Err RefusalValue.Stopped) × IsTrue (P.fuse self.new.memory).has_burnt)
-            × (result ≡ Result.Err RefusalValue.Stopped → IsTrue self.new.stopped) }
-        ensures keeps { KeepsMount self.old self.new }
-        // The superblock and all journals but that of the CPU are as they were.
-        ensures journals { OnOk result (SameFrontBut self.old.sup.cpus cpu (P.region self.old.memory) (P.region self.new.memory)) }
-        ensures settled { OnOk result (NothingPending (P.region self.new.memory) (P.may_hold self.new.memory)) }
-        ensures length { size (P.region self.new.memory) ≡ size (P.region self.old.memory) }
-        ensures keeps_fuse { KeepsFuse (λ limit. size (P.region self.old.memory) ≤ limit) (P.fuse self.old.memory) (P.fuse self.new.memory) }
-        // Where the text is no path, all stays as it was.
-        ensures bad_text { ((names : List (List ℕ)) → IsPath path.now names → ⊥) → SameMount self.old self.new }
-        // What was mounted with faults stays as it was.
-        ensures read_only { IsTrue self.old.read_only → SameMount self.old self.new }
-        // Every word outside these places is as it was.
-        ensures wrote { (names : List (List ℕ)) (i d : ℕ) (node : Node) (held : Store) → IsPath path.now names → LeadsTo (shown P.region self.old) names i node
-            → walk (shown P.region self.old) 1 names ≡ Result.Ok d
-            → ShowsSound (P.region self.old.memory) self.old.sup held → 1 < node.links
-            → StoresIn self.old.sup held (two_logs self.old.sup cpu d i) (P.region self.old.memory) (P.region self.new.memory) }
-        ensures last_wrote { (names : List (List ℕ)) (i d : ℕ) (node : Node) (held : Store) → IsPath path.now names → LeadsTo (shown P.region self.old) names i node
-            → walk (shown P.region self.old) 1 names ≡ Result.Ok d
-            → ShowsSound (P.region self.old.memory) self.old.sup held → node.links ≤ 1
-            → StoresIn self.old.sup held (one_less self.old.sup cpu d i) (P.region self.old.memory) (P.region self.new.memory) }
-        // The directory's tail is stored first: then that of the file, or the valid word where the file goes.
-        ensures in_order { (names : List (List ℕ)) (i d : ℕ) (node : Node) (held : Store) (h : Held) → IsPath path.now names → LeadsTo (shown P.region self.old) names i node
-            → walk (shown P.region self.old) 1 names ≡ Result.Ok d
-            → ShowsSound (P.region self.old.memory) self.old.sup held → held d ≡ Option.Some h → 1 < node.links
-            → ShowsTailFirst (P.region self.old.memory) (P.region self.new.memory) self.old.sup self.old.free.pools cpu d h (name_entries Remove i
-            (last_name names) time) (tail_address self.old.sup i) }
-        ensures last_in_order { (names : List (List ℕ)) (i d : ℕ) (node : Node) (held : Store) (h : Held) → IsPath path.now names → LeadsTo (shown P.region self.old) names i node
-            → walk (shown P.region self.old) 1 names ≡ Result.Ok d
-            → ShowsSound (P.region self.old.memory) self.old.sup held → held d ≡ Option.Some h → node.links ≤ 1
-            → ShowsTailFirst (P.region self.old.memory) (P.region self.new.memory) self.old.sup self.old.free.pools cpu d h (name_entries Remove i
-            (last_name names) time) (slot_address self.old.sup i) }
+        // What every call that writes keeps.
+        ensures call { SettlesCall P.region P.may_hold P.fuse (IsNoPath path.now) self.old self.new result }
+        // Where it stores, and in which order.
+        ensures stores { UnlinkStores P.region self.old self.new cpu path.now time result }
         // Whatever a stop leaves, at any exit: recovery finds what was mounted, or what the call makes, without faults.
         ensures any_stop { (names : List (List ℕ)) → IsPath path.now names → self.old.stopped ≡ false → self.old.read_only ≡ false
             → LeavesOnly (P.region self.new.memory) (P.may_hold self.new.memory) (LeavesCall (makes_unlink time) (LogsUnlink cpu time) (P.region self.old.memory) self.old names) }

@@ -1,9 +1,8 @@
 //! `write`: new bytes of a file.
 
-ghost use Rattle.std.specs.Prelude.{◌≡◌, ◌<◌, ◌≤◌, ◌+◌, ℕ, List, Option, Result, length, IsTrue, IfErr, OnOk, false};
+ghost use Rattle.std.specs.Prelude.{◌≡◌, ◌<◌, ◌+◌, ℕ, List, Option, Result, length, IfErr, OnOk, false};
 ghost use Rattle.nv_region.specs.Region.{size};
 ghost use Rattle.nv_region.specs.Stops.{LeavesOnly, NothingPending};
-ghost use Rattle.nv_region.specs.Fuses.{KeepsFuse};
 ghost use Rattle.nv_super.specs.Layout.{fixed_layout};
 ghost use Rattle.nv_scan.specs.State.{block_of};
 ghost use Rattle.nv_held.specs.Held.{Held, Store, good_in};
@@ -12,9 +11,7 @@ ghost use Rattle.nv_tree.specs.Path.{IsPath, Says};
 ghost use Rattle.nv_tree.specs.Tree.{Node, SameTree};
 ghost use Rattle.nv_tree.specs.Calls.{written};
 ghost use Rattle.nv_tree.specs.Refusals.{Path, first_refusal, write_tests, IsRefusedBy};
-ghost use Rattle.nv_tree.specs.declared.refusal.Refusal.{Refusal as RefusalValue};
 ghost use Rattle.nv_steps.specs.Writes.{plan_of};
-ghost use Rattle.nv_calls.specs.Same.{KeepsMount, SameMount};
 ghost use Rattle.nv_calls.specs.Effects.{LogsBytes, makes_bytes};
 ghost use Rattle.nv_calls.specs.Stopped.{LeavesCall};
 ghost use Rattle.nv_paths.specs.Seen.{LeadsTo};
@@ -23,6 +20,7 @@ ghost use Rattle.nv_steps.specs.Stores.{StoresIn, one_log};
 ghost use Rattle.nv_calls.specs.WriteCall.{ShowsLogWrite, WriteNeeds};
 ghost use Rattle.nv_bytes.specs.Data.{data_bytes};
 ghost use Rattle.nv_calls.specs.Mount.{shown};
+ghost use Rattle.nv_calls.specs.Keeping.{IsNoPath, KeepsPathCall};
 
 use crate::Fs;
 use crate::arguments::{Cpu, Time};
@@ -64,7 +62,6 @@ impl<P: Pmem + Drop> Fs<P> {
         bytes: &[u8],
         time: Time,
     ) -> Result<(), Refusal>
-        ensures stopped_before { IsTrue self.old.stopped → (result ≡ Result.Err RefusalValue.Stopped) × (self.new ≡ self.old) }
         ensures allowed { (p : Path) (count : ℕ) → Says path.now p → WriteNeeds (P.region self.old.memory) self.old cpu p offset (length bytes.now) time count
             → OnOk result (first_refusal (write_tests (world_of self.old) (shown P.region self.old) cpu p (offset + length bytes.now) count) ≡ Option.None) }
         ensures refused { self.old.stopped ≡ false → (p : Path) (count : ℕ) → Says path.now p → WriteNeeds (P.region self.old.memory) self.old cpu p offset (length bytes.now) time count
@@ -76,17 +73,9 @@ impl<P: Pmem + Drop> Fs<P> {
             → ShowsSound (P.region self.old.memory) self.old.sup held → held i ≡ Option.Some h → 0 < length bytes.now
             → OnOk result (ShowsLogWrite (P.region self.new.memory) self.old cpu held i h (plan_of (block_of (good_in (fixed_layout self.old.sup) h)) node.size offset (length bytes.now) time)) }
         ensures nothing { length bytes.now ≡ 0 → OnOk result (self.new ≡ self.old) }
-        ensures unchanged { IfErr result (λ e. (e ≡ RefusalValue.Stopped → ⊥) → SameMount self.old self.new) }
-        ensures stopped { self.old.stopped ≡ false → (IsTrue self.new.stopped → (result ≡ Result.Err RefusalValue.Stopped) × IsTrue (P.fuse self.new.memory).has_burnt)
-            × (result ≡ Result.Err RefusalValue.Stopped → IsTrue self.new.stopped) }
-        ensures keeps { KeepsMount self.old self.new }
+        // What every call that writes keeps.
+        ensures call { KeepsPathCall P.region P.fuse (IsNoPath path.now) self.old self.new result }
         ensures settled { 0 < length bytes.now → OnOk result (NothingPending (P.region self.new.memory) (P.may_hold self.new.memory)) }
-        ensures length { size (P.region self.new.memory) ≡ size (P.region self.old.memory) }
-        ensures keeps_fuse { KeepsFuse (λ limit. size (P.region self.old.memory) ≤ limit) (P.fuse self.old.memory) (P.fuse self.new.memory) }
-        // Where the text is no path, all stays as it was.
-        ensures bad_text { ((names : List (List ℕ)) → IsPath path.now names → ⊥) → SameMount self.old self.new }
-        // What was mounted with faults stays as it was.
-        ensures read_only { IsTrue self.old.read_only → SameMount self.old self.new }
         // Every word outside these places is as it was.
         ensures wrote { (names : List (List ℕ)) (i : ℕ) (node : Node) (held : Store) → IsPath path.now names → LeadsTo (shown P.region self.old) names i node
             → ShowsSound (P.region self.old.memory) self.old.sup held → StoresIn self.old.sup held (one_log self.old.sup i) (P.region self.old.memory) (P.region self.new.memory) }
@@ -110,7 +99,6 @@ impl<P: Pmem + Drop> Fs<P> {
         content: Data<'_>,
         time: Time,
     ) -> Result<(), Refusal>
-        ensures stopped_before { IsTrue self.old.stopped → (result ≡ Result.Err RefusalValue.Stopped) × (self.new ≡ self.old) }
         ensures allowed { (p : Path) (count : ℕ) → Says path.now p → WriteNeeds (P.region self.old.memory) self.old cpu p offset (length (data_bytes content.entry)) time count
             → OnOk result (first_refusal (write_tests (world_of self.old) (shown P.region self.old) cpu p (offset + length (data_bytes content.entry)) count) ≡ Option.None) }
         ensures refused { self.old.stopped ≡ false → (p : Path) (count : ℕ) → Says path.now p
@@ -124,17 +112,9 @@ impl<P: Pmem + Drop> Fs<P> {
             → OnOk result (ShowsLogWrite (P.region self.new.memory) self.old cpu held i h (plan_of (block_of (good_in (fixed_layout self.old.sup) h)) node.size offset
             (length (data_bytes content.entry)) time)) }
         ensures nothing { length (data_bytes content.entry) ≡ 0 → OnOk result (self.new ≡ self.old) }
-        ensures unchanged { IfErr result (λ e. (e ≡ RefusalValue.Stopped → ⊥) → SameMount self.old self.new) }
-        ensures stopped { self.old.stopped ≡ false → (IsTrue self.new.stopped → (result ≡ Result.Err RefusalValue.Stopped) × IsTrue (P.fuse self.new.memory).has_burnt)
-            × (result ≡ Result.Err RefusalValue.Stopped → IsTrue self.new.stopped) }
-        ensures keeps { KeepsMount self.old self.new }
+        // What every call that writes keeps.
+        ensures call { KeepsPathCall P.region P.fuse (IsNoPath path.now) self.old self.new result }
         ensures settled { 0 < length (data_bytes content.entry) → OnOk result (NothingPending (P.region self.new.memory) (P.may_hold self.new.memory)) }
-        ensures length { size (P.region self.new.memory) ≡ size (P.region self.old.memory) }
-        ensures keeps_fuse { KeepsFuse (λ limit. size (P.region self.old.memory) ≤ limit) (P.fuse self.old.memory) (P.fuse self.new.memory) }
-        // Where the text is no path, all stays as it was.
-        ensures bad_text { ((names : List (List ℕ)) → IsPath path.now names → ⊥) → SameMount self.old self.new }
-        // What was mounted with faults stays as it was.
-        ensures read_only { IsTrue self.old.read_only → SameMount self.old self.new }
         // Every word outside these places is as it was.
         ensures wrote { (names : List (List ℕ)) (i : ℕ) (node : Node) (held : Store) → IsPath path.now names → LeadsTo (shown P.region self.old) names i node
             → ShowsSound (P.region self.old.memory) self.old.sup held → StoresIn self.old.sup held (one_log self.old.sup i) (P.region self.old.memory) (P.region self.new.memory) }

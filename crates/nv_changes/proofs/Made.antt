@@ -1,5 +1,6 @@
 -- What the calls of a change leave of a region that was opened, and why a change is refused.
 use Rattle.std.proofs.Common.{◌≡◌, ◌≢◌, ◌∙◌, ℕ, Bool, true, false, IsTrue, List, [], refl, sym, ap, subst, inl, inr}
+use Rattle.nv_super.specs.Layout.{fixed_layout}
 use Rattle.nv_region.specs.Region.{Region, size}
 use Rattle.nv_region.specs.RegionState.{RegionState, is_steady, steady_unburnt}
 use Rattle.nv_report.specs.nv_outcome.nv_journal.Undo.{undone}
@@ -80,7 +81,7 @@ module _ (R : Region) (o : Outcome) (m n : Mount RegionState) (is : IsOpenedAs R
         made = made_here (tree n) made;
         leaves = record {
           as_long = long ∙ as_long;
-          after = record { sup = n.sup; rows = n.rows; free = n.free.pools; doubled = own.0; faults = [] };
+          after = record { sup = n.sup; tables = (fixed_layout n.sup).chains; rows = n.rows; free = n.free.pools; doubled = own.0; faults = [] };
           shown = own.1;
           own = kept.own can.runs;
           sup = keeps.sup ∙ is.sup;

@@ -1,6 +1,7 @@
 -- What cleaning an image asks, and what it leaves of the region that came.
 use Rattle.std.proofs.Common.{◌≡◌, ◌∙◌, ◌↔◌, ◌==◌, ℕ, Bool, true, false, IsTrue, List, [], ◌∷◌, length, Option, Some, None, refl, sym, ap, subst, arith}
 use Rattle.std.proofs.lemmas.Bool.Decides.{nat_tests}
+use Rattle.nv_super.specs.Layout.{fixed_layout}
 use Rattle.nv_region.specs.Region.{Region, size}
 use Rattle.nv_region.specs.RegionState.{RegionState, is_steady}
 use Rattle.nv_region.specs.declared.memory.Fuse.TheVariants.{Off}
@@ -129,7 +130,7 @@ module _ (R : Region) (o : Outcome) (m n : Mount RegionState) (is : IsOpenedAs R
     leaves_tree : Keeps n → LeavesTree R n.memory.region (mounted_as o false) (tree m)
     leaves_tree kept = (let own = shows_now n kept loses.can in record {
       as_long = loses.as_long ∙ as_long;
-      after = record { sup = n.sup; rows = n.rows; free = n.free.pools; doubled = own.0; faults = [] };
+      after = record { sup = n.sup; tables = (fixed_layout n.sup).chains; rows = n.rows; free = n.free.pools; doubled = own.0; faults = [] };
       shown = own.1;
       own = kept.own loses.can.runs;
       sup = super;

@@ -308,12 +308,12 @@ module _ (m : Mount RegionState) (kept : Keeps m) (can : CanClean m) where
   some_dead i dead used found = with_held i used (0 < dead.count) (hlevel (props, ℕ_set)) (λ held h shown there. (found held h shown there).0)
 
   -- it shows an outcome without a fault
-  pub shows_now : (doubled : List (ℕ × Owner)) × IsOutcome m.memory.region (record { sup = m.sup; rows = m.rows; free = m.free.pools; doubled = doubled; faults = [] })
+  pub shows_now : (doubled : List (ℕ × Owner)) × IsOutcome m.memory.region (record { sup = m.sup; tables = (fixed_layout m.sup).chains; rows = m.rows; free = m.free.pools; doubled = doubled; faults = [] })
   shows_now =
       let none : m.faults ≡ [] = faultless kept can.writes in
       let lasting : filter is_lasting m.faults ≡ [] = ap (filter is_lasting) none in
       settled m.memory.region m.sup m.rows m.free.pools
-      (∥∥₁_map (kept.shown can.runs) (λ w. (w.0, subst (λ (fs : List Fault). IsOutcome m.memory.region (record { sup = m.sup; rows = m.rows; free = m.free.pools; doubled = w.0; faults = fs })) lasting w.1)))
+      (∥∥₁_map (kept.shown can.runs) (λ w. (w.0, subst (λ (fs : List Fault). IsOutcome m.memory.region (record { sup = m.sup; tables = (fixed_layout m.sup).chains; rows = m.rows; free = m.free.pools; doubled = w.0; faults = fs })) lasting w.1)))
 
   -- so its superblock's numbers are those of a layout
   pub layout_here : IsLayout m.sup

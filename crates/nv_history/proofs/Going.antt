@@ -1,5 +1,5 @@
 -- What holds while calls are made one after the other, and where a run is halted.
-use Rattle.std.proofs.Common.{◌≡◌, ◌⊎◌, ◌+◌, ◌<◌, ◌≤◌, ℕ, Bool, true, false, IsTrue, inl, inr, List, length, take, get_or, refl, sym, ◌∙◌, subst, arith, Result, Ok, Err}
+use Rattle.std.proofs.Common.{◌≡◌, ◌⊎◌, ◌+◌, ◌<◌, ◌≤◌, ◌↔◌, ◌∷◌, [], ℕ, Bool, true, false, IsTrue, inl, inr, List, length, ap, take, get_or, refl, sym, ◌∙◌, subst, arith, Result, Ok, Err}
 use Rattle.std.specs.Prelude.{⊤}
 use Rattle.std.proofs.Math.Logic.{∥∥₁_map}
 use Rattle.std.proofs.lemmas.List.{take_all, take_more}
@@ -15,6 +15,7 @@ use Rattle.nv_tree.specs.declared.refusal.Refusal.TheVariants.{Stopped}
 use Rattle.nv_tree.specs.Tree.{SameTree, Tree}
 use Rattle.nv_tree.proofs.Same.{same_itself}
 use Rattle.nv_paths.specs.Seen.{tree_of}
+use Rattle.nv_calls.specs.Keeping.{KeepsCall}
 use Rattle.nv_calls.specs.Mount.{Mount}
 use Rattle.nv_calls.specs.Same.{KeepsMount, SameMount}
 use Rattle.nv_calls.specs.Stopped.{IsAsMounted, LeavesMounted}
@@ -22,6 +23,7 @@ use Rattle.nv_history.specs.declared.calls.Call.{Call}
 use Rattle.nv_history.specs.Making.{AreMade, none, IsMadeBy}
 use Rattle.nv_history.specs.Asking.{RefusesCall}
 use Rattle.nv_history.specs.Halting.{HaltsAt}
+use Rattle.nv_history.specs.Keeping.{KeepsRun}
 use Rattle.nv_history.specs.Stopping.{BeforeOrMade, RunLeaves, MayBeDone, RecoversMade, RecoversTree}
 use Rattle.nv_history.proofs.MadeTrees.{made_shown, one_more}
 use Rattle.nv_history.proofs.Recoveries.{always}
@@ -80,6 +82,28 @@ pub left_whole : {P : Type 0} (region : P → Region) (may_hold : P → Choices)
 left_whole region may_hold fuse calls old now made going all still left may =
     ∥∥₁_map (still left may) (λ w. (calls, refl, shows_made region now old.sup calls (tree_of (region old.memory) old.rows) going.keeps.sup (all_made region fuse calls old now made going all) left w))
 
+-- a call of a list that has more than so many
+pub some_call : (calls : List Call) (made : ℕ) → made < length calls → Call
+some_call [] made more = absurd (omega (arith, more))
+some_call (call ∷ calls) made more = call
+
+none_there : (calls : List Call) → length calls ≤ 0 → calls ≡ []
+none_there [] few = refl
+none_there (call ∷ calls) few = absurd (omega (arith, few))
+
+-- What the run keeps then.
+pub whole_keeps : {P : Type 0} (region : P → Region) (fuse : P → FuseState) (calls : List Call) (old now : Mount P) (made : ℕ) → Going region fuse calls old now made → length calls ≤ made → KeepsRun {T = ⊤} region fuse calls old now (Ok tt)
+whole_keeps region fuse calls old now made going all = record {
+  stopped_before = λ on. going.begun (going.stands on);
+  none_made = λ on. none_there calls (subst (λ (n : ℕ). length calls ≤ n) (going.stands on) all);
+  runs = going.runs;
+  stopped = tt;
+  burnt = λ off on. absurd (let clash : true ≡ false = sym on ∙ going.runs ∙ off in cc);
+  keeps = going.keeps;
+  length = going.as_long;
+  keeps_fuse = going.burns;
+}
+
 -- ---- one call more
 
 module _ {P : Type 0} (region : P → Region) (may_hold : P → Choices) (fuse : P → FuseState) (calls : List Call) (old now next : Mount P) (made : ℕ) (going : Going region fuse calls old now made) (d : Call) (more : made < length calls) where
@@ -129,6 +153,22 @@ module _ {P : Type 0} (region : P → Region) (may_hold : P → Choices) (fuse :
     same = same;
     why = (call, slice_get-get_or calls made d more, subst (λ (p : P). RefusesCall (region p) now call e) (sym same.memory) (why (off_or_on now.stopped (λ on. runs (before on)))));
   }
+
+  -- What the run keeps where the call was refused.
+  pub halted_keeps : (e : Refusal) → KeepsCall {T = ⊤} region fuse now next (Err e) → KeepsRun {T = ⊤} region fuse calls old next (Err (record { made = made; refusal = e }))
+  halted_keeps e kept = record {
+    stopped_before = λ on. (kept.stopped_before (going.runs ∙ on)).1 ∙ going.begun (going.stands on);
+    none_made = λ on. going.stands on;
+    runs = tt;
+    stopped = by now.stopped refl;
+    burnt = λ off on. ((kept.stopped (going.runs ∙ off)).0 on).1;
+    keeps = keeps_on kept.keeps;
+    length = kept.length ∙ going.as_long;
+    keeps_fuse = burns_on kept.keeps_fuse;
+  } where
+    by : (b : Bool) → now.stopped ≡ b → (e ≡ Stopped) ↔ IsTrue next.stopped
+    by true on = ((λ is. subst (λ (m : Mount P). IsTrue m.stopped) (sym (kept.stopped_before on).1) on), (λ at. one_refusal e Stopped (kept.stopped_before on).0))
+    by false off = ((λ is. (kept.stopped off).1 (ap (λ (f : Refusal). Err f) is)), (λ at. one_refusal e Stopped ((kept.stopped off).0 at).0))
 
   -- What a stop leaves where the call was refused by its tests or for want of memory.
   stays : (e : Refusal) → SameMount now next → LeavesOnly (region now.memory) (may_hold now.memory) (LeavesMounted (region now.memory) now)

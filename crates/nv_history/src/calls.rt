@@ -1,11 +1,8 @@
 //! The calls that write, as values.
 
-ghost use Rattle.std.specs.Prelude.{◌≡◌, ◌≤◌, IsTrue, IfErr, OnOk, Result, false};
-ghost use Rattle.nv_region.specs.Region.{size};
+ghost use Rattle.std.specs.Prelude.{◌≡◌, IfErr, OnOk, false};
 ghost use Rattle.nv_region.specs.Stops.{LeavesOnly};
-ghost use Rattle.nv_region.specs.Fuses.{KeepsFuse};
-ghost use Rattle.nv_tree.specs.declared.refusal.Refusal.{Refusal as RefusalValue};
-ghost use Rattle.nv_calls.specs.Same.{KeepsMount, SameMount};
+ghost use Rattle.nv_calls.specs.Keeping.{KeepsCall};
 ghost use Rattle.nv_history.specs.Making.{IsMadeBy};
 ghost use Rattle.nv_history.specs.Asking.{RefusesCall};
 ghost use Rattle.nv_history.specs.Stopping.{BeforeOrMade};
@@ -90,15 +87,10 @@ pub enum Call<'a> {
 
 /// Makes a call.
 pub(crate) fn make_call<P: Pmem + Drop>(mount: &mut Fs<P>, call: &Call<'_>) -> Result<(), Refusal>
-    ensures stopped_before { IsTrue mount.old.stopped → (result ≡ Result.Err RefusalValue.Stopped) × (mount.new ≡ mount.old) }
     ensures made { OnOk result (IsMadeBy mount.old.sup call.now (shown P.region mount.old) (shown P.region mount.new)) }
     ensures refused { mount.old.stopped ≡ false → IfErr result (RefusesCall (P.region mount.old.memory) mount.old call.now) }
-    ensures unchanged { IfErr result (λ e. (e ≡ RefusalValue.Stopped → ⊥) → SameMount mount.old mount.new) }
-    ensures stopped { mount.old.stopped ≡ false → (IsTrue mount.new.stopped → (result ≡ Result.Err RefusalValue.Stopped) × IsTrue (P.fuse mount.new.memory).has_burnt)
-        × (result ≡ Result.Err RefusalValue.Stopped → IsTrue mount.new.stopped) }
-    ensures keeps { KeepsMount mount.old mount.new }
-    ensures length { size (P.region mount.new.memory) ≡ size (P.region mount.old.memory) }
-    ensures keeps_fuse { KeepsFuse (λ limit. size (P.region mount.old.memory) ≤ limit) (P.fuse mount.old.memory) (P.fuse mount.new.memory) }
+    // What every call that writes keeps.
+    ensures call { KeepsCall P.region P.fuse mount.old mount.new result }
     // Whatever a stop leaves, at any exit: recovery finds what was mounted, or what the call makes, without faults.
     ensures any_stop { mount.old.stopped ≡ false → mount.old.read_only ≡ false
         → LeavesOnly (P.region mount.new.memory) (P.may_hold mount.new.memory) (BeforeOrMade mount.old.sup call.now (shown P.region mount.old)) }

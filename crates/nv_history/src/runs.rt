@@ -1,13 +1,12 @@
 //! Runs of calls.
 
-ghost use Rattle.std.specs.Prelude.{◌≡◌, ◌<◌, ◌≤◌, ◌↔◌, [], length, IsTrue, IfErr, OnOk, MatchResult, Result, false};
-ghost use Rattle.nv_region.specs.Region.{size};
+ghost use Rattle.std.specs.Prelude.{◌≡◌, ◌<◌, length, IfErr, OnOk, false};
 ghost use Rattle.nv_region.specs.Stops.{LeavesOnly};
-ghost use Rattle.nv_region.specs.Fuses.{KeepsFuse};
 ghost use Rattle.nv_tree.specs.declared.refusal.Refusal.{Refusal as RefusalValue};
-ghost use Rattle.nv_calls.specs.Same.{KeepsMount, SameMount};
+ghost use Rattle.nv_calls.specs.Same.{SameMount};
 ghost use Rattle.nv_history.specs.Making.{AreMade};
 ghost use Rattle.nv_history.specs.Halting.{HaltsAt};
+ghost use Rattle.nv_history.specs.Keeping.{KeepsRun};
 ghost use Rattle.nv_history.specs.Stopping.{RunLeaves};
 ghost use Rattle.nv_calls.specs.Mount.{shown};
 
@@ -48,17 +47,8 @@ pub fn make_calls<P: Pmem + Drop>(mount: &mut Fs<P>, calls: &[Call<'_>]) -> Resu
     ensures halted { IfErr result (λ halted. (halted.refusal ≡ RefusalValue.Stopped → ⊥)
         → HaltsAt mount.old.sup (shown P.region mount.old) calls.now halted (P.region mount.new.memory) mount.new) }
     ensures unchanged { IfErr result (λ halted. (halted.refusal ≡ RefusalValue.Stopped → ⊥) → halted.made ≡ 0 → SameMount mount.old mount.new) }
-
-    // A mount that was stopped before stays as it was, and no call is made.
-    ensures stopped_before { IsTrue mount.old.stopped → mount.new ≡ mount.old }
-    ensures none_made { IsTrue mount.old.stopped → MatchResult result (λ _. calls.now ≡ []) (λ halted. halted.made ≡ 0) }
-    ensures runs { OnOk result (mount.new.stopped ≡ mount.old.stopped) }
-    ensures stopped { IfErr result (λ halted. (halted.refusal ≡ RefusalValue.Stopped) ↔ IsTrue mount.new.stopped) }
-    ensures burnt { mount.old.stopped ≡ false → IsTrue mount.new.stopped → IsTrue (P.fuse mount.new.memory).has_burnt }
-    ensures keeps { KeepsMount mount.old mount.new }
-    ensures length { size (P.region mount.new.memory) ≡ size (P.region mount.old.memory) }
-    ensures keeps_fuse { KeepsFuse (λ limit. size (P.region mount.old.memory) ≤ limit) (P.fuse mount.old.memory) (P.fuse mount.new.memory) }
-
+    // What a run keeps, and when it stops the mount.
+    ensures run { KeepsRun P.region P.fuse calls.now mount.old mount.new result }
     // Whatever a power cut leaves, at any store of any of the calls: recovery finds what the calls that were made make, or
     // what they make with the one that was stopped, without faults, however often recoveries are stopped too.
     ensures any_stop { mount.old.stopped ≡ false → mount.old.read_only ≡ false

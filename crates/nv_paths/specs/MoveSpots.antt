@@ -3,6 +3,7 @@ use Rattle.std.specs.Prelude.{◌≡◌, ℕ, List, [], ◌∷◌, ◌++◌, sli
 use Rattle.std.specs.List.{Contains}
 use Rattle.nv_super.specs.declared.kind.Kind.TheVariants.{Directory}
 use Rattle.nv_scan.specs.declared.piece.Row.{Row}
+use Rattle.nv_rows.specs.Rows.{IsInUse}
 use Rattle.nv_tree.specs.Tree.{Tree, passed}
 use Rattle.nv_tree.specs.Refusals.{Path, Tests, is_bad_name, is_into_itself, is_missing, is_there, walk_tests}
 use Rattle.nv_paths.specs.NamedAt.{IsNamedAt}
@@ -15,6 +16,12 @@ rename_spot_tests t p q = is_bad_name p ∷ is_bad_name q ∷ walk_tests t p ++ 
 -- those of any move, whether the new name is free or not
 abbrev pub move_tests : Tree → Path → Path → Tests
 move_tests t p q = is_bad_name p ∷ is_bad_name q ∷ walk_tests t p ++ walk_tests t q ++ is_missing t p ∷ is_into_itself t p q ∷ []
+
+-- The directory that has the name, the inode that it stands for, and the directory that gets the other name are in use.
+pub record MoveInUse (rows : List Row) (place inode end : ℕ) : Type 0 where
+  pub from : IsInUse rows place
+  pub target : IsInUse rows inode
+  pub directory : IsInUse rows end
 
 -- The first path's name stands for the inode whose row is at a place, the second ends in a directory, and the way to that doesn't
 -- pass the inode where it is a directory.

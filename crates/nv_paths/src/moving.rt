@@ -5,12 +5,12 @@ ghost use Rattle.std.specs.List.{list_any};
 ghost use Rattle.nv_region.specs.Region.{Region};
 ghost use Rattle.nv_super.specs.declared.kind.Kind.TheVariants.{Directory};
 ghost use Rattle.nv_scan.specs.declared.piece.Row.{Row as RowValue};
-ghost use Rattle.nv_rows.specs.Rows.{IsInUse, place_in, row_of};
+ghost use Rattle.nv_rows.specs.Rows.{place_in, row_of};
 ghost use Rattle.nv_tree.specs.Path.{IsPath, IsPathName, Says, last_name};
 ghost use Rattle.nv_tree.specs.Names.{Spells};
 ghost use Rattle.nv_tree.specs.Tree.{is_directory, passed, walk as tree_walk};
 ghost use Rattle.nv_tree.specs.Refusals.{Path, first_refusal};
-ghost use Rattle.nv_paths.specs.MoveSpots.{IsMoveSpot, IsMoveWay, move_tests, rename_spot_tests};
+ghost use Rattle.nv_paths.specs.MoveSpots.{IsMoveSpot, IsMoveWay, MoveInUse, move_tests, rename_spot_tests};
 ghost use Rattle.nv_paths.specs.Seen.{tree_of};
 
 use crate::named::Named;
@@ -40,9 +40,7 @@ pub struct Move<'a> {
 /// - `IntoItself` where it leads to a directory that the second way passes
 /// - `Exists` where the second leads to an inode in use
 pub fn rename_for<'a>(rows: &Rows, old: &'a [u8], new: &'a [u8]) -> Result<Move<'a>, Refusal>
-    ensures from { IfOk result (λ moved. IsInUse rows.now.items moved.from.directory) }
-    ensures target { IfOk result (λ moved. IsInUse rows.now.items moved.from.target) }
-    ensures directory { IfOk result (λ moved. IsInUse rows.now.items moved.directory) }
+    ensures in_use { IfOk result (λ moved. MoveInUse rows.now.items moved.from.directory moved.from.target moved.directory) }
     ensures former { IfOk result (λ moved. IsPathName moved.from.name.now) }
     ensures name { IfOk result (λ moved. IsPathName moved.name.now) }
     ensures paths { OnOk result (((names : List (List ℕ)) × IsPath old.now names) × ((name : List ℕ) × (names : List (List ℕ)) × IsPath new.now (name ∷ names))) }
@@ -63,9 +61,7 @@ pub fn rename_for<'a>(rows: &Rows, old: &'a [u8], new: &'a [u8]) -> Result<Move<
 ///
 /// Errors, the first that applies: those of `rename_for` but `Exists`.
 pub(crate) fn move_for<'a>(rows: &Rows, old: &'a [u8], new: &'a [u8]) -> Result<Move<'a>, Refusal>
-    ensures from { IfOk result (λ moved. IsInUse rows.now.items moved.from.directory) }
-    ensures target { IfOk result (λ moved. IsInUse rows.now.items moved.from.target) }
-    ensures directory { IfOk result (λ moved. IsInUse rows.now.items moved.directory) }
+    ensures in_use { IfOk result (λ moved. MoveInUse rows.now.items moved.from.directory moved.from.target moved.directory) }
     ensures former { IfOk result (λ moved. IsPathName moved.from.name.now) }
     ensures name { IfOk result (λ moved. IsPathName moved.name.now) }
     ensures paths { OnOk result (((name : List ℕ) × (names : List (List ℕ)) × IsPath old.now (name ∷ names)) × ((name : List ℕ) × (names : List (List ℕ)) × IsPath new.now (name ∷ names))) }

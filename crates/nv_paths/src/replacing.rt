@@ -8,6 +8,7 @@ ghost use Rattle.nv_tree.specs.Tree.{is_directory};
 ghost use Rattle.nv_tree.specs.Refusals.{Path, first_refusal};
 ghost use Rattle.nv_paths.specs.ReplaceSpots.{IsReplaceSpot, replace_spot_tests};
 ghost use Rattle.nv_paths.specs.Seen.{tree_of};
+ghost use Rattle.nv_paths.specs.MoveSpots.{MoveInUse};
 
 use crate::moving::{Move, move_for};
 use crate::naming::target_at;
@@ -39,9 +40,7 @@ pub fn replace_for<'a>(
     old: &'a [u8],
     new: &'a [u8],
 ) -> Result<Replacement<'a>, Refusal>
-    ensures from { IfOk result (λ r. IsInUse rows.now.items r.moved.from.directory) }
-    ensures target { IfOk result (λ r. IsInUse rows.now.items r.moved.from.target) }
-    ensures directory { IfOk result (λ r. IsInUse rows.now.items r.moved.directory) }
+    ensures in_use { IfOk result (λ r. MoveInUse rows.now.items r.moved.from.directory r.moved.from.target r.moved.directory) }
     ensures there { IfOk result (λ r. (i : ℕ) → r.there ≡ Option.Some i → IsInUse rows.now.items i) }
     ensures former { IfOk result (λ r. IsPathName r.moved.from.name.now) }
     ensures name { IfOk result (λ r. IsPathName r.moved.name.now) }

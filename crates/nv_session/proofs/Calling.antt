@@ -3,6 +3,7 @@ use Rattle.std.proofs.Common.{◌≡◌, ◌⊎◌, inl, inr, ℕ, Bool, true, f
 use Rattle.std.specs.Prelude.{⊤, codes}
 use Rattle.std.specs.List.{filter}
 use Rattle.std.proofs.Math.Logic.{∥∥₁_map}
+use Rattle.nv_super.specs.Layout.{fixed_layout}
 use Rattle.nv_region.specs.Region.{Region, size}
 use Rattle.nv_region.specs.RegionState.{RegionState, fenced_or_last, is_off, is_steady, steady_unburnt}
 use Rattle.nv_region.specs.Stops.{LeavesOnly, MayBeLeft}
@@ -92,21 +93,21 @@ shows_own : (n : Mount RegionState) → IsKept n.memory.region n.sup n.rows n.fr
 shows_own n kept runs none =
     let lasting : filter is_lasting n.faults ≡ [] = ap (filter is_lasting) none in
     let w = settled n.memory.region n.sup n.rows n.free.pools
-    (∥∥₁_map (kept.shown runs) (λ w. (w.0, subst (λ (fs : List Fault). IsOutcome n.memory.region (record { sup = n.sup; rows = n.rows; free = n.free.pools; doubled = w.0; faults = fs })) lasting w.1))) in
+    (∥∥₁_map (kept.shown runs) (λ w. (w.0, subst (λ (fs : List Fault). IsOutcome n.memory.region (record { sup = n.sup; tables = (fixed_layout n.sup).chains; rows = n.rows; free = n.free.pools; doubled = w.0; faults = fs })) lasting w.1))) in
     record {
       doubled = w.0;
-      shown = subst (λ (fs : List Fault). IsOutcome n.memory.region (record { sup = n.sup; rows = n.rows; free = n.free.pools; doubled = w.0; faults = fs })) (sym none) w.1;
-      here = subst (λ (fs : List Fault). IsOutcome n.memory.region (record { sup = n.sup; rows = n.rows; free = n.free.pools; doubled = w.0; faults = fs })) (sym lasting) w.1;
+      shown = subst (λ (fs : List Fault). IsOutcome n.memory.region (record { sup = n.sup; tables = (fixed_layout n.sup).chains; rows = n.rows; free = n.free.pools; doubled = w.0; faults = fs })) (sym none) w.1;
+      here = subst (λ (fs : List Fault). IsOutcome n.memory.region (record { sup = n.sup; tables = (fixed_layout n.sup).chains; rows = n.rows; free = n.free.pools; doubled = w.0; faults = fs })) (sym lasting) w.1;
       runs = runs;
     }
 
 -- what shows the same as an outcome, by its parts
 by_parts : (R : Region) (s t : Super) (rows : List Row) (pools others : List (List Run)) (doubled : List (ℕ × Owner)) (faults more : List Fault) → t ≡ s → others ≡ pools → more ≡ faults
-    → IsOutcome R (record { sup = s; rows = rows; free = pools; doubled = doubled; faults = faults }) → IsOutcome R (record { sup = t; rows = rows; free = others; doubled = doubled; faults = more })
+    → IsOutcome R (record { sup = s; tables = (fixed_layout s).chains; rows = rows; free = pools; doubled = doubled; faults = faults }) → IsOutcome R (record { sup = t; tables = (fixed_layout t).chains; rows = rows; free = others; doubled = doubled; faults = more })
 by_parts R s t rows pools others doubled faults more a b c is =
-    subst (λ (x : Super). IsOutcome R (record { sup = x; rows = rows; free = others; doubled = doubled; faults = more })) (sym a)
-    (subst (λ (x : List (List Run)). IsOutcome R (record { sup = s; rows = rows; free = x; doubled = doubled; faults = more })) (sym b)
-    (subst (λ (x : List Fault). IsOutcome R (record { sup = s; rows = rows; free = pools; doubled = doubled; faults = x })) (sym c) is))
+    subst (λ (x : Super). IsOutcome R (record { sup = x; tables = (fixed_layout x).chains; rows = rows; free = others; doubled = doubled; faults = more })) (sym a)
+    (subst (λ (x : List (List Run)). IsOutcome R (record { sup = s; tables = (fixed_layout s).chains; rows = rows; free = x; doubled = doubled; faults = more })) (sym b)
+    (subst (λ (x : List Fault). IsOutcome R (record { sup = s; tables = (fixed_layout s).chains; rows = rows; free = pools; doubled = doubled; faults = x })) (sym c) is))
 
 -- A mount that a refused call left shows what it did.
 shows_still : (R : Region) (m n : Mount RegionState) → SameMount m n → ShowsOutcome R m → ShowsOutcome R n

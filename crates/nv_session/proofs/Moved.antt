@@ -6,6 +6,7 @@ use Rattle.nv_region.specs.Region.{Region, size, put}
 use Rattle.nv_region.specs.RegionState.{RegionState, is_off, fenced_or_last}
 use Rattle.nv_region.specs.declared.memory.Fuse.{Fuse}
 use Rattle.nv_region.specs.Stops.{Choices, MayBeLeft, LeavesOnly}
+use Rattle.nv_super.specs.Layout.{fixed_layout}
 use Rattle.nv_super.specs.Super.{IsSuper}
 use Rattle.nv_super.specs.declared.superblock.Super.{Super}
 use Rattle.nv_super.specs.declared.superblock.SuperFault.TheVariants.{Length}
@@ -173,6 +174,7 @@ can_mount R S workers schedule (Some (answers.Recovered r)) may lists = (
   subst (λ (T : Region). undone r.sup T ≡ T) (sym may.3) (stays R r.sup may.2.sup),
   lists.0,
   lists.1,
+  lists.2,
 )
 
 shows_outcome : (R S : Region) (r : Recovered) (m : Mount RegionState) → IsOutcome R (outcome_of r) → IsOutcome S (lasting_outcome (outcome_of r)) → m.memory.region ≡ S → told m.sup m.rows m.free r.doubled.items m.faults ≡ outcome_of r → m.stopped ≡ false → ShowsOutcome R m
@@ -246,13 +248,13 @@ pokes_moves R at value memory old new text here word stored settled is said = λ
 -- ---- what is shown
 
 shows_step : (mounted : Option Region) (mount : Option (Mount RegionState)) (part : Part) (state : State) (text : List ℕ) → IsMountOf mounted mount
-    → MatchOption mount (text ≡ refused_line (codes "NotMounted")) (λ m. IsPartText part (told m.sup m.rows m.free [] m.faults) text) → ShowsMounted mounted part state text state
+    → MatchOption mount (text ≡ refused_line (codes "NotMounted")) (λ m. IsPartText part (record (told m.sup m.rows m.free [] m.faults) { tables = [] }) text) → ShowsMounted mounted part state text state
 shows_step None None part state text shows is = (is, refl)
 shows_step None (Some m) part state text shows is = absurd shows
 shows_step (Some R) None part state text shows is = absurd shows
-shows_step (Some R) (Some m) part state text shows is = (told m.sup m.rows m.free shows.doubled m.faults, shows.shown, same_part part (told m.sup m.rows m.free [] m.faults) [] shows.doubled text is, refl)
+shows_step (Some R) (Some m) part state text shows is = (told m.sup m.rows m.free shows.doubled m.faults, shows.shown, same_part part (told m.sup m.rows m.free [] m.faults) [] (fixed_layout m.sup).chains [] shows.doubled text is, refl)
 
-pub shows_moves : (part : Part) (s : Session) (text : List ℕ) → MatchOption (mount_in s.store) (text ≡ refused_line (codes "NotMounted")) (λ m. IsPartText part (told m.sup m.rows m.free [] m.faults) text)
+pub shows_moves : (part : Part) (s : Session) (text : List ℕ) → MatchOption (mount_in s.store) (text ≡ refused_line (codes "NotMounted")) (λ m. IsPartText part (record (told m.sup m.rows m.free [] m.faults) { tables = [] }) text)
     → Moves (ShowsPart part) s text s
 shows_moves part s text is = λ state stands. (state, shows_step state.mounted (mount_in s.store) part state text stands.mounted is, stands)
 
@@ -280,11 +282,11 @@ reads_moves Tells path s text is = λ state stands.
 
 -- ---- by what is mounted
 
-pub seen_moves : (part : Part) (s : Session) (m : Mount RegionState) (text : List ℕ) → mount_in s.store ≡ Some m → IsPartText part (told m.sup m.rows m.free [] m.faults) text → Moves (ShowsPart part) s text s
-seen_moves part s m text e is = shows_moves part s text (subst (λ o. MatchOption o (text ≡ refused_line (codes "NotMounted")) (λ (m : Mount RegionState). IsPartText part (told m.sup m.rows m.free [] m.faults) text)) (sym e) is)
+pub seen_moves : (part : Part) (s : Session) (m : Mount RegionState) (text : List ℕ) → mount_in s.store ≡ Some m → IsPartText part (record (told m.sup m.rows m.free [] m.faults) { tables = [] }) text → Moves (ShowsPart part) s text s
+seen_moves part s m text e is = shows_moves part s text (subst (λ o. MatchOption o (text ≡ refused_line (codes "NotMounted")) (λ (m : Mount RegionState). IsPartText part (record (told m.sup m.rows m.free [] m.faults) { tables = [] }) text)) (sym e) is)
 
 pub unseen_moves : (part : Part) (s : Session) (text : List ℕ) → mount_in s.store ≡ None → text ≡ refused_line (codes "NotMounted") → Moves (ShowsPart part) s text s
-unseen_moves part s text e is = shows_moves part s text (subst (λ o. MatchOption o (text ≡ refused_line (codes "NotMounted")) (λ (m : Mount RegionState). IsPartText part (told m.sup m.rows m.free [] m.faults) text)) (sym e) is)
+unseen_moves part s text e is = shows_moves part s text (subst (λ o. MatchOption o (text ≡ refused_line (codes "NotMounted")) (λ (m : Mount RegionState). IsPartText part (record (told m.sup m.rows m.free [] m.faults) { tables = [] }) text)) (sym e) is)
 
 pub read_moves : (Tells : Tree → Path → List ℕ → Type 0) (path : List ℕ) (s : Session) (m : Mount RegionState) (text : List ℕ) → mount_in s.store ≡ Some m → TellsOf Tells path text m → Moves (Reads Tells path) s text s
 read_moves Tells path s m text e is = reads_moves Tells path s text (subst (λ o. MatchOption o (text ≡ refused_line (codes "NotMounted")) (TellsOf Tells path text)) (sym e) is)

@@ -31,4 +31,4 @@ module _ {R : Region} {l : Layout} where
 
 -- an outcome with other rows that say the same
 pub with_rows : (R : Region) (o : Outcome) (news : List Row) → SameRows o.rows news → IsOutcome R o → IsOutcome R (record o { rows = news })
-with_rows R o news same is = record { sup = is.sup; rows = rows_too o.rows news same is.rows; free = is.free; doubled = is.doubled; faults = is.faults }
+with_rows R o news same is = record { sup = is.sup; tables = is.tables; rows = rows_too o.rows news same is.rows; free = is.free; doubled = is.doubled; faults = is.faults }

@@ -3,6 +3,7 @@ use Rattle.std.proofs.Common.{◌≡◌, ℕ, List, [], sym, subst}
 use Rattle.std.proofs.Math.Logic.{∥∥₁_elim, ∥∥₁_map}
 use Rattle.std.proofs.Math.Nat.{ℕ_set}
 use Rattle.std.proofs.Props.{props}
+use Rattle.nv_super.specs.Layout.{fixed_layout}
 use Rattle.nv_region.specs.Region.{Region}
 use Rattle.nv_super.specs.declared.superblock.Super.{Super}
 use Rattle.nv_super.specs.declared.owners.Owner.{Owner}
@@ -14,7 +15,7 @@ use Rattle.nv_report.specs.nv_outcome.Outcome.{Outcome, IsOutcome}
 use Rattle.nv_report.specs.nv_outcome.Same.{SameRows, SameOutcome}
 use Rattle.nv_report.proofs.nv_outcome.Exists.{has_outcome}
 use Rattle.nv_report.proofs.nv_outcome.OnlyOne.{same_outcome}
-use Rattle.nv_calls.proofs.OneOutcome.{none_known, pools_prop, rows_known}
+use Rattle.nv_calls.proofs.OneOutcome.{chains_prop, none_known, pools_prop, rows_known}
 use Rattle.nv_session.proofs.SameShown.{with_rows}
 
 super_prop : (R : Region) (s : Super) → IsProp (IsSuper R s)
@@ -23,7 +24,7 @@ super_prop R s = hlevel (props, ℕ_set)
 module _ (R : Region) (s : Super) (rows : List Row) (pools : List (List Run)) where
   -- these parts as an outcome without a fault
   abbrev with_doubled : List (ℕ × Owner) → Outcome
-  with_doubled doubled = record { sup = s; rows = rows; free = pools; doubled = doubled; faults = [] }
+  with_doubled doubled = record { sup = s; tables = (fixed_layout s).chains; rows = rows; free = pools; doubled = doubled; faults = [] }
 
   pub settled : ∥ ((doubled : List (ℕ × Owner)) × IsOutcome R (with_doubled doubled)) ∥₁ → (doubled : List (ℕ × Owner)) × IsOutcome R (with_doubled doubled)
   settled known =
@@ -31,8 +32,10 @@ module _ (R : Region) (s : Super) (rows : List Row) (pools : List (List Run)) wh
       let same : ∥ ((doubled : List (ℕ × Owner)) × SameOutcome own.0 (with_doubled doubled)) ∥₁ = ∥∥₁_map known (λ w. (w.0, same_outcome R own.0 (with_doubled w.0) own.2 w.1)) in
       let in_rows : SameRows own.0.rows rows = rows_known own.0.rows rows (∥∥₁_map same (λ w. w.1.rows)) in
       let in_pools : pools ≡ own.0.free = ∥∥₁_elim same (pools_prop pools own.0.free) (λ w. w.1.free) in
+      let in_tables : (fixed_layout s).chains ≡ own.0.tables = ∥∥₁_elim same (chains_prop own.0.tables (fixed_layout s).chains) (λ w. w.1.tables) in
       let in_faults : [] ≡ own.0.faults = none_known own.0.faults (∥∥₁_map same (λ w. w.1.faults)) in
       let by_rows : IsOutcome R (record own.0 { rows = rows }) = with_rows R own.0 rows in_rows own.2 in
       let by_sup : IsOutcome R (record own.0 { rows = rows; sup = s }) = subst (λ (x : Super). IsOutcome R (record own.0 { rows = rows; sup = x })) own.1 by_rows in
       let by_pools : IsOutcome R (record own.0 { rows = rows; sup = s; free = pools }) = subst (λ (x : List (List Run)). IsOutcome R (record own.0 { rows = rows; sup = s; free = x })) (sym in_pools) by_sup in
-      (own.0.doubled, subst (λ (x : List Fault). IsOutcome R (record own.0 { rows = rows; sup = s; free = pools; faults = x })) (sym in_faults) by_pools)
+      let by_tables : IsOutcome R (record own.0 { rows = rows; sup = s; free = pools; tables = (fixed_layout s).chains }) = subst (λ (x : List (List ℕ)). IsOutcome R (record own.0 { rows = rows; sup = s; free = pools; tables = x })) (sym in_tables) by_pools in
+      (own.0.doubled, subst (λ (x : List Fault). IsOutcome R (record own.0 { rows = rows; sup = s; free = pools; tables = (fixed_layout s).chains; faults = x })) (sym in_faults) by_tables)

@@ -1,6 +1,5 @@
 -- The states that a session may stand for, and how a command leads from one to the next.
 use Rattle.std.specs.Prelude.{◌≡◌, ◌≢◌, ◌⊎◌, ℕ, Bool, not, false, List, Option, Some, None, Result, Ok, Err, ⊤}
-use Rattle.nv_super.specs.Layout.{fixed_layout}
 use Rattle.nv_rows.specs.RowList.{HasNumbersOf}
 use Rattle.nv_region.specs.Region.{Region}
 use Rattle.nv_region.specs.RegionState.{RegionState, fenced_or_last, is_off}
@@ -96,7 +95,7 @@ Moves step old text new = Leads (λ state next. step state text next) old new
 abbrev pub CanMount : Region → Option Answer → Type 0
 CanMount R None = ⊤
 CanMount R (Some (answers.Refused refusal)) = ⊤
-CanMount R (Some (answers.Recovered r)) = IsOutcome R (lasting_outcome (outcome_of r)) × (undone r.sup R ≡ R) × (r.free.sup ≡ r.sup) × HasNumbersOf (fixed_layout r.sup) r.rows
+CanMount R (Some (answers.Recovered r)) = IsOutcome R (lasting_outcome (outcome_of r)) × (undone r.sup R ≡ R) × (r.free.sup ≡ r.sup) × HasNumbersOf r.tables.layout r.rows × (r.tables.layout.sup ≡ r.sup)
 
 -- ---- calls that write
 

@@ -514,7 +514,7 @@ impl Session {
 
 // What is told of a mounted region.
 fn shown(mount: &Fs<MemRegion>) -> Shown<'_>
-    ensures { shown_of result ≡ told mount.now.sup mount.now.rows mount.now.free [] mount.now.faults }
+    ensures { shown_of result ≡ record (told mount.now.sup mount.now.rows mount.now.free [] mount.now.faults) { tables = [] } }
 {
     Shown {
         sup: mount.superblock(),

@@ -1,5 +1,6 @@
 -- What steps leave of a region that was opened, and why unpacking is refused.
 use Rattle.std.proofs.Common.{◌≡◌, ◌∙◌, ℕ, false, List, [], refl, ap, subst}
+use Rattle.nv_super.specs.Layout.{fixed_layout}
 use Rattle.nv_region.specs.Region.{Region, size}
 use Rattle.nv_region.specs.RegionState.{RegionState}
 use Rattle.nv_report.specs.nv_outcome.nv_journal.Undo.{undone}
@@ -51,7 +52,7 @@ module _ (R : Region) (o : Outcome) (m n : Mount RegionState) (is : IsOpenedAs R
         made = subst (λ s. AreSteps s base cpu (steps_of items) (tree_shown R o) (tree n)) is.sup (subst (λ (t : Tree). AreSteps m.sup base cpu (steps_of items) t (tree n)) same_tree made);
         leaves = record {
           as_long = on.as_long ∙ as_long;
-          after = record { sup = n.sup; rows = n.rows; free = n.free.pools; doubled = own.0; faults = [] };
+          after = record { sup = n.sup; tables = (fixed_layout n.sup).chains; rows = n.rows; free = n.free.pools; doubled = own.0; faults = [] };
           shown = own.1;
           own = kept.own on.can.runs;
           sup = on.keeps.sup ∙ is.sup;

@@ -1,4 +1,4 @@
-use Rattle.std.proofs.Common.{◌∙◌, ℕ, Option, subst, sym}
+use Rattle.std.proofs.Common.{◌∙◌, ℕ, Option, refl, subst, sym}
 use Rattle.nv_region.specs.Region.{Region}
 use Rattle.nv_calls.specs.Mount.{Mount}
 use Rattle.nv_calls.specs.Effects.{logs_clean, logs_page_less, makes_no_change}
@@ -23,9 +23,11 @@ returns-in-Err-clause-refused c running some p says =
     (λ runs. c.in-Err.ensures.refused runs p says) running.runs
 
 pub returns-in-Err-clause-unchanged : goal.returns-in-Err-clause-unchanged
-returns-in-Err-clause-unchanged c owns some =
-    unchanged_by _ _ _ _ (c.deref_mut.ensures.value ∙ c.in-Some.ensures.mount.1) c.put.ensures.mount c.clean-done.result c.in-Err.refusal c.in-Err.is
-    c.clean-done.ensures.stopped_before c.clean-done.ensures.stopped c.in-Err.ensures.unchanged
+returns-in-Err-clause-unchanged c = (
+  (λ owns some. unchanged_by _ _ _ _ (c.deref_mut.ensures.value ∙ c.in-Some.ensures.mount.1) c.put.ensures.mount c.clean-done.result c.in-Err.refusal c.in-Err.is
+      c.clean-done.ensures.call.stopped_before c.clean-done.ensures.call.stopped c.in-Err.ensures.call.unchanged),
+  (λ some. refl),
+)
 
 pub returns-in-Err-clause-any_stop : goal.returns-in-Err-clause-any_stop
 returns-in-Err-clause-any_stop c running writes names is =

@@ -24,7 +24,7 @@ returns-in-Err-clause-refused c running some p says =
 pub returns-in-Err-clause-unchanged : goal.returns-in-Err-clause-unchanged
 returns-in-Err-clause-unchanged c owns some =
     unchanged_by _ _ _ _ (c.deref_mut.ensures.value ∙ c.in-Some.ensures.mount.1) c.put.ensures.mount c.rmdir-done.result c.in-Err.refusal c.in-Err.is
-    c.rmdir-done.ensures.stopped_before c.rmdir-done.ensures.stopped c.in-Err.ensures.unchanged
+    c.rmdir-done.ensures.call.stopped_before c.rmdir-done.ensures.call.stopped c.in-Err.ensures.call.unchanged
 
 pub returns-in-Err-clause-any_stop : goal.returns-in-Err-clause-any_stop
 returns-in-Err-clause-any_stop c running writes names is =

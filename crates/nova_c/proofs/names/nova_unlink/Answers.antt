@@ -27,7 +27,7 @@ returns-in-Err-clause-refused c running some p says =
 pub returns-in-Err-clause-unchanged : goal.returns-in-Err-clause-unchanged
 returns-in-Err-clause-unchanged c owns some =
     unchanged_by _ _ _ _ (c.deref_mut.ensures.value ∙ c.in-Some.ensures.mount.1) c.put.ensures.mount c.unlink-done.result c.in-Err.refusal c.in-Err.is
-    c.unlink-done.ensures.stopped_before c.unlink-done.ensures.stopped c.in-Err.ensures.unchanged
+    c.unlink-done.ensures.call.stopped_before c.unlink-done.ensures.call.stopped c.in-Err.ensures.call.unchanged
 
 pub returns-in-Err-clause-any_stop : goal.returns-in-Err-clause-any_stop
 returns-in-Err-clause-any_stop c running writes names is =

@@ -26,6 +26,7 @@ use Rattle.nv_tree.proofs.Replies.{refused_by}
 use Rattle.nv_calls.proofs.OneOut.{back, left_one, other_row}
 use Rattle.nv_calls.proofs.PutRow.{leaves_all}
 use Rattle.nv_calls.proofs.TwoRows.{last_used}
+use Rattle.nv_steps.proofs.Kept.{kept_refused, nothing_stored}
 use Rattle.nv_calls.proofs.creating.create_at.Goals as goal
 use Rattle.nv_steps.specs.Stores.{StoresIn, one_more}
 use Rattle.nv_steps.proofs.Stores.{stores_nothing}
@@ -34,11 +35,21 @@ pub give_back-requires : goal.give_back-requires
 give_back-requires g c =
     last_used c.reserve.new.self.items c.lend-row.new.self.items c.args.directory c.make_named-made.new.directory (in_use c.reserve.new.self.items c.args.directory c.lend-row.result c.lend-row.ensures.row) c.lend-row.ensures.lent (c.make_named-made.ensures.inode ∙ c.lend-row.ensures.number)
 
-pub returns-then-free_blocks-pages_needed-clause-unchanged : goal.returns-then-free_blocks-pages_needed-clause-unchanged
-returns-then-free_blocks-pages_needed-clause-unchanged g c off = leaves_all c.args.memory.now c.args.free.now c.args.rows.now.items c.args.rows.now.items refl
+pub returns-then-free_blocks-pages_needed-clause-kept : goal.returns-then-free_blocks-pages_needed-clause-kept
+returns-then-free_blocks-pages_needed-clause-kept g c =
+    record {
+      step = nothing_stored tt (λ is. absurd (cc)) refl;
+      unchanged = λ off. leaves_all c.args.memory.now c.args.free.now c.args.rows.now.items c.args.rows.now.items refl;
+      tables = (refl, refl);
+    }
 
-pub returns-then-is_err-clause-unchanged : goal.returns-then-is_err-clause-unchanged
-returns-then-is_err-clause-unchanged g c off = leaves_all c.args.memory.now c.args.free.now c.args.rows.now.items c.reserve.new.self.items c.reserve.ensures.rows
+pub returns-then-is_err-clause-kept : goal.returns-then-is_err-clause-kept
+returns-then-is_err-clause-kept g c =
+    record {
+      step = nothing_stored tt (λ is. absurd (cc)) refl;
+      unchanged = λ off. leaves_all c.args.memory.now c.args.free.now c.args.rows.now.items c.reserve.new.self.items c.reserve.ensures.rows;
+      tables = (c.reserve.ensures.sup, c.reserve.ensures.sizes);
+    }
 
 pub make_named-made-requires-clause-stands : goal.make_named-made-requires-clause-stands
 make_named-made-requires-clause-stands g c =
@@ -58,15 +69,19 @@ returns-in_err-made-clause-refused g c row is =
     (λ (e : Refusal). RefusesStep e (1 + needed (row.tail % 4096) (name_entries Add c.args.new.now.inode c.args.new.now.name.now c.args.new.now.time)) c.args.free.now) w.1 w.2
     (subst (λ (r : Row). RefusesStep c.in_err-made.field-0.0 (1 + needed (r.tail % 4096) (name_entries Add c.args.new.now.inode c.args.new.now.name.now c.args.new.now.time)) c.args.free.now) (same_Some _ _ (sym at ∙ is)) c.in_err-made.ensures.needs.refused)
 
-pub returns-in_err-made-clause-unchanged : goal.returns-in_err-made-clause-unchanged
-returns-in_err-made-clause-unchanged g c =
-    let at : row_of c.args.rows.now.items c.args.directory ≡ Some c.lend-row.result = ap (λ (rows : List Row). row_of rows c.args.directory) (sym c.reserve.ensures.rows) ∙ c.lend-row.ensures.row in
-    let lent : IsLent c.args.rows.now.items c.lend-row.new.self.items c.args.directory = subst (λ (rows : List Row). IsLent rows c.lend-row.new.self.items c.args.directory) c.reserve.ensures.rows c.lend-row.ensures.lent in
+pub returns-in_err-made-clause-kept : goal.returns-in_err-made-clause-kept
+returns-in_err-made-clause-kept g c =
     let w = err_from_is_err_and c.from_residual.result c.from_residual.ensures.1 in
-    refused_by c.from_residual.result c.in_err-made.field-0.0 w.0
-    (λ (e : Refusal). (e ≡ Stopped → ⊥) → LeavesRows c.args.memory.now c.make_named-made.new.memory c.args.free.now c.make_named-made.new.free c.args.rows.now.items c.give_back.new.self.items) w.1 w.2
-    (λ off. left_one c.args.rows.now.items c.lend-row.new.self.items c.give_back.new.self.items c.args.directory c.lend-row.result c.make_named-made.new.directory at lent (c.make_named-made.ensures.inode ∙ c.lend-row.ensures.number) c.give_back.ensures.rows
-    c.args.memory.now c.make_named-made.new.memory c.args.free.now c.make_named-made.new.free (c.in_err-made.ensures.unchanged off))
+    record {
+      step = kept_refused c.from_residual.result c.in_err-made.field-0.0 w.0 w.1 w.2 c.in_err-made.ensures.kept;
+      unchanged = let at : row_of c.args.rows.now.items c.args.directory ≡ Some c.lend-row.result = ap (λ (rows : List Row). row_of rows c.args.directory) (sym c.reserve.ensures.rows) ∙ c.lend-row.ensures.row in
+          let lent : IsLent c.args.rows.now.items c.lend-row.new.self.items c.args.directory = subst (λ (rows : List Row). IsLent rows c.lend-row.new.self.items c.args.directory) c.reserve.ensures.rows c.lend-row.ensures.lent in
+          refused_by c.from_residual.result c.in_err-made.field-0.0 w.0
+          (λ (e : Refusal). (e ≡ Stopped → ⊥) → LeavesRows c.args.memory.now c.make_named-made.new.memory c.args.free.now c.make_named-made.new.free c.args.rows.now.items c.give_back.new.self.items) w.1 w.2
+          (λ off. left_one c.args.rows.now.items c.lend-row.new.self.items c.give_back.new.self.items c.args.directory c.lend-row.result c.make_named-made.new.directory at lent (c.make_named-made.ensures.inode ∙ c.lend-row.ensures.number) c.give_back.ensures.rows
+          c.args.memory.now c.make_named-made.new.memory c.args.free.now c.make_named-made.new.free (c.in_err-made.ensures.unchanged off));
+      tables = (c.give_back.ensures.sup ∙ c.lend-row.ensures.sup ∙ c.reserve.ensures.sup, c.give_back.ensures.sizes ∙ c.lend-row.ensures.sizes ∙ c.reserve.ensures.sizes);
+    }
 
 pub insert-requires-clause-within : goal.insert-requires-clause-within
 insert-requires-clause-within g c =

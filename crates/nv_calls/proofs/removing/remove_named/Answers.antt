@@ -23,6 +23,7 @@ use Rattle.nv_tree.proofs.Replies.{refused_by}
 use Rattle.nv_calls.proofs.OneOut.{left_one, other_out, other_row, other_used}
 use Rattle.nv_calls.proofs.OwnedRow.{owns_taken}
 use Rattle.nv_calls.proofs.TwoRows.{last_used}
+use Rattle.nv_steps.proofs.Kept.{kept_refused}
 use Rattle.nv_calls.proofs.removing.remove_named.Goals as goal
 use Rattle.nv_steps.specs.Stores.{StoresIn, one_less}
 
@@ -53,13 +54,17 @@ returns-in_err-cut-clause-refused g c row gone at gone_at =
     (λ (e : Refusal). RefusesStep e (needed (row.tail % 4096) (name_entries Remove gone.inode c.args.named.now.name.now c.args.time)) c.args.free.now) w.1 w.2
     (subst (λ (n : ℕ). RefusesStep c.in_err-cut.field-0.0 n c.args.free.now) count c.in_err-cut.ensures.needs.refused)
 
-pub returns-in_err-cut-clause-unchanged : goal.returns-in_err-cut-clause-unchanged
-returns-in_err-cut-clause-unchanged g c =
+pub returns-in_err-cut-clause-kept : goal.returns-in_err-cut-clause-kept
+returns-in_err-cut-clause-kept g c =
     let w = err_from_is_err_and c.from_residual.result c.from_residual.ensures.1 in
-    refused_by c.from_residual.result c.in_err-cut.field-0.0 w.0
-    (λ (e : Refusal). (e ≡ Stopped → ⊥) → LeavesRows c.args.memory.now c.cut_name-cut.new.memory c.args.free.now c.cut_name-cut.new.free c.args.rows.now.items c.give_back.new.self.items) w.1 w.2
-    (λ off. left_one c.args.rows.now.items c.lend-directory.new.self.items c.give_back.new.self.items c.args.named.now.directory c.lend-directory.result c.cut_name-cut.new.directory c.lend-directory.ensures.row c.lend-directory.ensures.lent (c.cut_name-cut.ensures.inode ∙ c.lend-directory.ensures.number) c.give_back.ensures.rows
-    c.args.memory.now c.cut_name-cut.new.memory c.args.free.now c.cut_name-cut.new.free (c.in_err-cut.ensures.unchanged off))
+    record {
+      step = kept_refused c.from_residual.result c.in_err-cut.field-0.0 w.0 w.1 w.2 c.in_err-cut.ensures.kept;
+      unchanged = refused_by c.from_residual.result c.in_err-cut.field-0.0 w.0
+          (λ (e : Refusal). (e ≡ Stopped → ⊥) → LeavesRows c.args.memory.now c.cut_name-cut.new.memory c.args.free.now c.cut_name-cut.new.free c.args.rows.now.items c.give_back.new.self.items) w.1 w.2
+          (λ off. left_one c.args.rows.now.items c.lend-directory.new.self.items c.give_back.new.self.items c.args.named.now.directory c.lend-directory.result c.cut_name-cut.new.directory c.lend-directory.ensures.row c.lend-directory.ensures.lent (c.cut_name-cut.ensures.inode ∙ c.lend-directory.ensures.number) c.give_back.ensures.rows
+          c.args.memory.now c.cut_name-cut.new.memory c.args.free.now c.cut_name-cut.new.free (c.in_err-cut.ensures.unchanged off));
+      tables = (c.give_back.ensures.sup ∙ c.lend-directory.ensures.sup, c.give_back.ensures.sizes ∙ c.lend-directory.ensures.sizes);
+    }
 
 pub take-requires : goal.take-requires
 take-requires g c =

@@ -72,13 +72,17 @@ returns-clause-refused g c from to inode at other_at inode_at =
     let count = both_count (same_Some _ _ (sym c.lend-from.ensures.row ∙ at)) (same_Some _ _ (sym there ∙ other_at)) number c.other_name-other.ensures.name c.other_name-other.ensures.other c.other_name-other.ensures.time in
     IfErr-weaker c.move_both-done.result _ _ (λ (e : Refusal). subst (λ (n : ℕ). RefusesStep e n c.args.free.now) count) c.move_both-done.ensures.needs.refused
 
-pub returns-clause-unchanged : goal.returns-clause-unchanged
-returns-clause-unchanged g c =
-    let rows = c.args.rows.now.items in
-    let there = row_stays rows c.lend-from.new.self.items c.args.moved.now.from.directory c.args.moved.now.directory c.requires.apart c.requires.from c.lend-from.ensures.lent c.lend-to.result c.lend-to.ensures.row in
-    let put = back_two rows c.lend-from.new.self.items c.lend-to.new.self.items c.give_back.new.self.items c.give_back-2.new.self.items c.args.moved.now.from.directory c.args.moved.now.directory c.move_both-done.new.from c.move_both-done.new.to c.requires.apart c.requires.from c.requires.directory
-    c.lend-from.ensures.lent c.lend-to.ensures.lent (c.move_both-done.ensures.to_inode ∙ c.lend-to.ensures.number) c.give_back.ensures.rows (c.move_both-done.ensures.inode ∙ c.lend-from.ensures.number) c.give_back-2.ensures.rows in
-    IfErr-weaker c.move_both-done.result _ _ (λ (e : Refusal) told off. (let left = told off in left_two rows c.give_back-2.new.self.items c.args.moved.now.from.directory c.args.moved.now.directory c.lend-from.result c.lend-to.result c.move_both-done.new.from c.move_both-done.new.to c.requires.apart c.lend-from.ensures.row there put c.args.memory.now c.move_both-done.new.memory c.args.free.now c.move_both-done.new.free left.0 left.1)) c.move_both-done.ensures.unchanged
+pub returns-clause-kept : goal.returns-clause-kept
+returns-clause-kept g c =
+    record {
+      step = c.move_both-done.ensures.kept;
+      unchanged = let rows = c.args.rows.now.items in
+          let there = row_stays rows c.lend-from.new.self.items c.args.moved.now.from.directory c.args.moved.now.directory c.requires.apart c.requires.from c.lend-from.ensures.lent c.lend-to.result c.lend-to.ensures.row in
+          let put = back_two rows c.lend-from.new.self.items c.lend-to.new.self.items c.give_back.new.self.items c.give_back-2.new.self.items c.args.moved.now.from.directory c.args.moved.now.directory c.move_both-done.new.from c.move_both-done.new.to c.requires.apart c.requires.from c.requires.directory
+          c.lend-from.ensures.lent c.lend-to.ensures.lent (c.move_both-done.ensures.to_inode ∙ c.lend-to.ensures.number) c.give_back.ensures.rows (c.move_both-done.ensures.inode ∙ c.lend-from.ensures.number) c.give_back-2.ensures.rows in
+          IfErr-weaker c.move_both-done.result _ _ (λ (e : Refusal) told off. (let left = told off in left_two rows c.give_back-2.new.self.items c.args.moved.now.from.directory c.args.moved.now.directory c.lend-from.result c.lend-to.result c.move_both-done.new.from c.move_both-done.new.to c.requires.apart c.lend-from.ensures.row there put c.args.memory.now c.move_both-done.new.memory c.args.free.now c.move_both-done.new.free left.0 left.1)) c.move_both-done.ensures.unchanged;
+      tables = (c.give_back-2.ensures.sup ∙ c.give_back.ensures.sup ∙ c.lend-to.ensures.sup ∙ c.lend-from.ensures.sup, c.give_back-2.ensures.sizes ∙ c.give_back.ensures.sizes ∙ c.lend-to.ensures.sizes ∙ c.lend-from.ensures.sizes);
+    }
 
 pub returns-clause-any_stop : goal.returns-clause-any_stop
 returns-clause-any_stop g c from to inode held h k at other_at inode_at here other absent settled =

@@ -64,10 +64,14 @@ returns-clause-refused g c from to inode at other_at inode_at =
     let count = here_count one number c.other_name-other.ensures.name c.other_name-other.ensures.other c.other_name-other.ensures.time ∙ sym (within_count (place_in rows c.args.moved.now.from.directory) (place_in rows c.args.moved.now.directory) from to inode.inode c.args.moved.now.from.name.now c.args.moved.now.name.now c.args.time (ap (place_in rows) c.if-moved.false)) in
     IfErr-weaker c.move_within-done.result _ _ (λ (e : Refusal). subst (λ (n : ℕ). RefusesStep e n c.args.free.now) count) c.move_within-done.ensures.needs.refused
 
-pub returns-clause-unchanged : goal.returns-clause-unchanged
-returns-clause-unchanged g c =
-    IfErr-weaker c.move_within-done.result _ _ (λ (e : Refusal) told off. left_one c.args.rows.now.items c.lend-directory.new.self.items c.give_back.new.self.items c.args.moved.now.directory c.lend-directory.result c.move_within-done.new.directory c.lend-directory.ensures.row c.lend-directory.ensures.lent (c.move_within-done.ensures.inode ∙ c.lend-directory.ensures.number) c.give_back.ensures.rows
-    c.args.memory.now c.move_within-done.new.memory c.args.free.now c.move_within-done.new.free (told off)) c.move_within-done.ensures.unchanged
+pub returns-clause-kept : goal.returns-clause-kept
+returns-clause-kept g c =
+    record {
+      step = c.move_within-done.ensures.kept;
+      unchanged = IfErr-weaker c.move_within-done.result _ _ (λ (e : Refusal) told off. left_one c.args.rows.now.items c.lend-directory.new.self.items c.give_back.new.self.items c.args.moved.now.directory c.lend-directory.result c.move_within-done.new.directory c.lend-directory.ensures.row c.lend-directory.ensures.lent (c.move_within-done.ensures.inode ∙ c.lend-directory.ensures.number) c.give_back.ensures.rows
+          c.args.memory.now c.move_within-done.new.memory c.args.free.now c.move_within-done.new.free (told off)) c.move_within-done.ensures.unchanged;
+      tables = (c.give_back.ensures.sup ∙ c.lend-directory.ensures.sup, c.give_back.ensures.sizes ∙ c.lend-directory.ensures.sizes);
+    }
 
 pub returns-then-moved-clause-any_stop : goal.returns-then-moved-clause-any_stop
 returns-then-moved-clause-any_stop g c from to inode held h k at other_at inode_at here other absent settled left may =

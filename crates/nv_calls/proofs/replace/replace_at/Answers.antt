@@ -84,53 +84,61 @@ returns-clause-replaced g c =
       ),
     ))) c.replace_within.ensures.replaced
 
-pub returns-in_default-clause-enough : goal.returns-in_default-clause-enough
-returns-in_default-clause-enough g c from to at to_at =
-    let inode = row_in_use c.args.rows.now.items c.args.moved.now.from.target c.requires.target in
-    let number = numbered c.args.rows.now.items c.args.moved.now.from.target inode.0 inode.1 in
-    let same : move_blocks (place_in c.args.rows.now.items c.args.moved.now.from.directory) (place_in c.args.rows.now.items c.args.moved.now.directory) from to inode.0.inode c.args.moved.now.from.name.now c.args.moved.now.name.now c.args.time ≡ replace_count (place_in c.args.rows.now.items c.args.moved.now.from.directory) (place_in c.args.rows.now.items c.args.moved.now.directory) from to (option_and_then (row_of c.args.rows.now.items) c.args.had) c.args.moved.now.from.target c.args.moved.now.from.name.now c.args.moved.now.name.now c.args.time = ap (λ (n : ℕ). move_blocks (place_in c.args.rows.now.items c.args.moved.now.from.directory) (place_in c.args.rows.now.items c.args.moved.now.directory) from to n c.args.moved.now.from.name.now c.args.moved.now.name.now c.args.time) number ∙ ap (λ (o : Option ℕ). replace_count (place_in c.args.rows.now.items c.args.moved.now.from.directory) (place_in c.args.rows.now.items c.args.moved.now.directory) from to (option_and_then (row_of c.args.rows.now.items) o) c.args.moved.now.from.target c.args.moved.now.from.name.now c.args.moved.now.name.now c.args.time) (sym c.in_default.is) in
-    on_ok_weaker c.move_at.result (subst (λ (n : ℕ). n ≤ all_blocks c.args.free.now.pools) same) (c.move_at.ensures.enough from to inode.0 at to_at inode.1)
+pub returns-in_default-clause-needs : goal.returns-in_default-clause-needs
+returns-in_default-clause-needs g c from to at to_at =
+    record {
+      enough =
+          let inode = row_in_use c.args.rows.now.items c.args.moved.now.from.target c.requires.target in
+          let number = numbered c.args.rows.now.items c.args.moved.now.from.target inode.0 inode.1 in
+          let same : move_blocks (place_in c.args.rows.now.items c.args.moved.now.from.directory) (place_in c.args.rows.now.items c.args.moved.now.directory) from to inode.0.inode c.args.moved.now.from.name.now c.args.moved.now.name.now c.args.time ≡ replace_count (place_in c.args.rows.now.items c.args.moved.now.from.directory) (place_in c.args.rows.now.items c.args.moved.now.directory) from to (option_and_then (row_of c.args.rows.now.items) c.args.had) c.args.moved.now.from.target c.args.moved.now.from.name.now c.args.moved.now.name.now c.args.time = ap (λ (n : ℕ). move_blocks (place_in c.args.rows.now.items c.args.moved.now.from.directory) (place_in c.args.rows.now.items c.args.moved.now.directory) from to n c.args.moved.now.from.name.now c.args.moved.now.name.now c.args.time) number ∙ ap (λ (o : Option ℕ). replace_count (place_in c.args.rows.now.items c.args.moved.now.from.directory) (place_in c.args.rows.now.items c.args.moved.now.directory) from to (option_and_then (row_of c.args.rows.now.items) o) c.args.moved.now.from.target c.args.moved.now.from.name.now c.args.moved.now.name.now c.args.time) (sym c.in_default.is) in
+          on_ok_weaker c.move_at.result (subst (λ (n : ℕ). n ≤ all_blocks c.args.free.now.pools) same) (c.move_at.ensures.enough from to inode.0 at to_at inode.1);
+      refused =
+          let inode = row_in_use c.args.rows.now.items c.args.moved.now.from.target c.requires.target in
+          let number = numbered c.args.rows.now.items c.args.moved.now.from.target inode.0 inode.1 in
+          let same : move_blocks (place_in c.args.rows.now.items c.args.moved.now.from.directory) (place_in c.args.rows.now.items c.args.moved.now.directory) from to inode.0.inode c.args.moved.now.from.name.now c.args.moved.now.name.now c.args.time ≡ replace_count (place_in c.args.rows.now.items c.args.moved.now.from.directory) (place_in c.args.rows.now.items c.args.moved.now.directory) from to (option_and_then (row_of c.args.rows.now.items) c.args.had) c.args.moved.now.from.target c.args.moved.now.from.name.now c.args.moved.now.name.now c.args.time = ap (λ (n : ℕ). move_blocks (place_in c.args.rows.now.items c.args.moved.now.from.directory) (place_in c.args.rows.now.items c.args.moved.now.directory) from to n c.args.moved.now.from.name.now c.args.moved.now.name.now c.args.time) number ∙ ap (λ (o : Option ℕ). replace_count (place_in c.args.rows.now.items c.args.moved.now.from.directory) (place_in c.args.rows.now.items c.args.moved.now.directory) from to (option_and_then (row_of c.args.rows.now.items) o) c.args.moved.now.from.target c.args.moved.now.from.name.now c.args.moved.now.name.now c.args.time) (sym c.in_default.is) in
+          IfErr-weaker c.move_at.result _ _ (λ (e : Refusal) refused. subst (λ (n : ℕ). RefusesStep e n c.args.free.now) same refused) (c.move_at.ensures.refused from to inode.0 at to_at inode.1);
+    }
 
-pub returns-then-there-moved-clause-enough : goal.returns-then-there-moved-clause-enough
-returns-then-there-moved-clause-enough g c from to at to_at =
-    let file = row_in_use c.args.rows.now.items c.in-Some.there (c.requires.there c.in-Some.there c.in-Some.is) in
-    let number = numbered c.args.rows.now.items c.in-Some.there file.0 file.1 in
-    subst (λ (n : ℕ). n ≤ all_blocks c.args.free.now.pools) (sym (sym (ap (λ (o : Option Row). replace_count (place_in c.args.rows.now.items c.args.moved.now.from.directory) (place_in c.args.rows.now.items c.args.moved.now.directory) from to o c.args.moved.now.from.target c.args.moved.now.from.name.now c.args.moved.now.name.now c.args.time) (sym (row_there c.args.rows.now.items c.args.had c.in-Some.there file.0 c.in-Some.is file.1))) ∙ count_one (place_in c.args.rows.now.items c.args.moved.now.from.directory) (place_in c.args.rows.now.items c.args.moved.now.directory) from to file.0 c.args.moved.now.from.target c.args.moved.now.from.name.now c.args.moved.now.name.now c.args.time (number ∙ c.if-there-moved.true))) (omega arith)
+pub returns-then-there-moved-clause-needs : goal.returns-then-there-moved-clause-needs
+returns-then-there-moved-clause-needs g c from to at to_at =
+    record {
+      enough =
+          let file = row_in_use c.args.rows.now.items c.in-Some.there (c.requires.there c.in-Some.there c.in-Some.is) in
+          let number = numbered c.args.rows.now.items c.in-Some.there file.0 file.1 in
+          subst (λ (n : ℕ). n ≤ all_blocks c.args.free.now.pools) (sym (sym (ap (λ (o : Option Row). replace_count (place_in c.args.rows.now.items c.args.moved.now.from.directory) (place_in c.args.rows.now.items c.args.moved.now.directory) from to o c.args.moved.now.from.target c.args.moved.now.from.name.now c.args.moved.now.name.now c.args.time) (sym (row_there c.args.rows.now.items c.args.had c.in-Some.there file.0 c.in-Some.is file.1))) ∙ count_one (place_in c.args.rows.now.items c.args.moved.now.from.directory) (place_in c.args.rows.now.items c.args.moved.now.directory) from to file.0 c.args.moved.now.from.target c.args.moved.now.from.name.now c.args.moved.now.name.now c.args.time (number ∙ c.if-there-moved.true))) (omega arith);
+      refused =
+          tt;
+    }
 
-pub returns-then-moved-clause-enough : goal.returns-then-moved-clause-enough
-returns-then-moved-clause-enough g c from to at to_at =
-    let file = row_in_use c.args.rows.now.items c.in-Some.there (c.requires.there c.in-Some.there c.in-Some.is) in
-    let number = numbered c.args.rows.now.items c.in-Some.there file.0 file.1 in
-    let same = count_over (place_in c.args.rows.now.items c.args.moved.now.from.directory) (place_in c.args.rows.now.items c.args.moved.now.directory) from to file.0 c.args.moved.now.from.target c.args.moved.now.from.name.now c.args.moved.now.name.now c.args.time (λ same. c.if-there-moved.false (sym number ∙ same)) (places_apart c.args.rows.now.items c.args.moved.now.from.directory c.args.moved.now.directory c.requires.from c.requires.directory c.if-moved.true) ∙ ap (λ (o : Option Row). replace_count (place_in c.args.rows.now.items c.args.moved.now.from.directory) (place_in c.args.rows.now.items c.args.moved.now.directory) from to o c.args.moved.now.from.target c.args.moved.now.from.name.now c.args.moved.now.name.now c.args.time) (sym (row_there c.args.rows.now.items c.args.had c.in-Some.there file.0 c.in-Some.is file.1)) in
-    on_ok_weaker c.replace_over.result (subst (λ (n : ℕ). n ≤ all_blocks c.args.free.now.pools) same) (c.replace_over.ensures.enough from to file.0 at to_at file.1)
+pub returns-then-moved-clause-needs : goal.returns-then-moved-clause-needs
+returns-then-moved-clause-needs g c from to at to_at =
+    record {
+      enough =
+          let file = row_in_use c.args.rows.now.items c.in-Some.there (c.requires.there c.in-Some.there c.in-Some.is) in
+          let number = numbered c.args.rows.now.items c.in-Some.there file.0 file.1 in
+          let same = count_over (place_in c.args.rows.now.items c.args.moved.now.from.directory) (place_in c.args.rows.now.items c.args.moved.now.directory) from to file.0 c.args.moved.now.from.target c.args.moved.now.from.name.now c.args.moved.now.name.now c.args.time (λ same. c.if-there-moved.false (sym number ∙ same)) (places_apart c.args.rows.now.items c.args.moved.now.from.directory c.args.moved.now.directory c.requires.from c.requires.directory c.if-moved.true) ∙ ap (λ (o : Option Row). replace_count (place_in c.args.rows.now.items c.args.moved.now.from.directory) (place_in c.args.rows.now.items c.args.moved.now.directory) from to o c.args.moved.now.from.target c.args.moved.now.from.name.now c.args.moved.now.name.now c.args.time) (sym (row_there c.args.rows.now.items c.args.had c.in-Some.there file.0 c.in-Some.is file.1)) in
+          on_ok_weaker c.replace_over.result (subst (λ (n : ℕ). n ≤ all_blocks c.args.free.now.pools) same) (c.replace_over.ensures.enough from to file.0 at to_at file.1);
+      refused =
+          let file = row_in_use c.args.rows.now.items c.in-Some.there (c.requires.there c.in-Some.there c.in-Some.is) in
+          let number = numbered c.args.rows.now.items c.in-Some.there file.0 file.1 in
+          let same = count_over (place_in c.args.rows.now.items c.args.moved.now.from.directory) (place_in c.args.rows.now.items c.args.moved.now.directory) from to file.0 c.args.moved.now.from.target c.args.moved.now.from.name.now c.args.moved.now.name.now c.args.time (λ same. c.if-there-moved.false (sym number ∙ same)) (places_apart c.args.rows.now.items c.args.moved.now.from.directory c.args.moved.now.directory c.requires.from c.requires.directory c.if-moved.true) ∙ ap (λ (o : Option Row). replace_count (place_in c.args.rows.now.items c.args.moved.now.from.directory) (place_in c.args.rows.now.items c.args.moved.now.directory) from to o c.args.moved.now.from.target c.args.moved.now.from.name.now c.args.moved.now.name.now c.args.time) (sym (row_there c.args.rows.now.items c.args.had c.in-Some.there file.0 c.in-Some.is file.1)) in
+          IfErr-weaker c.replace_over.result _ _ (λ (e : Refusal) refused. subst (λ (n : ℕ). RefusesStep e n c.args.free.now) same refused) (c.replace_over.ensures.refused from to file.0 at to_at file.1);
+    }
 
-pub returns-clause-enough : goal.returns-clause-enough
-returns-clause-enough g c from to at to_at =
-    let file = row_in_use c.args.rows.now.items c.in-Some.there (c.requires.there c.in-Some.there c.in-Some.is) in
-    let number = numbered c.args.rows.now.items c.in-Some.there file.0 file.1 in
-    let same = count_here (place_in c.args.rows.now.items c.args.moved.now.from.directory) (place_in c.args.rows.now.items c.args.moved.now.directory) from to file.0 c.args.moved.now.from.target c.args.moved.now.from.name.now c.args.moved.now.name.now c.args.time (λ same. c.if-there-moved.false (sym number ∙ same)) (ap (place_in c.args.rows.now.items) c.if-moved.false) ∙ ap (λ (o : Option Row). replace_count (place_in c.args.rows.now.items c.args.moved.now.from.directory) (place_in c.args.rows.now.items c.args.moved.now.directory) from to o c.args.moved.now.from.target c.args.moved.now.from.name.now c.args.moved.now.name.now c.args.time) (sym (row_there c.args.rows.now.items c.args.had c.in-Some.there file.0 c.in-Some.is file.1)) in
-    on_ok_weaker c.replace_within.result (subst (λ (n : ℕ). n ≤ all_blocks c.args.free.now.pools) same) (c.replace_within.ensures.enough from file.0 (sym (ap (row_of c.args.rows.now.items) c.if-moved.false) ∙ at) file.1)
-
-pub returns-in_default-clause-refused : goal.returns-in_default-clause-refused
-returns-in_default-clause-refused g c from to at to_at =
-    let inode = row_in_use c.args.rows.now.items c.args.moved.now.from.target c.requires.target in
-    let number = numbered c.args.rows.now.items c.args.moved.now.from.target inode.0 inode.1 in
-    let same : move_blocks (place_in c.args.rows.now.items c.args.moved.now.from.directory) (place_in c.args.rows.now.items c.args.moved.now.directory) from to inode.0.inode c.args.moved.now.from.name.now c.args.moved.now.name.now c.args.time ≡ replace_count (place_in c.args.rows.now.items c.args.moved.now.from.directory) (place_in c.args.rows.now.items c.args.moved.now.directory) from to (option_and_then (row_of c.args.rows.now.items) c.args.had) c.args.moved.now.from.target c.args.moved.now.from.name.now c.args.moved.now.name.now c.args.time = ap (λ (n : ℕ). move_blocks (place_in c.args.rows.now.items c.args.moved.now.from.directory) (place_in c.args.rows.now.items c.args.moved.now.directory) from to n c.args.moved.now.from.name.now c.args.moved.now.name.now c.args.time) number ∙ ap (λ (o : Option ℕ). replace_count (place_in c.args.rows.now.items c.args.moved.now.from.directory) (place_in c.args.rows.now.items c.args.moved.now.directory) from to (option_and_then (row_of c.args.rows.now.items) o) c.args.moved.now.from.target c.args.moved.now.from.name.now c.args.moved.now.name.now c.args.time) (sym c.in_default.is) in
-    IfErr-weaker c.move_at.result _ _ (λ (e : Refusal) refused. subst (λ (n : ℕ). RefusesStep e n c.args.free.now) same refused) (c.move_at.ensures.refused from to inode.0 at to_at inode.1)
-
-pub returns-then-moved-clause-refused : goal.returns-then-moved-clause-refused
-returns-then-moved-clause-refused g c from to at to_at =
-    let file = row_in_use c.args.rows.now.items c.in-Some.there (c.requires.there c.in-Some.there c.in-Some.is) in
-    let number = numbered c.args.rows.now.items c.in-Some.there file.0 file.1 in
-    let same = count_over (place_in c.args.rows.now.items c.args.moved.now.from.directory) (place_in c.args.rows.now.items c.args.moved.now.directory) from to file.0 c.args.moved.now.from.target c.args.moved.now.from.name.now c.args.moved.now.name.now c.args.time (λ same. c.if-there-moved.false (sym number ∙ same)) (places_apart c.args.rows.now.items c.args.moved.now.from.directory c.args.moved.now.directory c.requires.from c.requires.directory c.if-moved.true) ∙ ap (λ (o : Option Row). replace_count (place_in c.args.rows.now.items c.args.moved.now.from.directory) (place_in c.args.rows.now.items c.args.moved.now.directory) from to o c.args.moved.now.from.target c.args.moved.now.from.name.now c.args.moved.now.name.now c.args.time) (sym (row_there c.args.rows.now.items c.args.had c.in-Some.there file.0 c.in-Some.is file.1)) in
-    IfErr-weaker c.replace_over.result _ _ (λ (e : Refusal) refused. subst (λ (n : ℕ). RefusesStep e n c.args.free.now) same refused) (c.replace_over.ensures.refused from to file.0 at to_at file.1)
-
-pub returns-clause-refused : goal.returns-clause-refused
-returns-clause-refused g c from to at to_at =
-    let file = row_in_use c.args.rows.now.items c.in-Some.there (c.requires.there c.in-Some.there c.in-Some.is) in
-    let number = numbered c.args.rows.now.items c.in-Some.there file.0 file.1 in
-    let same = count_here (place_in c.args.rows.now.items c.args.moved.now.from.directory) (place_in c.args.rows.now.items c.args.moved.now.directory) from to file.0 c.args.moved.now.from.target c.args.moved.now.from.name.now c.args.moved.now.name.now c.args.time (λ same. c.if-there-moved.false (sym number ∙ same)) (ap (place_in c.args.rows.now.items) c.if-moved.false) ∙ ap (λ (o : Option Row). replace_count (place_in c.args.rows.now.items c.args.moved.now.from.directory) (place_in c.args.rows.now.items c.args.moved.now.directory) from to o c.args.moved.now.from.target c.args.moved.now.from.name.now c.args.moved.now.name.now c.args.time) (sym (row_there c.args.rows.now.items c.args.had c.in-Some.there file.0 c.in-Some.is file.1)) in
-    IfErr-weaker c.replace_within.result _ _ (λ (e : Refusal) refused. subst (λ (n : ℕ). RefusesStep e n c.args.free.now) same refused) (c.replace_within.ensures.refused from file.0 (sym (ap (row_of c.args.rows.now.items) c.if-moved.false) ∙ at) file.1)
+pub returns-clause-needs : goal.returns-clause-needs
+returns-clause-needs g c from to at to_at =
+    record {
+      enough =
+          let file = row_in_use c.args.rows.now.items c.in-Some.there (c.requires.there c.in-Some.there c.in-Some.is) in
+          let number = numbered c.args.rows.now.items c.in-Some.there file.0 file.1 in
+          let same = count_here (place_in c.args.rows.now.items c.args.moved.now.from.directory) (place_in c.args.rows.now.items c.args.moved.now.directory) from to file.0 c.args.moved.now.from.target c.args.moved.now.from.name.now c.args.moved.now.name.now c.args.time (λ same. c.if-there-moved.false (sym number ∙ same)) (ap (place_in c.args.rows.now.items) c.if-moved.false) ∙ ap (λ (o : Option Row). replace_count (place_in c.args.rows.now.items c.args.moved.now.from.directory) (place_in c.args.rows.now.items c.args.moved.now.directory) from to o c.args.moved.now.from.target c.args.moved.now.from.name.now c.args.moved.now.name.now c.args.time) (sym (row_there c.args.rows.now.items c.args.had c.in-Some.there file.0 c.in-Some.is file.1)) in
+          on_ok_weaker c.replace_within.result (subst (λ (n : ℕ). n ≤ all_blocks c.args.free.now.pools) same) (c.replace_within.ensures.enough from file.0 (sym (ap (row_of c.args.rows.now.items) c.if-moved.false) ∙ at) file.1);
+      refused =
+          let file = row_in_use c.args.rows.now.items c.in-Some.there (c.requires.there c.in-Some.there c.in-Some.is) in
+          let number = numbered c.args.rows.now.items c.in-Some.there file.0 file.1 in
+          let same = count_here (place_in c.args.rows.now.items c.args.moved.now.from.directory) (place_in c.args.rows.now.items c.args.moved.now.directory) from to file.0 c.args.moved.now.from.target c.args.moved.now.from.name.now c.args.moved.now.name.now c.args.time (λ same. c.if-there-moved.false (sym number ∙ same)) (ap (place_in c.args.rows.now.items) c.if-moved.false) ∙ ap (λ (o : Option Row). replace_count (place_in c.args.rows.now.items c.args.moved.now.from.directory) (place_in c.args.rows.now.items c.args.moved.now.directory) from to o c.args.moved.now.from.target c.args.moved.now.from.name.now c.args.moved.now.name.now c.args.time) (sym (row_there c.args.rows.now.items c.args.had c.in-Some.there file.0 c.in-Some.is file.1)) in
+          IfErr-weaker c.replace_within.result _ _ (λ (e : Refusal) refused. subst (λ (n : ℕ). RefusesStep e n c.args.free.now) same refused) (c.replace_within.ensures.refused from file.0 (sym (ap (row_of c.args.rows.now.items) c.if-moved.false) ∙ at) file.1);
+    }
 
 pub returns-in_default-clause-any_stop : goal.returns-in_default-clause-any_stop
 returns-in_default-clause-any_stop g c from to held h k at to_at here other none seen =
@@ -163,23 +171,11 @@ returns-clause-any_stop g c from to held h k at to_at here other none seen =
     (λ left may. left_made (ReplacedHere (g.P.Pmem.region c.args.memory.now) c.args.sup.now c.args.free.now c.args.cpu from file.0 c.args.moved.now.from.target c.args.moved.now.from.name.now c.args.moved.now.name.now c.args.time) (ReplacedAt (g.P.Pmem.region c.args.memory.now) c.args.sup.now c.args.free.now c.args.cpu (place_in c.args.rows.now.items c.args.moved.now.from.directory) (place_in c.args.rows.now.items c.args.moved.now.directory) from to (Some file.0) c.args.moved.now.from.target c.args.moved.now.from.name.now c.args.moved.now.name.now c.args.time) (λ T w. ((λ same. c.if-there-moved.false (sym number ∙ same)), inl ((ap (place_in c.args.rows.now.items) c.if-moved.false), w))) left
     (c.replace_within.ensures.any_stop from file.0 held h f.0 (sym (ap (row_of c.args.rows.now.items) c.if-moved.false) ∙ at) file.1 here f.1 c.requires.settled_before left may))
 
-pub returns-in_default-clause-done : goal.returns-in_default-clause-done
-returns-in_default-clause-done g c is = absurd (let clash : None ≡ Some c.args.moved.now.from.target = sym c.in_default.is ∙ is in cc)
-
-pub returns-then-there-moved-clause-done : goal.returns-then-there-moved-clause-done
-returns-then-there-moved-clause-done g c is = tt
-
-pub returns-then-moved-clause-done : goal.returns-then-moved-clause-done
-returns-then-moved-clause-done g c is = absurd (let one : Some c.in-Some.there ≡ Some c.args.moved.now.from.target = sym c.in-Some.is ∙ is in c.if-there-moved.false (same_Some _ _ one))
-
-pub returns-clause-done : goal.returns-clause-done
-returns-clause-done g c is = absurd (let one : Some c.in-Some.there ≡ Some c.args.moved.now.from.target = sym c.in-Some.is ∙ is in c.if-there-moved.false (same_Some _ _ one))
-
 pub returns-in_default-clause-same : goal.returns-in_default-clause-same
 returns-in_default-clause-same g c is = absurd (let clash : None ≡ Some c.args.moved.now.from.target = sym c.in_default.is ∙ is in cc)
 
 pub returns-then-there-moved-clause-same : goal.returns-then-there-moved-clause-same
-returns-then-there-moved-clause-same g c is = record { memory = refl; free = record { sup = refl; pools = refl }; rows = same_rows c.args.rows.now.items }
+returns-then-there-moved-clause-same g c is = (tt, record { memory = refl; free = record { sup = refl; pools = refl }; rows = same_rows c.args.rows.now.items })
 
 pub returns-then-moved-clause-same : goal.returns-then-moved-clause-same
 returns-then-moved-clause-same g c is = absurd (let one : Some c.in-Some.there ≡ Some c.args.moved.now.from.target = sym c.in-Some.is ∙ is in c.if-there-moved.false (same_Some _ _ one))

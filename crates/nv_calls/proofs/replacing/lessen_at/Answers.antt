@@ -71,12 +71,16 @@ returns-clause-refused g c row file at other_at =
     (λ (e : Refusal) refused. of_lent c.args.rows.now.items c.lend-directory.new.self.items c.args.moved.now.directory c.args.there c.requires.apart c.requires.directory c.lend-directory.ensures.lent (λ (r d : Row). RefusesStep e (needed (r.tail % 4096) (take_entries c.args.moved.now.from.target d.inode c.args.moved.now.from.name.now c.args.moved.now.name.now c.args.time) + needed (d.tail % 4096) (links_entries (d.numbers.links - 1) c.args.time)) c.args.free.now) c.lend-directory.result c.lend-file.result row file c.lend-directory.ensures.row c.lend-file.ensures.row
     (by_words (λ (i k : ℕ) (n o : List ℕ) (t : ℕ). RefusesStep e (needed (c.lend-directory.result.tail % 4096) (take_entries i c.lend-file.result.inode n o t) + needed (c.lend-file.result.tail % 4096) (links_entries (c.lend-file.result.numbers.links - 1) t)) c.args.free.now) c.other_name-other.ensures.inode (λ x. 0) c.other_name-other.ensures.name c.other_name-other.ensures.other c.other_name-other.ensures.time refused) at other_at) c.lessen_within-done.ensures.needs.refused
 
-pub returns-clause-unchanged : goal.returns-clause-unchanged
-returns-clause-unchanged g c =
-    let at_there = row_stays c.args.rows.now.items c.lend-directory.new.self.items c.args.moved.now.directory c.args.there c.requires.apart c.requires.directory c.lend-directory.ensures.lent c.lend-file.result c.lend-file.ensures.row in
-    let put = back_two c.args.rows.now.items c.lend-directory.new.self.items c.lend-file.new.self.items c.give_back.new.self.items c.give_back-2.new.self.items c.args.moved.now.directory c.args.there c.lessen_within-done.new.directory c.lessen_within-done.new.file c.requires.apart c.requires.directory c.requires.there
-    c.lend-directory.ensures.lent c.lend-file.ensures.lent (c.lessen_within-done.ensures.file_inode ∙ c.lend-file.ensures.number) c.give_back.ensures.rows (c.lessen_within-done.ensures.inode ∙ c.lend-directory.ensures.number) c.give_back-2.ensures.rows in
-    IfErr-weaker c.lessen_within-done.result _ _ (λ (e : Refusal) told off. (let left = told off in left_two c.args.rows.now.items c.give_back-2.new.self.items c.args.moved.now.directory c.args.there c.lend-directory.result c.lend-file.result c.lessen_within-done.new.directory c.lessen_within-done.new.file c.requires.apart c.lend-directory.ensures.row at_there put c.args.memory.now c.lessen_within-done.new.memory c.args.free.now c.lessen_within-done.new.free left.0 left.1)) c.lessen_within-done.ensures.unchanged
+pub returns-clause-kept : goal.returns-clause-kept
+returns-clause-kept g c =
+    record {
+      step = c.lessen_within-done.ensures.kept;
+      unchanged = let at_there = row_stays c.args.rows.now.items c.lend-directory.new.self.items c.args.moved.now.directory c.args.there c.requires.apart c.requires.directory c.lend-directory.ensures.lent c.lend-file.result c.lend-file.ensures.row in
+          let put = back_two c.args.rows.now.items c.lend-directory.new.self.items c.lend-file.new.self.items c.give_back.new.self.items c.give_back-2.new.self.items c.args.moved.now.directory c.args.there c.lessen_within-done.new.directory c.lessen_within-done.new.file c.requires.apart c.requires.directory c.requires.there
+          c.lend-directory.ensures.lent c.lend-file.ensures.lent (c.lessen_within-done.ensures.file_inode ∙ c.lend-file.ensures.number) c.give_back.ensures.rows (c.lessen_within-done.ensures.inode ∙ c.lend-directory.ensures.number) c.give_back-2.ensures.rows in
+          IfErr-weaker c.lessen_within-done.result _ _ (λ (e : Refusal) told off. (let left = told off in left_two c.args.rows.now.items c.give_back-2.new.self.items c.args.moved.now.directory c.args.there c.lend-directory.result c.lend-file.result c.lessen_within-done.new.directory c.lessen_within-done.new.file c.requires.apart c.lend-directory.ensures.row at_there put c.args.memory.now c.lessen_within-done.new.memory c.args.free.now c.lessen_within-done.new.free left.0 left.1)) c.lessen_within-done.ensures.unchanged;
+      tables = (c.give_back-2.ensures.sup ∙ c.give_back.ensures.sup ∙ c.lend-file.ensures.sup ∙ c.lend-directory.ensures.sup, c.give_back-2.ensures.sizes ∙ c.give_back.ensures.sizes ∙ c.lend-file.ensures.sizes ∙ c.lend-directory.ensures.sizes);
+    }
 
 pub returns-clause-any_stop : goal.returns-clause-any_stop
 returns-clause-any_stop g c row file held h f at other_at here other settled =

@@ -22,6 +22,7 @@ use Rattle.nv_calls.proofs.OneOut.{left_one, other_out, other_row, other_used}
 use Rattle.nv_calls.proofs.OwnedRow.{owns_taken}
 use Rattle.nv_calls.proofs.ReplaceAt.{by_words}
 use Rattle.nv_calls.proofs.TwoRows.{last_used}
+use Rattle.nv_steps.proofs.Kept.{kept_refused}
 use Rattle.nv_calls.proofs.replacing.take_at.Goals as goal
 
 pub give_back-requires : goal.give_back-requires
@@ -50,11 +51,15 @@ returns-in_err-taken-clause-refused g c row gone at gone_at =
     (subst (λ (r : Row). RefusesStep c.in_err-taken.field-0.0 (needed (r.tail % 4096) (take_entries c.args.moved.now.from.target gone.inode c.args.moved.now.from.name.now c.args.moved.now.name.now c.args.time)) c.args.free.now) same
     (by_words (λ (i k : ℕ) (n o : List ℕ) (t : ℕ). RefusesStep c.in_err-taken.field-0.0 (needed (c.lend-directory.result.tail % 4096) (take_entries i k n o t)) c.args.free.now) c.other_name-other.ensures.inode number c.other_name-other.ensures.name c.other_name-other.ensures.other c.other_name-other.ensures.time c.in_err-taken.ensures.needs.refused))
 
-pub returns-in_err-taken-clause-unchanged : goal.returns-in_err-taken-clause-unchanged
-returns-in_err-taken-clause-unchanged g c =
+pub returns-in_err-taken-clause-kept : goal.returns-in_err-taken-clause-kept
+returns-in_err-taken-clause-kept g c =
     let w = err_from_is_err_and c.from_residual.result c.from_residual.ensures.1 in
-    refused_by c.from_residual.result c.in_err-taken.field-0.0 w.0 (λ (e : Refusal). (e ≡ Stopped → ⊥) → LeavesRows c.args.memory.now c.take_within-taken.new.memory c.args.free.now c.take_within-taken.new.free c.args.rows.now.items c.give_back.new.self.items) w.1 w.2
-    (λ off. left_one c.args.rows.now.items c.lend-directory.new.self.items c.give_back.new.self.items c.args.moved.now.directory c.lend-directory.result c.take_within-taken.new.directory c.lend-directory.ensures.row c.lend-directory.ensures.lent (c.take_within-taken.ensures.inode ∙ c.lend-directory.ensures.number) c.give_back.ensures.rows c.args.memory.now c.take_within-taken.new.memory c.args.free.now c.take_within-taken.new.free (c.in_err-taken.ensures.unchanged off))
+    record {
+      step = kept_refused c.from_residual.result c.in_err-taken.field-0.0 w.0 w.1 w.2 c.in_err-taken.ensures.kept;
+      unchanged = refused_by c.from_residual.result c.in_err-taken.field-0.0 w.0 (λ (e : Refusal). (e ≡ Stopped → ⊥) → LeavesRows c.args.memory.now c.take_within-taken.new.memory c.args.free.now c.take_within-taken.new.free c.args.rows.now.items c.give_back.new.self.items) w.1 w.2
+          (λ off. left_one c.args.rows.now.items c.lend-directory.new.self.items c.give_back.new.self.items c.args.moved.now.directory c.lend-directory.result c.take_within-taken.new.directory c.lend-directory.ensures.row c.lend-directory.ensures.lent (c.take_within-taken.ensures.inode ∙ c.lend-directory.ensures.number) c.give_back.ensures.rows c.args.memory.now c.take_within-taken.new.memory c.args.free.now c.take_within-taken.new.free (c.in_err-taken.ensures.unchanged off));
+      tables = (c.give_back.ensures.sup ∙ c.lend-directory.ensures.sup, c.give_back.ensures.sizes ∙ c.lend-directory.ensures.sizes);
+    }
 
 pub take-requires : goal.take-requires
 take-requires g c =

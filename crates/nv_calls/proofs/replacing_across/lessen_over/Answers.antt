@@ -85,12 +85,16 @@ returns-clause-refused g c from to file at to_at file_at =
     (λ (e : Refusal) refused. of_three c.args.rows.now.items c.lend-from.new.self.items c.lend-to.new.self.items c.args.moved.now.from.directory c.args.moved.now.directory c.args.there c.requires.apart.0 c.requires.apart.1 c.requires.apart.2 c.requires.from c.requires.directory c.requires.there c.lend-from.ensures.lent c.lend-to.ensures.lent (λ (r d b : Row). RefusesStep e (hand_blocks r d c.args.moved.now.from.target b.inode c.args.moved.now.from.name.now c.args.moved.now.name.now c.args.time + needed (b.tail % 4096) (links_entries (b.numbers.links - 1) c.args.time)) c.args.free.now) c.lend-from.result c.lend-to.result c.lend-file.result from to file c.lend-from.ensures.row c.lend-to.ensures.row c.lend-file.ensures.row
     (by_words (λ (i k : ℕ) (n o : List ℕ) (t : ℕ). RefusesStep e (hand_blocks c.lend-from.result c.lend-to.result i c.lend-file.result.inode n o t + needed (c.lend-file.result.tail % 4096) (links_entries (c.lend-file.result.numbers.links - 1) t)) c.args.free.now) c.other_name-other.ensures.inode (λ x. 0) c.other_name-other.ensures.name c.other_name-other.ensures.other c.other_name-other.ensures.time refused) at to_at file_at) c.lessen_across-done.ensures.needs.refused
 
-pub returns-clause-unchanged : goal.returns-clause-unchanged
-returns-clause-unchanged g c =
-    let to_at = row_stays c.args.rows.now.items c.lend-from.new.self.items c.args.moved.now.from.directory c.args.moved.now.directory c.requires.apart.0 c.requires.from c.lend-from.ensures.lent c.lend-to.result c.lend-to.ensures.row in
-    let file_at = third_stays c.args.rows.now.items c.lend-from.new.self.items c.lend-to.new.self.items c.args.moved.now.from.directory c.args.moved.now.directory c.args.there c.requires.apart.0 c.requires.apart.1 c.requires.apart.2 c.requires.from c.requires.directory c.requires.there c.lend-from.ensures.lent c.lend-to.ensures.lent c.lend-file.result c.lend-file.ensures.row in
-    let put = back_three c.args.rows.now.items c.lend-from.new.self.items c.lend-to.new.self.items c.args.moved.now.from.directory c.args.moved.now.directory c.args.there c.requires.apart.0 c.requires.apart.1 c.requires.apart.2 c.requires.from c.requires.directory c.requires.there c.lend-from.ensures.lent c.lend-to.ensures.lent c.lend-file.new.self.items c.give_back.new.self.items c.lessen_across-done.new.to c.lessen_across-done.new.file c.lend-file.ensures.lent (c.lessen_across-done.ensures.inodes.1 ∙ c.lend-to.ensures.number) (c.lessen_across-done.ensures.inodes.2 ∙ c.lend-file.ensures.number) c.give_back.ensures.rows c.give_back-2.new.self.items c.lessen_across-done.new.from (c.lessen_across-done.ensures.inodes.0 ∙ c.lend-from.ensures.number) c.give_back-2.ensures.rows c.give_back-3.ensures.rows in
-    IfErr-weaker c.lessen_across-done.result _ _ (λ (e : Refusal) told off. (let left = told off in left_three c.args.rows.now.items c.lend-from.new.self.items c.lend-to.new.self.items c.args.moved.now.from.directory c.args.moved.now.directory c.args.there c.requires.apart.0 c.requires.apart.1 c.requires.apart.2 c.requires.from c.requires.directory c.requires.there c.lend-from.ensures.lent c.lend-to.ensures.lent c.args.memory.now c.lessen_across-done.new.memory c.args.free.now c.lessen_across-done.new.free c.lend-from.result c.lend-to.result c.lend-file.result c.lessen_across-done.new.from c.lessen_across-done.new.to c.lessen_across-done.new.file c.give_back-3.new.self.items c.lend-from.ensures.row to_at file_at put left.0 left.1 left.2)) c.lessen_across-done.ensures.unchanged
+pub returns-clause-kept : goal.returns-clause-kept
+returns-clause-kept g c =
+    record {
+      step = c.lessen_across-done.ensures.kept;
+      unchanged = let to_at = row_stays c.args.rows.now.items c.lend-from.new.self.items c.args.moved.now.from.directory c.args.moved.now.directory c.requires.apart.0 c.requires.from c.lend-from.ensures.lent c.lend-to.result c.lend-to.ensures.row in
+          let file_at = third_stays c.args.rows.now.items c.lend-from.new.self.items c.lend-to.new.self.items c.args.moved.now.from.directory c.args.moved.now.directory c.args.there c.requires.apart.0 c.requires.apart.1 c.requires.apart.2 c.requires.from c.requires.directory c.requires.there c.lend-from.ensures.lent c.lend-to.ensures.lent c.lend-file.result c.lend-file.ensures.row in
+          let put = back_three c.args.rows.now.items c.lend-from.new.self.items c.lend-to.new.self.items c.args.moved.now.from.directory c.args.moved.now.directory c.args.there c.requires.apart.0 c.requires.apart.1 c.requires.apart.2 c.requires.from c.requires.directory c.requires.there c.lend-from.ensures.lent c.lend-to.ensures.lent c.lend-file.new.self.items c.give_back.new.self.items c.lessen_across-done.new.to c.lessen_across-done.new.file c.lend-file.ensures.lent (c.lessen_across-done.ensures.inodes.1 ∙ c.lend-to.ensures.number) (c.lessen_across-done.ensures.inodes.2 ∙ c.lend-file.ensures.number) c.give_back.ensures.rows c.give_back-2.new.self.items c.lessen_across-done.new.from (c.lessen_across-done.ensures.inodes.0 ∙ c.lend-from.ensures.number) c.give_back-2.ensures.rows c.give_back-3.ensures.rows in
+          IfErr-weaker c.lessen_across-done.result _ _ (λ (e : Refusal) told off. (let left = told off in left_three c.args.rows.now.items c.lend-from.new.self.items c.lend-to.new.self.items c.args.moved.now.from.directory c.args.moved.now.directory c.args.there c.requires.apart.0 c.requires.apart.1 c.requires.apart.2 c.requires.from c.requires.directory c.requires.there c.lend-from.ensures.lent c.lend-to.ensures.lent c.args.memory.now c.lessen_across-done.new.memory c.args.free.now c.lessen_across-done.new.free c.lend-from.result c.lend-to.result c.lend-file.result c.lessen_across-done.new.from c.lessen_across-done.new.to c.lessen_across-done.new.file c.give_back-3.new.self.items c.lend-from.ensures.row to_at file_at put left.0 left.1 left.2)) c.lessen_across-done.ensures.unchanged;
+      tables = (c.give_back-3.ensures.sup ∙ c.give_back-2.ensures.sup ∙ c.give_back.ensures.sup ∙ c.lend-file.ensures.sup ∙ c.lend-to.ensures.sup ∙ c.lend-from.ensures.sup, c.give_back-3.ensures.sizes ∙ c.give_back-2.ensures.sizes ∙ c.give_back.ensures.sizes ∙ c.lend-file.ensures.sizes ∙ c.lend-to.ensures.sizes ∙ c.lend-from.ensures.sizes);
+    }
 
 pub returns-clause-any_stop : goal.returns-clause-any_stop
 returns-clause-any_stop g c from to file held h k f at to_at file_at here other last settled =

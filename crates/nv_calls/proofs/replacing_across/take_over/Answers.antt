@@ -20,6 +20,7 @@ use Rattle.nv_calls.proofs.OwnedRow.{owns_taken}
 use Rattle.nv_calls.proofs.ReplaceAt.{by_words}
 use Rattle.nv_calls.proofs.TwoOut.{third_out, third_row, third_used}
 use Rattle.nv_calls.proofs.TwoRows.{first_used, last_used, left_two, of_lent, row_stays, used_still}
+use Rattle.nv_steps.proofs.Kept.{kept_refused}
 use Rattle.nv_calls.proofs.replacing_across.take_over.Goals as goal
 
 pub lend-to-requires : goal.lend-to-requires
@@ -96,14 +97,18 @@ returns-clause-taken g c =
       put = third_out c.args.rows.now.items c.give_back-2.new.self.items c.args.moved.now.from.directory c.args.moved.now.directory c.lend-from.result c.lend-to.result c.take_across-taken.new.from c.take_across-taken.new.to c.requires.apart.0 c.lend-from.ensures.row to_at (c.take_across-taken.ensures.inodes.0 ∙ c.lend-from.ensures.number) (c.take_across-taken.ensures.inodes.1 ∙ c.lend-to.ensures.number) put c.args.there c.requires.apart.1 c.requires.apart.2 c.take.ensures.rows;
     }
 
-pub returns-in_err-taken-clause-unchanged : goal.returns-in_err-taken-clause-unchanged
-returns-in_err-taken-clause-unchanged g c =
-    let to_at = row_stays c.args.rows.now.items c.lend-from.new.self.items c.args.moved.now.from.directory c.args.moved.now.directory c.requires.apart.0 c.requires.from c.lend-from.ensures.lent c.lend-to.result c.lend-to.ensures.row in
-    let put = back_two c.args.rows.now.items c.lend-from.new.self.items c.lend-to.new.self.items c.give_back.new.self.items c.give_back-2.new.self.items c.args.moved.now.from.directory c.args.moved.now.directory c.take_across-taken.new.from c.take_across-taken.new.to c.requires.apart.0 c.requires.from c.requires.directory
-    c.lend-from.ensures.lent c.lend-to.ensures.lent (c.take_across-taken.ensures.inodes.1 ∙ c.lend-to.ensures.number) c.give_back.ensures.rows (c.take_across-taken.ensures.inodes.0 ∙ c.lend-from.ensures.number) c.give_back-2.ensures.rows in
+pub returns-in_err-taken-clause-kept : goal.returns-in_err-taken-clause-kept
+returns-in_err-taken-clause-kept g c =
     let w = err_from_is_err_and c.from_residual.result c.from_residual.ensures.1 in
-    refused_by c.from_residual.result c.in_err-taken.field-0.0 w.0 (λ (e : Refusal). (e ≡ Stopped → ⊥) → LeavesRows c.args.memory.now c.take_across-taken.new.memory c.args.free.now c.take_across-taken.new.free c.args.rows.now.items c.give_back-2.new.self.items) w.1 w.2
-    (λ off. (let left = c.in_err-taken.ensures.unchanged off in left_two c.args.rows.now.items c.give_back-2.new.self.items c.args.moved.now.from.directory c.args.moved.now.directory c.lend-from.result c.lend-to.result c.take_across-taken.new.from c.take_across-taken.new.to c.requires.apart.0 c.lend-from.ensures.row to_at put c.args.memory.now c.take_across-taken.new.memory c.args.free.now c.take_across-taken.new.free left.0 left.1))
+    record {
+      step = kept_refused c.from_residual.result c.in_err-taken.field-0.0 w.0 w.1 w.2 c.in_err-taken.ensures.kept;
+      unchanged = let to_at = row_stays c.args.rows.now.items c.lend-from.new.self.items c.args.moved.now.from.directory c.args.moved.now.directory c.requires.apart.0 c.requires.from c.lend-from.ensures.lent c.lend-to.result c.lend-to.ensures.row in
+          let put = back_two c.args.rows.now.items c.lend-from.new.self.items c.lend-to.new.self.items c.give_back.new.self.items c.give_back-2.new.self.items c.args.moved.now.from.directory c.args.moved.now.directory c.take_across-taken.new.from c.take_across-taken.new.to c.requires.apart.0 c.requires.from c.requires.directory
+          c.lend-from.ensures.lent c.lend-to.ensures.lent (c.take_across-taken.ensures.inodes.1 ∙ c.lend-to.ensures.number) c.give_back.ensures.rows (c.take_across-taken.ensures.inodes.0 ∙ c.lend-from.ensures.number) c.give_back-2.ensures.rows in
+          refused_by c.from_residual.result c.in_err-taken.field-0.0 w.0 (λ (e : Refusal). (e ≡ Stopped → ⊥) → LeavesRows c.args.memory.now c.take_across-taken.new.memory c.args.free.now c.take_across-taken.new.free c.args.rows.now.items c.give_back-2.new.self.items) w.1 w.2
+          (λ off. (let left = c.in_err-taken.ensures.unchanged off in left_two c.args.rows.now.items c.give_back-2.new.self.items c.args.moved.now.from.directory c.args.moved.now.directory c.lend-from.result c.lend-to.result c.take_across-taken.new.from c.take_across-taken.new.to c.requires.apart.0 c.lend-from.ensures.row to_at put c.args.memory.now c.take_across-taken.new.memory c.args.free.now c.take_across-taken.new.free left.0 left.1));
+      tables = (c.give_back-2.ensures.sup ∙ c.give_back.ensures.sup ∙ c.lend-to.ensures.sup ∙ c.lend-from.ensures.sup, c.give_back-2.ensures.sizes ∙ c.give_back.ensures.sizes ∙ c.lend-to.ensures.sizes ∙ c.lend-from.ensures.sizes);
+    }
 
 pub returns-in_err-taken-clause-refused : goal.returns-in_err-taken-clause-refused
 returns-in_err-taken-clause-refused g c from to gone at to_at gone_at =

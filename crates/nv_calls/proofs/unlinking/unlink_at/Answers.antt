@@ -66,12 +66,16 @@ returns-clause-refused g c row file at other_at =
     let other_same : c.lend-file.result ≡ file = same_Some _ _ (sym there ∙ other_at) in
     IfErr-weaker c.unlink_both-done.result _ _ (λ (e : Refusal) refused. subst (λ (n : ℕ). RefusesStep e n c.args.free.now) (ap (λ (r : Row). needed (r.tail % 4096) (name_entries Remove c.lend-file.result.inode c.args.named.now.name.now c.args.time) + needed (c.lend-file.result.tail % 4096) (links_entries (c.lend-file.result.numbers.links - 1) c.args.time)) same ∙ ap (λ (r : Row). needed (row.tail % 4096) (name_entries Remove r.inode c.args.named.now.name.now c.args.time) + needed (r.tail % 4096) (links_entries (r.numbers.links - 1) c.args.time)) other_same) refused) c.unlink_both-done.ensures.needs.refused
 
-pub returns-clause-unchanged : goal.returns-clause-unchanged
-returns-clause-unchanged g c =
-    let there = row_stays c.args.rows.now.items c.lend-directory.new.self.items c.args.named.now.directory c.args.named.now.target c.requires.apart c.requires.directory c.lend-directory.ensures.lent c.lend-file.result c.lend-file.ensures.row in
-    let put = back_two c.args.rows.now.items c.lend-directory.new.self.items c.lend-file.new.self.items c.give_back.new.self.items c.give_back-2.new.self.items c.args.named.now.directory c.args.named.now.target c.unlink_both-done.new.directory c.unlink_both-done.new.file c.requires.apart c.requires.directory c.requires.target
-    c.lend-directory.ensures.lent c.lend-file.ensures.lent (c.unlink_both-done.ensures.file_inode ∙ c.lend-file.ensures.number) c.give_back.ensures.rows (c.unlink_both-done.ensures.inode ∙ c.lend-directory.ensures.number) c.give_back-2.ensures.rows in
-    IfErr-weaker c.unlink_both-done.result _ _ (λ (e : Refusal) told off. (let left = told off in left_two c.args.rows.now.items c.give_back-2.new.self.items c.args.named.now.directory c.args.named.now.target c.lend-directory.result c.lend-file.result c.unlink_both-done.new.directory c.unlink_both-done.new.file c.requires.apart c.lend-directory.ensures.row there put c.args.memory.now c.unlink_both-done.new.memory c.args.free.now c.unlink_both-done.new.free left.0 left.1)) c.unlink_both-done.ensures.unchanged
+pub returns-clause-kept : goal.returns-clause-kept
+returns-clause-kept g c =
+    record {
+      step = c.unlink_both-done.ensures.kept;
+      unchanged = let there = row_stays c.args.rows.now.items c.lend-directory.new.self.items c.args.named.now.directory c.args.named.now.target c.requires.apart c.requires.directory c.lend-directory.ensures.lent c.lend-file.result c.lend-file.ensures.row in
+          let put = back_two c.args.rows.now.items c.lend-directory.new.self.items c.lend-file.new.self.items c.give_back.new.self.items c.give_back-2.new.self.items c.args.named.now.directory c.args.named.now.target c.unlink_both-done.new.directory c.unlink_both-done.new.file c.requires.apart c.requires.directory c.requires.target
+          c.lend-directory.ensures.lent c.lend-file.ensures.lent (c.unlink_both-done.ensures.file_inode ∙ c.lend-file.ensures.number) c.give_back.ensures.rows (c.unlink_both-done.ensures.inode ∙ c.lend-directory.ensures.number) c.give_back-2.ensures.rows in
+          IfErr-weaker c.unlink_both-done.result _ _ (λ (e : Refusal) told off. (let left = told off in left_two c.args.rows.now.items c.give_back-2.new.self.items c.args.named.now.directory c.args.named.now.target c.lend-directory.result c.lend-file.result c.unlink_both-done.new.directory c.unlink_both-done.new.file c.requires.apart c.lend-directory.ensures.row there put c.args.memory.now c.unlink_both-done.new.memory c.args.free.now c.unlink_both-done.new.free left.0 left.1)) c.unlink_both-done.ensures.unchanged;
+      tables = (c.give_back-2.ensures.sup ∙ c.give_back.ensures.sup ∙ c.lend-file.ensures.sup ∙ c.lend-directory.ensures.sup, c.give_back-2.ensures.sizes ∙ c.give_back.ensures.sizes ∙ c.lend-file.ensures.sizes ∙ c.lend-directory.ensures.sizes);
+    }
 
 pub returns-clause-any_stop : goal.returns-clause-any_stop
 returns-clause-any_stop g c row file held h f at other_at here other settled =

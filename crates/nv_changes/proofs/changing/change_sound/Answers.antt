@@ -17,13 +17,13 @@ returns-in-Ok c = λ R o is.
     let n = c.make_calls-answer.new.mount in
     let calls = c.in_ok-calls.calls.items in
     let said = c.in-Ok.ensures in
-    let runs : n.stopped ≡ false = said.runs ∙ c.requires.runs in
-    let fuse = said.keeps_fuse in
+    let runs : n.stopped ≡ false = said.run.runs ∙ c.requires.runs in
+    let fuse = said.run.keeps_fuse in
     let made = subst (λ (cs : List Call). AreMade m.sup cs (tree_of m.memory.region m.rows) (tree_of n.memory.region n.rows)) c.deref.ensures.value said.made in
-    let can : CanClean n = record { runs = runs; writes = said.keeps.read_only ∙ c.requires.writes; steady = fuse.steady c.requires.steady } in (
+    let can : CanClean n = record { runs = runs; writes = said.run.keeps.read_only ∙ c.requires.writes; steady = fuse.steady c.requires.steady } in (
       sym is.read_only ∙ c.requires.writes,
       subst (λ (left : RegionState). IsMade R o c.args.change.now c.args.cpu c.args.time left) (sym c.into_memory.ensures)
-          (all_made R o m n is calls c.args.change.now c.args.cpu c.args.time can said.keeps said.length c.in_ok-calls.ensures made c.keeps.ensures (c.nothing_is_pending.ensures runs)),
+          (all_made R o m n is calls c.args.change.now c.args.cpu c.args.time can said.run.keeps said.run.length c.in_ok-calls.ensures made c.keeps.ensures (c.nothing_is_pending.ensures runs)),
     )
 
 pub returns-in-Err : goal.returns-in-Err
@@ -33,11 +33,11 @@ returns-in-Err c = λ R o is.
     let calls = c.in_ok-calls.calls.items in
     let halted = c.in-Err.halted in
     let said = c.in-Err.ensures in
-    let fuse = said.keeps_fuse in
-    let never : IsTrue n.stopped → ⊥ = λ on. unstopped n.memory (fuse.steady c.requires.steady) (said.burnt c.requires.runs on) in
-    let no_stop : halted.refusal ≢ Stopped = λ e. never (said.stopped.0 e) in
+    let fuse = said.run.keeps_fuse in
+    let never : IsTrue n.stopped → ⊥ = λ on. unstopped n.memory (fuse.steady c.requires.steady) (said.run.burnt c.requires.runs on) in
+    let no_stop : halted.refusal ≢ Stopped = λ e. never (said.run.stopped.0 e) in
     let halts = subst (λ (cs : List Call). HaltsAt m.sup (tree_of m.memory.region m.rows) cs halted n.memory.region n) c.deref.ensures.value (said.halted no_stop) in
     IfOk-weaker c.refused.result _ _
     (as_refused R o c.args.change.now c.args.cpu c.args.time halted.refusal (sym is.read_only ∙ c.requires.writes)
-    (one_refused R o m n is calls c.args.change.now c.args.cpu c.args.time halted (not_on n.stopped never) (said.keeps.read_only ∙ c.requires.writes) said.keeps c.in_ok-calls.ensures c.keeps.ensures no_stop halts))
+    (one_refused R o m n is calls c.args.change.now c.args.cpu c.args.time halted (not_on n.stopped never) (said.run.keeps.read_only ∙ c.requires.writes) said.run.keeps c.in_ok-calls.ensures c.keeps.ensures no_stop halts))
     c.refused.ensures

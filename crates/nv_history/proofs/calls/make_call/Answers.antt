@@ -15,6 +15,7 @@ use Rattle.nv_calls.specs.NameCalls.{create_blocks, name_blocks}
 use Rattle.nv_calls.specs.SizeCall.{resized_blocks}
 use Rattle.nv_calls.specs.UnlinkCalls.{unlink_blocks}
 use Rattle.nv_calls.specs.World.{world_of}
+use Rattle.nv_calls.proofs.CallKept.{as_done, as_refused}
 use Rattle.nv_calls.proofs.NeedsExist.{write_needs}
 use Rattle.nv_history.specs.declared.calls.Call.{Call}
 use Rattle.nv_history.specs.declared.calls.Call.TheVariants.{Write}
@@ -45,6 +46,9 @@ returns-in-Create-clause-refused g c = λ runs.
     subst (λ (call : Call). IfErr c.create.result (RefusesCall (g.P.Pmem.region m.memory) m call)) (sym a.is)
     (refused_path c.create.result a.path.now (λ p. create_tests (world_of m) t a.cpu p (create_blocks m.rows t p)) (λ p says. c.create.ensures.refused runs p says))
 
+pub returns-in-Create-clause-call : goal.returns-in-Create-clause-call
+returns-in-Create-clause-call g c = c.create.ensures.call.call
+
 pub returns-in-Create-clause-any_stop : goal.returns-in-Create-clause-any_stop
 returns-in-Create-clause-any_stop g c = λ runs writes.
     let m = c.args.mount.now in
@@ -53,7 +57,7 @@ returns-in-Create-clause-any_stop g c = λ runs writes.
     let n = c.create.new.self in
     subst (λ (call : Call). LeavesOnly (g.P.Pmem.region n.memory) (g.P.Pmem.may_hold n.memory) (BeforeOrMade m.sup call t)) (sym a.is)
     (left_by_path g.P.Pmem.region g.P.Pmem.may_hold m n (ByPath a.path.now (λ names. created File (lowest_unused m.sup t a.cpu) names a.mode a.time t)) a.path.now (makes_inode File a.cpu a.mode a.time) (logs_inode File a.cpu a.mode a.time) (λ names u is same. (names, is, subst (λ (o : Option ℕ). SameTree u (created File o names a.mode a.time t)) (sym (lowest_is m.sup (g.P.Pmem.region m.memory) m.rows a.cpu)) same))
-    (c.recovers_as_mounted.ensures runs writes) c.create.ensures.bad_text (λ names is. c.create.ensures.any_stop names is runs writes))
+    (c.recovers_as_mounted.ensures runs writes) c.create.ensures.call.bad_text (λ names is. c.create.ensures.any_stop names is runs writes))
 
 -- ---- `mkdir`
 pub returns-in-MakeDirectory-clause-made : goal.returns-in-MakeDirectory-clause-made
@@ -75,6 +79,9 @@ returns-in-MakeDirectory-clause-refused g c = λ runs.
     subst (λ (call : Call). IfErr c.mkdir.result (RefusesCall (g.P.Pmem.region m.memory) m call)) (sym a.is)
     (refused_path c.mkdir.result a.path.now (λ p. create_tests (world_of m) t a.cpu p (create_blocks m.rows t p)) (λ p says. c.mkdir.ensures.refused runs p says))
 
+pub returns-in-MakeDirectory-clause-call : goal.returns-in-MakeDirectory-clause-call
+returns-in-MakeDirectory-clause-call g c = c.mkdir.ensures.call.call
+
 pub returns-in-MakeDirectory-clause-any_stop : goal.returns-in-MakeDirectory-clause-any_stop
 returns-in-MakeDirectory-clause-any_stop g c = λ runs writes.
     let m = c.args.mount.now in
@@ -83,7 +90,7 @@ returns-in-MakeDirectory-clause-any_stop g c = λ runs writes.
     let n = c.mkdir.new.self in
     subst (λ (call : Call). LeavesOnly (g.P.Pmem.region n.memory) (g.P.Pmem.may_hold n.memory) (BeforeOrMade m.sup call t)) (sym a.is)
     (left_by_path g.P.Pmem.region g.P.Pmem.may_hold m n (ByPath a.path.now (λ names. created Directory (lowest_unused m.sup t a.cpu) names a.mode a.time t)) a.path.now (makes_inode Directory a.cpu a.mode a.time) (logs_inode Directory a.cpu a.mode a.time) (λ names u is same. (names, is, subst (λ (o : Option ℕ). SameTree u (created Directory o names a.mode a.time t)) (sym (lowest_is m.sup (g.P.Pmem.region m.memory) m.rows a.cpu)) same))
-    (c.recovers_as_mounted.ensures runs writes) c.mkdir.ensures.bad_text (λ names is. c.mkdir.ensures.any_stop names is runs writes))
+    (c.recovers_as_mounted.ensures runs writes) c.mkdir.ensures.call.bad_text (λ names is. c.mkdir.ensures.any_stop names is runs writes))
 
 -- ---- `set_size`
 pub returns-in-SetSize-clause-made : goal.returns-in-SetSize-clause-made
@@ -104,6 +111,9 @@ returns-in-SetSize-clause-refused g c = λ runs.
     subst (λ (call : Call). IfErr c.set_size.result (RefusesCall (g.P.Pmem.region m.memory) m call)) (sym a.is)
     (refused_path c.set_size.result a.path.now (λ p. set_size_tests (world_of m) t a.cpu p a.size (resized_blocks m.rows t p a.size)) (λ p says. c.set_size.ensures.refused runs p says))
 
+pub returns-in-SetSize-clause-call : goal.returns-in-SetSize-clause-call
+returns-in-SetSize-clause-call g c = c.set_size.ensures.call.call
+
 pub returns-in-SetSize-clause-any_stop : goal.returns-in-SetSize-clause-any_stop
 returns-in-SetSize-clause-any_stop g c = λ runs writes.
     let m = c.args.mount.now in
@@ -112,7 +122,7 @@ returns-in-SetSize-clause-any_stop g c = λ runs writes.
     let n = c.set_size.new.self in
     subst (λ (call : Call). LeavesOnly (g.P.Pmem.region n.memory) (g.P.Pmem.may_hold n.memory) (BeforeOrMade m.sup call t)) (sym a.is)
     (left_by_path g.P.Pmem.region g.P.Pmem.may_hold m n (ByPath a.path.now (λ names. resized names a.size a.time t)) a.path.now (makes_size a.size a.time) (logs_size a.cpu a.size a.time) (λ names u is same. (names, is, same))
-    (c.recovers_as_mounted.ensures runs writes) c.set_size.ensures.bad_text (λ names is. c.set_size.ensures.any_stop names is runs writes))
+    (c.recovers_as_mounted.ensures runs writes) c.set_size.ensures.call.bad_text (λ names is. c.set_size.ensures.any_stop names is runs writes))
 
 -- ---- `set_attr`
 pub returns-in-SetAttributes-clause-made : goal.returns-in-SetAttributes-clause-made
@@ -133,6 +143,9 @@ returns-in-SetAttributes-clause-refused g c = λ runs.
     subst (λ (call : Call). IfErr c.set_attr.result (RefusesCall (g.P.Pmem.region m.memory) m call)) (sym a.is)
     (refused_path c.set_attr.result a.path.now (λ p. set_attr_tests (world_of m) t a.cpu p (attributes_blocks m.rows t p)) (λ p says. c.set_attr.ensures.refused runs p says))
 
+pub returns-in-SetAttributes-clause-call : goal.returns-in-SetAttributes-clause-call
+returns-in-SetAttributes-clause-call g c = c.set_attr.ensures.call.call
+
 pub returns-in-SetAttributes-clause-any_stop : goal.returns-in-SetAttributes-clause-any_stop
 returns-in-SetAttributes-clause-any_stop g c = λ runs writes.
     let m = c.args.mount.now in
@@ -141,7 +154,7 @@ returns-in-SetAttributes-clause-any_stop g c = λ runs writes.
     let n = c.set_attr.new.self in
     subst (λ (call : Call). LeavesOnly (g.P.Pmem.region n.memory) (g.P.Pmem.may_hold n.memory) (BeforeOrMade m.sup call t)) (sym a.is)
     (left_by_path g.P.Pmem.region g.P.Pmem.may_hold m n (ByPath a.path.now (λ names. attributed names a.mode a.owner a.group a.time t)) a.path.now (makes_attributes a.mode a.owner a.group a.time) (logs_attributes a.cpu a.mode a.owner a.group a.time) (λ names u is same. (names, is, same))
-    (c.recovers_as_mounted.ensures runs writes) c.set_attr.ensures.bad_text (λ names is. c.set_attr.ensures.any_stop names is runs writes))
+    (c.recovers_as_mounted.ensures runs writes) c.set_attr.ensures.call.bad_text (λ names is. c.set_attr.ensures.any_stop names is runs writes))
 
 -- ---- `unlink`
 pub returns-in-Unlink-clause-made : goal.returns-in-Unlink-clause-made
@@ -162,6 +175,9 @@ returns-in-Unlink-clause-refused g c = λ runs.
     subst (λ (call : Call). IfErr c.unlink.result (RefusesCall (g.P.Pmem.region m.memory) m call)) (sym a.is)
     (refused_path c.unlink.result a.path.now (λ p. unlink_tests (world_of m) t a.cpu p (unlink_blocks m.rows t p)) (λ p says. c.unlink.ensures.refused runs p says))
 
+pub returns-in-Unlink-clause-call : goal.returns-in-Unlink-clause-call
+returns-in-Unlink-clause-call g c = c.unlink.ensures.call.call
+
 pub returns-in-Unlink-clause-any_stop : goal.returns-in-Unlink-clause-any_stop
 returns-in-Unlink-clause-any_stop g c = λ runs writes.
     let m = c.args.mount.now in
@@ -170,7 +186,7 @@ returns-in-Unlink-clause-any_stop g c = λ runs writes.
     let n = c.unlink.new.self in
     subst (λ (call : Call). LeavesOnly (g.P.Pmem.region n.memory) (g.P.Pmem.may_hold n.memory) (BeforeOrMade m.sup call t)) (sym a.is)
     (left_by_path g.P.Pmem.region g.P.Pmem.may_hold m n (ByPath a.path.now (λ names. unlinked names a.time t)) a.path.now (makes_unlink a.time) (LogsUnlink a.cpu a.time) (λ names u is same. (names, is, same))
-    (c.recovers_as_mounted.ensures runs writes) c.unlink.ensures.bad_text (λ names is. c.unlink.ensures.any_stop names is runs writes))
+    (c.recovers_as_mounted.ensures runs writes) c.unlink.ensures.call.bad_text (λ names is. c.unlink.ensures.any_stop names is runs writes))
 
 -- ---- `rmdir`
 pub returns-in-RemoveDirectory-clause-made : goal.returns-in-RemoveDirectory-clause-made
@@ -191,6 +207,9 @@ returns-in-RemoveDirectory-clause-refused g c = λ runs.
     subst (λ (call : Call). IfErr c.rmdir.result (RefusesCall (g.P.Pmem.region m.memory) m call)) (sym a.is)
     (refused_path c.rmdir.result a.path.now (λ p. rmdir_tests (world_of m) t a.cpu p (name_blocks m.rows t p)) (λ p says. c.rmdir.ensures.refused runs p says))
 
+pub returns-in-RemoveDirectory-clause-call : goal.returns-in-RemoveDirectory-clause-call
+returns-in-RemoveDirectory-clause-call g c = c.rmdir.ensures.call.call
+
 pub returns-in-RemoveDirectory-clause-any_stop : goal.returns-in-RemoveDirectory-clause-any_stop
 returns-in-RemoveDirectory-clause-any_stop g c = λ runs writes.
     let m = c.args.mount.now in
@@ -199,7 +218,7 @@ returns-in-RemoveDirectory-clause-any_stop g c = λ runs writes.
     let n = c.rmdir.new.self in
     subst (λ (call : Call). LeavesOnly (g.P.Pmem.region n.memory) (g.P.Pmem.may_hold n.memory) (BeforeOrMade m.sup call t)) (sym a.is)
     (left_by_path g.P.Pmem.region g.P.Pmem.may_hold m n (ByPath a.path.now (λ names. removed names a.time t)) a.path.now (makes_removal a.time) (logs_removal a.cpu a.time) (λ names u is same. (names, is, same))
-    (c.recovers_as_mounted.ensures runs writes) c.rmdir.ensures.bad_text (λ names is. c.rmdir.ensures.any_stop names is runs writes))
+    (c.recovers_as_mounted.ensures runs writes) c.rmdir.ensures.call.bad_text (λ names is. c.rmdir.ensures.any_stop names is runs writes))
 
 -- ---- `write`
 pub returns-in-Write-clause-made : goal.returns-in-Write-clause-made
@@ -225,6 +244,9 @@ returns-in-Write-clause-refused g c = λ runs.
     subst (λ (call : Call). IfErr c.write.result (RefusesCall (g.P.Pmem.region m.memory) m call)) (sym a.is)
     (refused_so c.write.result (write_tests (world_of m) t a.cpu p.0 (a.offset + length a.bytes.now) count.0) (AreTestsOf R m (Write a.cpu a.path a.offset a.bytes a.time)) (p.0, count.0, p.1, count.1, refl) (c.write.ensures.refused runs p.0 count.0 p.1 count.1))
 
+pub returns-in-Write-clause-call : goal.returns-in-Write-clause-call
+returns-in-Write-clause-call g c = c.write.ensures.call.call
+
 pub returns-in-Write-clause-any_stop : goal.returns-in-Write-clause-any_stop
 returns-in-Write-clause-any_stop g c = λ runs writes.
     let m = c.args.mount.now in
@@ -233,7 +255,7 @@ returns-in-Write-clause-any_stop g c = λ runs writes.
     let n = c.write.new.self in
     subst (λ (call : Call). LeavesOnly (g.P.Pmem.region n.memory) (g.P.Pmem.may_hold n.memory) (BeforeOrMade m.sup call t)) (sym a.is)
     (left_by_path g.P.Pmem.region g.P.Pmem.may_hold m n (ByPath a.path.now (λ names. written names a.offset a.bytes.now a.time t)) a.path.now (makes_bytes a.offset a.bytes.now a.time) (LogsBytes a.cpu a.offset (length a.bytes.now) a.time) (λ names u is same. (names, is, same))
-    (c.recovers_as_mounted.ensures runs writes) c.write.ensures.bad_text (λ names is. c.write.ensures.any_stop names is runs writes))
+    (c.recovers_as_mounted.ensures runs writes) c.write.ensures.call.bad_text (λ names is. c.write.ensures.any_stop names is runs writes))
 
 -- ---- `link`
 pub returns-in-Link-clause-made : goal.returns-in-Link-clause-made
@@ -254,6 +276,9 @@ returns-in-Link-clause-refused g c = λ runs.
     subst (λ (call : Call). IfErr c.link.result (RefusesCall (g.P.Pmem.region m.memory) m call)) (sym a.is)
     (refused_paths c.link.result a.old.now a.new.now (λ p q. link_tests (world_of m) t a.cpu p q (link_blocks m.rows t p q)) (λ p q says are. c.link.ensures.refused runs p q says are))
 
+pub returns-in-Link-clause-call : goal.returns-in-Link-clause-call
+returns-in-Link-clause-call g c = c.link.ensures.call.call
+
 pub returns-in-Link-clause-any_stop : goal.returns-in-Link-clause-any_stop
 returns-in-Link-clause-any_stop g c = λ runs writes.
     let m = c.args.mount.now in
@@ -262,7 +287,7 @@ returns-in-Link-clause-any_stop g c = λ runs writes.
     let n = c.link.new.self in
     subst (λ (call : Call). LeavesOnly (g.P.Pmem.region n.memory) (g.P.Pmem.may_hold n.memory) (BeforeOrMade m.sup call t)) (sym a.is)
     (left_by_paths g.P.Pmem.region g.P.Pmem.may_hold m n (ByPaths a.old.now a.new.now (λ names others. linked names others a.time t)) a.old.now a.new.now (λ others. makes_link a.time (Some others)) (λ others. logs_link a.cpu a.time (Some others)) (λ names others u is are same. (names, others, is, are, same))
-    (c.recovers_as_mounted.ensures runs writes) c.link.ensures.bad_text (λ names others is are. c.link.ensures.any_stop names others is are runs writes))
+    (c.recovers_as_mounted.ensures runs writes) c.link.ensures.call.bad_text (λ names others is are. c.link.ensures.any_stop names others is are runs writes))
 
 -- ---- `rename`
 pub returns-in-Rename-clause-made : goal.returns-in-Rename-clause-made
@@ -283,6 +308,9 @@ returns-in-Rename-clause-refused g c = λ runs.
     subst (λ (call : Call). IfErr c.rename.result (RefusesCall (g.P.Pmem.region m.memory) m call)) (sym a.is)
     (refused_paths c.rename.result a.old.now a.new.now (λ p q. rename_tests (world_of m) t a.cpu p q (rename_blocks m.rows t p q)) (λ p q says are. c.rename.ensures.refused runs p q says are))
 
+pub returns-in-Rename-clause-call : goal.returns-in-Rename-clause-call
+returns-in-Rename-clause-call g c = c.rename.ensures.call.call
+
 pub returns-in-Rename-clause-any_stop : goal.returns-in-Rename-clause-any_stop
 returns-in-Rename-clause-any_stop g c = λ runs writes.
     let m = c.args.mount.now in
@@ -291,7 +319,7 @@ returns-in-Rename-clause-any_stop g c = λ runs writes.
     let n = c.rename.new.self in
     subst (λ (call : Call). LeavesOnly (g.P.Pmem.region n.memory) (g.P.Pmem.may_hold n.memory) (BeforeOrMade m.sup call t)) (sym a.is)
     (left_by_paths g.P.Pmem.region g.P.Pmem.may_hold m n (ByPaths a.old.now a.new.now (λ names others. renamed names others a.time t)) a.old.now a.new.now (λ others. makes_rename a.time (Some others)) (λ others. logs_rename a.cpu a.time (Some others)) (λ names others u is are same. (names, others, is, are, same))
-    (c.recovers_as_mounted.ensures runs writes) c.rename.ensures.bad_text (λ names others is are. c.rename.ensures.any_stop names others is are runs writes))
+    (c.recovers_as_mounted.ensures runs writes) c.rename.ensures.call.bad_text (λ names others is are. c.rename.ensures.any_stop names others is are runs writes))
 
 -- ---- `clean`
 
@@ -313,6 +341,9 @@ returns-in-Err-clause-refused g c = λ runs.
     subst (λ (call : Call). RefusesCall (g.P.Pmem.region m.memory) m call c.in-Err.refusal) (sym a.is)
     (refused_path {A = Option ℕ} (Err c.in-Err.refusal) a.path.now (λ p. clean_tests (world_of m) t p) (λ p says. c.in-Err.ensures.refused runs p says))
 
+pub returns-in-Ok-clause-call : goal.returns-in-Ok-clause-call
+returns-in-Ok-clause-call g c = as_done c.in-Ok.ensures.call.call
+
 pub returns-in-Ok-clause-any_stop : goal.returns-in-Ok-clause-any_stop
 returns-in-Ok-clause-any_stop g c = λ runs writes.
     let m = c.args.mount.now in
@@ -321,7 +352,10 @@ returns-in-Ok-clause-any_stop g c = λ runs writes.
     let n = c.clean.new.self in
     subst (λ (call : Call). LeavesOnly (g.P.Pmem.region n.memory) (g.P.Pmem.may_hold n.memory) (BeforeOrMade m.sup call t)) (sym a.is)
     (left_by_path g.P.Pmem.region g.P.Pmem.may_hold m n (ByPath a.path.now (λ names. t)) a.path.now makes_no_change logs_page_less (λ names u is same. (names, is, same))
-    (c.recovers_as_mounted.ensures runs writes) c.clean.ensures.bad_text (λ names is. c.clean.ensures.any_stop names is runs writes))
+    (c.recovers_as_mounted.ensures runs writes) c.clean.ensures.call.bad_text (λ names is. c.clean.ensures.any_stop names is runs writes))
+
+pub returns-in-Err-clause-call : goal.returns-in-Err-clause-call
+returns-in-Err-clause-call g c = as_refused c.in-Err.ensures.call.call
 
 pub returns-in-Err-clause-any_stop : goal.returns-in-Err-clause-any_stop
 returns-in-Err-clause-any_stop g c = λ runs writes.
@@ -331,4 +365,4 @@ returns-in-Err-clause-any_stop g c = λ runs writes.
     let n = c.clean.new.self in
     subst (λ (call : Call). LeavesOnly (g.P.Pmem.region n.memory) (g.P.Pmem.may_hold n.memory) (BeforeOrMade m.sup call t)) (sym a.is)
     (left_by_path g.P.Pmem.region g.P.Pmem.may_hold m n (ByPath a.path.now (λ names. t)) a.path.now makes_no_change logs_page_less (λ names u is same. (names, is, same))
-    (c.recovers_as_mounted.ensures runs writes) c.clean.ensures.bad_text (λ names is. c.clean.ensures.any_stop names is runs writes))
+    (c.recovers_as_mounted.ensures runs writes) c.clean.ensures.call.bad_text (λ names is. c.clean.ensures.any_stop names is runs writes))

@@ -118,14 +118,8 @@ returns-clause-allowed c region =
     let into = c.is_into_itself.ensures region (other ∷ others) (spells_names c.args.new.now other others other_path) in
     move_passes region c.args.rows.now.items name names other others c.in_ok-former_directory.former_directory c.in_ok-directory.directory walked ended c.in-Some.target.now led (sym into ∙ c.if-is_into_itself.false))
 
-pub returns-clause-from : goal.returns-clause-from
-returns-clause-from c = c.in_ok-former_directory.ensures.in_use
-
-pub returns-clause-target : goal.returns-clause-target
-returns-clause-target c = in_use c.args.rows.now.items c.in-Some.target.now.inode c.in-Some.target.now c.in-Some.ensures.held
-
-pub returns-clause-directory : goal.returns-clause-directory
-returns-clause-directory c = c.in_ok-directory.ensures.in_use
+pub returns-clause-in_use : goal.returns-clause-in_use
+returns-clause-in_use c = record { from = c.in_ok-former_directory.ensures.in_use; target = in_use c.args.rows.now.items c.in-Some.target.now.inode c.in-Some.target.now c.in-Some.ensures.held; directory = c.in_ok-directory.ensures.in_use }
 
 pub returns-clause-paths : goal.returns-clause-paths
 returns-clause-paths c =

@@ -18,19 +18,19 @@ returns-in_err-moved-clause-refused c region p q says says_new =
     refused_by c.from_residual.result c.in_err-moved.field-0.0 w.0 (λ (e : Refusal). first_refusal (rename_spot_tests t p q) ≡ Some e) w.1 w.2 (more_refuses t p q (is_there t q ∷ []) c.in_err-moved.field-0.0 (c.in_err-moved.ensures.refused region p q says says_new))
 
 pub target_at-requires : goal.target_at-requires
-target_at-requires c = record { in_use = c.in_ok-moved.ensures.directory }
+target_at-requires c = record { in_use = c.in_ok-moved.ensures.in_use.directory }
 
 pub returns-then-is_some-clause-refused : goal.returns-then-is_some-clause-refused
 returns-then-is_some-clause-refused c region p q says says_new =
     let t = tree_of region c.args.rows.now.items in
     more_allows t p q (is_there t q ∷ []) (c.in_ok-moved.ensures.allowed region p q says says_new)
-    ∙ ap (λ (b : Bool). cond b (Some Exists) None) (some_there region c.args.rows.now.items c.args.new.now c.in_ok-moved.moved.name.now c.in_ok-moved.moved.directory c.in_ok-moved.ensures.directory c.target_at.result c.in_ok-moved.ensures.paths.1 (c.in_ok-moved.ensures.ended region) c.in_ok-moved.ensures.last c.target_at.ensures.row q says_new ∙ sym c.is_some.ensures ∙ c.if-is_some.true)
+    ∙ ap (λ (b : Bool). cond b (Some Exists) None) (some_there region c.args.rows.now.items c.args.new.now c.in_ok-moved.moved.name.now c.in_ok-moved.moved.directory c.in_ok-moved.ensures.in_use.directory c.target_at.result c.in_ok-moved.ensures.paths.1 (c.in_ok-moved.ensures.ended region) c.in_ok-moved.ensures.last c.target_at.ensures.row q says_new ∙ sym c.is_some.ensures ∙ c.if-is_some.true)
 
 pub returns-clause-allowed : goal.returns-clause-allowed
 returns-clause-allowed c region p q says says_new =
     let t = tree_of region c.args.rows.now.items in
     more_allows t p q (is_there t q ∷ []) (c.in_ok-moved.ensures.allowed region p q says says_new)
-    ∙ ap (λ (b : Bool). cond b (Some Exists) None) (some_there region c.args.rows.now.items c.args.new.now c.in_ok-moved.moved.name.now c.in_ok-moved.moved.directory c.in_ok-moved.ensures.directory c.target_at.result c.in_ok-moved.ensures.paths.1 (c.in_ok-moved.ensures.ended region) c.in_ok-moved.ensures.last c.target_at.ensures.row q says_new ∙ sym c.is_some.ensures ∙ c.if-is_some.false)
+    ∙ ap (λ (b : Bool). cond b (Some Exists) None) (some_there region c.args.rows.now.items c.args.new.now c.in_ok-moved.moved.name.now c.in_ok-moved.moved.directory c.in_ok-moved.ensures.in_use.directory c.target_at.result c.in_ok-moved.ensures.paths.1 (c.in_ok-moved.ensures.ended region) c.in_ok-moved.ensures.last c.target_at.ensures.row q says_new ∙ sym c.is_some.ensures ∙ c.if-is_some.false)
 
 pub returns-clause-spot : goal.returns-clause-spot
 returns-clause-spot c region names others path other_path =
@@ -49,14 +49,8 @@ returns-clause-paths c =
     let some = c.in_ok-moved.ensures.paths.0 in
     ((some.0 ∷ some.1, some.2), c.in_ok-moved.ensures.paths.1)
 
-pub returns-clause-from : goal.returns-clause-from
-returns-clause-from c = c.in_ok-moved.ensures.from
-
-pub returns-clause-target : goal.returns-clause-target
-returns-clause-target c = c.in_ok-moved.ensures.target
-
-pub returns-clause-directory : goal.returns-clause-directory
-returns-clause-directory c = c.in_ok-moved.ensures.directory
+pub returns-clause-in_use : goal.returns-clause-in_use
+returns-clause-in_use c = c.in_ok-moved.ensures.in_use
 
 pub returns-clause-former : goal.returns-clause-former
 returns-clause-former c = c.in_ok-moved.ensures.former

@@ -22,60 +22,48 @@ returns-in_err-moved-clause-refused c region p q says says_new =
     refused_by c.from_residual.result c.in_err-moved.field-0.0 w.0 (λ (e : Refusal). first_refusal (replace_spot_tests t p q) ≡ Some e) w.1 w.2 (replace_refused t p q c.in_err-moved.field-0.0 (c.in_err-moved.ensures.refused region p q says says_new))
 
 pub target_at-requires : goal.target_at-requires
-target_at-requires c = record { in_use = c.in_ok-moved.ensures.directory }
+target_at-requires c = record { in_use = c.in_ok-moved.ensures.in_use.directory }
 
 pub row-target-requires : goal.row-target-requires
-row-target-requires c = c.in_ok-moved.ensures.target
+row-target-requires c = c.in_ok-moved.ensures.in_use.target
 
 pub returns-then-is_the_directory-clause-refused : goal.returns-then-is_the_directory-clause-refused
 returns-then-is_the_directory-clause-refused c region p q says says_new =
     let held = own_row c.args.rows.now.items c.in_ok-moved.moved.from.target c.row-target.result.now c.row-target.ensures in
     let first = first_leads region c.args.rows.now.items c.args.old.now c.args.new.now c.in_ok-moved.ensures.paths (c.in_ok-moved.ensures.way region) c.row-target.result.now (at_place c.args.rows.now.items c.in_ok-moved.moved.from.target ∙ c.row-target.ensures) p says in
-    let second = leads_there region c.args.rows.now.items c.args.new.now c.in_ok-moved.moved.name.now c.in_ok-moved.moved.directory c.in_ok-moved.ensures.directory c.target_at.result c.in_ok-moved.ensures.paths.1 (c.in_ok-moved.ensures.ended region) c.in_ok-moved.ensures.last c.target_at.ensures.row c.in-Some.there c.in-Some.is q says_new in
+    let second = leads_there region c.args.rows.now.items c.args.new.now c.in_ok-moved.moved.name.now c.in_ok-moved.moved.directory c.in_ok-moved.ensures.in_use.directory c.target_at.result c.in_ok-moved.ensures.paths.1 (c.in_ok-moved.ensures.ended region) c.in_ok-moved.ensures.last c.target_at.ensures.row c.in-Some.there c.in-Some.is q says_new in
     over_directory region c.args.rows.now.items p q c.row-target.result.now c.in-Some.there.now held c.in-Some.ensures.held first second (c.in_ok-moved.ensures.allowed region p q says says_new) (sym c.is_the_directory.ensures ∙ c.if-is_the_directory.true)
 
 pub returns-then-is_the_directory-2-clause-refused : goal.returns-then-is_the_directory-2-clause-refused
 returns-then-is_the_directory-2-clause-refused c region p q says says_new =
     let held = own_row c.args.rows.now.items c.in_ok-moved.moved.from.target c.row-target.result.now c.row-target.ensures in
     let first = first_leads region c.args.rows.now.items c.args.old.now c.args.new.now c.in_ok-moved.ensures.paths (c.in_ok-moved.ensures.way region) c.row-target.result.now (at_place c.args.rows.now.items c.in_ok-moved.moved.from.target ∙ c.row-target.ensures) p says in
-    let second = leads_there region c.args.rows.now.items c.args.new.now c.in_ok-moved.moved.name.now c.in_ok-moved.moved.directory c.in_ok-moved.ensures.directory c.target_at.result c.in_ok-moved.ensures.paths.1 (c.in_ok-moved.ensures.ended region) c.in_ok-moved.ensures.last c.target_at.ensures.row c.in-Some.there c.in-Some.is q says_new in
+    let second = leads_there region c.args.rows.now.items c.args.new.now c.in_ok-moved.moved.name.now c.in_ok-moved.moved.directory c.in_ok-moved.ensures.in_use.directory c.target_at.result c.in_ok-moved.ensures.paths.1 (c.in_ok-moved.ensures.ended region) c.in_ok-moved.ensures.last c.target_at.ensures.row c.in-Some.there c.in-Some.is q says_new in
     over_file region c.args.rows.now.items p q c.row-target.result.now c.in-Some.there.now held c.in-Some.ensures.held first second (c.in_ok-moved.ensures.allowed region p q says says_new) (sym c.is_the_directory.ensures ∙ c.if-is_the_directory.false) (sym c.is_the_directory-2.ensures ∙ c.if-is_the_directory-2.true)
 
 pub returns-then-is_another_with_names-clause-refused : goal.returns-then-is_another_with_names-clause-refused
 returns-then-is_another_with_names-clause-refused c region p q says says_new =
     let held = own_row c.args.rows.now.items c.in_ok-moved.moved.from.target c.row-target.result.now c.row-target.ensures in
     let first = first_leads region c.args.rows.now.items c.args.old.now c.args.new.now c.in_ok-moved.ensures.paths (c.in_ok-moved.ensures.way region) c.row-target.result.now (at_place c.args.rows.now.items c.in_ok-moved.moved.from.target ∙ c.row-target.ensures) p says in
-    let second = leads_there region c.args.rows.now.items c.args.new.now c.in_ok-moved.moved.name.now c.in_ok-moved.moved.directory c.in_ok-moved.ensures.directory c.target_at.result c.in_ok-moved.ensures.paths.1 (c.in_ok-moved.ensures.ended region) c.in_ok-moved.ensures.last c.target_at.ensures.row c.in-Some.there c.in-Some.is q says_new in
+    let second = leads_there region c.args.rows.now.items c.args.new.now c.in_ok-moved.moved.name.now c.in_ok-moved.moved.directory c.in_ok-moved.ensures.in_use.directory c.target_at.result c.in_ok-moved.ensures.paths.1 (c.in_ok-moved.ensures.ended region) c.in_ok-moved.ensures.last c.target_at.ensures.row c.in-Some.there c.in-Some.is q says_new in
     over_names region c.args.rows.now.items p q c.row-target.result.now c.in-Some.there.now held c.in-Some.ensures.held first second (c.in_ok-moved.ensures.allowed region p q says says_new) (sym c.is_the_directory.ensures ∙ c.if-is_the_directory.false) (sym c.is_the_directory-2.ensures ∙ c.if-is_the_directory-2.false) (sym c.is_another_with_names.ensures ∙ c.if-is_another_with_names.true)
 
 pub returns-clause-allowed : goal.returns-clause-allowed
 returns-clause-allowed c region p q says says_new =
     let held = own_row c.args.rows.now.items c.in_ok-moved.moved.from.target c.row-target.result.now c.row-target.ensures in
     let first = first_leads region c.args.rows.now.items c.args.old.now c.args.new.now c.in_ok-moved.ensures.paths (c.in_ok-moved.ensures.way region) c.row-target.result.now (at_place c.args.rows.now.items c.in_ok-moved.moved.from.target ∙ c.row-target.ensures) p says in
-    let second = leads_there region c.args.rows.now.items c.args.new.now c.in_ok-moved.moved.name.now c.in_ok-moved.moved.directory c.in_ok-moved.ensures.directory c.target_at.result c.in_ok-moved.ensures.paths.1 (c.in_ok-moved.ensures.ended region) c.in_ok-moved.ensures.last c.target_at.ensures.row c.in-Some.there c.in-Some.is q says_new in
+    let second = leads_there region c.args.rows.now.items c.args.new.now c.in_ok-moved.moved.name.now c.in_ok-moved.moved.directory c.in_ok-moved.ensures.in_use.directory c.target_at.result c.in_ok-moved.ensures.paths.1 (c.in_ok-moved.ensures.ended region) c.in_ok-moved.ensures.last c.target_at.ensures.row c.in-Some.there c.in-Some.is q says_new in
     nothing_against region c.args.rows.now.items p q c.row-target.result.now c.in-Some.there.now held c.in-Some.ensures.held first second (c.in_ok-moved.ensures.allowed region p q says says_new) (sym c.is_the_directory.ensures ∙ c.if-is_the_directory.false) (sym c.is_the_directory-2.ensures ∙ c.if-is_the_directory-2.false) (sym c.is_another_with_names.ensures ∙ c.if-is_another_with_names.false)
 
 pub returns-in_default-clause-allowed : goal.returns-in_default-clause-allowed
 returns-in_default-clause-allowed c region p q says says_new =
-    nothing_over (tree_of region c.args.rows.now.items) p q (c.in_ok-moved.ensures.allowed region p q says says_new) (leads_nowhere region c.args.rows.now.items c.args.new.now c.in_ok-moved.moved.name.now c.in_ok-moved.moved.directory c.in_ok-moved.ensures.directory c.target_at.result c.in_ok-moved.ensures.paths.1 (c.in_ok-moved.ensures.ended region) c.in_ok-moved.ensures.last c.target_at.ensures.row c.in_default.is q says_new)
+    nothing_over (tree_of region c.args.rows.now.items) p q (c.in_ok-moved.ensures.allowed region p q says says_new) (leads_nowhere region c.args.rows.now.items c.args.new.now c.in_ok-moved.moved.name.now c.in_ok-moved.moved.directory c.in_ok-moved.ensures.in_use.directory c.target_at.result c.in_ok-moved.ensures.paths.1 (c.in_ok-moved.ensures.ended region) c.in_ok-moved.ensures.last c.target_at.ensures.row c.in_default.is q says_new)
 
-pub returns-clause-from : goal.returns-clause-from
-returns-clause-from c = c.in_ok-moved.ensures.from
+pub returns-clause-in_use : goal.returns-clause-in_use
+returns-clause-in_use c = c.in_ok-moved.ensures.in_use
 
-pub returns-in_default-clause-from : goal.returns-in_default-clause-from
-returns-in_default-clause-from c = c.in_ok-moved.ensures.from
-
-pub returns-clause-target : goal.returns-clause-target
-returns-clause-target c = c.in_ok-moved.ensures.target
-
-pub returns-in_default-clause-target : goal.returns-in_default-clause-target
-returns-in_default-clause-target c = c.in_ok-moved.ensures.target
-
-pub returns-clause-directory : goal.returns-clause-directory
-returns-clause-directory c = c.in_ok-moved.ensures.directory
-
-pub returns-in_default-clause-directory : goal.returns-in_default-clause-directory
-returns-in_default-clause-directory c = c.in_ok-moved.ensures.directory
+pub returns-in_default-clause-in_use : goal.returns-in_default-clause-in_use
+returns-in_default-clause-in_use c = c.in_ok-moved.ensures.in_use
 
 pub returns-clause-former : goal.returns-clause-former
 returns-clause-former c = c.in_ok-moved.ensures.former
@@ -109,7 +97,7 @@ returns-clause-spot c region names others path other_path =
     let moved_is : (moved : Row) → slice_get c.args.rows.now.items (place_in c.args.rows.now.items c.in_ok-moved.moved.from.target) ≡ Some moved → c.row-target.result.now ≡ moved = λ moved at. same_Some _ _ (sym c.row-target.ensures ∙ sym (at_place c.args.rows.now.items c.in_ok-moved.moved.from.target) ∙ at) in
     record {
       way = c.in_ok-moved.ensures.way region names others path other_path;
-      leads = leads_there region c.args.rows.now.items c.args.new.now c.in_ok-moved.moved.name.now c.in_ok-moved.moved.directory c.in_ok-moved.ensures.directory c.target_at.result c.in_ok-moved.ensures.paths.1 (c.in_ok-moved.ensures.ended region) c.in_ok-moved.ensures.last c.target_at.ensures.row c.in-Some.there c.in-Some.is (Some others) other_path;
+      leads = leads_there region c.args.rows.now.items c.args.new.now c.in_ok-moved.moved.name.now c.in_ok-moved.moved.directory c.in_ok-moved.ensures.in_use.directory c.target_at.result c.in_ok-moved.ensures.paths.1 (c.in_ok-moved.ensures.ended region) c.in_ok-moved.ensures.last c.target_at.ensures.row c.in-Some.there c.in-Some.is (Some others) other_path;
       over = record {
         none = λ row at is. absurd (cc);
         named = λ row j at is. stands_for c.args.rows.now.items (name_at row.names c.in_ok-moved.moved.name.now) c.in-Some.there.now (sym (ap option_copied c.in-Some.is) ∙ c.target_at.ensures.row row (sym (at_place c.args.rows.now.items c.in_ok-moved.moved.directory) ∙ at)) ∙ is;
@@ -122,7 +110,7 @@ pub returns-in_default-clause-spot : goal.returns-in_default-clause-spot
 returns-in_default-clause-spot c region names others path other_path =
     record {
       way = c.in_ok-moved.ensures.way region names others path other_path;
-      leads = leads_nowhere region c.args.rows.now.items c.args.new.now c.in_ok-moved.moved.name.now c.in_ok-moved.moved.directory c.in_ok-moved.ensures.directory c.target_at.result c.in_ok-moved.ensures.paths.1 (c.in_ok-moved.ensures.ended region) c.in_ok-moved.ensures.last c.target_at.ensures.row c.in_default.is (Some others) other_path;
+      leads = leads_nowhere region c.args.rows.now.items c.args.new.now c.in_ok-moved.moved.name.now c.in_ok-moved.moved.directory c.in_ok-moved.ensures.in_use.directory c.target_at.result c.in_ok-moved.ensures.paths.1 (c.in_ok-moved.ensures.ended region) c.in_ok-moved.ensures.last c.target_at.ensures.row c.in_default.is (Some others) other_path;
       over = record {
         none = λ row at is. sym (c.target_at.ensures.row row (sym (at_place c.args.rows.now.items c.in_ok-moved.moved.directory) ∙ at)) ∙ ap option_copied c.in_default.is;
         named = λ row j at is. absurd (cc);

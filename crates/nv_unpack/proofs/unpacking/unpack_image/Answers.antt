@@ -16,7 +16,7 @@ recover_alone-requires c = record { taken = inl (steady_off c.keep_all-memory.re
 pub open-requires : goal.open-requires
 open-requires c =
     let can = can_open c.keep_all-memory.result.region c.recover_alone.new.memory.region c.in_ok-answer.answer c.in-Recovered.recovered c.in_ok-answer.ensures.ok c.in_ok-answer.ensures.lists c.in-Recovered.is in
-    record { outcome = can.0; lists = can.2; own = can.1; numbers = can.3; settled = c.in_ok-answer.ensures.settled c.keep_all-memory.ensures.settled }
+    record { outcome = can.0; lists = can.2; own = can.1; numbers = can.3; tables = can.4; settled = c.in_ok-answer.ensures.settled c.keep_all-memory.ensures.settled }
 
 pub unpack_mount-requires : goal.unpack_mount-requires
 unpack_mount-requires c =

@@ -1,4 +1,4 @@
-use Rattle.std.proofs.Common.{◌≡◌, ◌∙◌, [], ℕ, Some, false, true, inr, ap, subst, sym, refl, IfOk}
+use Rattle.std.proofs.Common.{◌≡◌, ◌∙◌, [], ℕ, Some, false, inr, ap, subst, sym, refl, IfOk}
 use Rattle.std.proofs.lemmas.Option.{same_Some}
 use Rattle.std.proofs.lemmas.Result.{err_from_is_err_and, IfOk-from_err}
 use Rattle.nv_tree.specs.declared.refusal.Refusal.{Refusal}
@@ -14,10 +14,10 @@ use Rattle.nv_calls.proofs.Stopped.{call_stays}
 use Rattle.nv_calls.proofs.StoppedCleaning.{left_by_path}
 use Rattle.nv_calls.proofs.TextPaths.{stat_path}
 use Rattle.nv_calls.proofs.CleanCall.{no_stop, tests_said}
-use Rattle.nv_calls.proofs.Early.{same_fuse}
 use Rattle.nv_calls.proofs.RowChange.{same_mount}
-use Rattle.nv_calls.proofs.Tests.{early_reply, if_err, stat_goes_on}
+use Rattle.nv_calls.proofs.Tests.{stat_goes_on}
 use Rattle.nv_calls.proofs.Stores.{page_less_by_path}
+use Rattle.nv_calls.proofs.CallKept.{refused_first, refused_later}
 use Rattle.nv_calls.proofs.fs.Fs.clean.Goals as goal
 
 pub returns-in_err-cleanable-clause-refused : goal.returns-in_err-cleanable-clause-refused
@@ -26,13 +26,17 @@ returns-in_err-cleanable-clause-refused g c runs p says =
     let w = err_from_is_err_and c.from_residual.result c.from_residual.ensures.1 in
     refused_by c.from_residual.result c.in_err-cleanable.field-0.0 w.0 (IsRefusedBy (first_refusal (clean_tests (world_of c.args.self.now) tree p))) w.1 w.2 (inr (inr (c.in_err-cleanable.ensures.refused runs (stat_tests tree p))))
 
-pub returns-in_err-cleanable-clause-unchanged : goal.returns-in_err-cleanable-clause-unchanged
-returns-in_err-cleanable-clause-unchanged g c = if_err c.from_residual.result _ (λ e on. same_mount c.args.self.now)
-
-pub returns-in_err-cleanable-clause-stopped : goal.returns-in_err-cleanable-clause-stopped
-returns-in_err-cleanable-clause-stopped g c runs =
+pub returns-in_err-cleanable-clause-call : goal.returns-in_err-cleanable-clause-call
+returns-in_err-cleanable-clause-call g c =
     let w = err_from_is_err_and c.from_residual.result c.from_residual.ensures.1 in
-    early_reply c.args.self.now.stopped c.from_residual.result c.in_err-cleanable.field-0.0 w.0 w.1 w.2 (λ is. no_stop c.args.self.now.read_only (c.in_err-cleanable.ensures.refused runs [] ∙ ap (λ (e : Refusal). Some e) is)) runs
+    record {
+      of_path = record {
+        call = refused_first g.P.Pmem.region g.P.Pmem.fuse c.args.self.now c.from_residual.result c.in_err-cleanable.field-0.0 w.0 w.1 w.2 c.in_err-cleanable.ensures.stopped
+            (λ runs is. no_stop c.args.self.now.read_only (c.in_err-cleanable.ensures.refused runs [] ∙ ap (λ (e : Refusal). Some e) is));
+        bad_text = λ bad. same_mount c.args.self.now;
+      };
+      settled = IfOk-from_err c.from_residual.result _ c.from_residual.ensures.0;
+    }
 
 pub returns-in_err-inode-clause-refused : goal.returns-in_err-inode-clause-refused
 returns-in_err-inode-clause-refused g c runs p says =
@@ -42,16 +46,19 @@ returns-in_err-inode-clause-refused g c runs p says =
     let told = c.in_err-inode.ensures.refused (g.P.Pmem.region c.self.inside.memory) p says in
     refused_by c.from_residual-in_err-inode.result c.in_err-inode.field-0.0 w.0 (IsRefusedBy (first_refusal (clean_tests (world_of c.args.self.now) tree p))) w.1 w.2 (inr (inr (tests_said g.P.Pmem.region c.self.view_is writes p (Some c.in_err-inode.field-0.0) told)))
 
-pub returns-in_err-inode-clause-unchanged : goal.returns-in_err-inode-clause-unchanged
-returns-in_err-inode-clause-unchanged g c = if_err c.from_residual-in_err-inode.result _ (λ e on. same_mount c.args.self.now)
-
-pub returns-in_err-inode-clause-stopped : goal.returns-in_err-inode-clause-stopped
-returns-in_err-inode-clause-stopped g c runs =
+pub returns-in_err-inode-clause-call : goal.returns-in_err-inode-clause-call
+returns-in_err-inode-clause-call g c =
     let w = err_from_is_err_and c.from_residual-in_err-inode.result c.from_residual-in_err-inode.ensures.1 in
     let said = text_says c.args.path.now in
     let told = c.in_err-inode.ensures.refused (g.P.Pmem.region c.self.inside.memory) said.0 said.1 in
-    early_reply c.args.self.now.stopped c.from_residual-in_err-inode.result c.in_err-inode.field-0.0 w.0 w.1 w.2
-    (λ is. stat_goes_on (tree_of (g.P.Pmem.region c.self.inside.memory) c.self.inside.rows.items) said.0 (told ∙ ap (λ (e : Refusal). Some e) is)) runs
+    record {
+      of_path = record {
+        call = refused_later g.P.Pmem.region g.P.Pmem.fuse c.args.self.now c.from_residual-in_err-inode.result c.in_err-inode.field-0.0 w.0 w.1 w.2 c.in_ok-cleanable.ensures.runs
+            (λ is. stat_goes_on (tree_of (g.P.Pmem.region c.self.inside.memory) c.self.inside.rows.items) said.0 (told ∙ ap (λ (e : Refusal). Some e) is));
+        bad_text = λ bad. same_mount c.args.self.now;
+      };
+      settled = IfOk-from_err c.from_residual-in_err-inode.result _ c.from_residual-in_err-inode.ensures.0;
+    }
 
 pub returns-in_err-cleanable-clause-allowed : goal.returns-in_err-cleanable-clause-allowed
 returns-in_err-cleanable-clause-allowed g c p says = IfOk-from_err c.from_residual.result _ c.from_residual.ensures.0
@@ -62,18 +69,6 @@ returns-in_err-cleanable-clause-same_tree g c = IfOk-from_err c.from_residual.re
 pub returns-in_err-cleanable-clause-log : goal.returns-in_err-cleanable-clause-log
 returns-in_err-cleanable-clause-log g c names i node held h path led sound is = IfOk-from_err c.from_residual.result _ c.from_residual.ensures.0
 
-pub returns-in_err-cleanable-clause-settled : goal.returns-in_err-cleanable-clause-settled
-returns-in_err-cleanable-clause-settled g c = IfOk-from_err c.from_residual.result _ c.from_residual.ensures.0
-
-pub returns-in_err-cleanable-clause-keeps : goal.returns-in_err-cleanable-clause-keeps
-returns-in_err-cleanable-clause-keeps g c = record { sup = refl; faults = refl; read_only = refl }
-
-pub returns-in_err-cleanable-clause-length : goal.returns-in_err-cleanable-clause-length
-returns-in_err-cleanable-clause-length g c = refl
-
-pub returns-in_err-cleanable-clause-keeps_fuse : goal.returns-in_err-cleanable-clause-keeps_fuse
-returns-in_err-cleanable-clause-keeps_fuse g c = same_fuse _ _
-
 pub returns-in_err-inode-clause-allowed : goal.returns-in_err-inode-clause-allowed
 returns-in_err-inode-clause-allowed g c p says = IfOk-from_err c.from_residual-in_err-inode.result _ c.from_residual-in_err-inode.ensures.0
 
@@ -83,38 +78,11 @@ returns-in_err-inode-clause-same_tree g c = IfOk-from_err c.from_residual-in_err
 pub returns-in_err-inode-clause-log : goal.returns-in_err-inode-clause-log
 returns-in_err-inode-clause-log g c names i node held h path led sound is = IfOk-from_err c.from_residual-in_err-inode.result _ c.from_residual-in_err-inode.ensures.0
 
-pub returns-in_err-inode-clause-settled : goal.returns-in_err-inode-clause-settled
-returns-in_err-inode-clause-settled g c = IfOk-from_err c.from_residual-in_err-inode.result _ c.from_residual-in_err-inode.ensures.0
-
-pub returns-in_err-inode-clause-keeps : goal.returns-in_err-inode-clause-keeps
-returns-in_err-inode-clause-keeps g c = record { sup = refl; faults = refl; read_only = refl }
-
-pub returns-in_err-inode-clause-length : goal.returns-in_err-inode-clause-length
-returns-in_err-inode-clause-length g c = refl
-
-pub returns-in_err-inode-clause-keeps_fuse : goal.returns-in_err-inode-clause-keeps_fuse
-returns-in_err-inode-clause-keeps_fuse g c = same_fuse _ _
-
-pub returns-in_err-inode-clause-stopped_before : goal.returns-in_err-inode-clause-stopped_before
-returns-in_err-inode-clause-stopped_before g c stopped = absurd (let no : true ≡ false = sym stopped ∙ c.in_ok-cleanable.ensures.runs in cc)
-
 pub returns-in_err-cleanable-clause-any_stop : goal.returns-in_err-cleanable-clause-any_stop
 returns-in_err-cleanable-clause-any_stop g c names path on able = call_stays g.P.Pmem.region c.args.self.now makes_no_change logs_page_less names c.in_err-cleanable.ensures.kept on able _ (c.in_err-cleanable.ensures.settled on)
 
 pub returns-in_err-inode-clause-any_stop : goal.returns-in_err-inode-clause-any_stop
 returns-in_err-inode-clause-any_stop g c names path on able = call_stays g.P.Pmem.region c.args.self.now makes_no_change logs_page_less names c.in_ok-cleanable.ensures.kept on able _ (c.in_ok-cleanable.ensures.settled on)
-
-pub returns-in_err-cleanable-clause-read_only : goal.returns-in_err-cleanable-clause-read_only
-returns-in_err-cleanable-clause-read_only g c only = same_mount c.args.self.now
-
-pub returns-in_err-inode-clause-read_only : goal.returns-in_err-inode-clause-read_only
-returns-in_err-inode-clause-read_only g c only = absurd (let no : true ≡ false = sym only ∙ c.in_ok-cleanable.ensures.writes in cc)
-
-pub returns-in_err-cleanable-clause-bad_text : goal.returns-in_err-cleanable-clause-bad_text
-returns-in_err-cleanable-clause-bad_text g c bad = same_mount c.args.self.now
-
-pub returns-in_err-inode-clause-bad_text : goal.returns-in_err-inode-clause-bad_text
-returns-in_err-inode-clause-bad_text g c bad = same_mount c.args.self.now
 
 pub returns-clause-log : goal.returns-clause-log
 returns-clause-log g c names i node held h path led sound is =
@@ -123,8 +91,15 @@ returns-clause-log g c names i node held h path led sound is =
     subst (λ (k : ℕ). held k ≡ Some h → IfOk c.clean_inode.result (ShowsCleaned (g.P.Pmem.region c.args.self.now.memory) (g.P.Pmem.region c.clean_inode.new.self.memory) c.args.self.now.sup held k h)) (same_Some _ _ (sym own.leads ∙ led.leads))
     (c.clean_inode.ensures.log held h sound) is
 
-pub returns-clause-bad_text : goal.returns-clause-bad_text
-returns-clause-bad_text g c bad = absurd (let said = text_says c.args.path.now in let path = stat_path (tree_of (g.P.Pmem.region c.self.inside.memory) c.self.inside.rows.items) c.args.path.now said.0 said.1 (c.in_ok-inode.ensures.refused (g.P.Pmem.region c.self.inside.memory) said.0 said.1) in bad path.0 path.1)
+pub returns-clause-call : goal.returns-clause-call
+returns-clause-call g c =
+    record {
+      of_path = record {
+        call = c.clean_inode.ensures.call;
+        bad_text = λ bad. absurd (let said = text_says c.args.path.now in let path = stat_path (tree_of (g.P.Pmem.region c.self.inside.memory) c.self.inside.rows.items) c.args.path.now said.0 said.1 (c.in_ok-inode.ensures.refused (g.P.Pmem.region c.self.inside.memory) said.0 said.1) in bad path.0 path.1);
+      };
+      settled = c.clean_inode.ensures.settled;
+    }
 
 pub returns-clause-any_stop : goal.returns-clause-any_stop
 returns-clause-any_stop g c names path on able =

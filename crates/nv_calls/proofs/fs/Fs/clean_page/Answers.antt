@@ -1,8 +1,6 @@
-use Rattle.std.proofs.Common.{◌≡◌, ◌∙◌, ◌≤◌, [], ◌∷◌, Some, false, true, inr, ap, set, subst, sym, refl, is_none}
+use Rattle.std.proofs.Common.{◌≡◌, ◌∙◌, [], ◌∷◌, Some, false, inr, ap, set, subst, sym, refl, is_none}
 use Rattle.std.proofs.lemmas.Result.{err_from_is_err_and, IfOk-from_err}
 use Rattle.nv_rows.proofs.TableNumbers.{numbers_kept}
-use Rattle.nv_region.specs.Region.{size}
-use Rattle.nv_region.specs.Fuses.{KeepsFuse}
 use Rattle.nv_super.proofs.Members.{stands}
 use Rattle.nv_tree.specs.declared.refusal.Refusal.{Refusal}
 use Rattle.nv_tree.specs.declared.refusal.Refusal.TheVariants.{NotFound, Stopped}
@@ -19,13 +17,11 @@ use Rattle.nv_calls.proofs.StoppedCleaning.{clean_left, left_by_number}
 use Rattle.nv_calls.proofs.CleanCall.{inode_missing, inode_there, known_here, no_stop, number_told, step_refused, tree_stays}
 use Rattle.nv_calls.proofs.CleanedMount.{kept_cleaned, log_cleaned, tree_cleaned}
 use Rattle.nv_calls.proofs.CleanedRow.{end_inside, has_blocks, known_before_last, own_pages, right_log}
-use Rattle.nv_calls.proofs.Early.{good_reply, same_fuse}
 use Rattle.nv_calls.proofs.OneRow.{stands_right}
-use Rattle.nv_calls.proofs.RowChange.{same_mount}
-use Rattle.nv_calls.proofs.SetAttr.{kept_or_stopped, late_reply, not_stop, unchanged_step}
-use Rattle.nv_calls.proofs.Tests.{early_reply, if_err}
+use Rattle.nv_calls.proofs.SetAttr.{kept_or_stopped, not_stop, unchanged_step}
 use Rattle.nv_calls.proofs.TwoRows.{last_used}
 use Rattle.nv_calls.proofs.Stores.{page_less_stores}
+use Rattle.nv_calls.proofs.CallKept.{call_done, refused_first, refused_late, refused_later}
 use Rattle.nv_calls.proofs.fs.Fs.clean_page.Goals as goal
 
 pub lend-row-requires : goal.lend-row-requires
@@ -120,13 +116,11 @@ returns-in_err-cleanable-clause-refused g c runs =
     let w = err_from_is_err_and c.from_residual.result c.from_residual.ensures.1 in
     refused_by c.from_residual.result c.in_err-cleanable.field-0.0 w.0 (IsRefusedBy (first_refusal (clean_inode_tests (world_of c.args.self.now) tree c.args.inode))) w.1 w.2 (inr (inr (c.in_err-cleanable.ensures.refused runs ((is_none (tree c.args.inode), NotFound) ∷ []))))
 
-pub returns-in_err-cleanable-clause-unchanged : goal.returns-in_err-cleanable-clause-unchanged
-returns-in_err-cleanable-clause-unchanged g c = if_err c.from_residual.result _ (λ e on. same_mount c.args.self.now)
-
-pub returns-in_err-cleanable-clause-stopped : goal.returns-in_err-cleanable-clause-stopped
-returns-in_err-cleanable-clause-stopped g c runs =
+pub returns-in_err-cleanable-clause-call : goal.returns-in_err-cleanable-clause-call
+returns-in_err-cleanable-clause-call g c =
     let w = err_from_is_err_and c.from_residual.result c.from_residual.ensures.1 in
-    early_reply c.args.self.now.stopped c.from_residual.result c.in_err-cleanable.field-0.0 w.0 w.1 w.2 (λ is. no_stop c.args.self.now.read_only (c.in_err-cleanable.ensures.refused runs [] ∙ ap (λ (e : Refusal). Some e) is)) runs
+    refused_first g.P.Pmem.region g.P.Pmem.fuse c.args.self.now c.from_residual.result c.in_err-cleanable.field-0.0 w.0 w.1 w.2 c.in_err-cleanable.ensures.stopped
+    (λ runs is. no_stop c.args.self.now.read_only (c.in_err-cleanable.ensures.refused runs [] ∙ ap (λ (e : Refusal). Some e) is))
 
 pub returns-in_err-in_use-clause-refused : goal.returns-in_err-in_use-clause-refused
 returns-in_err-in_use-clause-refused g c runs =
@@ -137,14 +131,11 @@ returns-in_err-in_use-clause-refused g c runs =
     refused_by c.from_residual-in_err-in_use.result c.in_err-in_use.field-0.0 w.0 (IsRefusedBy (first_refusal (clean_inode_tests (world_of c.args.self.now) tree c.args.inode))) w.1 w.2
     (inr (inr (missing ∙ ap (λ (e : Refusal). Some e) (sym c.in_err-in_use.ensures.missing.0))))
 
-pub returns-in_err-in_use-clause-unchanged : goal.returns-in_err-in_use-clause-unchanged
-returns-in_err-in_use-clause-unchanged g c = if_err c.from_residual-in_err-in_use.result _ (λ e on. same_mount c.args.self.now)
-
-pub returns-in_err-in_use-clause-stopped : goal.returns-in_err-in_use-clause-stopped
-returns-in_err-in_use-clause-stopped g c runs =
+pub returns-in_err-in_use-clause-call : goal.returns-in_err-in_use-clause-call
+returns-in_err-in_use-clause-call g c =
     let w = err_from_is_err_and c.from_residual-in_err-in_use.result c.from_residual-in_err-in_use.ensures.1 in
-    early_reply c.args.self.now.stopped c.from_residual-in_err-in_use.result c.in_err-in_use.field-0.0 w.0 w.1 w.2
-    (λ is. let clash : NotFound ≡ Stopped = sym c.in_err-in_use.ensures.missing.0 ∙ is in cc) runs
+    refused_later g.P.Pmem.region g.P.Pmem.fuse c.args.self.now c.from_residual-in_err-in_use.result c.in_err-in_use.field-0.0 w.0 w.1 w.2 c.in_ok-cleanable.ensures.runs
+    (λ is. let clash : NotFound ≡ Stopped = sym c.in_err-in_use.ensures.missing.0 ∙ is in cc)
 
 pub returns-in_err-cleanable-clause-allowed : goal.returns-in_err-cleanable-clause-allowed
 returns-in_err-cleanable-clause-allowed g c = IfOk-from_err c.from_residual.result _ c.from_residual.ensures.0
@@ -158,15 +149,6 @@ returns-in_err-cleanable-clause-log g c held h sound is = IfOk-from_err c.from_r
 pub returns-in_err-cleanable-clause-settled : goal.returns-in_err-cleanable-clause-settled
 returns-in_err-cleanable-clause-settled g c = IfOk-from_err c.from_residual.result _ c.from_residual.ensures.0
 
-pub returns-in_err-cleanable-clause-keeps : goal.returns-in_err-cleanable-clause-keeps
-returns-in_err-cleanable-clause-keeps g c = record { sup = refl; faults = refl; read_only = refl }
-
-pub returns-in_err-cleanable-clause-length : goal.returns-in_err-cleanable-clause-length
-returns-in_err-cleanable-clause-length g c = refl
-
-pub returns-in_err-cleanable-clause-keeps_fuse : goal.returns-in_err-cleanable-clause-keeps_fuse
-returns-in_err-cleanable-clause-keeps_fuse g c = same_fuse _ _
-
 pub returns-in_err-in_use-clause-allowed : goal.returns-in_err-in_use-clause-allowed
 returns-in_err-in_use-clause-allowed g c = IfOk-from_err c.from_residual-in_err-in_use.result _ c.from_residual-in_err-in_use.ensures.0
 
@@ -179,23 +161,23 @@ returns-in_err-in_use-clause-log g c held h sound is = IfOk-from_err c.from_resi
 pub returns-in_err-in_use-clause-settled : goal.returns-in_err-in_use-clause-settled
 returns-in_err-in_use-clause-settled g c = IfOk-from_err c.from_residual-in_err-in_use.result _ c.from_residual-in_err-in_use.ensures.0
 
-pub returns-in_err-in_use-clause-keeps : goal.returns-in_err-in_use-clause-keeps
-returns-in_err-in_use-clause-keeps g c = record { sup = refl; faults = refl; read_only = refl }
+pub returns-in-Ok-clause-call : goal.returns-in-Ok-clause-call
+returns-in-Ok-clause-call g c =
+    let runs : c.self.inside.stopped ≡ false = ap (λ (m : Mount g.row.P.Denot). m.stopped) c.self.view_is ∙ c.in_ok-cleanable.ensures.runs in
+    let writes : c.self.inside.read_only ≡ false = ap (λ (m : Mount g.row.P.Denot). m.read_only) c.self.view_is ∙ c.in_ok-cleanable.ensures.writes in
+    call_done g.P.Pmem.region g.P.Pmem.fuse c.self.view_is c.clean_log-cleaned.new.memory c.give_back.new.self.items c.clean_log-cleaned.new.free runs writes _ _ c.in-Ok.ensures.kept
 
-pub returns-in_err-in_use-clause-length : goal.returns-in_err-in_use-clause-length
-returns-in_err-in_use-clause-length g c = refl
-
-pub returns-in_err-in_use-clause-keeps_fuse : goal.returns-in_err-in_use-clause-keeps_fuse
-returns-in_err-in_use-clause-keeps_fuse g c = same_fuse _ _
-
-pub returns-in_err-in_use-clause-stopped_before : goal.returns-in_err-in_use-clause-stopped_before
-returns-in_err-in_use-clause-stopped_before g c stopped = absurd (let no : true ≡ false = sym stopped ∙ c.in_ok-cleanable.ensures.runs in cc)
-
-pub returns-in-Ok-clause-stopped_before : goal.returns-in-Ok-clause-stopped_before
-returns-in-Ok-clause-stopped_before g c stopped = absurd (let no : true ≡ false = sym stopped ∙ c.in_ok-cleanable.ensures.runs in cc)
-
-pub returns-in-Err-clause-stopped_before : goal.returns-in-Err-clause-stopped_before
-returns-in-Err-clause-stopped_before g c stopped = absurd (let no : true ≡ false = sym stopped ∙ c.in_ok-cleanable.ensures.runs in cc)
+pub returns-in-Err-clause-call : goal.returns-in-Err-clause-call
+returns-in-Err-clause-call g c =
+    let runs : c.self.inside.stopped ≡ false = ap (λ (m : Mount g.row.P.Denot). m.stopped) c.self.view_is ∙ c.in_ok-cleanable.ensures.runs in
+    let writes : c.self.inside.read_only ≡ false = ap (λ (m : Mount g.row.P.Denot). m.read_only) c.self.view_is ∙ c.in_ok-cleanable.ensures.writes in
+    refused_late g.P.Pmem.region g.P.Pmem.fuse c.self.view_is c.clean_log-cleaned.new.memory c.give_back.new.self.items c.clean_log-cleaned.new.free runs writes c.in-Err.refusal c.is_stop-self-inside.result c.is_stop-self-inside.ensures.yes c.is_stop-self-inside.ensures.no c.in-Err.ensures.kept
+    (λ off.
+    let rows = c.self.inside.rows.items in
+    let inode = c.args.inode in
+    let at = at_place rows inode ∙ c.lend-row.ensures.row in
+    let put = back_one rows c.lend-row.new.self.items c.give_back.new.self.items inode c.clean_log-cleaned.new.row c.lend-row.ensures.lent (c.clean_log-cleaned.ensures.file.inode ∙ c.lend-row.ensures.number) c.give_back.ensures.rows in
+    rw put (unchanged_step c.self.view_is c.clean_log-cleaned.new.memory c.clean_log-cleaned.new.free (place_in rows inode) c.lend-row.result c.clean_log-cleaned.new.row c.is_stop-self-inside.result at runs (not_stop c.in-Err.refusal c.is_stop-self-inside.result c.is_stop-self-inside.ensures.yes off) (c.in-Err.ensures.unchanged off)))
 
 pub returns-in-Ok-clause-allowed : goal.returns-in-Ok-clause-allowed
 returns-in-Ok-clause-allowed g c =
@@ -225,56 +207,13 @@ returns-in-Ok-clause-log g c held h sound is =
 pub returns-in-Ok-clause-refused : goal.returns-in-Ok-clause-refused
 returns-in-Ok-clause-refused g c still = tt
 
-pub returns-in-Ok-clause-unchanged : goal.returns-in-Ok-clause-unchanged
-returns-in-Ok-clause-unchanged g c = tt
-
 pub returns-in-Ok-clause-settled : goal.returns-in-Ok-clause-settled
 returns-in-Ok-clause-settled g c = c.in-Ok.ensures.settled (c.self.invariant.2 (ap (λ (m : Mount g.row.P.Denot). m.stopped) c.self.view_is ∙ c.in_ok-cleanable.ensures.runs))
-
-pub returns-in-Ok-clause-stopped : goal.returns-in-Ok-clause-stopped
-returns-in-Ok-clause-stopped g c still =
-    let runs : c.self.inside.stopped ≡ false = ap (λ (m : Mount g.row.P.Denot). m.stopped) c.self.view_is ∙ c.in_ok-cleanable.ensures.runs in
-    good_reply c.self.inside.stopped _ runs
-
-pub returns-in-Ok-clause-keeps : goal.returns-in-Ok-clause-keeps
-returns-in-Ok-clause-keeps g c = record { sup = ap (λ (m : Mount g.row.P.Denot). m.sup) c.self.view_is; faults = ap (λ (m : Mount g.row.P.Denot). m.faults) c.self.view_is; read_only = ap (λ (m : Mount g.row.P.Denot). m.read_only) c.self.view_is }
-
-pub returns-in-Ok-clause-length : goal.returns-in-Ok-clause-length
-returns-in-Ok-clause-length g c =
-    subst (λ (m : Mount g.row.P.Denot). size (g.P.Pmem.region c.clean_log-cleaned.new.memory) ≡ size (g.P.Pmem.region m.memory)) c.self.view_is c.clean_log-cleaned.ensures.kept.length
-
-pub returns-in-Ok-clause-keeps_fuse : goal.returns-in-Ok-clause-keeps_fuse
-returns-in-Ok-clause-keeps_fuse g c =
-    subst (λ (m : Mount g.row.P.Denot). KeepsFuse (λ limit. size (g.P.Pmem.region m.memory) ≤ limit) (g.P.Pmem.fuse m.memory) (g.P.Pmem.fuse c.clean_log-cleaned.new.memory)) c.self.view_is c.clean_log-cleaned.ensures.kept.keeps_fuse
-
-pub returns-in-Err-clause-keeps : goal.returns-in-Err-clause-keeps
-returns-in-Err-clause-keeps g c = record { sup = ap (λ (m : Mount g.row.P.Denot). m.sup) c.self.view_is; faults = ap (λ (m : Mount g.row.P.Denot). m.faults) c.self.view_is; read_only = ap (λ (m : Mount g.row.P.Denot). m.read_only) c.self.view_is }
-
-pub returns-in-Err-clause-length : goal.returns-in-Err-clause-length
-returns-in-Err-clause-length g c =
-    subst (λ (m : Mount g.row.P.Denot). size (g.P.Pmem.region c.clean_log-cleaned.new.memory) ≡ size (g.P.Pmem.region m.memory)) c.self.view_is c.clean_log-cleaned.ensures.kept.length
-
-pub returns-in-Err-clause-keeps_fuse : goal.returns-in-Err-clause-keeps_fuse
-returns-in-Err-clause-keeps_fuse g c =
-    subst (λ (m : Mount g.row.P.Denot). KeepsFuse (λ limit. size (g.P.Pmem.region m.memory) ≤ limit) (g.P.Pmem.fuse m.memory) (g.P.Pmem.fuse c.clean_log-cleaned.new.memory)) c.self.view_is c.clean_log-cleaned.ensures.kept.keeps_fuse
 
 pub returns-in-Err-clause-refused : goal.returns-in-Err-clause-refused
 returns-in-Err-clause-refused g c still =
     let writes : c.self.inside.read_only ≡ false = ap (λ (m : Mount g.row.P.Denot). m.read_only) c.self.view_is ∙ c.in_ok-cleanable.ensures.writes in
     step_refused _ c.in-Err.refusal (inode_there g.P.Pmem.region c.self.view_is writes c.args.inode c.lend-row.result c.lend-row.ensures.row) c.in-Err.ensures.refused
-
-pub returns-in-Err-clause-unchanged : goal.returns-in-Err-clause-unchanged
-returns-in-Err-clause-unchanged g c off =
-    let runs : c.self.inside.stopped ≡ false = ap (λ (m : Mount g.row.P.Denot). m.stopped) c.self.view_is ∙ c.in_ok-cleanable.ensures.runs in
-    let writes : c.self.inside.read_only ≡ false = ap (λ (m : Mount g.row.P.Denot). m.read_only) c.self.view_is ∙ c.in_ok-cleanable.ensures.writes in
-    let rows = c.self.inside.rows.items in
-    let inode = c.args.inode in
-    let at = at_place rows inode ∙ c.lend-row.ensures.row in
-    let put = back_one rows c.lend-row.new.self.items c.give_back.new.self.items inode c.clean_log-cleaned.new.row c.lend-row.ensures.lent (c.clean_log-cleaned.ensures.file.inode ∙ c.lend-row.ensures.number) c.give_back.ensures.rows in
-    rw put (unchanged_step c.self.view_is c.clean_log-cleaned.new.memory c.clean_log-cleaned.new.free (place_in rows inode) c.lend-row.result c.clean_log-cleaned.new.row c.is_stop-self-inside.result at runs (not_stop c.in-Err.refusal c.is_stop-self-inside.result c.is_stop-self-inside.ensures.yes off) (c.in-Err.ensures.unchanged off))
-
-pub returns-in-Err-clause-stopped : goal.returns-in-Err-clause-stopped
-returns-in-Err-clause-stopped g c still = late_reply c.in-Err.refusal c.is_stop-self-inside.result c.is_stop-self-inside.ensures.yes c.is_stop-self-inside.ensures.no c.in-Err.ensures.kept.stopped
 
 pub returns-in-Err-clause-allowed : goal.returns-in-Err-clause-allowed
 returns-in-Err-clause-allowed g c = tt
@@ -313,18 +252,6 @@ returns-in-Err-clause-any_stop g c on able =
     let at = at_place rows inode ∙ c.lend-row.ensures.row in
     left_by_number g.P.Pmem.region c.self.view_is (g.P.Pmem.region c.clean_log-cleaned.new.memory) (g.P.Pmem.may_hold c.clean_log-cleaned.new.memory) c.lend-row.ensures.number
     (clean_left c.self.invariant.0 runs writes (place_in rows inode) c.lend-row.result at _ _ _ (λ held h shows pending. c.clean_log-cleaned.ensures.any_stop held h shows (known_here g.P.Pmem.region c.self.view_is c.args.known c.lend-row.ensures.number c.requires held h shows.sound shows.holds) pending) (c.self.invariant.2 runs))
-
-pub returns-in_err-cleanable-clause-read_only : goal.returns-in_err-cleanable-clause-read_only
-returns-in_err-cleanable-clause-read_only g c only = same_mount c.args.self.now
-
-pub returns-in_err-in_use-clause-read_only : goal.returns-in_err-in_use-clause-read_only
-returns-in_err-in_use-clause-read_only g c only = absurd (let no : true ≡ false = sym only ∙ c.in_ok-cleanable.ensures.writes in cc)
-
-pub returns-in-Ok-clause-read_only : goal.returns-in-Ok-clause-read_only
-returns-in-Ok-clause-read_only g c only = absurd (let no : true ≡ false = sym only ∙ c.in_ok-cleanable.ensures.writes in cc)
-
-pub returns-in-Err-clause-read_only : goal.returns-in-Err-clause-read_only
-returns-in-Err-clause-read_only g c only = absurd (let no : true ≡ false = sym only ∙ c.in_ok-cleanable.ensures.writes in cc)
 
 pub returns-in_err-cleanable-clause-wrote : goal.returns-in_err-cleanable-clause-wrote
 returns-in_err-cleanable-clause-wrote g c held h o sound is first = λ at whole away. refl

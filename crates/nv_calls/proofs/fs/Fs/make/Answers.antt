@@ -1,8 +1,6 @@
-use Rattle.std.proofs.Common.{◌≡◌, ◌∙◌, ◌<◌, ◌≤◌, ◌++◌, ◌∷◌, [], List, ℕ, Some, None, Ok, true, false, inr, ap, refl, subst, sym, slice_get, inl, arith}
+use Rattle.std.proofs.Common.{◌≡◌, ◌∙◌, ◌<◌, ◌++◌, ◌∷◌, [], List, ℕ, Some, None, Ok, false, inr, ap, refl, subst, sym, slice_get, inl, arith}
 use Rattle.std.proofs.lemmas.Result.{err_from_is_err_and, IfOk-from_err}
 use Rattle.nv_tree.specs.declared.refusal.Refusal.{Refusal}
-use Rattle.nv_region.specs.Region.{size}
-use Rattle.nv_region.specs.Fuses.{KeepsFuse}
 use Rattle.nv_super.specs.declared.superblock.Super.{Super}
 use Rattle.nv_super.specs.Layout.{fixed_layout}
 use Rattle.nv_rows.specs.Rows.{place_in}
@@ -31,11 +29,12 @@ use Rattle.nv_calls.proofs.NewNumbers.{can_name, number_below, unused_is}
 use Rattle.nv_calls.proofs.OneRow.{stands_right}
 use Rattle.nv_super.proofs.Members.{stands}
 use Rattle.nv_calls.proofs.RowChange.{same_mount}
-use Rattle.nv_calls.proofs.SetAttr.{late_reply, not_stop}
-use Rattle.nv_calls.proofs.Tests.{early_reply, if_err, writing_goes_on}
+use Rattle.nv_calls.proofs.SetAttr.{not_stop}
+use Rattle.nv_calls.proofs.Tests.{writing_goes_on}
 use Rattle.nv_calls.proofs.TwoWords.{create_ordered, create_stored}
 use Rattle.nv_calls.proofs.fs.Fs.make.Goals as goal
 use Rattle.nv_calls.proofs.FrontsKept.{created_front}
+use Rattle.nv_calls.proofs.CallKept.{call_done, refused_first, refused_late, refused_later}
 
 pub returns-in_err-writable-clause-refused : goal.returns-in_err-writable-clause-refused
 returns-in_err-writable-clause-refused g c =
@@ -47,14 +46,25 @@ returns-in_err-writable-clause-refused g c =
     (inr (inr (c.in_err-writable.ensures.refused runs (is_bad_name p ∷ walk_tests tree p ++ is_there tree p ∷ has_no_slot (world_of c.args.self.now) c.cpu.inside.0 ∷ has_no_space (world_of c.args.self.now) count ∷ []))))
     )
 
-pub returns-in_err-writable-clause-unchanged : goal.returns-in_err-writable-clause-unchanged
-returns-in_err-writable-clause-unchanged g c = if_err c.from_residual.result _ (λ e on. same_mount c.args.self.now)
-
-pub returns-in_err-writable-clause-stopped : goal.returns-in_err-writable-clause-stopped
-returns-in_err-writable-clause-stopped g c runs =
+pub returns-in_err-writable-clause-call : goal.returns-in_err-writable-clause-call
+returns-in_err-writable-clause-call g c =
     let w = err_from_is_err_and c.from_residual.result c.from_residual.ensures.1 in
-    early_reply c.args.self.now.stopped c.from_residual.result c.in_err-writable.field-0.0 w.0 w.1 w.2
-    (λ is. writing_goes_on (world_of c.args.self.now) c.cpu.inside.0 (c.in_err-writable.ensures.refused runs [] ∙ ap (λ (e : Refusal). Some e) is)) runs
+    record {
+      of_path = record {
+        call = refused_first g.P.Pmem.region g.P.Pmem.fuse c.args.self.now c.from_residual.result c.in_err-writable.field-0.0 w.0 w.1 w.2 c.in_err-writable.ensures.stopped
+            (λ runs is. writing_goes_on (world_of c.args.self.now) c.cpu.inside.0 (c.in_err-writable.ensures.refused runs [] ∙ ap (λ (e : Refusal). Some e) is));
+        bad_text = λ bad. same_mount c.args.self.now;
+      };
+      settled = IfOk-from_err c.from_residual.result _ c.from_residual.ensures.0;
+    }
+
+pub returns-in_err-writable-clause-stores : goal.returns-in_err-writable-clause-stores
+returns-in_err-writable-clause-stores g c =
+    record {
+      journals = IfOk-from_err c.from_residual.result _ c.from_residual.ensures.0;
+      wrote = λ names d j held path ended number sound. λ at whole away. refl;
+      in_order = λ names d j path ended number. ∣ inl refl ∣₁;
+    }
 
 pub spot_for-requires : goal.spot_for-requires
 spot_for-requires g c =
@@ -74,18 +84,28 @@ returns-in_err-spot-clause-refused g c =
     (inr (inr (spot_refuses (world_of c.args.self.now) tree c.cpu.inside.0 c.in_ok-writable.ensures.passed p count c.in_err-spot.field-0.0 told)))
     )
 
-pub returns-in_err-spot-clause-unchanged : goal.returns-in_err-spot-clause-unchanged
-returns-in_err-spot-clause-unchanged g c =
-    if_err c.from_residual-in_err-spot.result _ (λ e on. same_mount c.args.self.now)
-
-pub returns-in_err-spot-clause-stopped : goal.returns-in_err-spot-clause-stopped
-returns-in_err-spot-clause-stopped g c runs =
+pub returns-in_err-spot-clause-call : goal.returns-in_err-spot-clause-call
+returns-in_err-spot-clause-call g c =
     let w = err_from_is_err_and c.from_residual-in_err-spot.result c.from_residual-in_err-spot.ensures.1 in
     let said = text_says c.args.path.now in
     let told = c.in_err-spot.ensures.refused (fixed_layout c.self.inside.sup) c.self.invariant.1 (g.P.Pmem.region c.self.inside.memory) said.0 said.1 in
-    early_reply c.args.self.now.stopped c.from_residual-in_err-spot.result c.in_err-spot.field-0.0 w.0 w.1 w.2
-    (λ is. spot_goes_on (tree_of (g.P.Pmem.region c.self.inside.memory) c.self.inside.rows.items) (unused_number (fixed_layout c.self.inside.sup) c.self.inside.rows.items c.cpu.inside.0) said.0
-    (subst (λ (e : Refusal). first_refusal (spot_tests (tree_of (g.P.Pmem.region c.self.inside.memory) c.self.inside.rows.items) (unused_number (fixed_layout c.self.inside.sup) c.self.inside.rows.items c.cpu.inside.0) said.0) ≡ Some e) is told)) runs
+    record {
+      of_path = record {
+        call = refused_later g.P.Pmem.region g.P.Pmem.fuse c.args.self.now c.from_residual-in_err-spot.result c.in_err-spot.field-0.0 w.0 w.1 w.2 c.in_ok-writable.ensures.runs
+            (λ is. spot_goes_on (tree_of (g.P.Pmem.region c.self.inside.memory) c.self.inside.rows.items) (unused_number (fixed_layout c.self.inside.sup) c.self.inside.rows.items c.cpu.inside.0) said.0
+            (subst (λ (e : Refusal). first_refusal (spot_tests (tree_of (g.P.Pmem.region c.self.inside.memory) c.self.inside.rows.items) (unused_number (fixed_layout c.self.inside.sup) c.self.inside.rows.items c.cpu.inside.0) said.0) ≡ Some e) is told));
+        bad_text = λ bad. same_mount c.args.self.now;
+      };
+      settled = IfOk-from_err c.from_residual-in_err-spot.result _ c.from_residual-in_err-spot.ensures.0;
+    }
+
+pub returns-in_err-spot-clause-stores : goal.returns-in_err-spot-clause-stores
+returns-in_err-spot-clause-stores g c =
+    record {
+      journals = IfOk-from_err c.from_residual-in_err-spot.result _ c.from_residual-in_err-spot.ensures.0;
+      wrote = λ names d j held path ended number sound. λ at whole away. refl;
+      in_order = λ names d j path ended number. ∣ inl refl ∣₁;
+    }
 
 pub create_at-requires-clause-limit : goal.create_at-requires-clause-limit
 create_at-requires-clause-limit g c =
@@ -128,15 +148,15 @@ invariant_of-self g c =
     let spot : (names : List (List ℕ)) → IsPath c.args.path.now names → IsSpot (tree_of (g.P.Pmem.region c.self.inside.memory) c.self.inside.rows.items) c.self.inside.rows.items (fixed_layout c.self.inside.sup) c.cpu.inside.0 names (place_in c.self.inside.rows.items c.in_ok-spot.spot.directory) c.in_ok-spot.spot.name.now c.in_ok-spot.spot.inode =
     c.in_ok-spot.ensures.spot (fixed_layout c.self.inside.sup) c.self.invariant.1 (g.P.Pmem.region c.self.inside.memory) in
     let path = c.in_ok-spot.ensures.path in
-    (created_kept c.self.invariant.0 runs writes c.in-Ok.ensures.created low c.in_ok-spot.ensures.name path.0 (spot path.0 path.1) c.self.inside.stopped, numbers_kept c.create_at.ensures.tables.0 c.create_at.ensures.tables.1 c.self.invariant.1, λ on. c.in-Ok.ensures.kept.settled)
+    (created_kept c.self.invariant.0 runs writes c.in-Ok.ensures.created low c.in_ok-spot.ensures.name path.0 (spot path.0 path.1) c.self.inside.stopped, numbers_kept c.create_at.ensures.kept.tables.0 c.create_at.ensures.kept.tables.1 c.self.invariant.1, λ on. c.in-Ok.ensures.kept.settled)
 
 pub invariant_of-self-in-Err : goal.invariant_of-self-in-Err
 invariant_of-self-in-Err g c =
     let runs : c.self.inside.stopped ≡ false = ap (λ (m : Mount g.row.P.Denot). m.stopped) c.self.view_is ∙ c.in_ok-writable.ensures.runs in
     let writes : c.self.inside.read_only ≡ false = ap (λ (m : Mount g.row.P.Denot). m.read_only) c.self.view_is ∙ c.in_ok-writable.ensures.writes in (
-      kept_or_stopped g.P.Pmem.region c.self.invariant.0 runs writes c.in-Err.refusal c.is_stop-self-inside.result c.is_stop-self-inside.ensures.yes c.is_stop-self-inside.ensures.no c.create_at.ensures.kept.lists c.in-Err.ensures.unchanged,
-      numbers_kept c.create_at.ensures.tables.0 c.create_at.ensures.tables.1 c.self.invariant.1,
-      settled_or_stopped g.P.Pmem.region g.P.Pmem.may_hold c.in-Err.refusal c.is_stop-self-inside.result c.is_stop-self-inside.ensures.no (λ off. (c.in-Err.ensures.unchanged off).memory) (c.self.invariant.2 runs),
+      kept_or_stopped g.P.Pmem.region c.self.invariant.0 runs writes c.in-Err.refusal c.is_stop-self-inside.result c.is_stop-self-inside.ensures.yes c.is_stop-self-inside.ensures.no c.create_at.ensures.kept.lists c.in-Err.ensures.kept.unchanged,
+      numbers_kept c.create_at.ensures.kept.tables.0 c.create_at.ensures.kept.tables.1 c.self.invariant.1,
+      settled_or_stopped g.P.Pmem.region g.P.Pmem.may_hold c.in-Err.refusal c.is_stop-self-inside.result c.is_stop-self-inside.ensures.no (λ off. (c.in-Err.ensures.kept.unchanged off).memory) (c.self.invariant.2 runs),
     )
 
 pub returns-in-Ok-clause-allowed : goal.returns-in-Ok-clause-allowed
@@ -191,14 +211,32 @@ returns-in-Err-clause-refused g c =
     create_refused g.P.Pmem.region c.self.view_is c.cpu.inside.0 c.in_ok-writable.ensures.passed (place_in c.self.inside.rows.items c.in_ok-spot.spot.directory) r.0 at numbered c.in_ok-spot.spot.name.now c.in_ok-spot.spot.inode c.time.inside.0 c.args.path.now spot p says none c.in-Err.refusal (c.in-Err.ensures.refused r.0 r.1)
     )
 
-pub returns-in-Err-clause-unchanged : goal.returns-in-Err-clause-unchanged
-returns-in-Err-clause-unchanged g c off =
+pub returns-in-Err-clause-call : goal.returns-in-Err-clause-call
+returns-in-Err-clause-call g c =
     let runs : c.self.inside.stopped ≡ false = ap (λ (m : Mount g.row.P.Denot). m.stopped) c.self.view_is ∙ c.in_ok-writable.ensures.runs in
-    unchanged_rows c.self.view_is c.create_at.new.memory c.create_at.new.rows.items c.create_at.new.free c.is_stop-self-inside.result runs (not_stop c.in-Err.refusal c.is_stop-self-inside.result c.is_stop-self-inside.ensures.yes off) (c.in-Err.ensures.unchanged off)
+    let writes : c.self.inside.read_only ≡ false = ap (λ (m : Mount g.row.P.Denot). m.read_only) c.self.view_is ∙ c.in_ok-writable.ensures.writes in
+    record {
+      of_path = record {
+        call = refused_late g.P.Pmem.region g.P.Pmem.fuse c.self.view_is c.create_at.new.memory c.create_at.new.rows.items c.create_at.new.free runs writes c.in-Err.refusal c.is_stop-self-inside.result c.is_stop-self-inside.ensures.yes c.is_stop-self-inside.ensures.no c.in-Err.ensures.kept.keeps
+            (λ off. unchanged_rows c.self.view_is c.create_at.new.memory c.create_at.new.rows.items c.create_at.new.free c.is_stop-self-inside.result runs (not_stop c.in-Err.refusal c.is_stop-self-inside.result c.is_stop-self-inside.ensures.yes off) (c.in-Err.ensures.kept.unchanged off));
+        bad_text = λ bad. absurd (let path = c.in_ok-spot.ensures.path in bad path.0 path.1);
+      };
+      settled = tt;
+    }
 
-pub returns-in-Err-clause-stopped : goal.returns-in-Err-clause-stopped
-returns-in-Err-clause-stopped g c still =
-    late_reply c.in-Err.refusal c.is_stop-self-inside.result c.is_stop-self-inside.ensures.yes c.is_stop-self-inside.ensures.no c.in-Err.ensures.kept.stopped
+pub returns-in-Err-clause-stores : goal.returns-in-Err-clause-stores
+returns-in-Err-clause-stores g c =
+    record {
+      journals = tt;
+      wrote = rw (← c.cpu.view_is) (λ names d j held path ended number sound.
+          create_stored g.P.Pmem.region c.self.view_is c.self.invariant.0 c.in_ok-writable.ensures.runs (g.P.Pmem.region c.create_at.new.memory) c.cpu.inside.0 c.in_ok-writable.ensures.writes c.in_ok-spot.spot.directory c.in_ok-spot.spot.inode c.in_ok-spot.ensures.in_use c.in_ok-writable.ensures.cpu
+          c.in_ok-spot.spot.name.now names (c.in_ok-spot.ensures.spot (fixed_layout c.self.inside.sup) c.self.invariant.1 (g.P.Pmem.region c.self.inside.memory) names path) c.create_at.ensures.wrote d j held ended number sound
+          );
+      in_order = rw (← c.cpu.view_is) (λ names d j path ended number.
+          create_ordered g.P.Pmem.region c.self.view_is c.self.invariant.0 c.in_ok-writable.ensures.runs (g.P.Pmem.region c.create_at.new.memory) c.cpu.inside.0 c.in_ok-writable.ensures.writes c.in_ok-spot.spot.directory c.in_ok-spot.spot.inode c.in_ok-spot.ensures.in_use c.in_ok-writable.ensures.cpu
+          c.in_ok-spot.spot.name.now names (c.in_ok-spot.ensures.spot (fixed_layout c.self.inside.sup) c.self.invariant.1 (g.P.Pmem.region c.self.inside.memory) names path) c.create_at.ensures.in_order d j ended number
+          );
+    }
 
 pub returns-in_err-writable-clause-allowed : goal.returns-in_err-writable-clause-allowed
 returns-in_err-writable-clause-allowed g c p says = IfOk-from_err c.from_residual.result _ c.from_residual.ensures.0
@@ -209,18 +247,6 @@ returns-in_err-writable-clause-changed g c names path = IfOk-from_err c.from_res
 pub returns-in_err-writable-clause-log : goal.returns-in_err-writable-clause-log
 returns-in_err-writable-clause-log g c names d j held h path led number sound is = IfOk-from_err c.from_residual.result _ c.from_residual.ensures.0
 
-pub returns-in_err-writable-clause-journals : goal.returns-in_err-writable-clause-journals
-returns-in_err-writable-clause-journals g c = IfOk-from_err c.from_residual.result _ c.from_residual.ensures.0
-
-pub returns-in_err-writable-clause-settled : goal.returns-in_err-writable-clause-settled
-returns-in_err-writable-clause-settled g c = IfOk-from_err c.from_residual.result _ c.from_residual.ensures.0
-
-pub returns-in_err-writable-clause-keeps : goal.returns-in_err-writable-clause-keeps
-returns-in_err-writable-clause-keeps g c = record { sup = refl; faults = refl; read_only = refl }
-
-pub returns-in_err-writable-clause-length : goal.returns-in_err-writable-clause-length
-returns-in_err-writable-clause-length g c = refl
-
 pub returns-in_err-spot-clause-allowed : goal.returns-in_err-spot-clause-allowed
 returns-in_err-spot-clause-allowed g c p says = IfOk-from_err c.from_residual-in_err-spot.result _ c.from_residual-in_err-spot.ensures.0
 
@@ -230,51 +256,46 @@ returns-in_err-spot-clause-changed g c names path = IfOk-from_err c.from_residua
 pub returns-in_err-spot-clause-log : goal.returns-in_err-spot-clause-log
 returns-in_err-spot-clause-log g c names d j held h path led number sound is = IfOk-from_err c.from_residual-in_err-spot.result _ c.from_residual-in_err-spot.ensures.0
 
-pub returns-in_err-spot-clause-journals : goal.returns-in_err-spot-clause-journals
-returns-in_err-spot-clause-journals g c = IfOk-from_err c.from_residual-in_err-spot.result _ c.from_residual-in_err-spot.ensures.0
+pub returns-in-Ok-clause-call : goal.returns-in-Ok-clause-call
+returns-in-Ok-clause-call g c =
+    let runs : c.self.inside.stopped ≡ false = ap (λ (m : Mount g.row.P.Denot). m.stopped) c.self.view_is ∙ c.in_ok-writable.ensures.runs in
+    let writes : c.self.inside.read_only ≡ false = ap (λ (m : Mount g.row.P.Denot). m.read_only) c.self.view_is ∙ c.in_ok-writable.ensures.writes in
+    record {
+      of_path = record {
+        call = call_done g.P.Pmem.region g.P.Pmem.fuse c.self.view_is c.create_at.new.memory c.create_at.new.rows.items c.create_at.new.free runs writes _ _ c.in-Ok.ensures.kept.keeps;
+        bad_text = λ bad. absurd (let path = c.in_ok-spot.ensures.path in bad path.0 path.1);
+      };
+      settled = c.in-Ok.ensures.kept.settled;
+    }
 
-pub returns-in_err-spot-clause-settled : goal.returns-in_err-spot-clause-settled
-returns-in_err-spot-clause-settled g c = IfOk-from_err c.from_residual-in_err-spot.result _ c.from_residual-in_err-spot.ensures.0
-
-pub returns-in_err-spot-clause-keeps : goal.returns-in_err-spot-clause-keeps
-returns-in_err-spot-clause-keeps g c = record { sup = refl; faults = refl; read_only = refl }
-
-pub returns-in_err-spot-clause-length : goal.returns-in_err-spot-clause-length
-returns-in_err-spot-clause-length g c = refl
-
-pub returns-in_err-spot-clause-stopped_before : goal.returns-in_err-spot-clause-stopped_before
-returns-in_err-spot-clause-stopped_before g c stopped = absurd (let no : true ≡ false = sym stopped ∙ c.in_ok-writable.ensures.runs in cc)
-
-pub returns-in-Ok-clause-stopped_before : goal.returns-in-Ok-clause-stopped_before
-returns-in-Ok-clause-stopped_before g c stopped = absurd (let no : true ≡ false = sym stopped ∙ c.in_ok-writable.ensures.runs in cc)
-
-pub returns-in-Err-clause-stopped_before : goal.returns-in-Err-clause-stopped_before
-returns-in-Err-clause-stopped_before g c stopped = absurd (let no : true ≡ false = sym stopped ∙ c.in_ok-writable.ensures.runs in cc)
+pub returns-in-Ok-clause-stores : goal.returns-in-Ok-clause-stores
+returns-in-Ok-clause-stores g c =
+    record {
+      journals = rw (← c.cpu.view_is) (
+          let runs : c.self.inside.stopped ≡ false = ap (λ (m : Mount g.row.P.Denot). m.stopped) c.self.view_is ∙ c.in_ok-writable.ensures.runs in
+          let writes : c.self.inside.read_only ≡ false = ap (λ (m : Mount g.row.P.Denot). m.read_only) c.self.view_is ∙ c.in_ok-writable.ensures.writes in
+          let low : c.cpu.inside.0 < c.self.inside.sup.cpus = subst (λ (m : Mount g.row.P.Denot). c.cpu.inside.0 < m.sup.cpus) (sym c.self.view_is) c.in_ok-writable.ensures.cpu in
+          let spot : (names : List (List ℕ)) → IsPath c.args.path.now names → IsSpot (tree_of (g.P.Pmem.region c.self.inside.memory) c.self.inside.rows.items) c.self.inside.rows.items (fixed_layout c.self.inside.sup) c.cpu.inside.0 names (place_in c.self.inside.rows.items c.in_ok-spot.spot.directory) c.in_ok-spot.spot.name.now c.in_ok-spot.spot.inode =
+          c.in_ok-spot.ensures.spot (fixed_layout c.self.inside.sup) c.self.invariant.1 (g.P.Pmem.region c.self.inside.memory) in
+          let path = c.in_ok-spot.ensures.path in
+          subst (λ (m : Mount g.row.P.Denot). SameFrontBut m.sup.cpus c.cpu.inside.0 (g.P.Pmem.region m.memory) (g.P.Pmem.region c.create_at.new.memory)) c.self.view_is
+          (created_front c.self.invariant.0 runs writes c.in-Ok.ensures.created (unused_is c.self.inside.sup c.self.inside.rows.items c.cpu.inside.0 c.in_ok-spot.spot.inode low (spot path.0 path.1).unused).0)
+          );
+      wrote = rw (← c.cpu.view_is) (λ names d j held path ended number sound.
+          create_stored g.P.Pmem.region c.self.view_is c.self.invariant.0 c.in_ok-writable.ensures.runs (g.P.Pmem.region c.create_at.new.memory) c.cpu.inside.0 c.in_ok-writable.ensures.writes c.in_ok-spot.spot.directory c.in_ok-spot.spot.inode c.in_ok-spot.ensures.in_use c.in_ok-writable.ensures.cpu
+          c.in_ok-spot.spot.name.now names (c.in_ok-spot.ensures.spot (fixed_layout c.self.inside.sup) c.self.invariant.1 (g.P.Pmem.region c.self.inside.memory) names path) c.create_at.ensures.wrote d j held ended number sound
+          );
+      in_order = rw (← c.cpu.view_is) (λ names d j path ended number.
+          create_ordered g.P.Pmem.region c.self.view_is c.self.invariant.0 c.in_ok-writable.ensures.runs (g.P.Pmem.region c.create_at.new.memory) c.cpu.inside.0 c.in_ok-writable.ensures.writes c.in_ok-spot.spot.directory c.in_ok-spot.spot.inode c.in_ok-spot.ensures.in_use c.in_ok-writable.ensures.cpu
+          c.in_ok-spot.spot.name.now names (c.in_ok-spot.ensures.spot (fixed_layout c.self.inside.sup) c.self.invariant.1 (g.P.Pmem.region c.self.inside.memory) names path) c.create_at.ensures.in_order d j ended number
+          );
+    }
 
 pub create_at-requires-clause-in_use : goal.create_at-requires-clause-in_use
 create_at-requires-clause-in_use g c = c.in_ok-spot.ensures.in_use
 
 pub returns-in-Ok-clause-refused : goal.returns-in-Ok-clause-refused
 returns-in-Ok-clause-refused g c still p says = tt
-
-pub returns-in-Ok-clause-unchanged : goal.returns-in-Ok-clause-unchanged
-returns-in-Ok-clause-unchanged g c = tt
-
-pub returns-in-Ok-clause-journals : goal.returns-in-Ok-clause-journals
-returns-in-Ok-clause-journals g c =
-    rw (← c.cpu.view_is) (
-    let runs : c.self.inside.stopped ≡ false = ap (λ (m : Mount g.row.P.Denot). m.stopped) c.self.view_is ∙ c.in_ok-writable.ensures.runs in
-    let writes : c.self.inside.read_only ≡ false = ap (λ (m : Mount g.row.P.Denot). m.read_only) c.self.view_is ∙ c.in_ok-writable.ensures.writes in
-    let low : c.cpu.inside.0 < c.self.inside.sup.cpus = subst (λ (m : Mount g.row.P.Denot). c.cpu.inside.0 < m.sup.cpus) (sym c.self.view_is) c.in_ok-writable.ensures.cpu in
-    let spot : (names : List (List ℕ)) → IsPath c.args.path.now names → IsSpot (tree_of (g.P.Pmem.region c.self.inside.memory) c.self.inside.rows.items) c.self.inside.rows.items (fixed_layout c.self.inside.sup) c.cpu.inside.0 names (place_in c.self.inside.rows.items c.in_ok-spot.spot.directory) c.in_ok-spot.spot.name.now c.in_ok-spot.spot.inode =
-    c.in_ok-spot.ensures.spot (fixed_layout c.self.inside.sup) c.self.invariant.1 (g.P.Pmem.region c.self.inside.memory) in
-    let path = c.in_ok-spot.ensures.path in
-    subst (λ (m : Mount g.row.P.Denot). SameFrontBut m.sup.cpus c.cpu.inside.0 (g.P.Pmem.region m.memory) (g.P.Pmem.region c.create_at.new.memory)) c.self.view_is
-    (created_front c.self.invariant.0 runs writes c.in-Ok.ensures.created (unused_is c.self.inside.sup c.self.inside.rows.items c.cpu.inside.0 c.in_ok-spot.spot.inode low (spot path.0 path.1).unused).0)
-    )
-
-pub returns-in-Ok-clause-settled : goal.returns-in-Ok-clause-settled
-returns-in-Ok-clause-settled g c = c.in-Ok.ensures.kept.settled
 
 pub returns-in-Err-clause-allowed : goal.returns-in-Err-clause-allowed
 returns-in-Err-clause-allowed g c p says = tt
@@ -284,32 +305,6 @@ returns-in-Err-clause-changed g c names path = tt
 
 pub returns-in-Err-clause-log : goal.returns-in-Err-clause-log
 returns-in-Err-clause-log g c names d j held h path led number sound is = tt
-
-pub returns-in-Err-clause-journals : goal.returns-in-Err-clause-journals
-returns-in-Err-clause-journals g c = tt
-
-pub returns-in-Err-clause-settled : goal.returns-in-Err-clause-settled
-returns-in-Err-clause-settled g c = tt
-
-pub returns-in-Ok-clause-keeps : goal.returns-in-Ok-clause-keeps
-returns-in-Ok-clause-keeps g c = record { sup = ap (λ (m : Mount g.row.P.Denot). m.sup) c.self.view_is; faults = ap (λ (m : Mount g.row.P.Denot). m.faults) c.self.view_is; read_only = ap (λ (m : Mount g.row.P.Denot). m.read_only) c.self.view_is }
-
-pub returns-in-Ok-clause-length : goal.returns-in-Ok-clause-length
-returns-in-Ok-clause-length g c = subst (λ (m : Mount g.row.P.Denot). size (g.P.Pmem.region c.create_at.new.memory) ≡ size (g.P.Pmem.region m.memory)) c.self.view_is c.create_at.ensures.kept.length
-
-pub returns-in-Ok-clause-keeps_fuse : goal.returns-in-Ok-clause-keeps_fuse
-returns-in-Ok-clause-keeps_fuse g c =
-    subst (λ (m : Mount g.row.P.Denot). KeepsFuse (λ limit. size (g.P.Pmem.region m.memory) ≤ limit) (g.P.Pmem.fuse m.memory) (g.P.Pmem.fuse c.create_at.new.memory)) c.self.view_is c.create_at.ensures.kept.keeps_fuse
-
-pub returns-in-Err-clause-keeps : goal.returns-in-Err-clause-keeps
-returns-in-Err-clause-keeps g c = record { sup = ap (λ (m : Mount g.row.P.Denot). m.sup) c.self.view_is; faults = ap (λ (m : Mount g.row.P.Denot). m.faults) c.self.view_is; read_only = ap (λ (m : Mount g.row.P.Denot). m.read_only) c.self.view_is }
-
-pub returns-in-Err-clause-length : goal.returns-in-Err-clause-length
-returns-in-Err-clause-length g c = subst (λ (m : Mount g.row.P.Denot). size (g.P.Pmem.region c.create_at.new.memory) ≡ size (g.P.Pmem.region m.memory)) c.self.view_is c.create_at.ensures.kept.length
-
-pub returns-in-Err-clause-keeps_fuse : goal.returns-in-Err-clause-keeps_fuse
-returns-in-Err-clause-keeps_fuse g c =
-    subst (λ (m : Mount g.row.P.Denot). KeepsFuse (λ limit. size (g.P.Pmem.region m.memory) ≤ limit) (g.P.Pmem.fuse m.memory) (g.P.Pmem.fuse c.create_at.new.memory)) c.self.view_is c.create_at.ensures.kept.keeps_fuse
 
 pub returns-in_err-writable-clause-any_stop : goal.returns-in_err-writable-clause-any_stop
 returns-in_err-writable-clause-any_stop g c names path on able = call_stays g.P.Pmem.region c.args.self.now (makes_inode c.args.kind c.args.cpu c.args.mode c.args.time) (logs_inode c.args.kind c.args.cpu c.args.mode c.args.time) names c.in_err-writable.ensures.kept on able _ (c.in_err-writable.ensures.settled on)
@@ -343,68 +338,4 @@ returns-in-Err-clause-any_stop g c =
     let at : slice_get c.self.inside.rows.items (place_in c.self.inside.rows.items c.in_ok-spot.spot.directory) ≡ Some r.0 = at_place c.self.inside.rows.items c.in_ok-spot.spot.directory ∙ r.1 in
     create_left g.P.Pmem.region c.self.view_is c.self.invariant.0 runs writes (place_in c.self.inside.rows.items c.in_ok-spot.spot.directory) r.0 at c.args.kind c.args.mode c.time.inside.0 c.in_ok-spot.spot.inode c.in_ok-spot.spot.name.now c.cpu.inside.0 low c.in_ok-spot.ensures.name names spot _ _ _
     (λ held h shows out absent pending. c.create_at.ensures.any_stop r.0 held h r.1 shows out absent pending) (c.self.invariant.2 runs)
-    )
-
-pub returns-in_err-writable-clause-read_only : goal.returns-in_err-writable-clause-read_only
-returns-in_err-writable-clause-read_only g c only = same_mount c.args.self.now
-
-pub returns-in_err-spot-clause-read_only : goal.returns-in_err-spot-clause-read_only
-returns-in_err-spot-clause-read_only g c only = absurd (let no : true ≡ false = sym only ∙ c.in_ok-writable.ensures.writes in cc)
-
-pub returns-in-Ok-clause-read_only : goal.returns-in-Ok-clause-read_only
-returns-in-Ok-clause-read_only g c only = absurd (let no : true ≡ false = sym only ∙ c.in_ok-writable.ensures.writes in cc)
-
-pub returns-in-Err-clause-read_only : goal.returns-in-Err-clause-read_only
-returns-in-Err-clause-read_only g c only = absurd (let no : true ≡ false = sym only ∙ c.in_ok-writable.ensures.writes in cc)
-
-pub returns-in_err-writable-clause-bad_text : goal.returns-in_err-writable-clause-bad_text
-returns-in_err-writable-clause-bad_text g c bad = same_mount c.args.self.now
-
-pub returns-in_err-spot-clause-bad_text : goal.returns-in_err-spot-clause-bad_text
-returns-in_err-spot-clause-bad_text g c bad = same_mount c.args.self.now
-
-pub returns-in-Ok-clause-bad_text : goal.returns-in-Ok-clause-bad_text
-returns-in-Ok-clause-bad_text g c bad = absurd (let path = c.in_ok-spot.ensures.path in bad path.0 path.1)
-
-pub returns-in-Err-clause-bad_text : goal.returns-in-Err-clause-bad_text
-returns-in-Err-clause-bad_text g c bad = absurd (let path = c.in_ok-spot.ensures.path in bad path.0 path.1)
-
-pub returns-in_err-writable-clause-in_order : goal.returns-in_err-writable-clause-in_order
-returns-in_err-writable-clause-in_order g c names d j path ended number = ∣ inl refl ∣₁
-
-pub returns-in_err-spot-clause-in_order : goal.returns-in_err-spot-clause-in_order
-returns-in_err-spot-clause-in_order g c names d j path ended number = ∣ inl refl ∣₁
-
-pub returns-in-Ok-clause-in_order : goal.returns-in-Ok-clause-in_order
-returns-in-Ok-clause-in_order g c =
-    rw (← c.cpu.view_is) (λ names d j path ended number.
-    create_ordered g.P.Pmem.region c.self.view_is c.self.invariant.0 c.in_ok-writable.ensures.runs (g.P.Pmem.region c.create_at.new.memory) c.cpu.inside.0 c.in_ok-writable.ensures.writes c.in_ok-spot.spot.directory c.in_ok-spot.spot.inode c.in_ok-spot.ensures.in_use c.in_ok-writable.ensures.cpu
-    c.in_ok-spot.spot.name.now names (c.in_ok-spot.ensures.spot (fixed_layout c.self.inside.sup) c.self.invariant.1 (g.P.Pmem.region c.self.inside.memory) names path) c.create_at.ensures.in_order d j ended number
-    )
-
-pub returns-in-Err-clause-in_order : goal.returns-in-Err-clause-in_order
-returns-in-Err-clause-in_order g c =
-    rw (← c.cpu.view_is) (λ names d j path ended number.
-    create_ordered g.P.Pmem.region c.self.view_is c.self.invariant.0 c.in_ok-writable.ensures.runs (g.P.Pmem.region c.create_at.new.memory) c.cpu.inside.0 c.in_ok-writable.ensures.writes c.in_ok-spot.spot.directory c.in_ok-spot.spot.inode c.in_ok-spot.ensures.in_use c.in_ok-writable.ensures.cpu
-    c.in_ok-spot.spot.name.now names (c.in_ok-spot.ensures.spot (fixed_layout c.self.inside.sup) c.self.invariant.1 (g.P.Pmem.region c.self.inside.memory) names path) c.create_at.ensures.in_order d j ended number
-    )
-
-pub returns-in_err-writable-clause-wrote : goal.returns-in_err-writable-clause-wrote
-returns-in_err-writable-clause-wrote g c names d j held path ended number sound = λ at whole away. refl
-
-pub returns-in_err-spot-clause-wrote : goal.returns-in_err-spot-clause-wrote
-returns-in_err-spot-clause-wrote g c names d j held path ended number sound = λ at whole away. refl
-
-pub returns-in-Ok-clause-wrote : goal.returns-in-Ok-clause-wrote
-returns-in-Ok-clause-wrote g c =
-    rw (← c.cpu.view_is) (λ names d j held path ended number sound.
-    create_stored g.P.Pmem.region c.self.view_is c.self.invariant.0 c.in_ok-writable.ensures.runs (g.P.Pmem.region c.create_at.new.memory) c.cpu.inside.0 c.in_ok-writable.ensures.writes c.in_ok-spot.spot.directory c.in_ok-spot.spot.inode c.in_ok-spot.ensures.in_use c.in_ok-writable.ensures.cpu
-    c.in_ok-spot.spot.name.now names (c.in_ok-spot.ensures.spot (fixed_layout c.self.inside.sup) c.self.invariant.1 (g.P.Pmem.region c.self.inside.memory) names path) c.create_at.ensures.wrote d j held ended number sound
-    )
-
-pub returns-in-Err-clause-wrote : goal.returns-in-Err-clause-wrote
-returns-in-Err-clause-wrote g c =
-    rw (← c.cpu.view_is) (λ names d j held path ended number sound.
-    create_stored g.P.Pmem.region c.self.view_is c.self.invariant.0 c.in_ok-writable.ensures.runs (g.P.Pmem.region c.create_at.new.memory) c.cpu.inside.0 c.in_ok-writable.ensures.writes c.in_ok-spot.spot.directory c.in_ok-spot.spot.inode c.in_ok-spot.ensures.in_use c.in_ok-writable.ensures.cpu
-    c.in_ok-spot.spot.name.now names (c.in_ok-spot.ensures.spot (fixed_layout c.self.inside.sup) c.self.invariant.1 (g.P.Pmem.region c.self.inside.memory) names path) c.create_at.ensures.wrote d j held ended number sound
     )

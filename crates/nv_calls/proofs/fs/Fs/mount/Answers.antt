@@ -1,7 +1,8 @@
 use Rattle.std.proofs.Common.{◌∙◌, ap, subst, sym}
 use Rattle.nv_region.specs.Stops.{LeavesOnly}
+use Rattle.nv_region.specs.Fuses.{KeepsFuse}
 use Rattle.nv_region.specs.Stored.{StoresOnly}
-use Rattle.nv_recover.specs.Behind.{RecoveryStores}
+use Rattle.nv_recover.specs.Behind.{BehindSlots, RecoveryStores}
 use Rattle.nv_recover.specs.Errors.{UndoesAsBefore}
 use Rattle.nv_held.specs.nv_outcome.Answer.{outcome_of}
 use Rattle.nv_calls.proofs.Mounted.{opens, rolls_back_once, tells}
@@ -29,19 +30,28 @@ pub returns-in-Ok-clause-undone : goal.returns-in-Ok-clause-undone
 returns-in-Ok-clause-undone g c =
     ap g.P.Pmem.region c.open.ensures.memory ∙ c.in-Ok.ensures.undone ∙ ap (λ (s : Super). undone s (g.P.Pmem.region c.args.memory)) (sym c.open.ensures.sup)
 
-pub returns-in-Ok-clause-quiet : goal.returns-in-Ok-clause-quiet
-returns-in-Ok-clause-quiet g c s is quiet = c.open.ensures.memory ∙ c.in-Ok.ensures.kept.quiet s is quiet
+pub returns-in-Ok-clause-kept : goal.returns-in-Ok-clause-kept
+returns-in-Ok-clause-kept g c =
+    record {
+      quiet = λ s is quiet. c.open.ensures.memory ∙ c.in-Ok.ensures.kept.quiet s is quiet;
+      quiet_done = λ s is quiet. tt;
+      untouched = tt;
+      stopped = tt;
+      keeps_fuse = subst (λ (m : g.row.P.Denot). KeepsFuse (BehindSlots (g.P.Pmem.region c.args.memory)) (g.P.Pmem.fuse c.args.memory) (g.P.Pmem.fuse m)) (sym c.open.ensures.memory) c.in-Ok.ensures.kept.keeps_fuse;
+      wrote = subst (λ (m : g.row.P.Denot). StoresOnly (RecoveryStores (g.P.Pmem.region c.args.memory)) (g.P.Pmem.region c.args.memory) (g.P.Pmem.region m) (g.P.Pmem.may_hold c.args.memory) (g.P.Pmem.may_hold m)) (sym c.open.ensures.memory) c.in-Ok.ensures.kept.wrote;
+      unstopped = λ s is open_to. tt;
+      any_stop = λ s is. subst (λ (m : g.row.P.Denot). LeavesOnly (g.P.Pmem.region m) (g.P.Pmem.may_hold m) (UndoesAsBefore (g.P.Pmem.region c.args.memory))) (sym c.open.ensures.memory) (c.in-Ok.ensures.kept.any_stop s is c.requires.settled);
+    }
 
-pub returns-in-Ok-clause-any_stop : goal.returns-in-Ok-clause-any_stop
-returns-in-Ok-clause-any_stop g c s is =
-    subst (λ (m : g.row.P.Denot). LeavesOnly (g.P.Pmem.region m) (g.P.Pmem.may_hold m) (UndoesAsBefore (g.P.Pmem.region c.args.memory))) (sym c.open.ensures.memory) (c.in-Ok.ensures.kept.any_stop s is c.requires.settled)
-
-pub returns-in-Err-clause-any_stop : goal.returns-in-Err-clause-any_stop
-returns-in-Err-clause-any_stop g c s is = c.in-Err.ensures.kept.any_stop s is c.requires.settled
-
-pub returns-in-Ok-clause-wrote : goal.returns-in-Ok-clause-wrote
-returns-in-Ok-clause-wrote g c =
-    subst (λ (m : g.row.P.Denot). StoresOnly (RecoveryStores (g.P.Pmem.region c.args.memory)) (g.P.Pmem.region c.args.memory) (g.P.Pmem.region m) (g.P.Pmem.may_hold c.args.memory) (g.P.Pmem.may_hold m)) (sym c.open.ensures.memory) c.in-Ok.ensures.kept.wrote
-
-pub returns-in-Err-clause-wrote : goal.returns-in-Err-clause-wrote
-returns-in-Err-clause-wrote g c = c.in-Err.ensures.kept.wrote
+pub returns-in-Err-clause-kept : goal.returns-in-Err-clause-kept
+returns-in-Err-clause-kept g c =
+    record {
+      quiet = c.in-Err.ensures.kept.quiet;
+      quiet_done = c.in-Err.ensures.kept.quiet_done;
+      untouched = c.in-Err.ensures.kept.untouched;
+      stopped = c.in-Err.ensures.kept.stopped;
+      keeps_fuse = c.in-Err.ensures.kept.keeps_fuse;
+      wrote = c.in-Err.ensures.kept.wrote;
+      unstopped = c.in-Err.ensures.kept.unstopped;
+      any_stop = λ s is. c.in-Err.ensures.kept.any_stop s is c.requires.settled;
+    }

@@ -1,5 +1,5 @@
-use Rattle.std.proofs.Common.{◌≡◌, ◌∙◌, ◌≤◌, ◌++◌, ◌∷◌, [], List, ℕ, Some, false, true, inr, ap, set, subst, sym, refl}
-use Rattle.std.proofs.lemmas.Result.{err_from_is_err_and}
+use Rattle.std.proofs.Common.{◌≡◌, ◌∙◌, ◌≤◌, ◌++◌, ◌∷◌, [], List, ℕ, Some, false, inr, ap, set, subst, sym, refl}
+use Rattle.std.proofs.lemmas.Result.{err_from_is_err_and, IfOk-from_err}
 use Rattle.std.proofs.lemmas.Option.{same_Some}
 use Rattle.nv_rows.proofs.TableNumbers.{numbers_kept}
 use Rattle.nv_alloc.specs.Taking.{all_blocks}
@@ -25,13 +25,14 @@ use Rattle.nv_tree.proofs.Replies.{refused_by}
 use Rattle.nv_rows.specs.Rows.{place_in}
 use Rattle.nv_rows.proofs.Places.{at_place, back_one, in_use, own_row}
 use Rattle.nv_calls.proofs.RowChange.{kept_after, same_mount, tree_after}
-use Rattle.nv_calls.proofs.SetAttr.{kept_or_stopped, late_reply, not_stop, unchanged_step}
+use Rattle.nv_calls.proofs.SetAttr.{kept_or_stopped, not_stop, unchanged_step}
 use Rattle.nv_calls.proofs.SetSize.{front_goes_on, resized_node, size_allowed, size_changed, size_front, size_logged, size_refused}
 use Rattle.nv_calls.proofs.SizeKept.{blocks_same, bytes_after, can_resize, log_after}
-use Rattle.nv_calls.proofs.Tests.{early_reply, if_err, writing_goes_on}
+use Rattle.nv_calls.proofs.Tests.{writing_goes_on}
 use Rattle.nv_calls.proofs.TwoRows.{last_used}
 use Rattle.nv_calls.proofs.TextPaths.{front_path}
 use Rattle.nv_calls.proofs.Stores.{path_stores}
+use Rattle.nv_calls.proofs.CallKept.{call_done, refused_first, refused_late, refused_later}
 use Rattle.nv_calls.proofs.fs.Fs.set_size.Goals as goal
 
 pub give_back-requires : goal.give_back-requires
@@ -48,14 +49,17 @@ returns-in_err-writable-clause-refused g c =
     (inr (inr (c.in_err-writable.ensures.refused runs (is_bad p ∷ walk_tests tree p ++ is_missing tree p ∷ is_dir tree p ∷ is_too_large c.args.size ∷ has_no_space (world_of c.args.self.now) count ∷ []))))
     )
 
-pub returns-in_err-writable-clause-unchanged : goal.returns-in_err-writable-clause-unchanged
-returns-in_err-writable-clause-unchanged g c = if_err c.from_residual.result _ (λ e on. same_mount c.args.self.now)
-
-pub returns-in_err-writable-clause-stopped : goal.returns-in_err-writable-clause-stopped
-returns-in_err-writable-clause-stopped g c runs =
+pub returns-in_err-writable-clause-call : goal.returns-in_err-writable-clause-call
+returns-in_err-writable-clause-call g c =
     let w = err_from_is_err_and c.from_residual.result c.from_residual.ensures.1 in
-    early_reply c.args.self.now.stopped c.from_residual.result c.in_err-writable.field-0.0 w.0 w.1 w.2
-    (λ is. writing_goes_on (world_of c.args.self.now) c.cpu.inside.0 (c.in_err-writable.ensures.refused runs [] ∙ ap (λ (e : Refusal). Some e) is)) runs
+    record {
+      of_path = record {
+        call = refused_first g.P.Pmem.region g.P.Pmem.fuse c.args.self.now c.from_residual.result c.in_err-writable.field-0.0 w.0 w.1 w.2 c.in_err-writable.ensures.stopped
+            (λ runs is. writing_goes_on (world_of c.args.self.now) c.cpu.inside.0 (c.in_err-writable.ensures.refused runs [] ∙ ap (λ (e : Refusal). Some e) is));
+        bad_text = λ bad. same_mount c.args.self.now;
+      };
+      settled = IfOk-from_err c.from_residual.result _ c.from_residual.ensures.0;
+    }
 
 pub returns-in_err-inode-clause-refused : goal.returns-in_err-inode-clause-refused
 returns-in_err-inode-clause-refused g c =
@@ -67,16 +71,19 @@ returns-in_err-inode-clause-refused g c =
     (inr (inr (size_front g.P.Pmem.region c.self.view_is c.cpu.inside.0 c.args.size c.in_ok-writable.ensures.passed p c.in_err-inode.field-0.0 told)))
     )
 
-pub returns-in_err-inode-clause-unchanged : goal.returns-in_err-inode-clause-unchanged
-returns-in_err-inode-clause-unchanged g c = if_err c.from_residual-in_err-inode.result _ (λ e on. same_mount c.args.self.now)
-
-pub returns-in_err-inode-clause-stopped : goal.returns-in_err-inode-clause-stopped
-returns-in_err-inode-clause-stopped g c runs =
+pub returns-in_err-inode-clause-call : goal.returns-in_err-inode-clause-call
+returns-in_err-inode-clause-call g c =
     let w = err_from_is_err_and c.from_residual-in_err-inode.result c.from_residual-in_err-inode.ensures.1 in
     let said = text_says c.args.path.now in
     let told = c.in_err-inode.ensures.refused (g.P.Pmem.region c.self.inside.memory) said.0 said.1 in
-    early_reply c.args.self.now.stopped c.from_residual-in_err-inode.result c.in_err-inode.field-0.0 w.0 w.1 w.2
-    (λ is. front_goes_on (tree_of (g.P.Pmem.region c.self.inside.memory) c.self.inside.rows.items) said.0 c.args.size (told ∙ ap (λ (e : Refusal). Some e) is)) runs
+    record {
+      of_path = record {
+        call = refused_later g.P.Pmem.region g.P.Pmem.fuse c.args.self.now c.from_residual-in_err-inode.result c.in_err-inode.field-0.0 w.0 w.1 w.2 c.in_ok-writable.ensures.runs
+            (λ is. front_goes_on (tree_of (g.P.Pmem.region c.self.inside.memory) c.self.inside.rows.items) said.0 c.args.size (told ∙ ap (λ (e : Refusal). Some e) is));
+        bad_text = λ bad. same_mount c.args.self.now;
+      };
+      settled = IfOk-from_err c.from_residual-in_err-inode.result _ c.from_residual-in_err-inode.ensures.0;
+    }
 
 pub resize-resized-requires-clause-can : goal.resize-resized-requires-clause-can
 resize-resized-requires-clause-can g c =
@@ -180,29 +187,35 @@ returns-in-Err-clause-refused g c =
     (subst (λ (n : ℕ). RefusesStep c.in-Err.refusal n c.self.inside.free) count c.in-Err.ensures.needs.refused)
     )
 
-pub returns-in-Err-clause-unchanged : goal.returns-in-Err-clause-unchanged
-returns-in-Err-clause-unchanged g c off =
+pub returns-in-Err-clause-call : goal.returns-in-Err-clause-call
+returns-in-Err-clause-call g c =
     let runs : c.self.inside.stopped ≡ false = ap (λ (m : Mount g.row.P.Denot). m.stopped) c.self.view_is ∙ c.in_ok-writable.ensures.runs in
-    let rows = c.self.inside.rows.items in
-    let inode = c.in_ok-inode.field-0.now.inode in
-    let at = at_place rows inode ∙ c.lend-row.ensures.row in
-    let put = back_one rows c.lend-row.new.self.items c.give_back.new.self.items inode c.resize-resized.new.row c.lend-row.ensures.lent (c.resize-resized.ensures.inode ∙ c.lend-row.ensures.number) c.give_back.ensures.rows in
-    rw put (unchanged_step c.self.view_is c.resize-resized.new.memory c.resize-resized.new.free (place_in rows inode) c.lend-row.result c.resize-resized.new.row c.is_stop-self-inside.result at runs (not_stop c.in-Err.refusal c.is_stop-self-inside.result c.is_stop-self-inside.ensures.yes off) (c.in-Err.ensures.unchanged off))
+    let writes : c.self.inside.read_only ≡ false = ap (λ (m : Mount g.row.P.Denot). m.read_only) c.self.view_is ∙ c.in_ok-writable.ensures.writes in
+    record {
+      of_path = record {
+        call = refused_late g.P.Pmem.region g.P.Pmem.fuse c.self.view_is c.resize-resized.new.memory c.give_back.new.self.items c.resize-resized.new.free runs writes c.in-Err.refusal c.is_stop-self-inside.result c.is_stop-self-inside.ensures.yes c.is_stop-self-inside.ensures.no c.in-Err.ensures.kept.keeps
+            (λ off.
+            let rows = c.self.inside.rows.items in
+            let inode = c.in_ok-inode.field-0.now.inode in
+            let at = at_place rows inode ∙ c.lend-row.ensures.row in
+            let put = back_one rows c.lend-row.new.self.items c.give_back.new.self.items inode c.resize-resized.new.row c.lend-row.ensures.lent (c.resize-resized.ensures.inode ∙ c.lend-row.ensures.number) c.give_back.ensures.rows in
+            rw put (unchanged_step c.self.view_is c.resize-resized.new.memory c.resize-resized.new.free (place_in rows inode) c.lend-row.result c.resize-resized.new.row c.is_stop-self-inside.result at runs (not_stop c.in-Err.refusal c.is_stop-self-inside.result c.is_stop-self-inside.ensures.yes off) (c.in-Err.ensures.unchanged off)));
+        bad_text = λ bad. absurd (let said = text_says c.args.path.now in let path = front_path (tree_of (g.P.Pmem.region c.self.inside.memory) c.self.inside.rows.items) c.args.path.now said.0 c.args.size said.1 (c.in_ok-inode.ensures.refused (g.P.Pmem.region c.self.inside.memory) said.0 said.1) in bad path.0 path.1);
+      };
+      settled = tt;
+    }
 
-pub returns-in-Err-clause-stopped : goal.returns-in-Err-clause-stopped
-returns-in-Err-clause-stopped g c still = late_reply c.in-Err.refusal c.is_stop-self-inside.result c.is_stop-self-inside.ensures.yes c.is_stop-self-inside.ensures.no c.in-Err.ensures.kept.stopped
-
-pub returns-in_err-writable-clause-read_only : goal.returns-in_err-writable-clause-read_only
-returns-in_err-writable-clause-read_only g c only = same_mount c.args.self.now
-
-pub returns-in_err-inode-clause-read_only : goal.returns-in_err-inode-clause-read_only
-returns-in_err-inode-clause-read_only g c only = absurd (let no : true ≡ false = sym only ∙ c.in_ok-writable.ensures.writes in cc)
-
-pub returns-in-Ok-clause-read_only : goal.returns-in-Ok-clause-read_only
-returns-in-Ok-clause-read_only g c only = absurd (let no : true ≡ false = sym only ∙ c.in_ok-writable.ensures.writes in cc)
-
-pub returns-in-Err-clause-read_only : goal.returns-in-Err-clause-read_only
-returns-in-Err-clause-read_only g c only = absurd (let no : true ≡ false = sym only ∙ c.in_ok-writable.ensures.writes in cc)
+pub returns-in-Ok-clause-call : goal.returns-in-Ok-clause-call
+returns-in-Ok-clause-call g c =
+    let runs : c.self.inside.stopped ≡ false = ap (λ (m : Mount g.row.P.Denot). m.stopped) c.self.view_is ∙ c.in_ok-writable.ensures.runs in
+    let writes : c.self.inside.read_only ≡ false = ap (λ (m : Mount g.row.P.Denot). m.read_only) c.self.view_is ∙ c.in_ok-writable.ensures.writes in
+    record {
+      of_path = record {
+        call = call_done g.P.Pmem.region g.P.Pmem.fuse c.self.view_is c.resize-resized.new.memory c.give_back.new.self.items c.resize-resized.new.free runs writes _ _ c.in-Ok.ensures.kept.keeps;
+        bad_text = λ bad. absurd (let said = text_says c.args.path.now in let path = front_path (tree_of (g.P.Pmem.region c.self.inside.memory) c.self.inside.rows.items) c.args.path.now said.0 c.args.size said.1 (c.in_ok-inode.ensures.refused (g.P.Pmem.region c.self.inside.memory) said.0 said.1) in bad path.0 path.1);
+      };
+      settled = c.in-Ok.ensures.kept.settled;
+    }
 
 pub returns-in_err-writable-clause-any_stop : goal.returns-in_err-writable-clause-any_stop
 returns-in_err-writable-clause-any_stop g c names path on able = call_stays g.P.Pmem.region c.args.self.now (makes_size c.args.size c.args.time) (logs_size c.args.cpu c.args.size c.args.time) names c.in_err-writable.ensures.kept on able _ (c.in_err-writable.ensures.settled on)
@@ -235,18 +248,6 @@ returns-in-Err-clause-any_stop g c =
     size_left g.P.Pmem.region c.self.view_is c.self.invariant.0 runs writes (place_in rows inode) c.lend-row.result at c.cpu.inside.0 c.args.size c.time.inside.0 names leads _ _ _
     (λ held h shows pending. c.resize-resized.ensures.any_stop held h shows pending) (c.self.invariant.2 runs)
     )
-
-pub returns-in_err-writable-clause-bad_text : goal.returns-in_err-writable-clause-bad_text
-returns-in_err-writable-clause-bad_text g c bad = same_mount c.args.self.now
-
-pub returns-in_err-inode-clause-bad_text : goal.returns-in_err-inode-clause-bad_text
-returns-in_err-inode-clause-bad_text g c bad = same_mount c.args.self.now
-
-pub returns-in-Ok-clause-bad_text : goal.returns-in-Ok-clause-bad_text
-returns-in-Ok-clause-bad_text g c bad = absurd (let said = text_says c.args.path.now in let path = front_path (tree_of (g.P.Pmem.region c.self.inside.memory) c.self.inside.rows.items) c.args.path.now said.0 c.args.size said.1 (c.in_ok-inode.ensures.refused (g.P.Pmem.region c.self.inside.memory) said.0 said.1) in bad path.0 path.1)
-
-pub returns-in-Err-clause-bad_text : goal.returns-in-Err-clause-bad_text
-returns-in-Err-clause-bad_text g c bad = absurd (let said = text_says c.args.path.now in let path = front_path (tree_of (g.P.Pmem.region c.self.inside.memory) c.self.inside.rows.items) c.args.path.now said.0 c.args.size said.1 (c.in_ok-inode.ensures.refused (g.P.Pmem.region c.self.inside.memory) said.0 said.1) in bad path.0 path.1)
 
 pub returns-in_err-writable-clause-wrote : goal.returns-in_err-writable-clause-wrote
 returns-in_err-writable-clause-wrote g c names i node held path led sound = λ at whole away. refl

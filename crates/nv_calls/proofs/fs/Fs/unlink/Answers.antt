@@ -1,5 +1,5 @@
-use Rattle.std.proofs.Common.{◌≡◌, ◌∙◌, ◌<◌, ◌≤◌, ◌-◌, ◌++◌, ◌∷◌, [], List, ℕ, Some, None, Ok, false, true, inr, ap, slice_get, subst, sym, inl, refl}
-use Rattle.std.proofs.lemmas.Result.{err_from_is_err_and}
+use Rattle.std.proofs.Common.{◌≡◌, ◌∙◌, ◌<◌, ◌≤◌, ◌-◌, ◌++◌, ◌∷◌, [], List, ℕ, Some, None, Ok, false, inr, ap, slice_get, subst, sym, inl, refl}
+use Rattle.std.proofs.lemmas.Result.{err_from_is_err_and, IfOk-from_err}
 use Rattle.nv_rows.proofs.TableNumbers.{numbers_kept}
 use Rattle.nv_super.specs.declared.kind.Kind.TheVariants.{File}
 use Rattle.nv_entry.specs.declared.entry.Operation.TheVariants.{Remove}
@@ -38,14 +38,15 @@ use Rattle.nv_calls.proofs.Tests.{space_allows, space_refuses}
 use Rattle.nv_calls.proofs.UnlinkCall.{released_at, unlink_kept, unlink_last, unlink_last_test, unlink_logs, unlink_refusal, unlink_tree}
 use Rattle.nv_paths.proofs.RemoveTests.{unlink_goes_on, unlink_refuses}
 use Rattle.nv_calls.proofs.RowChange.{same_mount}
-use Rattle.nv_calls.proofs.SetAttr.{late_reply, not_stop}
-use Rattle.nv_calls.proofs.Tests.{early_reply, if_err, writing_goes_on}
+use Rattle.nv_calls.proofs.SetAttr.{not_stop}
+use Rattle.nv_calls.proofs.Tests.{writing_goes_on}
 use Rattle.nv_super.specs.Layout.{slot_address}
 use Rattle.nv_steps.specs.InOrder.{tail_address}
 use Rattle.nv_steps.specs.Stores.{one_less, two_logs}
 use Rattle.nv_calls.proofs.TwoWords.{gone_ordered, gone_stored}
 use Rattle.nv_calls.proofs.fs.Fs.unlink.Goals as goal
 use Rattle.nv_calls.proofs.FrontsKept.{released_front}
+use Rattle.nv_calls.proofs.CallKept.{call_done, refused_first, refused_late, refused_later}
 
 pub returns-in_err-writable-clause-refused : goal.returns-in_err-writable-clause-refused
 returns-in_err-writable-clause-refused g c =
@@ -57,14 +58,27 @@ returns-in_err-writable-clause-refused g c =
     (inr (inr (c.in_err-writable.ensures.refused runs (is_bad_name p ∷ walk_tests tree p ++ is_missing tree p ∷ is_dir tree p ∷ has_no_space (world_of c.args.self.now) count ∷ []))))
     )
 
-pub returns-in_err-writable-clause-unchanged : goal.returns-in_err-writable-clause-unchanged
-returns-in_err-writable-clause-unchanged g c = if_err c.from_residual.result _ (λ e on. same_mount c.args.self.now)
-
-pub returns-in_err-writable-clause-stopped : goal.returns-in_err-writable-clause-stopped
-returns-in_err-writable-clause-stopped g c runs =
+pub returns-in_err-writable-clause-call : goal.returns-in_err-writable-clause-call
+returns-in_err-writable-clause-call g c =
     let w = err_from_is_err_and c.from_residual.result c.from_residual.ensures.1 in
-    early_reply c.args.self.now.stopped c.from_residual.result c.in_err-writable.field-0.0 w.0 w.1 w.2
-    (λ is. writing_goes_on (world_of c.args.self.now) c.cpu.inside.0 (c.in_err-writable.ensures.refused runs [] ∙ ap (λ (e : Refusal). Some e) is)) runs
+    record {
+      of_path = record {
+        call = refused_first g.P.Pmem.region g.P.Pmem.fuse c.args.self.now c.from_residual.result c.in_err-writable.field-0.0 w.0 w.1 w.2 c.in_err-writable.ensures.stopped
+            (λ runs is. writing_goes_on (world_of c.args.self.now) c.cpu.inside.0 (c.in_err-writable.ensures.refused runs [] ∙ ap (λ (e : Refusal). Some e) is));
+        bad_text = λ bad. same_mount c.args.self.now;
+      };
+      settled = IfOk-from_err c.from_residual.result _ c.from_residual.ensures.0;
+    }
+
+pub returns-in_err-writable-clause-stores : goal.returns-in_err-writable-clause-stores
+returns-in_err-writable-clause-stores g c =
+    record {
+      journals = IfOk-from_err c.from_residual.result _ c.from_residual.ensures.0;
+      wrote = λ names k d node held path led ended sound some. λ at whole away. refl;
+      last_wrote = λ names k d node held path led ended sound few. λ at whole away. refl;
+      in_order = λ names k d node held h path led ended sound is some. ∣ inl refl ∣₁;
+      last_in_order = λ names k d node held h path led ended sound is few. ∣ inl refl ∣₁;
+    }
 
 pub returns-in_err-named-clause-refused : goal.returns-in_err-named-clause-refused
 returns-in_err-named-clause-refused g c =
@@ -79,17 +93,29 @@ returns-in_err-named-clause-refused g c =
     (inr (inr (unlink_refuses tree p (world_of c.args.self.now) c.cpu.inside.0 c.in_ok-writable.ensures.passed count c.in_err-named.field-0.0 told)))
     )
 
-pub returns-in_err-named-clause-unchanged : goal.returns-in_err-named-clause-unchanged
-returns-in_err-named-clause-unchanged g c =
-    if_err c.from_residual-in_err-named.result _ (λ e on. same_mount c.args.self.now)
-
-pub returns-in_err-named-clause-stopped : goal.returns-in_err-named-clause-stopped
-returns-in_err-named-clause-stopped g c runs =
+pub returns-in_err-named-clause-call : goal.returns-in_err-named-clause-call
+returns-in_err-named-clause-call g c =
     let w = err_from_is_err_and c.from_residual-in_err-named.result c.from_residual-in_err-named.ensures.1 in
     let said = text_says c.args.path.now in
     let told = c.in_err-named.ensures.refused (g.P.Pmem.region c.self.inside.memory) said.0 said.1 in
-    early_reply c.args.self.now.stopped c.from_residual-in_err-named.result c.in_err-named.field-0.0 w.0 w.1 w.2
-    (λ is. unlink_goes_on (tree_of (g.P.Pmem.region c.self.inside.memory) c.self.inside.rows.items) said.0 (told ∙ ap (λ (e : Refusal). Some e) is)) runs
+    record {
+      of_path = record {
+        call = refused_later g.P.Pmem.region g.P.Pmem.fuse c.args.self.now c.from_residual-in_err-named.result c.in_err-named.field-0.0 w.0 w.1 w.2 c.in_ok-writable.ensures.runs
+            (λ is. unlink_goes_on (tree_of (g.P.Pmem.region c.self.inside.memory) c.self.inside.rows.items) said.0 (told ∙ ap (λ (e : Refusal). Some e) is));
+        bad_text = λ bad. same_mount c.args.self.now;
+      };
+      settled = IfOk-from_err c.from_residual-in_err-named.result _ c.from_residual-in_err-named.ensures.0;
+    }
+
+pub returns-in_err-named-clause-stores : goal.returns-in_err-named-clause-stores
+returns-in_err-named-clause-stores g c =
+    record {
+      journals = IfOk-from_err c.from_residual-in_err-named.result _ c.from_residual-in_err-named.ensures.0;
+      wrote = λ names k d node held path led ended sound some. λ at whole away. refl;
+      last_wrote = λ names k d node held path led ended sound few. λ at whole away. refl;
+      in_order = λ names k d node held h path led ended sound is some. ∣ inl refl ∣₁;
+      last_in_order = λ names k d node held h path led ended sound is few. ∣ inl refl ∣₁;
+    }
 
 pub release_at-requires-clause-stands : goal.release_at-requires-clause-stands
 release_at-requires-clause-stands g c row at =
@@ -127,15 +153,15 @@ invariant_of-self g c =
     λ names path. c.in_ok-named.ensures.spot (g.P.Pmem.region c.self.inside.memory) names path in
     let path = c.in_ok-named.ensures.path in
     let files : (row : Row) → slice_get c.self.inside.rows.items (place_in c.self.inside.rows.items c.in_ok-named.named.target) ≡ Some row → row.kind ≡ File = λ row at. c.in_ok-named.ensures.file row (sym (at_place c.self.inside.rows.items c.in_ok-named.named.target) ∙ at) in
-    (unlink_kept c.self.invariant.0 runs writes c.in-Ok.ensures.released c.in_ok-named.ensures.name files path.0 (spot path.0 path.1) c.self.inside.stopped, numbers_kept c.release_at.ensures.tables.0 c.release_at.ensures.tables.1 c.self.invariant.1, λ on. c.in-Ok.ensures.kept.settled)
+    (unlink_kept c.self.invariant.0 runs writes c.in-Ok.ensures.released c.in_ok-named.ensures.name files path.0 (spot path.0 path.1) c.self.inside.stopped, numbers_kept c.release_at.ensures.kept.tables.0 c.release_at.ensures.kept.tables.1 c.self.invariant.1, λ on. c.in-Ok.ensures.kept.settled)
 
 pub invariant_of-self-in-Err : goal.invariant_of-self-in-Err
 invariant_of-self-in-Err g c =
     let runs : c.self.inside.stopped ≡ false = ap (λ (m : Mount g.row.P.Denot). m.stopped) c.self.view_is ∙ c.in_ok-writable.ensures.runs in
     let writes : c.self.inside.read_only ≡ false = ap (λ (m : Mount g.row.P.Denot). m.read_only) c.self.view_is ∙ c.in_ok-writable.ensures.writes in (
-      kept_or_stopped g.P.Pmem.region c.self.invariant.0 runs writes c.in-Err.refusal c.is_stop-self-inside.result c.is_stop-self-inside.ensures.yes c.is_stop-self-inside.ensures.no c.release_at.ensures.kept.lists c.in-Err.ensures.unchanged,
-      numbers_kept c.release_at.ensures.tables.0 c.release_at.ensures.tables.1 c.self.invariant.1,
-      settled_or_stopped g.P.Pmem.region g.P.Pmem.may_hold c.in-Err.refusal c.is_stop-self-inside.result c.is_stop-self-inside.ensures.no (λ off. (c.in-Err.ensures.unchanged off).memory) (c.self.invariant.2 runs),
+      kept_or_stopped g.P.Pmem.region c.self.invariant.0 runs writes c.in-Err.refusal c.is_stop-self-inside.result c.is_stop-self-inside.ensures.yes c.is_stop-self-inside.ensures.no c.release_at.ensures.kept.lists c.in-Err.ensures.kept.unchanged,
+      numbers_kept c.release_at.ensures.kept.tables.0 c.release_at.ensures.kept.tables.1 c.self.invariant.1,
+      settled_or_stopped g.P.Pmem.region g.P.Pmem.may_hold c.in-Err.refusal c.is_stop-self-inside.result c.is_stop-self-inside.ensures.no (λ off. (c.in-Err.ensures.kept.unchanged off).memory) (c.self.invariant.2 runs),
     )
 
 pub returns-in-Ok-clause-allowed : goal.returns-in-Ok-clause-allowed
@@ -179,14 +205,44 @@ returns-in-Ok-clause-log g c =
     (λ leads walked shown. unlink_logs c.self.invariant.0 runs writes (released_at c.in-Ok.ensures.released) c.in_ok-named.ensures.name files names (spot names path) i d node held h f leads walked shown is other_is some) led ended sound
     )
 
-pub returns-in-Ok-clause-journals : goal.returns-in-Ok-clause-journals
-returns-in-Ok-clause-journals g c =
-    rw (← c.cpu.view_is) (
+pub returns-in-Ok-clause-call : goal.returns-in-Ok-clause-call
+returns-in-Ok-clause-call g c =
     let runs : c.self.inside.stopped ≡ false = ap (λ (m : Mount g.row.P.Denot). m.stopped) c.self.view_is ∙ c.in_ok-writable.ensures.runs in
     let writes : c.self.inside.read_only ≡ false = ap (λ (m : Mount g.row.P.Denot). m.read_only) c.self.view_is ∙ c.in_ok-writable.ensures.writes in
-    subst (λ (m : Mount g.row.P.Denot). SameFrontBut m.sup.cpus c.cpu.inside.0 (g.P.Pmem.region m.memory) (g.P.Pmem.region c.release_at.new.memory)) c.self.view_is
-    (released_front c.self.invariant.0 runs writes c.in-Ok.ensures.released)
-    )
+    record {
+      of_path = record {
+        call = call_done g.P.Pmem.region g.P.Pmem.fuse c.self.view_is c.release_at.new.memory c.release_at.new.rows.items c.release_at.new.free runs writes _ _ c.in-Ok.ensures.kept.keeps;
+        bad_text = λ bad. absurd (let path = c.in_ok-named.ensures.path in bad path.0 path.1);
+      };
+      settled = c.in-Ok.ensures.kept.settled;
+    }
+
+pub returns-in-Ok-clause-stores : goal.returns-in-Ok-clause-stores
+returns-in-Ok-clause-stores g c =
+    record {
+      journals = rw (← c.cpu.view_is) (
+          let runs : c.self.inside.stopped ≡ false = ap (λ (m : Mount g.row.P.Denot). m.stopped) c.self.view_is ∙ c.in_ok-writable.ensures.runs in
+          let writes : c.self.inside.read_only ≡ false = ap (λ (m : Mount g.row.P.Denot). m.read_only) c.self.view_is ∙ c.in_ok-writable.ensures.writes in
+          subst (λ (m : Mount g.row.P.Denot). SameFrontBut m.sup.cpus c.cpu.inside.0 (g.P.Pmem.region m.memory) (g.P.Pmem.region c.release_at.new.memory)) c.self.view_is
+          (released_front c.self.invariant.0 runs writes c.in-Ok.ensures.released)
+          );
+      wrote = rw (← c.cpu.view_is) (λ names k d node held path led ended sound some.
+          gone_stored g.P.Pmem.region c.self.view_is c.self.invariant.0 c.in_ok-writable.ensures.runs (g.P.Pmem.region c.release_at.new.memory) c.cpu.inside.0 c.in_ok-named.named.directory c.in_ok-named.named.target c.in_ok-named.ensures.directory c.in_ok-named.ensures.target
+          c.time.inside.0 c.in_ok-named.named.name.now names (c.in_ok-named.ensures.spot (g.P.Pmem.region c.self.inside.memory) names path) (λ count. 1 < count) (λ t. two_logs t c.cpu.inside.0) c.release_at.ensures.wrote k d node held led ended sound some
+          );
+      last_wrote = rw (← c.cpu.view_is) (λ names k d node held path led ended sound few.
+          gone_stored g.P.Pmem.region c.self.view_is c.self.invariant.0 c.in_ok-writable.ensures.runs (g.P.Pmem.region c.release_at.new.memory) c.cpu.inside.0 c.in_ok-named.named.directory c.in_ok-named.named.target c.in_ok-named.ensures.directory c.in_ok-named.ensures.target
+          c.time.inside.0 c.in_ok-named.named.name.now names (c.in_ok-named.ensures.spot (g.P.Pmem.region c.self.inside.memory) names path) (λ count. count ≤ 1) (λ t. one_less t c.cpu.inside.0) c.release_at.ensures.last_wrote k d node held led ended sound few
+          );
+      in_order = rw (← c.cpu.view_is, ← c.time.view_is) (λ names k d node held h path led ended sound is some.
+          gone_ordered g.P.Pmem.region c.self.view_is c.self.invariant.0 c.in_ok-writable.ensures.runs (g.P.Pmem.region c.release_at.new.memory) c.cpu.inside.0 c.in_ok-named.named.directory c.in_ok-named.named.target c.in_ok-named.ensures.directory c.in_ok-named.ensures.target
+          c.time.inside.0 c.in_ok-named.named.name.now names (c.in_ok-named.ensures.spot (g.P.Pmem.region c.self.inside.memory) names path) (λ count. 1 < count) tail_address c.release_at.ensures.in_order k d node held h led ended sound is some
+          );
+      last_in_order = rw (← c.cpu.view_is, ← c.time.view_is) (λ names k d node held h path led ended sound is few.
+          gone_ordered g.P.Pmem.region c.self.view_is c.self.invariant.0 c.in_ok-writable.ensures.runs (g.P.Pmem.region c.release_at.new.memory) c.cpu.inside.0 c.in_ok-named.named.directory c.in_ok-named.named.target c.in_ok-named.ensures.directory c.in_ok-named.ensures.target
+          c.time.inside.0 c.in_ok-named.named.name.now names (c.in_ok-named.ensures.spot (g.P.Pmem.region c.self.inside.memory) names path) (λ count. count ≤ 1) slot_address c.release_at.ensures.last_in_order k d node held h led ended sound is few
+          );
+    }
 
 pub returns-in-Err-clause-refused : goal.returns-in-Err-clause-refused
 returns-in-Err-clause-refused g c =
@@ -204,14 +260,40 @@ returns-in-Err-clause-refused g c =
     space_refuses c.self.view_is tests (release_blocks r.0 i.0 c.in_ok-named.named.name.now c.time.inside.0) last c.in-Err.refusal (c.in-Err.ensures.refused r.0 i.0 r.1 i.1)
     )
 
-pub returns-in-Err-clause-unchanged : goal.returns-in-Err-clause-unchanged
-returns-in-Err-clause-unchanged g c off =
+pub returns-in-Err-clause-call : goal.returns-in-Err-clause-call
+returns-in-Err-clause-call g c =
     let runs : c.self.inside.stopped ≡ false = ap (λ (m : Mount g.row.P.Denot). m.stopped) c.self.view_is ∙ c.in_ok-writable.ensures.runs in
-    unchanged_rows c.self.view_is c.release_at.new.memory c.release_at.new.rows.items c.release_at.new.free c.is_stop-self-inside.result runs (not_stop c.in-Err.refusal c.is_stop-self-inside.result c.is_stop-self-inside.ensures.yes off) (c.in-Err.ensures.unchanged off)
+    let writes : c.self.inside.read_only ≡ false = ap (λ (m : Mount g.row.P.Denot). m.read_only) c.self.view_is ∙ c.in_ok-writable.ensures.writes in
+    record {
+      of_path = record {
+        call = refused_late g.P.Pmem.region g.P.Pmem.fuse c.self.view_is c.release_at.new.memory c.release_at.new.rows.items c.release_at.new.free runs writes c.in-Err.refusal c.is_stop-self-inside.result c.is_stop-self-inside.ensures.yes c.is_stop-self-inside.ensures.no c.in-Err.ensures.kept.keeps
+            (λ off. unchanged_rows c.self.view_is c.release_at.new.memory c.release_at.new.rows.items c.release_at.new.free c.is_stop-self-inside.result runs (not_stop c.in-Err.refusal c.is_stop-self-inside.result c.is_stop-self-inside.ensures.yes off) (c.in-Err.ensures.kept.unchanged off));
+        bad_text = λ bad. absurd (let path = c.in_ok-named.ensures.path in bad path.0 path.1);
+      };
+      settled = tt;
+    }
 
-pub returns-in-Err-clause-stopped : goal.returns-in-Err-clause-stopped
-returns-in-Err-clause-stopped g c still =
-    late_reply c.in-Err.refusal c.is_stop-self-inside.result c.is_stop-self-inside.ensures.yes c.is_stop-self-inside.ensures.no c.in-Err.ensures.kept.stopped
+pub returns-in-Err-clause-stores : goal.returns-in-Err-clause-stores
+returns-in-Err-clause-stores g c =
+    record {
+      journals = tt;
+      wrote = rw (← c.cpu.view_is) (λ names k d node held path led ended sound some.
+          gone_stored g.P.Pmem.region c.self.view_is c.self.invariant.0 c.in_ok-writable.ensures.runs (g.P.Pmem.region c.release_at.new.memory) c.cpu.inside.0 c.in_ok-named.named.directory c.in_ok-named.named.target c.in_ok-named.ensures.directory c.in_ok-named.ensures.target
+          c.time.inside.0 c.in_ok-named.named.name.now names (c.in_ok-named.ensures.spot (g.P.Pmem.region c.self.inside.memory) names path) (λ count. 1 < count) (λ t. two_logs t c.cpu.inside.0) c.release_at.ensures.wrote k d node held led ended sound some
+          );
+      last_wrote = rw (← c.cpu.view_is) (λ names k d node held path led ended sound few.
+          gone_stored g.P.Pmem.region c.self.view_is c.self.invariant.0 c.in_ok-writable.ensures.runs (g.P.Pmem.region c.release_at.new.memory) c.cpu.inside.0 c.in_ok-named.named.directory c.in_ok-named.named.target c.in_ok-named.ensures.directory c.in_ok-named.ensures.target
+          c.time.inside.0 c.in_ok-named.named.name.now names (c.in_ok-named.ensures.spot (g.P.Pmem.region c.self.inside.memory) names path) (λ count. count ≤ 1) (λ t. one_less t c.cpu.inside.0) c.release_at.ensures.last_wrote k d node held led ended sound few
+          );
+      in_order = rw (← c.cpu.view_is, ← c.time.view_is) (λ names k d node held h path led ended sound is some.
+          gone_ordered g.P.Pmem.region c.self.view_is c.self.invariant.0 c.in_ok-writable.ensures.runs (g.P.Pmem.region c.release_at.new.memory) c.cpu.inside.0 c.in_ok-named.named.directory c.in_ok-named.named.target c.in_ok-named.ensures.directory c.in_ok-named.ensures.target
+          c.time.inside.0 c.in_ok-named.named.name.now names (c.in_ok-named.ensures.spot (g.P.Pmem.region c.self.inside.memory) names path) (λ count. 1 < count) tail_address c.release_at.ensures.in_order k d node held h led ended sound is some
+          );
+      last_in_order = rw (← c.cpu.view_is, ← c.time.view_is) (λ names k d node held h path led ended sound is few.
+          gone_ordered g.P.Pmem.region c.self.view_is c.self.invariant.0 c.in_ok-writable.ensures.runs (g.P.Pmem.region c.release_at.new.memory) c.cpu.inside.0 c.in_ok-named.named.directory c.in_ok-named.named.target c.in_ok-named.ensures.directory c.in_ok-named.ensures.target
+          c.time.inside.0 c.in_ok-named.named.name.now names (c.in_ok-named.ensures.spot (g.P.Pmem.region c.self.inside.memory) names path) (λ count. count ≤ 1) slot_address c.release_at.ensures.last_in_order k d node held h led ended sound is few
+          );
+    }
 
 pub release_at-requires-clause-apart : goal.release_at-requires-clause-apart
 release_at-requires-clause-apart g c =
@@ -244,18 +326,6 @@ returns-in-Ok-clause-last g c =
     (λ leads walked shown. unlink_last c.self.invariant.0 runs writes (released_at c.in-Ok.ensures.released) c.in_ok-named.ensures.name files names (spot names path) i d node held h leads walked shown is few) led ended sound
     )
 
-pub returns-in_err-writable-clause-read_only : goal.returns-in_err-writable-clause-read_only
-returns-in_err-writable-clause-read_only g c only = same_mount c.args.self.now
-
-pub returns-in_err-named-clause-read_only : goal.returns-in_err-named-clause-read_only
-returns-in_err-named-clause-read_only g c only = absurd (let no : true ≡ false = sym only ∙ c.in_ok-writable.ensures.writes in cc)
-
-pub returns-in-Ok-clause-read_only : goal.returns-in-Ok-clause-read_only
-returns-in-Ok-clause-read_only g c only = absurd (let no : true ≡ false = sym only ∙ c.in_ok-writable.ensures.writes in cc)
-
-pub returns-in-Err-clause-read_only : goal.returns-in-Err-clause-read_only
-returns-in-Err-clause-read_only g c only = absurd (let no : true ≡ false = sym only ∙ c.in_ok-writable.ensures.writes in cc)
-
 pub returns-in_err-writable-clause-any_stop : goal.returns-in_err-writable-clause-any_stop
 returns-in_err-writable-clause-any_stop g c names path on able = call_stays g.P.Pmem.region c.args.self.now (makes_unlink c.args.time) (LogsUnlink c.args.cpu c.args.time) names c.in_err-writable.ensures.kept on able _ (c.in_err-writable.ensures.settled on)
 
@@ -284,96 +354,4 @@ returns-in-Err-clause-any_stop g c =
     unlink_left g.P.Pmem.region c.self.view_is c.self.invariant.0 runs writes c.in_ok-named.named.directory c.in_ok-named.named.target r.0 i.0 r.1 i.1 c.in_ok-named.named.name.now c.cpu.inside.0 c.time.inside.0 c.in_ok-named.ensures.name names
     (c.in_ok-named.ensures.spot (g.P.Pmem.region c.self.inside.memory) names path) (c.in_ok-named.ensures.file i.0 i.1) _ _ _
     (λ held h f here other pending. c.release_at.ensures.any_stop r.0 i.0 held h f r.1 i.1 here other pending) (c.self.invariant.2 runs)
-    )
-
-pub returns-in_err-writable-clause-bad_text : goal.returns-in_err-writable-clause-bad_text
-returns-in_err-writable-clause-bad_text g c bad = same_mount c.args.self.now
-
-pub returns-in_err-named-clause-bad_text : goal.returns-in_err-named-clause-bad_text
-returns-in_err-named-clause-bad_text g c bad = same_mount c.args.self.now
-
-pub returns-in-Ok-clause-bad_text : goal.returns-in-Ok-clause-bad_text
-returns-in-Ok-clause-bad_text g c bad = absurd (let path = c.in_ok-named.ensures.path in bad path.0 path.1)
-
-pub returns-in-Err-clause-bad_text : goal.returns-in-Err-clause-bad_text
-returns-in-Err-clause-bad_text g c bad = absurd (let path = c.in_ok-named.ensures.path in bad path.0 path.1)
-
-pub returns-in_err-writable-clause-in_order : goal.returns-in_err-writable-clause-in_order
-returns-in_err-writable-clause-in_order g c names k d node held h path led ended sound is some = ∣ inl refl ∣₁
-
-pub returns-in_err-named-clause-in_order : goal.returns-in_err-named-clause-in_order
-returns-in_err-named-clause-in_order g c names k d node held h path led ended sound is some = ∣ inl refl ∣₁
-
-pub returns-in-Ok-clause-in_order : goal.returns-in-Ok-clause-in_order
-returns-in-Ok-clause-in_order g c =
-    rw (← c.cpu.view_is, ← c.time.view_is) (λ names k d node held h path led ended sound is some.
-    gone_ordered g.P.Pmem.region c.self.view_is c.self.invariant.0 c.in_ok-writable.ensures.runs (g.P.Pmem.region c.release_at.new.memory) c.cpu.inside.0 c.in_ok-named.named.directory c.in_ok-named.named.target c.in_ok-named.ensures.directory c.in_ok-named.ensures.target
-    c.time.inside.0 c.in_ok-named.named.name.now names (c.in_ok-named.ensures.spot (g.P.Pmem.region c.self.inside.memory) names path) (λ count. 1 < count) tail_address c.release_at.ensures.in_order k d node held h led ended sound is some
-    )
-
-pub returns-in-Err-clause-in_order : goal.returns-in-Err-clause-in_order
-returns-in-Err-clause-in_order g c =
-    rw (← c.cpu.view_is, ← c.time.view_is) (λ names k d node held h path led ended sound is some.
-    gone_ordered g.P.Pmem.region c.self.view_is c.self.invariant.0 c.in_ok-writable.ensures.runs (g.P.Pmem.region c.release_at.new.memory) c.cpu.inside.0 c.in_ok-named.named.directory c.in_ok-named.named.target c.in_ok-named.ensures.directory c.in_ok-named.ensures.target
-    c.time.inside.0 c.in_ok-named.named.name.now names (c.in_ok-named.ensures.spot (g.P.Pmem.region c.self.inside.memory) names path) (λ count. 1 < count) tail_address c.release_at.ensures.in_order k d node held h led ended sound is some
-    )
-
-pub returns-in_err-writable-clause-last_in_order : goal.returns-in_err-writable-clause-last_in_order
-returns-in_err-writable-clause-last_in_order g c names k d node held h path led ended sound is few = ∣ inl refl ∣₁
-
-pub returns-in_err-named-clause-last_in_order : goal.returns-in_err-named-clause-last_in_order
-returns-in_err-named-clause-last_in_order g c names k d node held h path led ended sound is few = ∣ inl refl ∣₁
-
-pub returns-in-Ok-clause-last_in_order : goal.returns-in-Ok-clause-last_in_order
-returns-in-Ok-clause-last_in_order g c =
-    rw (← c.cpu.view_is, ← c.time.view_is) (λ names k d node held h path led ended sound is few.
-    gone_ordered g.P.Pmem.region c.self.view_is c.self.invariant.0 c.in_ok-writable.ensures.runs (g.P.Pmem.region c.release_at.new.memory) c.cpu.inside.0 c.in_ok-named.named.directory c.in_ok-named.named.target c.in_ok-named.ensures.directory c.in_ok-named.ensures.target
-    c.time.inside.0 c.in_ok-named.named.name.now names (c.in_ok-named.ensures.spot (g.P.Pmem.region c.self.inside.memory) names path) (λ count. count ≤ 1) slot_address c.release_at.ensures.last_in_order k d node held h led ended sound is few
-    )
-
-pub returns-in-Err-clause-last_in_order : goal.returns-in-Err-clause-last_in_order
-returns-in-Err-clause-last_in_order g c =
-    rw (← c.cpu.view_is, ← c.time.view_is) (λ names k d node held h path led ended sound is few.
-    gone_ordered g.P.Pmem.region c.self.view_is c.self.invariant.0 c.in_ok-writable.ensures.runs (g.P.Pmem.region c.release_at.new.memory) c.cpu.inside.0 c.in_ok-named.named.directory c.in_ok-named.named.target c.in_ok-named.ensures.directory c.in_ok-named.ensures.target
-    c.time.inside.0 c.in_ok-named.named.name.now names (c.in_ok-named.ensures.spot (g.P.Pmem.region c.self.inside.memory) names path) (λ count. count ≤ 1) slot_address c.release_at.ensures.last_in_order k d node held h led ended sound is few
-    )
-
-pub returns-in_err-writable-clause-wrote : goal.returns-in_err-writable-clause-wrote
-returns-in_err-writable-clause-wrote g c names k d node held path led ended sound some = λ at whole away. refl
-
-pub returns-in_err-named-clause-wrote : goal.returns-in_err-named-clause-wrote
-returns-in_err-named-clause-wrote g c names k d node held path led ended sound some = λ at whole away. refl
-
-pub returns-in-Ok-clause-wrote : goal.returns-in-Ok-clause-wrote
-returns-in-Ok-clause-wrote g c =
-    rw (← c.cpu.view_is) (λ names k d node held path led ended sound some.
-    gone_stored g.P.Pmem.region c.self.view_is c.self.invariant.0 c.in_ok-writable.ensures.runs (g.P.Pmem.region c.release_at.new.memory) c.cpu.inside.0 c.in_ok-named.named.directory c.in_ok-named.named.target c.in_ok-named.ensures.directory c.in_ok-named.ensures.target
-    c.time.inside.0 c.in_ok-named.named.name.now names (c.in_ok-named.ensures.spot (g.P.Pmem.region c.self.inside.memory) names path) (λ count. 1 < count) (λ t. two_logs t c.cpu.inside.0) c.release_at.ensures.wrote k d node held led ended sound some
-    )
-
-pub returns-in-Err-clause-wrote : goal.returns-in-Err-clause-wrote
-returns-in-Err-clause-wrote g c =
-    rw (← c.cpu.view_is) (λ names k d node held path led ended sound some.
-    gone_stored g.P.Pmem.region c.self.view_is c.self.invariant.0 c.in_ok-writable.ensures.runs (g.P.Pmem.region c.release_at.new.memory) c.cpu.inside.0 c.in_ok-named.named.directory c.in_ok-named.named.target c.in_ok-named.ensures.directory c.in_ok-named.ensures.target
-    c.time.inside.0 c.in_ok-named.named.name.now names (c.in_ok-named.ensures.spot (g.P.Pmem.region c.self.inside.memory) names path) (λ count. 1 < count) (λ t. two_logs t c.cpu.inside.0) c.release_at.ensures.wrote k d node held led ended sound some
-    )
-
-pub returns-in_err-writable-clause-last_wrote : goal.returns-in_err-writable-clause-last_wrote
-returns-in_err-writable-clause-last_wrote g c names k d node held path led ended sound few = λ at whole away. refl
-
-pub returns-in_err-named-clause-last_wrote : goal.returns-in_err-named-clause-last_wrote
-returns-in_err-named-clause-last_wrote g c names k d node held path led ended sound few = λ at whole away. refl
-
-pub returns-in-Ok-clause-last_wrote : goal.returns-in-Ok-clause-last_wrote
-returns-in-Ok-clause-last_wrote g c =
-    rw (← c.cpu.view_is) (λ names k d node held path led ended sound few.
-    gone_stored g.P.Pmem.region c.self.view_is c.self.invariant.0 c.in_ok-writable.ensures.runs (g.P.Pmem.region c.release_at.new.memory) c.cpu.inside.0 c.in_ok-named.named.directory c.in_ok-named.named.target c.in_ok-named.ensures.directory c.in_ok-named.ensures.target
-    c.time.inside.0 c.in_ok-named.named.name.now names (c.in_ok-named.ensures.spot (g.P.Pmem.region c.self.inside.memory) names path) (λ count. count ≤ 1) (λ t. one_less t c.cpu.inside.0) c.release_at.ensures.last_wrote k d node held led ended sound few
-    )
-
-pub returns-in-Err-clause-last_wrote : goal.returns-in-Err-clause-last_wrote
-returns-in-Err-clause-last_wrote g c =
-    rw (← c.cpu.view_is) (λ names k d node held path led ended sound few.
-    gone_stored g.P.Pmem.region c.self.view_is c.self.invariant.0 c.in_ok-writable.ensures.runs (g.P.Pmem.region c.release_at.new.memory) c.cpu.inside.0 c.in_ok-named.named.directory c.in_ok-named.named.target c.in_ok-named.ensures.directory c.in_ok-named.ensures.target
-    c.time.inside.0 c.in_ok-named.named.name.now names (c.in_ok-named.ensures.spot (g.P.Pmem.region c.self.inside.memory) names path) (λ count. count ≤ 1) (λ t. one_less t c.cpu.inside.0) c.release_at.ensures.last_wrote k d node held led ended sound few
     )

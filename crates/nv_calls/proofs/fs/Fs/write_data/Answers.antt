@@ -3,7 +3,6 @@ use Rattle.std.proofs.lemmas.Result.{err_from_is_err_and, IfOk-from_err}
 use Rattle.std.proofs.lemmas.Option.{same_Some}
 use Rattle.nv_rows.proofs.TableNumbers.{numbers_kept}
 use Rattle.nv_region.specs.Region.{size}
-use Rattle.nv_region.specs.Fuses.{KeepsFuse}
 use Rattle.nv_radix.specs.Pages.{block_at}
 use Rattle.nv_held.specs.Held.{Held, Store}
 use Rattle.nv_scan.specs.declared.piece.Row.{Row}
@@ -31,15 +30,15 @@ use Rattle.nv_super.proofs.Members.{stands}
 use Rattle.nv_calls.proofs.RowChange.{kept_after, same_mount, tree_after}
 use Rattle.nv_calls.proofs.Stopped.{call_stays, settled_or_stopped}
 use Rattle.nv_calls.proofs.StoppedFiles.{write_left}
-use Rattle.nv_calls.proofs.SetAttr.{kept_or_stopped, late_reply, not_stop, unchanged_step}
+use Rattle.nv_calls.proofs.SetAttr.{kept_or_stopped, not_stop, unchanged_step}
 use Rattle.nv_calls.proofs.SetSize.{front_goes_on, front_tests}
-use Rattle.nv_calls.proofs.Tests.{early_reply, if_err, writing_goes_on}
+use Rattle.nv_calls.proofs.Tests.{writing_goes_on}
 use Rattle.nv_calls.proofs.WriteReply.{large_same, none_written, write_allowed, write_bytes, write_changed, write_front, write_log, write_logged, write_none, write_refused, written_node}
 use Rattle.nv_calls.proofs.TwoRows.{last_used}
 use Rattle.nv_calls.proofs.Asked.{ends_small, low_pools, planned}
-use Rattle.nv_calls.proofs.Early.{good_reply, same_fuse}
 use Rattle.nv_calls.proofs.TextPaths.{front_path}
 use Rattle.nv_calls.proofs.Stores.{path_stores}
+use Rattle.nv_calls.proofs.CallKept.{call_done, nothing_to_do, refused_first, refused_late, refused_later}
 use Rattle.nv_calls.proofs.fs.Fs.write_data.Goals as goal
 use Rattle.nv_bytes.specs.Data.{data_bytes}
 
@@ -56,15 +55,14 @@ returns-in_err-writable-clause-refused g c =
     (inr (inr (c.in_err-writable.ensures.refused runs (is_bad p ∷ walk_tests tree p ++ is_missing tree p ∷ is_dir tree p ∷ is_too_large (c.args.offset + length (data_bytes c.args.content)) ∷ has_no_space (world_of c.args.self.now) count ∷ []))))
     )
 
-pub returns-in_err-writable-clause-unchanged : goal.returns-in_err-writable-clause-unchanged
-returns-in_err-writable-clause-unchanged g c =
-    if_err c.from_residual.result _ (λ e on. same_mount c.args.self.now)
-
-pub returns-in_err-writable-clause-stopped : goal.returns-in_err-writable-clause-stopped
-returns-in_err-writable-clause-stopped g c runs =
+pub returns-in_err-writable-clause-call : goal.returns-in_err-writable-clause-call
+returns-in_err-writable-clause-call g c =
     let w = err_from_is_err_and c.from_residual.result c.from_residual.ensures.1 in
-    early_reply c.args.self.now.stopped c.from_residual.result c.in_err-writable.field-0.0 w.0 w.1 w.2
-    (λ is. writing_goes_on (world_of c.args.self.now) c.cpu.inside.0 (c.in_err-writable.ensures.refused runs [] ∙ ap (λ (e : Refusal). Some e) is)) runs
+    record {
+      call = refused_first g.P.Pmem.region g.P.Pmem.fuse c.args.self.now c.from_residual.result c.in_err-writable.field-0.0 w.0 w.1 w.2 c.in_err-writable.ensures.stopped
+          (λ runs is. writing_goes_on (world_of c.args.self.now) c.cpu.inside.0 (c.in_err-writable.ensures.refused runs [] ∙ ap (λ (e : Refusal). Some e) is));
+      bad_text = λ bad. same_mount c.args.self.now;
+    }
 
 pub returns-in_err-inode-clause-refused : goal.returns-in_err-inode-clause-refused
 returns-in_err-inode-clause-refused g c =
@@ -76,17 +74,16 @@ returns-in_err-inode-clause-refused g c =
     (inr (inr (write_front g.P.Pmem.region c.self.view_is c.cpu.inside.0 (c.args.offset + length (data_bytes c.args.content)) count c.in_ok-writable.ensures.passed p c.in_err-inode.field-0.0 (large_same c.args.offset (length (data_bytes c.args.content)) c.saturating_add.result (rw c.len-count.ensures at c.saturating_add.ensures) (tree_of (g.P.Pmem.region c.self.inside.memory) c.self.inside.rows.items) p ∙ told))))
     )
 
-pub returns-in_err-inode-clause-unchanged : goal.returns-in_err-inode-clause-unchanged
-returns-in_err-inode-clause-unchanged g c =
-    if_err c.from_residual-in_err-inode.result _ (λ e on. same_mount c.args.self.now)
-
-pub returns-in_err-inode-clause-stopped : goal.returns-in_err-inode-clause-stopped
-returns-in_err-inode-clause-stopped g c runs =
+pub returns-in_err-inode-clause-call : goal.returns-in_err-inode-clause-call
+returns-in_err-inode-clause-call g c =
     let w = err_from_is_err_and c.from_residual-in_err-inode.result c.from_residual-in_err-inode.ensures.1 in
     let said = text_says c.args.path.now in
     let told = c.in_err-inode.ensures.refused (g.P.Pmem.region c.self.inside.memory) said.0 said.1 in
-    early_reply c.args.self.now.stopped c.from_residual-in_err-inode.result c.in_err-inode.field-0.0 w.0 w.1 w.2
-    (λ is. front_goes_on (tree_of (g.P.Pmem.region c.self.inside.memory) c.self.inside.rows.items) said.0 c.saturating_add.result (told ∙ ap (λ (e : Refusal). Some e) is)) runs
+    record {
+      call = refused_later g.P.Pmem.region g.P.Pmem.fuse c.args.self.now c.from_residual-in_err-inode.result c.in_err-inode.field-0.0 w.0 w.1 w.2 c.in_ok-writable.ensures.runs
+          (λ is. front_goes_on (tree_of (g.P.Pmem.region c.self.inside.memory) c.self.inside.rows.items) said.0 c.saturating_add.result (told ∙ ap (λ (e : Refusal). Some e) is));
+      bad_text = λ bad. same_mount c.args.self.now;
+    }
 
 pub returns-then-count-eq0-clause-allowed : goal.returns-then-count-eq0-clause-allowed
 returns-then-count-eq0-clause-allowed g c =
@@ -207,14 +204,20 @@ returns-in-Ok-clause-log g c =
     (λ st k shown holds. write_log c.self.invariant.0 runs writes (place_in rows inode) c.lend-row.result at c.in-Ok.ensures.writes st k shown holds) led sound is
     )
 
-pub returns-in-Err-clause-unchanged : goal.returns-in-Err-clause-unchanged
-returns-in-Err-clause-unchanged g c off =
+pub returns-in-Err-clause-call : goal.returns-in-Err-clause-call
+returns-in-Err-clause-call g c =
     let runs : c.self.inside.stopped ≡ false = ap (λ (m : Mount g.row.P.Denot). m.stopped) c.self.view_is ∙ c.in_ok-writable.ensures.runs in
-    let rows = c.self.inside.rows.items in
-    let inode = c.in_ok-inode.field-0.now.inode in
-    let at = at_place rows inode ∙ c.lend-row.ensures.row in
-    let put = back_one rows c.lend-row.new.self.items c.give_back.new.self.items inode c.change_bytes-changed.new.row c.lend-row.ensures.lent (c.change_bytes-changed.ensures.inode ∙ c.lend-row.ensures.number) c.give_back.ensures.rows in
-    rw put (unchanged_step c.self.view_is c.change_bytes-changed.new.memory c.change_bytes-changed.new.free (place_in rows inode) c.lend-row.result c.change_bytes-changed.new.row c.is_stop-self-inside.result at runs (not_stop c.in-Err.refusal c.is_stop-self-inside.result c.is_stop-self-inside.ensures.yes off) (c.in-Err.ensures.unchanged off))
+    let writes : c.self.inside.read_only ≡ false = ap (λ (m : Mount g.row.P.Denot). m.read_only) c.self.view_is ∙ c.in_ok-writable.ensures.writes in
+    record {
+      call = refused_late g.P.Pmem.region g.P.Pmem.fuse c.self.view_is c.change_bytes-changed.new.memory c.give_back.new.self.items c.change_bytes-changed.new.free runs writes c.in-Err.refusal c.is_stop-self-inside.result c.is_stop-self-inside.ensures.yes c.is_stop-self-inside.ensures.no c.in-Err.ensures.kept.keeps
+          (λ off.
+          let rows = c.self.inside.rows.items in
+          let inode = c.in_ok-inode.field-0.now.inode in
+          let at = at_place rows inode ∙ c.lend-row.ensures.row in
+          let put = back_one rows c.lend-row.new.self.items c.give_back.new.self.items inode c.change_bytes-changed.new.row c.lend-row.ensures.lent (c.change_bytes-changed.ensures.inode ∙ c.lend-row.ensures.number) c.give_back.ensures.rows in
+          rw put (unchanged_step c.self.view_is c.change_bytes-changed.new.memory c.change_bytes-changed.new.free (place_in rows inode) c.lend-row.result c.change_bytes-changed.new.row c.is_stop-self-inside.result at runs (not_stop c.in-Err.refusal c.is_stop-self-inside.result c.is_stop-self-inside.ensures.yes off) (c.in-Err.ensures.unchanged off)));
+      bad_text = λ bad. absurd (let said = text_says c.args.path.now in let path = front_path (tree_of (g.P.Pmem.region c.self.inside.memory) c.self.inside.rows.items) c.args.path.now said.0 _ said.1 (c.in_ok-inode.ensures.refused (g.P.Pmem.region c.self.inside.memory) said.0 said.1) in bad path.0 path.1);
+    }
 
 pub returns-in_err-writable-clause-allowed : goal.returns-in_err-writable-clause-allowed
 returns-in_err-writable-clause-allowed g c p count says needs = IfOk-from_err c.from_residual.result _ c.from_residual.ensures.0
@@ -231,12 +234,6 @@ returns-in_err-writable-clause-nothing g c none = IfOk-from_err c.from_residual.
 pub returns-in_err-writable-clause-settled : goal.returns-in_err-writable-clause-settled
 returns-in_err-writable-clause-settled g c some = IfOk-from_err c.from_residual.result _ c.from_residual.ensures.0
 
-pub returns-in_err-writable-clause-keeps : goal.returns-in_err-writable-clause-keeps
-returns-in_err-writable-clause-keeps g c = record { sup = refl; faults = refl; read_only = refl }
-
-pub returns-in_err-writable-clause-length : goal.returns-in_err-writable-clause-length
-returns-in_err-writable-clause-length g c = refl
-
 pub returns-in_err-inode-clause-allowed : goal.returns-in_err-inode-clause-allowed
 returns-in_err-inode-clause-allowed g c p count says needs = IfOk-from_err c.from_residual-in_err-inode.result _ c.from_residual-in_err-inode.ensures.0
 
@@ -252,42 +249,23 @@ returns-in_err-inode-clause-nothing g c none = IfOk-from_err c.from_residual-in_
 pub returns-in_err-inode-clause-settled : goal.returns-in_err-inode-clause-settled
 returns-in_err-inode-clause-settled g c some = IfOk-from_err c.from_residual-in_err-inode.result _ c.from_residual-in_err-inode.ensures.0
 
-pub returns-in_err-inode-clause-keeps : goal.returns-in_err-inode-clause-keeps
-returns-in_err-inode-clause-keeps g c = record { sup = refl; faults = refl; read_only = refl }
-
-pub returns-in_err-inode-clause-length : goal.returns-in_err-inode-clause-length
-returns-in_err-inode-clause-length g c = refl
-
-pub returns-in_err-inode-clause-stopped_before : goal.returns-in_err-inode-clause-stopped_before
-returns-in_err-inode-clause-stopped_before g c stopped = absurd (let no : true ≡ false = sym stopped ∙ c.in_ok-writable.ensures.runs in cc)
-
-pub returns-in-Ok-clause-stopped_before : goal.returns-in-Ok-clause-stopped_before
-returns-in-Ok-clause-stopped_before g c stopped = absurd (let no : true ≡ false = sym stopped ∙ c.in_ok-writable.ensures.runs in cc)
+pub returns-in-Ok-clause-call : goal.returns-in-Ok-clause-call
+returns-in-Ok-clause-call g c =
+    let runs : c.self.inside.stopped ≡ false = ap (λ (m : Mount g.row.P.Denot). m.stopped) c.self.view_is ∙ c.in_ok-writable.ensures.runs in
+    let writes : c.self.inside.read_only ≡ false = ap (λ (m : Mount g.row.P.Denot). m.read_only) c.self.view_is ∙ c.in_ok-writable.ensures.writes in
+    record {
+      call = call_done g.P.Pmem.region g.P.Pmem.fuse c.self.view_is c.change_bytes-changed.new.memory c.give_back.new.self.items c.change_bytes-changed.new.free runs writes _ _ c.in-Ok.ensures.kept.keeps;
+      bad_text = λ bad. absurd (let said = text_says c.args.path.now in let path = front_path (tree_of (g.P.Pmem.region c.self.inside.memory) c.self.inside.rows.items) c.args.path.now said.0 _ said.1 (c.in_ok-inode.ensures.refused (g.P.Pmem.region c.self.inside.memory) said.0 said.1) in bad path.0 path.1);
+    }
 
 pub returns-in-Ok-clause-refused : goal.returns-in-Ok-clause-refused
 returns-in-Ok-clause-refused g c still p count says needs = tt
-
-pub returns-in-Ok-clause-unchanged : goal.returns-in-Ok-clause-unchanged
-returns-in-Ok-clause-unchanged g c = tt
 
 pub returns-in-Ok-clause-settled : goal.returns-in-Ok-clause-settled
 returns-in-Ok-clause-settled g c some = c.in-Ok.ensures.kept.settled
 
 pub returns-in-Ok-clause-nothing : goal.returns-in-Ok-clause-nothing
 returns-in-Ok-clause-nothing g c none = absurd (c.if-count-eq0.false (c.len-count.ensures ∙ none))
-
-pub returns-in-Ok-clause-keeps : goal.returns-in-Ok-clause-keeps
-returns-in-Ok-clause-keeps g c = record { sup = ap (λ (m : Mount g.row.P.Denot). m.sup) c.self.view_is; faults = ap (λ (m : Mount g.row.P.Denot). m.faults) c.self.view_is; read_only = ap (λ (m : Mount g.row.P.Denot). m.read_only) c.self.view_is }
-
-pub returns-in-Ok-clause-length : goal.returns-in-Ok-clause-length
-returns-in-Ok-clause-length g c = subst (λ (m : Mount g.row.P.Denot). size (g.P.Pmem.region c.change_bytes-changed.new.memory) ≡ size (g.P.Pmem.region m.memory)) c.self.view_is c.change_bytes-changed.ensures.kept.length
-
-pub returns-in-Ok-clause-keeps_fuse : goal.returns-in-Ok-clause-keeps_fuse
-returns-in-Ok-clause-keeps_fuse g c =
-    subst (λ (m : Mount g.row.P.Denot). KeepsFuse (λ limit. size (g.P.Pmem.region m.memory) ≤ limit) (g.P.Pmem.fuse m.memory) (g.P.Pmem.fuse c.change_bytes-changed.new.memory)) c.self.view_is c.change_bytes-changed.ensures.kept.keeps_fuse
-
-pub returns-in-Err-clause-stopped_before : goal.returns-in-Err-clause-stopped_before
-returns-in-Err-clause-stopped_before g c stopped = absurd (let no : true ≡ false = sym stopped ∙ c.in_ok-writable.ensures.runs in cc)
 
 pub returns-in-Err-clause-allowed : goal.returns-in-Err-clause-allowed
 returns-in-Err-clause-allowed g c p count says needs = tt
@@ -304,18 +282,12 @@ returns-in-Err-clause-nothing g c none = tt
 pub returns-in-Err-clause-settled : goal.returns-in-Err-clause-settled
 returns-in-Err-clause-settled g c some = tt
 
-pub returns-in-Err-clause-keeps : goal.returns-in-Err-clause-keeps
-returns-in-Err-clause-keeps g c = record { sup = ap (λ (m : Mount g.row.P.Denot). m.sup) c.self.view_is; faults = ap (λ (m : Mount g.row.P.Denot). m.faults) c.self.view_is; read_only = ap (λ (m : Mount g.row.P.Denot). m.read_only) c.self.view_is }
-
-pub returns-in-Err-clause-length : goal.returns-in-Err-clause-length
-returns-in-Err-clause-length g c = subst (λ (m : Mount g.row.P.Denot). size (g.P.Pmem.region c.change_bytes-changed.new.memory) ≡ size (g.P.Pmem.region m.memory)) c.self.view_is c.change_bytes-changed.ensures.kept.length
-
-pub returns-in-Err-clause-keeps_fuse : goal.returns-in-Err-clause-keeps_fuse
-returns-in-Err-clause-keeps_fuse g c =
-    subst (λ (m : Mount g.row.P.Denot). KeepsFuse (λ limit. size (g.P.Pmem.region m.memory) ≤ limit) (g.P.Pmem.fuse m.memory) (g.P.Pmem.fuse c.change_bytes-changed.new.memory)) c.self.view_is c.change_bytes-changed.ensures.kept.keeps_fuse
-
-pub returns-then-count-eq0-clause-stopped_before : goal.returns-then-count-eq0-clause-stopped_before
-returns-then-count-eq0-clause-stopped_before g c stopped = absurd (let no : true ≡ false = sym stopped ∙ c.in_ok-writable.ensures.runs in cc)
+pub returns-then-count-eq0-clause-call : goal.returns-then-count-eq0-clause-call
+returns-then-count-eq0-clause-call g c =
+    record {
+      call = nothing_to_do g.P.Pmem.region g.P.Pmem.fuse c.args.self.now _ c.in_ok-writable.ensures.runs;
+      bad_text = λ bad. same_mount c.args.self.now;
+    }
 
 pub returns-then-count-eq0-clause-refused : goal.returns-then-count-eq0-clause-refused
 returns-then-count-eq0-clause-refused g c still p count says needs = tt
@@ -329,23 +301,8 @@ returns-then-count-eq0-clause-log g c names i node held h path led sound is some
 pub returns-then-count-eq0-clause-nothing : goal.returns-then-count-eq0-clause-nothing
 returns-then-count-eq0-clause-nothing g c none = refl
 
-pub returns-then-count-eq0-clause-unchanged : goal.returns-then-count-eq0-clause-unchanged
-returns-then-count-eq0-clause-unchanged g c = tt
-
-pub returns-then-count-eq0-clause-stopped : goal.returns-then-count-eq0-clause-stopped
-returns-then-count-eq0-clause-stopped g c runs = good_reply c.args.self.now.stopped _ runs
-
-pub returns-then-count-eq0-clause-keeps : goal.returns-then-count-eq0-clause-keeps
-returns-then-count-eq0-clause-keeps g c = record { sup = refl; faults = refl; read_only = refl }
-
 pub returns-then-count-eq0-clause-settled : goal.returns-then-count-eq0-clause-settled
 returns-then-count-eq0-clause-settled g c some = absurd (omega (arith, some, (rw c.len-count.ensures at c.if-count-eq0.true)))
-
-pub returns-then-count-eq0-clause-length : goal.returns-then-count-eq0-clause-length
-returns-then-count-eq0-clause-length g c = refl
-
-pub returns-then-count-eq0-clause-keeps_fuse : goal.returns-then-count-eq0-clause-keeps_fuse
-returns-then-count-eq0-clause-keeps_fuse g c = same_fuse _ _
 
 pub lend-row-requires : goal.lend-row-requires
 lend-row-requires g c = in_use c.self.inside.rows.items c.in_ok-inode.field-0.now.inode c.in_ok-inode.field-0.now c.in_ok-inode.ensures.held
@@ -374,20 +331,6 @@ change_bytes-changed-requires-clause-size g c = refl
 
 pub change_bytes-changed-requires-clause-plan : goal.change_bytes-changed-requires-clause-plan
 change_bytes-changed-requires-clause-plan g c = planned (block_at c.lend-row.result.index) c.lend-row.result.numbers.size c.args.offset (length (data_bytes c.args.content)) c.time.inside.0 c.new-plan.result (rw c.len-count.ensures at c.new-plan.ensures)
-
-pub returns-in-Ok-clause-stopped : goal.returns-in-Ok-clause-stopped
-returns-in-Ok-clause-stopped g c still =
-    let runs : c.self.inside.stopped ≡ false = ap (λ (m : Mount g.row.P.Denot). m.stopped) c.self.view_is ∙ c.in_ok-writable.ensures.runs in
-    good_reply c.self.inside.stopped _ runs
-
-pub returns-in-Err-clause-stopped : goal.returns-in-Err-clause-stopped
-returns-in-Err-clause-stopped g c still = late_reply c.in-Err.refusal c.is_stop-self-inside.result c.is_stop-self-inside.ensures.yes c.is_stop-self-inside.ensures.no c.in-Err.ensures.kept.stopped
-
-pub returns-in_err-writable-clause-keeps_fuse : goal.returns-in_err-writable-clause-keeps_fuse
-returns-in_err-writable-clause-keeps_fuse g c = same_fuse _ _
-
-pub returns-in_err-inode-clause-keeps_fuse : goal.returns-in_err-inode-clause-keeps_fuse
-returns-in_err-inode-clause-keeps_fuse g c = same_fuse _ _
 
 pub returns-in_err-writable-clause-any_stop : goal.returns-in_err-writable-clause-any_stop
 returns-in_err-writable-clause-any_stop g c names path on able = call_stays g.P.Pmem.region c.args.self.now (makes_bytes c.args.offset (data_bytes c.args.content) c.args.time) (LogsBytes c.args.cpu c.args.offset (length (data_bytes c.args.content)) c.args.time) names c.in_err-writable.ensures.kept on able _ (c.in_err-writable.ensures.settled on)
@@ -423,36 +366,6 @@ returns-in-Err-clause-any_stop g c =
     write_left g.P.Pmem.region c.self.view_is c.self.invariant.0 runs writes (place_in rows inode) c.lend-row.result at c.cpu.inside.0 c.new-plan.result c.args.offset (data_bytes c.args.content) c.time.inside.0 (rw c.len-count.ensures at c.new-plan.ensures) (omega (arith, c.if-count-eq0.false, c.len-count.ensures)) names leads _ _ _
     (λ held h shows pending. c.change_bytes-changed.ensures.any_stop held h shows pending) (c.self.invariant.2 runs)
     )
-
-pub returns-in_err-writable-clause-read_only : goal.returns-in_err-writable-clause-read_only
-returns-in_err-writable-clause-read_only g c only = same_mount c.args.self.now
-
-pub returns-in_err-inode-clause-read_only : goal.returns-in_err-inode-clause-read_only
-returns-in_err-inode-clause-read_only g c only = absurd (let no : true ≡ false = sym only ∙ c.in_ok-writable.ensures.writes in cc)
-
-pub returns-then-count-eq0-clause-read_only : goal.returns-then-count-eq0-clause-read_only
-returns-then-count-eq0-clause-read_only g c only = absurd (let no : true ≡ false = sym only ∙ c.in_ok-writable.ensures.writes in cc)
-
-pub returns-in-Ok-clause-read_only : goal.returns-in-Ok-clause-read_only
-returns-in-Ok-clause-read_only g c only = absurd (let no : true ≡ false = sym only ∙ c.in_ok-writable.ensures.writes in cc)
-
-pub returns-in-Err-clause-read_only : goal.returns-in-Err-clause-read_only
-returns-in-Err-clause-read_only g c only = absurd (let no : true ≡ false = sym only ∙ c.in_ok-writable.ensures.writes in cc)
-
-pub returns-in_err-writable-clause-bad_text : goal.returns-in_err-writable-clause-bad_text
-returns-in_err-writable-clause-bad_text g c bad = same_mount c.args.self.now
-
-pub returns-in_err-inode-clause-bad_text : goal.returns-in_err-inode-clause-bad_text
-returns-in_err-inode-clause-bad_text g c bad = same_mount c.args.self.now
-
-pub returns-then-count-eq0-clause-bad_text : goal.returns-then-count-eq0-clause-bad_text
-returns-then-count-eq0-clause-bad_text g c bad = same_mount c.args.self.now
-
-pub returns-in-Ok-clause-bad_text : goal.returns-in-Ok-clause-bad_text
-returns-in-Ok-clause-bad_text g c bad = absurd (let said = text_says c.args.path.now in let path = front_path (tree_of (g.P.Pmem.region c.self.inside.memory) c.self.inside.rows.items) c.args.path.now said.0 _ said.1 (c.in_ok-inode.ensures.refused (g.P.Pmem.region c.self.inside.memory) said.0 said.1) in bad path.0 path.1)
-
-pub returns-in-Err-clause-bad_text : goal.returns-in-Err-clause-bad_text
-returns-in-Err-clause-bad_text g c bad = absurd (let said = text_says c.args.path.now in let path = front_path (tree_of (g.P.Pmem.region c.self.inside.memory) c.self.inside.rows.items) c.args.path.now said.0 _ said.1 (c.in_ok-inode.ensures.refused (g.P.Pmem.region c.self.inside.memory) said.0 said.1) in bad path.0 path.1)
 
 pub returns-in_err-writable-clause-wrote : goal.returns-in_err-writable-clause-wrote
 returns-in_err-writable-clause-wrote g c names i node held path led sound = λ at whole away. refl
