@@ -7,7 +7,8 @@
 # files, one directory of many names, files of many overwrites, and one big file. Without BLOCKS an ext4 image for e2fsck is made
 # with as many files, names or bytes, by mke2fs. In each round (9 where none are given) the three run one after the other, on 4
 # workers where they have workers, and the best of all rounds counts. Images are in the cache. For nova the table has the peak of
-# its memory and the bytes that it read too. Nothing else should run meanwhile.
+# its memory and the bytes that it read too. GNU time tells the peak, where it is there: a child of Python begins with Python's own
+# peak, 10 MB. Nothing else should run meanwhile.
 set -eu
 source "$(dirname "${BASH_SOURCE[0]}")/parts.sh" || exit 2
 [ $# -ge 1 ] && [ -f "$1/Cargo.toml" ] || usage
@@ -48,6 +49,15 @@ else:
 PYTHON
 }
 
+# peak WORD..: the most memory that a command takes, in MB.
+peak() {
+    if [ -x /usr/bin/time ]; then
+        /usr/bin/time -f '%M' "$@" 2>&1 >"$folder/said" | tail -n 1 | awk '{ printf "%.0f", $1 / 1000 }'
+    else
+        measured "$@" | cut -d' ' -f2
+    fi
+}
+
 # measured WORD..: the milliseconds of a command, its peak of memory and the bytes that it read, both in MB.
 measured() {
     python3 - "$@" <<'PYTHON'
@@ -83,16 +93,18 @@ for name in small names frag big; do
         echo "$name peer $(measured "$peer" check "$folder/image" --workers 4)"
         [ ! -e "$folder/ext4" ] || echo "$name ext4 $(measured e2fsck -fn "$folder/ext4")"
     done
+    echo "$name peak $(peak "$built" check --summary --workers 4 "$folder/image")"
     rm -f "$folder/image" "$folder/ext4"
 done >"$folder/times"
 
 awk '
-    { key = $1 " " $2; if (!(key in best) || $3 < best[key]) best[key] = $3; memory[key] = $4; bytes[key] = $5; if (!seen[$1]++) names[++count] = $1 }
+    $2 == "peak" { memory[$1] = $3; next }
+    { key = $1 " " $2; if (!(key in best) || $3 < best[key]) best[key] = $3; bytes[key] = $5; if (!seen[$1]++) names[++count] = $1 }
     END {
         print "| image | nova check, ms | its memory, MB | read, MB | native program, ms | e2fsck -fn, ms |"
         print "|---|---|---|---|---|---|"
         for (i = 1; i <= count; i++) {
             n = names[i]
-            printf "| %s | %s | %s | %s | %s | %s |\n", n, best[n " ours"], memory[n " ours"], bytes[n " ours"], best[n " peer"], best[n " ext4"]
+            printf "| %s | %s | %s | %s | %s | %s |\n", n, best[n " ours"], memory[n], bytes[n " ours"], best[n " peer"], best[n " ext4"]
         }
     }' "$folder/times"

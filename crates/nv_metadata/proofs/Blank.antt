@@ -2,8 +2,9 @@
 use Rattle.std.proofs.Common.{◌≡◌, inl, inr, ℕ, Bool, List, [], ◌∷◌, length, get_or, replicate, refl, ap, ◌∙◌, subst, sym, arith}
 use Rattle.std.proofs.lemmas.Bool.{cases_lt}
 use Rattle.std.proofs.lemmas.List.{get_or_past, get_or-replicate, length-replicate}
-use Rattle.nv_metadata.specs.Memory.{held, nowhere, piece_at, piece_of, IsPlaced}
-use Rattle.nv_metadata.specs.declared.memory.Place.{Place}
+use Rattle.nv_metadata.specs.Memory.{held, piece_at, piece_of, IsPlaced}
+use Rattle.nv_metadata.specs.Places.{nowhere}
+use Rattle.nv_metadata.specs.declared.places.Place.{Place}
 use Rattle.nv_metadata.proofs.Together.{known, seen, held_at}
 
 module _ (places : List Place) (n : ℕ) (blank : places ≡ replicate n nowhere) where

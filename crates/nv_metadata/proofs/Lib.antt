@@ -3,6 +3,7 @@ pub mod Same
 pub mod Pieces
 pub mod Put
 pub mod Taken
+pub mod Numbered
 pub mod Held
 pub mod Shown
 pub mod Walked

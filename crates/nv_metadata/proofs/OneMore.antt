@@ -8,12 +8,13 @@ use Rattle.std.specs.Result.{OnErr}
 use Rattle.byteorder.specs.Endian.{little_number}
 use Rattle.nv_region.specs.Region.{words_of}
 use Rattle.nv_region.proofs.Fronted.{count_of_words}
-use Rattle.nv_metadata.specs.Memory.{held, nowhere, piece_at, piece_of, IsPlaced}
+use Rattle.nv_metadata.specs.Memory.{held, piece_at, piece_of, IsPlaced}
+use Rattle.nv_metadata.specs.Places.{nowhere}
 use Rattle.nv_metadata.specs.Holding.{BeginsWith}
-use Rattle.nv_metadata.specs.declared.memory.Place.{Place}
+use Rattle.nv_metadata.specs.declared.places.Place.{Place}
 use Rattle.nv_metadata.proofs.Pieces.{grown, grows, as_many_grown, place_behind, piece_comes, placed_behind, piece_stays, placed_stays}
 use Rattle.nv_metadata.proofs.Held.{word_some, word_none, same_word}
-use Rattle.nv_metadata.proofs.Together.{known, seen, held_at}
+use Rattle.nv_metadata.proofs.Together.{known, seen, held_at, seen_stays}
 
 -- what holds in any case holds behind an error
 pub on_err : {X E P : Type 0} (r : Result X E) → P → OnErr r P
@@ -79,3 +80,16 @@ module _ (front : List ℕ) (blocks : ℕ) (burnt : Bool) (places : List Place) 
         let more = grows parts piece some p.part in
         subst (IsPlaced (grown parts piece some)) (sym (place_elsewhere b other)) (placed_stays parts (grown parts piece some) p more.0 (placed b) more.1 (let n = as_many_grown parts piece some in omega (arith, n))))
   ]
+
+  -- Where the block isn't given its place, all is as before.
+  pub same_grown : seen front blocks burnt places (grown parts piece some) ≡ seen front blocks burnt places parts
+  same_grown = seen_stays front blocks burnt places parts (grown parts piece some) (λ b. (
+      let p = get_or places b nowhere in
+      let more = grows parts piece some p.part in
+      piece_stays parts (grown parts piece some) p more.0 (placed b) more.1))
+
+  pub placed_grown : (b : ℕ) → IsPlaced (grown parts piece some) (get_or places b nowhere)
+  placed_grown b =
+      let p = get_or places b nowhere in
+      let more = grows parts piece some p.part in
+      placed_stays parts (grown parts piece some) p more.0 (placed b) more.1 (let n = as_many_grown parts piece some in omega (arith, n))

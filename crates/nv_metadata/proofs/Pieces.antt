@@ -6,7 +6,7 @@ use Rattle.std.proofs.lemmas.List.{drop-append-le, take-append-le, take-append-d
 use Rattle.std.proofs.lemmas.List.FromFn.{length-map-range_with_len, get_or-map-range_with_len}
 use Rattle.byteorder.specs.Endian.{little_number}
 use Rattle.nv_metadata.specs.Memory.{pieced, piece_at, piece_word, IsPlaced}
-use Rattle.nv_metadata.specs.declared.memory.Place.{Place}
+use Rattle.nv_metadata.specs.declared.places.Place.{Place}
 
 -- a number is that of its bytes, whatever stands behind them
 pub number_front : (xs ys : List ℕ) → 8 ≤ length xs → little_number 8 (xs ++ ys) ≡ little_number 8 xs

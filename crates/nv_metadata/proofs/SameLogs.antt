@@ -1,5 +1,5 @@
--- The logs of regions with the same words in front of the data blocks, and of the inodes below a number.
-use Rattle.std.proofs.Common.{◌≡◌, inl, inr, ◌+◌, ◌*◌, ◌%◌, ◌<◌, ◌≤◌, ℕ, IsTrue, List, [], ◌∷◌, ◌++◌, length, Some, sym, ap, ◌∙◌, subst, arith}
+-- The logs of regions with the same words in front of the data blocks, and of the inodes whose slots lie before a place.
+use Rattle.std.proofs.Common.{◌≡◌, ◌≢◌, inl, inr, ◌+◌, ◌*◌, ◌/◌, ◌%◌, ◌<◌, ◌≤◌, ℕ, IsTrue, List, [], ◌∷◌, ◌++◌, length, Some, sym, ap, ◌∙◌, subst, arith, true}
 use Rattle.std.proofs.lemmas.Bool.Decides.{nat_tests}
 use Rattle.std.specs.List.{Contains}
 use Rattle.std.proofs.lemmas.Bool.{cases_eq}
@@ -7,13 +7,15 @@ use Rattle.std.proofs.lemmas.List.Elements.{Contains-append_left, Contains-push,
 use Rattle.std.proofs.lemmas.Option.{same_Some}
 use Rattle.nv_region.specs.Region.{Region, word}
 use Rattle.nv_super.specs.declared.superblock.Super.{Super}
-use Rattle.nv_super.specs.Layout.{IsLayout, SlotsApart, fixed_layout, slot_address, inode_limit, is_number, system_blocks, is_page_start}
+use Rattle.nv_super.specs.declared.kind.Kind.{Kind}
+use Rattle.nv_super.specs.Layout.{IsLayout, SlotsApart, fixed_layout, slot_of, slot_address, inode_limit, is_number, system_blocks, is_page_start}
 use Rattle.nv_super.proofs.Members.{none_in}
 use Rattle.nv_super.proofs.Slots.{slots_apart}
 use Rattle.nv_inode.specs.declared.slot.Slot.{Slot}
 use Rattle.nv_inode.specs.Chains.{layout_of}
 use Rattle.nv_inode.specs.Permitted.{is_permitted_by}
-use Rattle.nv_inode.specs.Slot.{is_right_log, kind_at, slot_at}
+use Rattle.nv_inode.specs.Slot.{is_right_log, kind_at, nth_slot, slot_at}
+use Rattle.nv_inode.proofs.Places.{one_place, place, place_below, slot_at_place, slot_place}
 use Rattle.nv_scan.proofs.Pieces.{slot_is}
 use Rattle.nv_outcome.proofs.Tickets.{slot_number}
 use Rattle.nv_journal.specs.Undo.{undone}
@@ -80,51 +82,97 @@ right_start s head tail h = grind (arith, nat_tests)
 pub right_whole : (s : Super) (head tail : ℕ) → IsTrue (is_right_log s head tail) → tail % 8 ≡ 0
 right_whole s head tail h = grind (arith, nat_tests)
 
--- ---- one inode after another
+-- ---- one slot after another
 
--- the slot at the address of a number's slot says what its log is
-pub one_log : (U : Region) (s : Super) (i a head tail : ℕ) (slot : Slot) → IsLayout s → IsTrue (is_number s i) → slot ≡ slot_at U (slot_address s i) → IsLogOf U s i a head tail → (head ≡ slot.head) × (tail ≡ slot.tail)
-one_log U s i a head tail slot layout number is l =
-    let here : a ≡ slot_address s i = same_Some a (slot_address s i) (sym l.slot ∙ slot_is s i layout number) in
-    (l.head_is ∙ ap (λ (x : ℕ). word U (x + 16)) here ∙ ap (λ (x : Slot). x.head) (sym is), l.tail_is ∙ ap (λ (x : ℕ). word U (x + 24)) here ∙ ap (λ (x : Slot). x.tail) (sym is))
+-- the first place is that of number 0
+place_of_first : (s : Super) → IsLayout s → place s 0 ≡ 0
+place_of_first s layout = at s.cpus layout.cpus_from
+  where
+    at : (C : ℕ) → 1 ≤ C → 0 % C * (32 * s.table_blocks) + 0 / C ≡ 0
+    at C some =
+        let cpu : 0 % C ≡ 0 = omega arith in
+        let row : 0 / C ≡ 0 = omega arith in
+        let table : 0 % C * (32 * s.table_blocks) ≡ 0 * (32 * s.table_blocks) = ap (λ (c : ℕ). c * (32 * s.table_blocks)) cpu in
+        omega (arith, table, row)
 
--- the logs of the inodes below a number
+is_a_number : (s : Super) (i : ℕ) → 0 < i → i < inode_limit s → IsTrue (is_number s i)
+is_a_number s i some low = grind (arith, nat_tests)
+
+-- the slot of a number lies behind the first place and before the last one's end
+place_between : (s : Super) (i a : ℕ) → IsLayout s → slot_of (fixed_layout s) i ≡ Some a → (nth_slot s 1 ≤ a) × (a < nth_slot s (inode_limit s))
+place_between s i a layout slot =
+    let number = slot_number s i a layout slot in
+    let some = number.0 in
+    let low = number.1 in
+    let here : a ≡ slot_address s i = same_Some a (slot_address s i) (sym slot ∙ slot_is s i layout (is_a_number s i some low)) in
+    let at = slot_place s i in
+    let below = place_below s i layout low in (
+      elim (cases_eq (place s i) 0) [
+        | inl first ↦ absurd (let same = one_place s i 0 layout low (omega (arith, some, low)) (first ∙ sym (place_of_first s layout)) in omega (arith, same, some))
+        | inr other ↦ (let later : 1 ≤ place s i = omega (arith, other) in omega (arith, here, at, later))
+      ],
+      omega (arith, here, at, below),
+    )
+
+-- the slot at an address says what the log is of the inode that has it
+pub one_log : (U : Region) (s : Super) (i a head tail : ℕ) (slot : Slot) → slot ≡ slot_at U a → IsLogOf U s i a head tail → (head ≡ slot.head) × (tail ≡ slot.tail)
+one_log U s i a head tail slot is l = (l.head_is ∙ ap (λ (x : Slot). x.head) (sym is), l.tail_is ∙ ap (λ (x : Slot). x.tail) (sym is))
+
+-- and where it is in use, some inode has it, but for the first one
+pub slot_log : (U : Region) (s : Super) (k head tail : ℕ) (kind : Kind) → IsLayout s → 1 ≤ k → k < inode_limit s → kind_at U (nth_slot s k) ≡ Some kind → head ≡ word U (nth_slot s k + 16) → tail ≡ word U (nth_slot s k + 24)
+    → is_right_log s head tail ≡ true → IsLog U s head tail
+slot_log U s k head tail kind layout later below used head_is tail_is right =
+    let there = slot_at_place s k layout below in
+    let i : ℕ = there.0 in
+    let low = there.1 in
+    let same = there.2 in
+    let some : 0 < i = elim (cases_eq i 0) [
+      | inl first ↦ absurd (let one = slot_place s 0 in let zero = place_of_first s layout in let at = ap (slot_address s) first in omega (arith, same, at, one, zero, later))
+      | inr other ↦ omega (arith, other)
+    ] in
+    (i, nth_slot s k, record { kind = kind; slot = slot_is s i layout (is_a_number s i some low) ∙ ap (λ (x : ℕ). Some x) (sym same); used = used; head_is = head_is; tail_is = tail_is; right = right })
+
+-- the logs of the inodes whose slots lie before a place
 pub record LogsBelow (U : Region) (s : Super) (n : ℕ) (logs : List LogEnds) : Type 0 where
-  pub all : (i a head tail : ℕ) → i < n → IsLogOf U s i a head tail → Contains logs (record { head = head; tail = tail })
+  pub all : (i a head tail : ℕ) → a < nth_slot s n → IsLogOf U s i a head tail → Contains logs (record { head = head; tail = tail })
   pub only : (log : LogEnds) → Contains logs log → IsLog U s log.head log.tail
 
--- no inode has the number 0
+-- no inode has the first place
 pub below_first : (U : Region) (s : Super) (logs : List LogEnds) → IsLayout s → logs ≡ [] → LogsBelow U s 1 logs
 below_first U s logs layout none = record {
-  all = λ i a head tail low l. absurd (let n = slot_number s i a layout l.slot in let some = n.0 in omega (arith, low, some));
+  all = λ i a head tail low l. absurd (let n = place_between s i a layout l.slot in let some = n.0 in omega (arith, low, some));
   only = λ log c. absurd (none_in log (subst (λ (x : List LogEnds). Contains x log) none c));
 }
 
-pub below_some : (U : Region) (s : Super) (n : ℕ) (logs : List LogEnds) (log : LogEnds) → LogsBelow U s n logs → ((a head tail : ℕ) → IsLogOf U s n a head tail → log ≡ record { head = head; tail = tail })
-    → (a : ℕ) × IsLogOf U s n a log.head log.tail → LogsBelow U s (n + 1) (logs ++ log ∷ [])
-below_some U s n logs log before is has = record {
-  all = λ i a head tail low l. elim (cases_eq i n) [
-    | inl same ↦ subst (λ (x : LogEnds). Contains (logs ++ log ∷ []) x) (is a head tail (subst (λ (x : ℕ). IsLogOf U s x a head tail) same l)) (Contains-push logs log)
-    | inr other ↦ Contains-append_left logs (log ∷ []) (record { head = head; tail = tail }) (before.all i a head tail (omega (arith, low, other)) l)
+-- slots are whole
+below_or_at : (s : Super) (U : Region) (i a head tail n : ℕ) → IsLayout s → a < nth_slot s (n + 1) → a ≢ nth_slot s n → IsLogOf U s i a head tail → a < nth_slot s n
+below_or_at s U i a head tail n layout low other l = (let whole = (slots_apart s layout).whole i a l.slot in omega (arith, low, other, whole))
+
+pub below_some : (U : Region) (s : Super) (n : ℕ) (logs : List LogEnds) (log : LogEnds) → IsLayout s → LogsBelow U s n logs → ((i head tail : ℕ) → IsLogOf U s i (nth_slot s n) head tail → log ≡ record { head = head; tail = tail })
+    → IsLog U s log.head log.tail → LogsBelow U s (n + 1) (logs ++ log ∷ [])
+below_some U s n logs log layout before is has = record {
+  all = λ i a head tail low l. elim (cases_eq a (nth_slot s n)) [
+    | inl same ↦ subst (λ (x : LogEnds). Contains (logs ++ log ∷ []) x) (is i head tail (subst (λ (x : ℕ). IsLogOf U s i x head tail) same l)) (Contains-push logs log)
+    | inr other ↦ Contains-append_left logs (log ∷ []) (record { head = head; tail = tail }) (before.all i a head tail (below_or_at s U i a head tail n layout low other l) l)
   ];
   only = λ x c. elim (Contains-push_cases logs log x c) [
     | inl old ↦ before.only x old
-    | inr same ↦ subst (λ (y : LogEnds). IsLog U s y.head y.tail) same (n, has.0, has.1)
+    | inr same ↦ subst (λ (y : LogEnds). IsLog U s y.head y.tail) same has
   ];
 }
 
-pub below_none : (U : Region) (s : Super) (n : ℕ) (logs : List LogEnds) → LogsBelow U s n logs → ((a head tail : ℕ) → IsLogOf U s n a head tail → ⊥) → LogsBelow U s (n + 1) logs
-below_none U s n logs before none = record {
-  all = λ i a head tail low l. elim (cases_eq i n) [
-    | inl same ↦ absurd (none a head tail (subst (λ (x : ℕ). IsLogOf U s x a head tail) same l))
-    | inr other ↦ before.all i a head tail (omega (arith, low, other)) l
+pub below_none : (U : Region) (s : Super) (n : ℕ) (logs : List LogEnds) → IsLayout s → LogsBelow U s n logs → ((i head tail : ℕ) → IsLogOf U s i (nth_slot s n) head tail → ⊥) → LogsBelow U s (n + 1) logs
+below_none U s n logs layout before none = record {
+  all = λ i a head tail low l. elim (cases_eq a (nth_slot s n)) [
+    | inl same ↦ absurd (none i head tail (subst (λ (x : ℕ). IsLogOf U s i x head tail) same l))
+    | inr other ↦ before.all i a head tail (below_or_at s U i a head tail n layout low other l) l
   ];
   only = before.only;
 }
 
--- all inodes have numbers below the limit
+-- all slots lie before the limit's place
 pub below_limit : (U : Region) (s : Super) (n : ℕ) (logs : List LogEnds) → IsLayout s → inode_limit s ≤ n → LogsBelow U s n logs → AreLogs U s logs
 below_limit U s n logs layout high below = record {
-  all = λ head tail l. below.all l.0 l.1 head tail (let m = slot_number s l.0 l.1 layout l.2.slot in let low = m.1 in omega (arith, low, high)) l.2;
+  all = λ head tail l. below.all l.0 l.1 head tail (let m = place_between s l.0 l.1 layout l.2.slot in let low = m.1 in omega (arith, low, high)) l.2;
   only = below.only;
 }

@@ -2,14 +2,15 @@
 use Rattle.std.proofs.Common.{◌≡◌, inl, inr, ◌+◌, ◌<◌, ◌≤◌, ℕ, true, false, nat_le, List, [], ◌++◌, length, get_or, refl, sym, ap, ◌∙◌, subst, arith, length-append}
 use Rattle.std.proofs.lemmas.Bool.{cases_lt}
 use Rattle.std.proofs.lemmas.Bool.Decides.{nat_tests}
-use Rattle.nv_metadata.specs.Memory.{nowhere, taken, piece_at, piece_of, IsPlaced}
-use Rattle.nv_metadata.specs.declared.memory.Place.{Place}
+use Rattle.nv_metadata.specs.Memory.{piece_at, piece_of, IsPlaced}
+use Rattle.nv_metadata.specs.Places.{nowhere, taken}
+use Rattle.nv_metadata.specs.declared.places.Place.{Place}
 use Rattle.nv_metadata.proofs.Pieces.{is_below, not_below, piece_stays, placed_stays, part_stays, behind, piece_behind, stands_behind}
 
-is_to : (a b : ℕ) → a ≤ b → nat_le a b ≡ true
+pub is_to : (a b : ℕ) → a ≤ b → nat_le a b ≡ true
 is_to a b h = grind (nat_tests, arith)
 
-not_to : (a b : ℕ) → b < a → nat_le a b ≡ false
+pub not_to : (a b : ℕ) → b < a → nat_le a b ≡ false
 not_to a b h = grind (nat_tests, arith)
 
 module _ (from before b : ℕ) (here there : Place) where

@@ -1,15 +1,17 @@
 -- Two memories that are put together: the table of one takes places of the other, whose parts stand behind its own.
-use Rattle.std.proofs.Common.{◌≡◌, ◌⊎◌, inl, inr, ◌*◌, ◌/◌, ◌≤◌, ℕ, Bool, List, ◌++◌, length, map, get_or, refl, sym, ap, ◌∙◌, arith}
+use Rattle.std.proofs.Common.{◌≡◌, ◌⊎◌, inl, inr, ◌*◌, ◌/◌, ◌≤◌, ℕ, Bool, List, [], ◌++◌, length, map, get_or, refl, sym, ap, ◌∙◌, arith, length-append}
 use Rattle.std.proofs.Math.ListN.{get_or-map}
 use Rattle.std.proofs.lemmas.Bool.{cases_lt}
 use Rattle.nv_region.specs.Region.{words_of}
 use Rattle.nv_region.proofs.Fronted.{count_of_words}
 use Rattle.nv_journal.specs.Undone.{SameBefore}
-use Rattle.nv_metadata.specs.Memory.{MetadataState, held, nowhere, taken, piece_of, IsPlaced}
+use Rattle.nv_metadata.specs.Memory.{MetadataState, held, piece_of, IsPlaced}
+use Rattle.nv_metadata.specs.Places.{nowhere, taken}
 use Rattle.nv_metadata.specs.Parts.{IsJoined}
-use Rattle.nv_metadata.specs.declared.memory.Place.{Place}
+use Rattle.nv_metadata.specs.declared.places.Place.{Place}
 use Rattle.nv_metadata.proofs.Held.{shown, words_shown, same_word, same_behind}
 use Rattle.nv_metadata.proofs.Joined.{SameWords, joined_by}
+use Rattle.nv_metadata.proofs.Pieces.{part_stays, piece_stays, placed_stays}
 use Rattle.nv_metadata.proofs.Taken.{early_place, less_place, more_place, kept_piece, taken_piece}
 
 -- how many bytes are held by a place
@@ -25,6 +27,18 @@ seen front blocks burnt places parts = record {
 
 pub held_at : (front : List ℕ) (blocks : ℕ) (burnt : Bool) (places : List Place) (parts : List (List ℕ)) (b : ℕ) → held (seen front blocks burnt places parts) b ≡ (get_or places b nowhere).known
 held_at front blocks burnt places parts b = get_or-map known places b nowhere
+
+-- Where each block has the bytes that it had, the same is seen.
+pub seen_stays : (front : List ℕ) (blocks : ℕ) (burnt : Bool) (places : List Place) (parts more : List (List ℕ)) → ((b : ℕ) → piece_of places more b ≡ piece_of places parts b) → seen front blocks burnt places more ≡ seen front blocks burnt places parts
+seen_stays front blocks burnt places parts more same = (λ i. record { memory = record { region = shown (words_of front) blocks (λ b. same b i); front = length front; burnt = burnt }; counts = map known places })
+
+-- Parts that no place names yet change nothing.
+module _ (front : List ℕ) (blocks : ℕ) (burnt : Bool) (places : List Place) (parts more : List (List ℕ)) (placed : (b : ℕ) → IsPlaced parts (get_or places b nowhere)) where
+  pub same_with_parts : seen front blocks burnt places (parts ++ more) ≡ seen front blocks burnt places parts
+  same_with_parts = seen_stays front blocks burnt places parts (parts ++ more) (λ b. piece_stays parts (parts ++ more) (get_or places b nowhere) [] (placed b) (part_stays parts more (get_or places b nowhere) (placed b)))
+
+  pub placed_with_parts : (b : ℕ) → IsPlaced (parts ++ more) (get_or places b nowhere)
+  placed_with_parts b = placed_stays parts (parts ++ more) (get_or places b nowhere) [] (placed b) (part_stays parts more (get_or places b nowhere) (placed b)) (let l = length-append parts more in omega (arith, l))
 
 module _ (front other_front : List ℕ) (blocks : ℕ) (burnt other_burnt : Bool) (places others news : List Place) (parts more : List (List ℕ)) (from : ℕ) (few : length (words_of front) ≤ 512 * blocks) (other_few : length (words_of other_front) ≤ 512 * blocks)
     (behind : length front ≤ 4096 * from) (other_behind : length other_front ≤ 4096 * from) (placed : (b : ℕ) → IsPlaced parts (get_or places b nowhere)) (there : (b : ℕ) → IsPlaced more (get_or others b nowhere))

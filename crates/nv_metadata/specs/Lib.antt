@@ -1,4 +1,5 @@
 pub mod Blocks
+pub mod Places
 pub mod Memory
 pub mod Holding
 pub mod Linked

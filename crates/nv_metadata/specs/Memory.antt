@@ -1,5 +1,5 @@
 -- The memory of an image's metadata, as its contracts see it.
-use Rattle.std.specs.Prelude.{◌≡◌, ◌≤◌, ◌<◌, ◌+◌, ◌*◌, ◌/◌, ◌%◌, ◌&&◌, ℕ, if◌then◌else◌, List, [], take, drop, get_or, length, map, false, nat_le, nat_lt, vec_items}
+use Rattle.std.specs.Prelude.{◌≡◌, ◌≤◌, ◌<◌, ◌+◌, ◌*◌, ◌/◌, ◌%◌, ℕ, if◌then◌else◌, List, [], take, drop, get_or, length, map, false, nat_lt, vec_items}
 use Rattle.std.specs.List.{range_with_len}
 use Rattle.byteorder.specs.Endian.{little_number}
 use Rattle.nv_region.specs.Region.{Region, word, words_of, HasBlocks}
@@ -9,7 +9,8 @@ use Rattle.nv_super.specs.Super.{IsSuper}
 use Rattle.nv_region.specs.ImageState.{ImageState}
 use Rattle.nv_journal.specs.Undone.{SameBefore}
 use Rattle.nv_metadata.specs.declared.memory.MetadataRegion.TheInside.{Inside}
-use Rattle.nv_metadata.specs.declared.memory.Place.{Place}
+use Rattle.nv_metadata.specs.declared.places.Place.{Place}
+use Rattle.nv_metadata.specs.Places.{nowhere}
 
 -- The region as it reads, of which only the front takes stores, and of each block how many bytes of it are held, from its first on.
 pub record MetadataState : Type 0 where
@@ -19,10 +20,6 @@ pub record MetadataState : Type 0 where
 -- How many bytes of a block are held: none, or those from its first on.
 abbrev pub held : MetadataState → ℕ → ℕ
 held m b = get_or m.counts b 0
-
--- the place of a block of which nothing is held
-abbrev pub nowhere : Place
-nowhere = record { part = 0; start = 0; count = 0; known = 0 }
 
 -- the bytes that have this place in parts
 abbrev pub piece_at : List (List ℕ) → Place → List ℕ
@@ -51,13 +48,8 @@ pub record HasPieces (m : Inside) : Type 0 where
   pub front : length (words_of m.front.items) ≤ 512 * m.blocks
   pub front_whole : length m.front.items % 8 ≡ 0
   pub blocks : m.blocks ≤ most_blocks
-  pub places : length m.places.items ≡ m.blocks
-  pub placed : (b : ℕ) → IsPlaced (map vec_items m.parts.items) (get_or m.places.items b nowhere)
-
--- Of two places of a block from one on that of which more is held: the other one's part stands behind so many parts here. A block
--- before keeps its place.
-abbrev pub taken : ℕ → ℕ → ℕ → Place → Place → Place
-taken from before b here there = if nat_le from b && nat_lt here.known there.known then record there { part = before + there.part } else here
+  pub places : length m.places ≡ m.blocks
+  pub placed : (b : ℕ) → IsPlaced (map vec_items m.parts.items) (get_or m.places b nowhere)
 
 -- The memory shows another region: it is as long, and has the same words in its front and in what it holds of other blocks.
 -- Elsewhere it has zeros.

@@ -12,6 +12,7 @@ mod laws;
 mod logs;
 mod memory;
 mod parts;
+mod places;
 mod walking;
 
 pub use blocks::{Blocks, HeldBytes};

@@ -1,13 +1,14 @@
 //! Where the logs of the inodes in use begin and end.
 
-ghost use Rattle.std.specs.Prelude.{◌≡◌, ℕ, IfOk, IfSome, Some, IsTrue};
+ghost use Rattle.std.specs.Prelude.{◌≡◌, ◌≤◌, ◌<◌, ℕ, IfOk, IfSome, Some};
 ghost use Rattle.std.specs.List.{Contains};
 ghost use Rattle.nv_region.specs.Region.{HasBlocks};
-ghost use Rattle.nv_super.specs.Layout.{IsLayout, is_number};
+ghost use Rattle.nv_super.specs.Layout.{IsLayout, inode_limit};
+ghost use Rattle.nv_inode.specs.Slot.{nth_slot};
 ghost use Rattle.nv_metadata.specs.Linked.{IsLog, IsLogOf};
 ghost use Rattle.nv_metadata.specs.declared.logs.LogEnds.{LogEnds as LogEndsValue};
 
-use nv_inode::{SlotState, read_slot};
+use nv_inode::{SlotState, nth_slot, read_slot_at};
 use nv_region::Pmem;
 use nv_super::Super;
 use std::alloc::{AllocError, Global};
@@ -19,7 +20,8 @@ pub(crate) struct LogEnds {
     pub tail: u64,
 }
 
-/// The heads and tails of the logs of all inodes in use where both are right, in the order of the inodes' numbers.
+/// The heads and tails of the logs of all inodes in use where both are right, in the order of their slots: a table is read from
+/// its start on, and logs of neighbours have pages that lie together.
 pub(crate) fn right_logs<P: Pmem>(
     alloc: Global,
     memory: &P,
@@ -31,23 +33,24 @@ pub(crate) fn right_logs<P: Pmem>(
     ensures only { IfOk result (λ logs. (log : LogEndsValue) → Contains logs.items log → IsLog (P.region memory.now) sup.now log.head log.tail) }
 {
     let mut logs = Vec::new(alloc);
-    for inode in 1..sup.inode_limit() {
-        if let Some(log) = right_log(memory, sup, inode) {
+    for place in 1..sup.inode_limit() {
+        if let Some(log) = right_log(memory, sup, place) {
             logs.push(log)?;
         }
     }
     Ok(logs)
 }
 
-// The head and tail of an inode's log, where it is in use and both are right.
-fn right_log<P: Pmem>(memory: &P, sup: &Super, inode: u64) -> Option<LogEnds>
+// The head and tail of the log that the slot at a place in the tables has, where it is in use and both are right. The first place
+// is that of number 0, which no inode has.
+fn right_log<P: Pmem>(memory: &P, sup: &Super, place: u64) -> Option<LogEnds>
     requires layout { IsLayout sup.now }
     requires blocks { HasBlocks (P.region memory.now) sup.now.blocks }
-    requires number { IsTrue (is_number sup.now inode) }
-    ensures all { (a head tail : ℕ) → IsLogOf (P.region memory.now) sup.now inode a head tail → result ≡ Some (record { head = head; tail = tail }) }
-    ensures only { IfSome result (λ log. (a : ℕ) × IsLogOf (P.region memory.now) sup.now inode a log.head log.tail) }
+    requires place { (1 ≤ place) × (place < inode_limit sup.now) }
+    ensures all { (i head tail : ℕ) → IsLogOf (P.region memory.now) sup.now i (nth_slot sup.now place) head tail → result ≡ Some (record { head = head; tail = tail }) }
+    ensures only { IfSome result (λ log. IsLog (P.region memory.now) sup.now log.head log.tail) }
 {
-    let slot = read_slot(memory, sup, inode);
+    let slot = read_slot_at(memory, nth_slot(sup, place));
     match slot.state() {
         SlotState::InUse(_) if slot.has_right_log(sup) => Some(LogEnds {
             head: slot.head,

@@ -4,7 +4,7 @@
 //! held and where these stand: one piece behind another, in the order in which they came, each without the zeros at its end.
 //! Where memories are put together, the bytes of each stay as a part. A store behind the front is refused as if a fuse had burnt.
 
-ghost use Rattle.std.specs.Prelude.{◌≡◌, ◌≢◌, ◌≤◌, ◌<◌, ◌+◌, ◌*◌, ◌/◌, ◌%◌, ◌^◌, ◌||◌, ℕ, false, IfOk, OnOk, OnErr, is_err, [], ◌∷◌, length, map, drop, get_or, set, replicate, vec_items, refl};
+ghost use Rattle.std.specs.Prelude.{◌≡◌, ◌≢◌, ◌≤◌, ◌<◌, ◌+◌, ◌*◌, ◌/◌, ◌%◌, ◌||◌, ℕ, false, IfOk, OnOk, OnErr, is_err, [], ◌∷◌, length, map, drop, set, vec_items, refl};
 ghost use Rattle.std.proofs.lemmas.Bool.{false≢true};
 ghost use Rattle.byteorder.specs.Endian.{little_number};
 ghost use Rattle.nv_region.specs.Region.{HasBlocks, size, word, put, words_of};
@@ -13,33 +13,16 @@ ghost use Rattle.nv_region.specs.Fuses.{KeepsFuse};
 ghost use Rattle.nv_region.specs.ImageState.{as_it_reads, fuse_state, open_not_burnt};
 ghost use Rattle.nv_super.specs.Layout.{most_blocks};
 ghost use Rattle.nv_journal.specs.Undone.{SameBefore};
-ghost use Rattle.nv_metadata.specs.Memory.{held, nowhere, taken};
+ghost use Rattle.nv_metadata.specs.Memory.{held};
 ghost use Rattle.nv_metadata.specs.Holding.{BeginsWith, SameShape, StoresInFront};
 ghost use Rattle.nv_metadata.specs.Parts.{IsJoined};
 
+use crate::places::{Place, Places, narrow};
 use byteorder::{ByteOrder, LittleEndian};
 use nv_region::{Pmem, Stopped};
 use nv_super::BLOCK_SIZE;
 use std::alloc::{AllocError, Global};
 use std::marker::Model;
-
-// Where the bytes of a block stand: in which part, from where on, and how many. So many are known of it: those behind what stands
-// there are zeros.
-#[derive(Clone, Copy)]
-struct Place {
-    part: u32,
-    start: u32,
-    count: u32,
-    known: u32,
-}
-
-// The place of a block of which nothing is held.
-const NOWHERE: Place = Place {
-    part: 0,
-    start: 0,
-    count: 0,
-    known: 0,
-};
 
 /// A region whose front and some of whose blocks are held, each from its first byte on. Contracts see it as a region over
 /// bytes, with how many bytes it holds of each block behind the front.
@@ -48,7 +31,7 @@ pub struct MetadataRegion {
     blocks: u64,
     front: Vec<u8>,
     // For each block where its bytes stand.
-    places: Vec<Place>,
+    places: Places,
     // What is held here itself is the first.
     parts: Vec<Vec<u8>>,
     burnt: bool,
@@ -59,13 +42,13 @@ impl Model for MetadataRegion {
     ghost use Rattle.nv_region.specs.Region.{words_of};
     ghost use Rattle.nv_region.specs.ImageState.{with_front};
     ghost use Rattle.nv_metadata.specs.Memory.{MetadataState, pieced, piece_of};
-    ghost use Rattle.nv_metadata.specs.declared.memory.Place.{Place as PlaceValue};
+    ghost use Rattle.nv_metadata.specs.declared.places.Place.{Place as PlaceValue};
 
     ghost Value = { MetadataState };
 
     ghost view = { λ m. record {
-      memory = record { region = with_front (words_of m.front.items) (pieced m.blocks (piece_of m.places.items (map vec_items m.parts.items))); front = length m.front.items; burnt = m.burnt };
-      counts = map (λ (p : PlaceValue). p.known) m.places.items;
+      memory = record { region = with_front (words_of m.front.items) (pieced m.blocks (piece_of m.places (map vec_items m.parts.items))); front = length m.front.items; burnt = m.burnt };
+      counts = map (λ (p : PlaceValue). p.known) m.places;
     } };
 
     ghost use Rattle.nv_metadata.specs.Memory.{HasPieces};
@@ -115,7 +98,7 @@ impl MetadataRegion {
         Ok(MetadataRegion {
             blocks,
             front,
-            places: no_places(alloc, blocks as usize)?,
+            places: Places::none(alloc, blocks as usize)?,
             parts: one_part(alloc, (room.min(blocks) * BLOCK_SIZE) as usize)?,
             burnt: false,
         })
@@ -126,7 +109,7 @@ impl MetadataRegion {
         requires { 4096 * block < size self.now.memory.region }
         ensures { result ≡ held self.now block }
     {
-        self.places[block as usize].known as usize
+        self.places.at(block as usize).known as usize
     }
 
     /// Holds these bytes as the first of a block behind the front, whose other words are 0.
@@ -163,19 +146,25 @@ impl MetadataRegion {
         let count = narrow(piece.len())?;
         let known = narrow(known)?;
         self.parts[0].extend_from_slice(piece)?;
-        self.places[block as usize] = Place {
+        let place = Place {
             part: 0,
             start,
             count,
             known,
         };
+        self.places.put(block as usize, place)?;
         Ok(())
     }
 
     /// Holds what another memory holds more of the blocks from one on. No byte is copied: its parts come behind these.
     ///
     /// Errors: `AllocError` where a growth was refused; all stays as it was.
-    pub(crate) fn join(&mut self, other: MetadataRegion, from: u64) -> Result<(), AllocError>
+    pub(crate) fn join(
+        &mut self,
+        alloc: Global,
+        other: MetadataRegion,
+        from: u64,
+    ) -> Result<(), AllocError>
         requires as_long { size other.memory.region ≡ size self.old.memory.region }
         requires within { 4096 * from ≤ size self.old.memory.region }
         requires behind { (self.old.memory.front ≤ 4096 * from) × (other.memory.front ≤ 4096 * from) }
@@ -194,7 +183,8 @@ impl MetadataRegion {
         let before = narrow(self.parts.len())?;
         let _all = narrow(self.parts.len() + parts.len())?;
         self.parts.append(&mut parts)?;
-        take_more(&mut self.places, &places, from as usize, before);
+        self.places
+            .take_more(alloc, &places, from as usize, before)?;
         Ok(())
     }
 
@@ -205,7 +195,7 @@ impl MetadataRegion {
         requires behind { self.now.memory.front ≤ at }
         ensures { result ≡ word self.now.memory.region at }
     {
-        let place = self.places[(at / BLOCK_SIZE) as usize];
+        let place = self.places.at((at / BLOCK_SIZE) as usize);
         let offset = (at % BLOCK_SIZE) as usize;
         if offset >= place.count as usize {
             return 0;
@@ -217,15 +207,6 @@ impl MetadataRegion {
     }
 }
 
-// A table of so many blocks of which nothing is held.
-fn no_places(alloc: Global, blocks: usize) -> Result<Vec<Place>, AllocError>
-    ensures { IfOk result (λ places. places.items ≡ replicate blocks nowhere) }
-{
-    let mut places = Vec::with_capacity(alloc, blocks)?;
-    places.resize(blocks, NOWHERE)?;
-    Ok(places)
-}
-
 // One part, with no bytes and room for so many.
 fn one_part(alloc: Global, room: usize) -> Result<Vec<Vec<u8>>, AllocError>
     ensures { IfOk result (λ parts. map vec_items parts.items ≡ [] ∷ []) }
@@ -235,36 +216,6 @@ fn one_part(alloc: Global, room: usize) -> Result<Vec<Vec<u8>>, AllocError>
     Ok(parts)
 }
 
-// Gives each block from one on the place that it has in another table, where more of it is held there. The parts of that one
-// stand behind so many now.
-fn take_more(places: &mut [Place], others: &[Place], from: usize, before: u32)
-    requires as_many { length others.now ≡ length places.old }
-    requires from { from ≤ length places.old }
-    requires few { (b : ℕ) → before + (get_or others.now b nowhere).part < 2 ^ 32 }
-    ensures as_many { length places.new ≡ length places.old }
-    ensures taken { (b : ℕ) → get_or places.new b nowhere ≡ taken from before b (get_or places.old b nowhere) (get_or others.now b nowhere) }
-{
-    for block in from..places.len() {
-        places[block] = more_of(places[block], others[block], before);
-    }
-}
-
-// Of two places of a block that of which more is held: the second one's part stands behind so many now.
-fn more_of(here: Place, there: Place, before: u32) -> Place
-    requires { before + there.part < 2 ^ 32 }
-    ensures { result ≡ taken 0 before 0 here there }
-{
-    if there.known <= here.known {
-        return here;
-    }
-    Place {
-        part: before + there.part,
-        start: there.start,
-        count: there.count,
-        known: there.known,
-    }
-}
-
 /// The little-endian word of the eight bytes at an address.
 #[inline]
 pub(crate) fn word_at(bytes: &[u8], at: usize) -> u64
@@ -272,16 +223,6 @@ pub(crate) fn word_at(bytes: &[u8], at: usize) -> u64
     ensures { result ≡ little_number 8 (drop at bytes.now) }
 {
     LittleEndian::read_u64(&bytes[at..])
-}
-
-// A number of bytes in 32 bits: an image has fewer by far. Errors: `AllocError` where it has no room there.
-fn narrow(count: usize) -> Result<u32, AllocError>
-    ensures { IfOk result (λ narrow. narrow ≡ count) }
-{
-    match u32::try_from(count) {
-        Ok(narrow) => Ok(narrow),
-        Err(_) => Err(AllocError),
-    }
 }
 
 // How many bytes stand in front of the words at the end that are 0.

@@ -58,7 +58,7 @@ pub(crate) fn fetch_apart<B: Blocks + Sync, H: Threads + Sync>(
     );
     let mut memory = left?;
     let other = right?;
-    hold_all(&mut memory, other, sup)?;
+    hold_all(alloc, &mut memory, other, sup)?;
     Ok(memory)
 }
 
@@ -103,6 +103,7 @@ pub(crate) fn fetch_alone<B: Blocks>(
 
 // Holds what another memory holds more of any data block.
 fn hold_all(
+    alloc: Global,
     memory: &mut MetadataRegion,
     other: MetadataRegion,
     sup: &Super,
@@ -114,6 +115,6 @@ fn hold_all(
     ensures front { SameFront memory.old memory.new }
     ensures joined { OnOk result (IsJoined (system_blocks sup.now) sup.now.blocks memory.old other memory.new) }
 {
-    memory.join(other, sup.system_blocks())?;
+    memory.join(alloc, other, sup.system_blocks())?;
     Ok(())
 }

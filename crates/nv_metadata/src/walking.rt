@@ -23,9 +23,6 @@ use std::alloc::Global;
 
 const PAGE: usize = 4096;
 
-// Room for the first entries of a log. Most logs are short, and a whole page is dear to clear for them.
-const SHORT_PIECE: usize = 512;
-
 // The bytes of the longest entry: three words, and those of a name of 255 bytes.
 const LONGEST_ENTRY: usize = 280;
 
@@ -48,28 +45,32 @@ pub(crate) fn fetch_logs<B: Blocks>(
     ensures known { (image : List ℕ) → B.bytes source.now ≡ Some image → length image ≡ 4096 * sup.now.blocks → IfErr result (λ e. e ≡ GatherError.Memory) }
 {
     let mut walked = BlockList::new(alloc, sup.blocks)?;
+    let mut room = [0; PAGE];
     for log in logs {
-        fetch_log(memory, source, sup, *log, &mut walked)?;
+        fetch_log(memory, source, sup, *log, &mut walked, &mut room)?;
     }
     Ok(())
 }
 
 // Fetches the pages of a log from its head's on, until that of its tail, or until a link isn't right or leads to a page of it.
-// Of the tail's page no more is fetched than is read of it.
+// Of the tail's page no more is fetched than is read of it. Pages are read into the room, which is cleared once for all logs.
 fn fetch_log<B: Blocks>(
     memory: &mut MetadataRegion,
     source: &B,
     sup: &Super,
     log: LogEnds,
     walked: &mut BlockList,
+    room: &mut [u8],
 ) -> Result<(), GatherError>
     requires areas { HasAreas sup.now }
     requires can { CanHold sup.now memory.old }
     requires right { IsTrue (is_right_log sup.now log.head log.tail) }
     requires all_blocks { walked.old.bound ≡ sup.now.blocks }
+    requires room { length room.old ≡ 4096 }
     ensures can { CanHold sup.now memory.new }
     ensures front { SameFront memory.old memory.new }
     ensures all_blocks { walked.new.bound ≡ sup.now.blocks }
+    ensures room { length room.new ≡ 4096 }
     ensures fetched { (image : List ℕ) → B.bytes source.now ≡ Some image → Shows (region_of image) memory.old
         → OnOk result (IsFetched sup.now (region_of image) log.head log.tail memory.old memory.new) }
     ensures known { (image : List ℕ) → B.bytes source.now ≡ Some image → length image ≡ 4096 * sup.now.blocks → IfErr result (λ e. e ≡ GatherError.Memory) }
@@ -77,7 +78,13 @@ fn fetch_log<B: Blocks>(
     let mut block = log.head / BLOCK_SIZE;
     walked.restart(block);
     'pages: loop {
-        fetch(memory, source, sup, block, wanted(log.tail, block))?;
+        fetch(
+            memory,
+            source,
+            sup,
+            block,
+            &mut room[..wanted(log.tail, block)],
+        )?;
         match next_page(memory, sup, log.tail, walked, block) {
             Some(next) => {
                 walked.push(next)?;
@@ -131,51 +138,26 @@ fn wanted(tail: u64, block: u64) -> usize
     PAGE.min((tail % BLOCK_SIZE) as usize + LONGEST_ENTRY)
 }
 
-// Reads so many bytes of a data block, if no more are held.
+// Reads as many bytes of a data block as there is room for, if no more are held.
 fn fetch<B: Blocks>(
     memory: &mut MetadataRegion,
     source: &B,
     sup: &Super,
     block: u64,
-    count: usize,
+    room: &mut [u8],
 ) -> Result<(), GatherError>
-    requires can { CanFetch sup.now memory.old block count }
+    requires can { CanFetch sup.now memory.old block (length room.old) }
     ensures can { CanHold sup.now memory.new }
     ensures front { SameFront memory.old memory.new }
-    ensures more { OnOk result (HoldsMore memory.old block count memory.new) }
+    ensures more { OnOk result (HoldsMore memory.old block (length room.old) memory.new) }
+    ensures room { length room.new ≡ length room.old }
     ensures shows { (image : List ℕ) → B.bytes source.now ≡ Some image → Shows (region_of image) memory.old → OnOk result (Shows (region_of image) memory.new) }
     ensures known { (image : List ℕ) → B.bytes source.now ≡ Some image → length image ≡ 4096 * sup.now.blocks → IfErr result (λ e. e ≡ GatherError.Memory) }
 {
-    if count <= SHORT_PIECE {
-        fetch_piece::<B, SHORT_PIECE>(memory, source, sup, block, count)
-    } else {
-        fetch_piece::<B, PAGE>(memory, source, sup, block, count)
-    }
-}
-
-// Does so by way of a piece that has room for them.
-fn fetch_piece<B: Blocks, const SIZE: usize>(
-    memory: &mut MetadataRegion,
-    source: &B,
-    sup: &Super,
-    block: u64,
-    count: usize,
-) -> Result<(), GatherError>
-    requires can { CanFetch sup.now memory.old block count }
-    requires room { count ≤ SIZE }
-    requires small { SIZE ≤ 4096 }
-    ensures can { CanHold sup.now memory.new }
-    ensures front { SameFront memory.old memory.new }
-    ensures more { OnOk result (HoldsMore memory.old block count memory.new) }
-    ensures shows { (image : List ℕ) → B.bytes source.now ≡ Some image → Shows (region_of image) memory.old → OnOk result (Shows (region_of image) memory.new) }
-    ensures known { (image : List ℕ) → B.bytes source.now ≡ Some image → length image ≡ 4096 * sup.now.blocks → IfErr result (λ e. e ≡ GatherError.Memory) }
-{
-    if memory.held(block) >= count {
+    if memory.held(block) >= room.len() {
         return Ok(());
     }
-    let mut piece = [0; SIZE];
-    let bytes = &mut piece[..count];
-    source.read(BLOCK_SIZE * block, bytes)?;
-    memory.hold(block, bytes)?;
+    source.read(BLOCK_SIZE * block, room)?;
+    memory.hold(block, room)?;
     Ok(())
 }

@@ -13,6 +13,7 @@ invariant-pages g l = record {
   few : length l.walked.blocks ≤ l.walked.bound;
   behind : system_blocks l.sup ≤ l.block;
   inside : l.block < l.sup.blocks;
+  room : length l.room ≡ 4096;
   walked : (image : List ℕ) → g.B.Blocks.bytes l.source ≡ Some image → Shows (region_of image) l.fn.memory → IsWalked l.sup (region_of image) l.log.head l.log.tail l.fn.memory l.memory l.walked.blocks l.block;
 }
 

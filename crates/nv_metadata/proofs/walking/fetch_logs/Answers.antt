@@ -11,6 +11,7 @@ loop-log-preserved g c = record {
   can = c.fetch_log.ensures.can;
   front = (c.fetch_log.ensures.front.0 ∙ c.loop-log.invariant.front.0, c.fetch_log.ensures.front.1 ∙ c.loop-log.invariant.front.1);
   bound = c.fetch_log.ensures.all_blocks;
+  room = c.fetch_log.ensures.room;
   fetched = λ image known shows. (
       let k = c.loop-log.log-index in
       let before = c.loop-log.invariant.fetched image known shows in

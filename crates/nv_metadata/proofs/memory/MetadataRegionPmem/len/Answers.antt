@@ -5,4 +5,4 @@ use Rattle.nv_metadata.proofs.Held.{size_shown}
 use Rattle.nv_metadata.proofs.memory.MetadataRegionPmem.len.Goals as goal
 
 pub returns-clause-bytes : goal.returns-clause-bytes
-returns-clause-bytes c = sym (size_shown (words_of c.self.inside.front.items) c.self.inside.blocks (piece_of c.self.inside.places.items (map vec_items c.self.inside.parts.items)) c.self.invariant.front) ∙ ap (λ (m : MetadataState). size m.memory.region) c.self.view_is
+returns-clause-bytes c = sym (size_shown (words_of c.self.inside.front.items) c.self.inside.blocks (piece_of c.self.inside.places (map vec_items c.self.inside.parts.items)) c.self.invariant.front) ∙ ap (λ (m : MetadataState). size m.memory.region) c.self.view_is

@@ -3,7 +3,7 @@ use Rattle.nv_region.specs.Region.{region_of}
 use Rattle.nv_metadata.specs.Memory.{MetadataState, CanHold}
 use Rattle.nv_metadata.proofs.Shown.{shows_with, words_read}
 use Rattle.nv_metadata.proofs.Ready.{hold_more}
-use Rattle.nv_metadata.proofs.walking.fetch_piece.Goals as goal
+use Rattle.nv_metadata.proofs.walking.fetch.Goals as goal
 
 pub returns-clause-shows : goal.returns-clause-shows
 returns-clause-shows g c image known shows =
@@ -17,6 +17,3 @@ returns-clause-can g c =
 
 pub returns-in_err-hold-clause-can : goal.returns-in_err-hold-clause-can
 returns-in_err-hold-clause-can g c = subst (λ (m : MetadataState). CanHold c.args.sup.now m) (sym c.in_err-hold.ensures.refused) c.requires.can.can
-
-pub whole_as_front-bytes : goal.whole_as_front-bytes
-whole_as_front-bytes g c = (c.requires.room, omega (arith, c.requires.small))
