@@ -173,7 +173,7 @@ int save_image(void)
         return 0;
     bool is_saved = image.is_shared ? !msync(image.pages, image.length, MS_SYNC) : save_pages();
     if (!is_saved)
-        return errno ? -errno : -EIO;
+        return errno ? errno : EIO;
     image.is_changed = false;
     return 0;
 }

@@ -30,7 +30,7 @@ bool lock_image(const char *path);
  * changed. Answers a status of nova_open, or NOVA_NO_SPACE where the disk is full. */
 uint32_t open_image(nova_fs *fs, bool is_mapped);
 
-/* Makes what was written durable: 0, or the negative of an errno. Private pages are written to a spare file beside the image,
+/* Makes what was written durable: 0, or an errno. Private pages are written to a spare file beside the image,
  * which then takes its place: so the image always is one that was saved. */
 int save_image(void);
 

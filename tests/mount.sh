@@ -46,6 +46,13 @@ touch saves.img
 status=$?
 holds "saving is killed in the midst: $(tail -n 1 saves.said)" $status
 
+# ---- the table of inodes by itself
+
+compile -fsanitize=address "$here"/mount/tests/nodes.c "$here"/mount/nodes.c -o nodes
+./nodes 20000 1 >nodes.said 2>&1
+status=$?
+holds "the inodes that the kernel has: $(tail -n 1 nodes.said)" $status
+
 # ---- mounts
 
 if [ ! -w /dev/fuse ] || ! command -v fusermount3 >/dev/null; then
@@ -163,18 +170,22 @@ fi
 # ---- under the address sanitizer
 
 # shellcheck disable=SC2046
-compile -g -fsanitize=address,undefined "$here"/mount/{novafuse,image,changes}.c "$libraries/libnova_c.a" "$libraries/liblibc_c.a" \
+compile -g -fsanitize=address,undefined "$here"/mount/*.c "$libraries/libnova_c.a" "$libraries/liblibc_c.a" \
     $(pkg-config --cflags --libs fuse3) -o novafuse.checked
 for options in "" --mapped; do
     make checked.img 4096
     # shellcheck disable=SC2086
     ./novafuse.checked checked.img "$at" -f $options 2>checked.said &
+    daemon=$!
     until mountpoint -q "$at"; do sleep 0.1; done
     cp -r "$here/docs" "$at/" && sync "$at/docs" && ln "$at/docs/MAP.md" "$at/map" && mv "$at/docs/MAP.md" "$at/docs/TRUST.md" &&
         diff "$here/docs/MAP.md" "$at/map" && diff "$here/docs/MAP.md" "$at/docs/TRUST.md" && sync "$at/map" && rm -r "$at/docs"
     holds "calls under the address sanitizer $options" $?
+    python3 "$here/mount/tests/beside.py" "$at/beside" 6 2000 1 >beside.said && rm -r "$at/beside"
+    status=$?
+    holds "programs beside each other $options: $(tail -n 1 beside.said)" $status
     fusermount3 -u "$at"
-    wait $! && ! grep 'ERROR: \|runtime error: ' checked.said
+    wait $daemon && ! grep 'ERROR: \|runtime error: ' checked.said
     holds "nothing is wrong with its memory $options" $?
     sound "checked $options" checked.img
 done
@@ -201,6 +212,47 @@ same "find goes into directories" 4 "$(mkdir -p "$at/a/b/c" && find "$at" -type 
 "$built" run "$here/examples/hello.nova" --save said.img --force >run.said 2>&1
 holds "a command that writes the image is refused" $((!$?))
 sound "said" said.img
+
+# ---- names that go and come while files are open
+
+# left WANTED: the names in the mount, once the kernel has closed all files.
+left() {
+    for _ in 1 2 3 4 5 6 7 8 9 10; do
+        [ "$(ls -A "$at" | xargs)" = "$1" ] || sleep 0.1
+    done
+    same "the names that are left" "$1" "$(ls -A "$at" | xargs)"
+}
+
+make open.img 4096
+mounted open.img --mapped
+echo old >"$at/file" && exec 7<"$at/file" && rm "$at/file"
+same "a removed file that is open" "old 0" "$(cat <&7) $(ls "$at" | wc -l)"
+exec 7<&-
+left ""
+echo old >"$at/file" && echo new >"$at/other" && exec 7<"$at/file" && mv "$at/other" "$at/file"
+same "a replaced file that is open" "old new" "$(cat <&7) $(cat "$at/file")"
+exec 7<&-
+left file
+ln "$at/file" "$at/link" && cat "$at/link" >/dev/null && echo more >>"$at/file"
+same "what is written under one name is read under another" "new more" "$(xargs <"$at/link")"
+exec 7<"$at/file" && rm "$at/file"
+same "a link that is removed while the file is open" "new more 1" "$(xargs <&7) $(stat -c %h "$at/link")"
+exec 7<&-
+left link
+mkdir -p "$at/d/e" && exec 8>"$at/d/e/file" && mv "$at/d" "$at/f" && mv "$at/f/e" "$at/g" && echo moved >&8 && exec 8>&-
+same "a file that is open in a directory that moves" moved "$(cat "$at/g/file")"
+long=$(printf 'n%.0s' {1..200})
+(cd "$at/f" && for _ in {1..20}; do mkdir "$long" && cd "$long" || exit; done && echo deep >file && [ "$(cat file)" = deep ])
+holds "a path of 4,000 bytes" $?
+(cd "$at/f" && for _ in {1..21}; do [ -d "$long" ] || mkdir "$long" && cd "$long" || exit; done) 2>long.said
+holds "a longer one is refused" $((!$?))
+grep -q 'File name too long' long.said
+holds "by ENAMETOOLONG" $?
+mkdir "$at/many" && (cd "$at/many" && touch {1..2000} && [ "$(ls | wc -l)" = 2000 ] && find . -type f -delete && [ -z "$(ls)" ])
+holds "a directory whose names go while it is listed" $?
+rm -r "$at/f" "$at/g" "$at/many"
+left link
+sound "open" open.img
 
 # ---- owners
 

@@ -7,7 +7,7 @@
 # It takes five minutes.
 set -u
 source "$(dirname "${BASH_SOURCE[0]}")/refusing.sh"
-runs=144
+runs=150
 refuse_each calls $runs
 
 mapfile -t whole < <(tail -n 2 stdout)

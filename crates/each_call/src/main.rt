@@ -13,16 +13,18 @@ fn write(fs: &mut Fs<MemRegion>, cpu: Cpu) -> Result<()> {
     fs.set_attr(cpu, b"/notes/first", 384, 7, 8, Time(6))?;
     fs.link(cpu, b"/notes/first", b"/second", Time(7))?;
     fs.rename(cpu, b"/second", b"/third", Time(8))?;
-    fs.unlink(cpu, b"/notes/first", Time(9))?;
-    Ok(fs.rmdir(cpu, b"/notes", Time(10))?)
+    fs.create(cpu, b"/fourth", 420, Time(9))?;
+    fs.replace(cpu, b"/third", b"/fourth", Time(10))?;
+    fs.unlink(cpu, b"/notes/first", Time(11))?;
+    Ok(fs.rmdir(cpu, b"/notes", Time(12))?)
 }
 
 fn read<R: Print>(rt: &R, fs: &Fs<MemRegion>) -> Result<()> {
-    let stat = fs.stat(b"/third")?;
+    let stat = fs.stat(b"/fourth")?;
     println!(rt; "{} bytes, time {}", stat.size, stat.time)?;
-    println!(rt; "{}", fs.read(b"/third", 0, 100)?.escape_ascii())?;
+    println!(rt; "{}", fs.read(b"/fourth", 0, 100)?.escape_ascii())?;
     let mut buffer = [0; 5];
-    let count = fs.read_into(b"/third", 3, &mut buffer)?;
+    let count = fs.read_into(b"/fourth", 3, &mut buffer)?;
     println!(rt; "{} bytes {}", count, buffer.escape_ascii())?;
     for named in &fs.list(b"/")? {
         println!(rt; "{} is inode {}", named.name.escape_ascii(), named.inode)?;

@@ -1,0 +1,37 @@
+/* Calls that write, where there are few blocks: they are made again once logs are cleaned. */
+#include "room.h"
+
+#include "mounted.h"
+
+enum { MOST_CLEANED = 512 };
+
+/* Frees pages that the log of an inode can do without, as many as a call may need: whether there were any. Each of them costs a
+ * reading of the log. */
+static bool clean(const uint8_t *path, size_t length)
+{
+    nova_cleaned cleaned;
+    for (int count = 0; count < MOST_CLEANED; count++) {
+        if (nova_clean(&fs, path, length, &cleaned) || !cleaned.has_freed)
+            return count > 0;
+        image.is_changed = true;
+    }
+    return true;
+}
+
+bool has_room_now(uint32_t status, const struct path *path)
+{
+    if (status != NOVA_NO_SPACE)
+        return false;
+    size_t directory = path->length - 1;
+    while (directory > 0 && path->bytes[directory] != '/')
+        directory--;
+    bool has_freed = clean(path->bytes, path->length);
+    return clean(path->bytes, directory ? directory : 1) || has_freed;
+}
+
+int written(uint32_t status)
+{
+    if (!status)
+        image.is_changed = true;
+    return error_of(status);
+}
