@@ -1,16 +1,20 @@
-//! Measures what the project stands for: recovery (`recovery`), and the calls of a mounted file system (`calls`).
+//! Measures what the project stands for: recovery (`recovery`), the calls of a mounted file system (`calls`), and tables that
+//! go on in chains (`chains`).
 //!
 //! The first word names one of them, and the others are its numbers, and for recovery the path of an image. Without any, each
 //! runs on a little.
 #![tactic(auto)]
 
 mod calls;
+mod chains;
 mod entries;
+mod kept;
 mod measuring;
 mod mounting;
 mod recovery;
 mod shapes;
 
+use chains::measure_chains;
 use measuring::measure_calls;
 use recovery::measure_recovery;
 use std::rt::{Clock, Files};
@@ -23,7 +27,7 @@ fn number_at(words: &[String], at: usize) -> Option<u64> {
 }
 
 fn tell_usage<R: Eprint>(rt: &R) -> io::Result<()> {
-    eprintln!(rt; "usage: bench [recovery RUNS [PATH] | calls BLOCKS FILES NAMES]")
+    eprintln!(rt; "usage: bench [recovery RUNS [PATH] | calls BLOCKS FILES NAMES | chains BLOCKS]")
 }
 
 fn measure_calls_by<R: AllocGlobal + Print + Eprint + Clock>(
@@ -51,11 +55,22 @@ fn measure_recovery_by<R: AllocGlobal + Print + Eprint + Clock + Files + Threads
     }
 }
 
+fn measure_chains_by<R: AllocGlobal + Print + Eprint + Clock + Files>(
+    rt: &R,
+    words: &[String],
+) -> io::Result<()> {
+    match number_at(words, 1) {
+        Some(blocks) => measure_chains(rt, blocks),
+        None => tell_usage(rt),
+    }
+}
+
 fn measure_all<R: AllocGlobal + Print + Eprint + Clock + Files + Threads + Sync>(
     rt: &R,
 ) -> io::Result<()> {
     measure_recovery(rt, 1, None)?;
-    measure_calls(rt, 8192, 8, 42)
+    measure_calls(rt, 8192, 8, 42)?;
+    measure_chains(rt, 64)
 }
 
 fn measure_by<R: AllocGlobal + Print + Eprint + Clock + Files + Threads + Sync>(
@@ -68,6 +83,7 @@ fn measure_by<R: AllocGlobal + Print + Eprint + Clock + Files + Threads + Sync>(
     match part.as_str() {
         "recovery" => measure_recovery_by(rt, words),
         "calls" => measure_calls_by(rt, words),
+        "chains" => measure_chains_by(rt, words),
         _ => tell_usage(rt),
     }
 }

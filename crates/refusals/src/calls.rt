@@ -25,11 +25,13 @@ pub(crate) enum Call {
     Read,
     UnlinkOne,
     UnlinkLast,
+    ReplaceAcross,
+    ReplaceWithin,
     RemoveDirectory,
 }
 
 /// All calls, in their order: each can be done once those before it are.
-pub(crate) const CALLS: [Call; 19] = [
+pub(crate) const CALLS: [Call; 21] = [
     Call::MakeDirectory,
     Call::MakeDirectoryInIt,
     Call::CreateDeep,
@@ -48,6 +50,8 @@ pub(crate) const CALLS: [Call; 19] = [
     Call::Read,
     Call::UnlinkOne,
     Call::UnlinkLast,
+    Call::ReplaceAcross,
+    Call::ReplaceWithin,
     Call::RemoveDirectory,
 ];
 
@@ -72,6 +76,8 @@ pub(crate) fn name_of(call: Call) -> &'static str {
         Call::Read => "Read",
         Call::UnlinkOne => "UnlinkOne",
         Call::UnlinkLast => "UnlinkLast",
+        Call::ReplaceAcross => "ReplaceAcross",
+        Call::ReplaceWithin => "ReplaceWithin",
         Call::RemoveDirectory => "RemoveDirectory",
     }
 }
@@ -97,7 +103,9 @@ pub(crate) fn make(fs: &mut Fs<MemRegion>, call: Call) -> Result<(), Refusal> {
         Call::Read => read(fs, b"/b"),
         Call::UnlinkOne => fs.unlink(Cpu(0), b"/a", Time(15)),
         Call::UnlinkLast => fs.unlink(Cpu(0), b"/b", Time(16)),
-        Call::RemoveDirectory => fs.rmdir(Cpu(0), b"/d", Time(17)),
+        Call::ReplaceAcross => fs.replace(Cpu(0), b"/e/y", b"/f", Time(17)),
+        Call::ReplaceWithin => fs.replace(Cpu(0), b"/e", b"/d", Time(18)),
+        Call::RemoveDirectory => fs.rmdir(Cpu(0), b"/d", Time(19)),
     }
 }
 

@@ -14,6 +14,7 @@ mod mounted;
 mod recoveries;
 mod region;
 mod seats;
+mod starting;
 mod working;
 
 use making::tell_calls;

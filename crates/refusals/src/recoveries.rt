@@ -1,15 +1,19 @@
-//! Recovers two small regions by each of the recoveries, and lets two workers scan one of them in turn, and tells what was
-//! found.
+//! Recovers two small regions by each of the recoveries, and tells what was found. Before that two workers scan one of them in
+//! turn, and a region in version 2, whose tables are read and whose journals are rolled back first.
 //!
 //! A recovery that answers want of memory leaves its region as before or with its journals rolled back, and a worker gives
 //! its seat and neither rows nor faults; each is then made once more.
 
-ghost use Rattle.std.specs.Prelude.{◌≤◌};
+ghost use Rattle.std.specs.Prelude.{◌≡◌, ◌≤◌};
 ghost use Rattle.nv_region.specs.Region.{HasBlocks};
 
 use crate::findings::{Counts, Left, counts_of, is_want_of_memory, left_of, name_of};
-use crate::region::{Damage, blocks_of, store_damaged, store_rolled_back, store_undone};
+use crate::region::{
+    Damage, STOPPED, blocks_of, store_chained, store_damaged, store_rolled_back, store_undone,
+};
+use crate::starting::{Started, start};
 use crate::working::{Given, Work, work_in_turn};
+use nv_inode::{Tables, read_tables};
 use nv_recover::{RecoverError, Recovered, recover, recover_one, recover_replay};
 use nv_region::MemRegion;
 use nv_scan::NoGate;
@@ -279,23 +283,61 @@ fn tell_given<R: Print>(rt: &R, given: Given) -> Option<()> {
     .ok()
 }
 
-/// Lets two workers scan this region in turn, and tells what they gave; `None` where memory is refused outside of them.
-fn tell_workers_on<R: AllocGlobal + Print>(rt: &R, memory: &mut MemRegion) -> Option<()>
-    requires { HasBlocks memory.old.region 16 }
+/// Lets two workers scan a region in turn, and tells what they gave; `None` where memory is refused outside of them.
+fn tell_workers_by<R: AllocGlobal + Print>(
+    rt: &R,
+    memory: &MemRegion,
+    tables: &Tables,
+) -> Option<()>
+    requires sup { tables.now.layout.sup.blocks ≡ 16 }
+    requires blocks { HasBlocks memory.now.region 16 }
 {
-    store_undone(memory, 16)?;
-    let work = work_in_turn(rt.alloc(), memory).ok()?;
+    let work = work_in_turn(rt.alloc(), memory, tables).ok()?;
     let Some(given) = work.refused else {
         return tell_work(rt, work);
     };
     tell_given(rt, given)?;
-    let again = work_in_turn(rt.alloc(), memory).ok()?;
+    let again = work_in_turn(rt.alloc(), memory, tables).ok()?;
     tell_work(rt, again)
+}
+
+fn tell_workers_on<R: AllocGlobal + Print>(rt: &R, memory: &mut MemRegion) -> Option<()>
+    requires { HasBlocks memory.old.region 16 }
+    ensures { HasBlocks memory.new.region 16 }
+{
+    store_undone(memory, 16)?;
+    let tables = read_tables(rt.alloc(), &*memory, &STOPPED).ok()?;
+    tell_workers_by(rt, memory, &tables)
+}
+
+/// Tells what a start found, and of which of its calls was refused memory once.
+fn tell_start<R: Print>(rt: &R, started: &Started) -> Option<()> {
+    if started.read_again {
+        println!(rt; "refused once: tables").ok()?;
+    }
+    if started.undone_again {
+        println!(rt; "refused once: undo").ok()?;
+    }
+    let (chains, journal) = (started.tables.faults().len(), started.journal);
+    println!(rt; "chains: faults {chains}, of the journals {journal}").ok()
+}
+
+/// The same in version 2, where the tables go on in chains.
+fn tell_chains_on<R: AllocGlobal + Print>(rt: &R, memory: &mut MemRegion) -> Option<()>
+    requires { HasBlocks memory.old.region 16 }
+{
+    store_chained(memory, 16)?;
+    let started = start(rt.alloc(), memory).ok()?;
+    tell_start(rt, &started)?;
+    tell_workers_by(rt, memory, &started.tables)
 }
 
 fn tell_workers<R: AllocGlobal + Print>(rt: &R) -> Option<()> {
     match MemRegion::new(rt.alloc(), 16) {
-        Ok(mut memory) => tell_workers_on(rt, &mut memory),
+        Ok(mut memory) => {
+            tell_workers_on(rt, &mut memory)?;
+            tell_chains_on(rt, &mut memory)
+        }
         Err(_) => None,
     }
 }

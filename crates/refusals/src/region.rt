@@ -25,6 +25,12 @@ pub(crate) const STOPPED: Super = Super {
     state: 0,
 };
 
+/// The same in version 2, where each table goes on in a chain. No recovery accepts it yet.
+pub(crate) const CHAINED: Super = Super {
+    version: 2,
+    ..STOPPED
+};
+
 const SUPERBLOCK: [(u64, u64); 5] = [(0, MAGIC), (8, 1), (16, 2), (24, 16), (32, 1)];
 
 /// The last two records of the journal of CPU 0 are pending: of a word that no journal may name, and of the tail of
@@ -129,6 +135,25 @@ const FILES: [(u64, u64); 15] = [
     (41008, 9),
     (41016, 4096),
     (45056, ATTRIBUTES),
+];
+
+/// The chain of CPU 0 has the blocks 12 and 13, that of CPU 1 block 14, which leads back to itself. Slot 1 of block 13 is in
+/// use, by file 128, whose log is block 15. A third record of CPU 1 is pending, of this slot's tail.
+const CHAINS: [(u64, u64); 14] = [
+    (8, 2),
+    (4112, 49152),
+    (49152, 53248),
+    (53248, 0),
+    (8208, 57344),
+    (57344, 57344),
+    (53504, 1),
+    (53512, 1),
+    (53520, 61440),
+    (53528, 8),
+    (61440, ATTRIBUTES),
+    (8200, 3),
+    (8288, 53528),
+    (8296, 61472),
 ];
 
 /// Of 64 blocks.
@@ -238,6 +263,16 @@ fn store_stopped(memory: &mut MemRegion, blocks: u64) -> Option<()>
     store_all(memory, blocks, &JOURNALS)?;
     store_all(memory, blocks, &SLOTS)?;
     store_logs(memory, blocks)
+}
+
+/// Stores the stopped region in version 2, with chains.
+pub(crate) fn store_chained(memory: &mut MemRegion, blocks: u64) -> Option<()>
+    requires many { 16 ≤ blocks }
+    requires blocks { HasBlocks memory.old.region blocks }
+    ensures { HasBlocks memory.new.region blocks }
+{
+    store_stopped(memory, blocks)?;
+    store_all(memory, blocks, &CHAINS)
 }
 
 fn store_logs(memory: &mut MemRegion, blocks: u64) -> Option<()>

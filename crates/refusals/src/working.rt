@@ -3,21 +3,13 @@
 ghost use Rattle.std.specs.Prelude.{◌≡◌, ◌+◌};
 ghost use Rattle.nv_region.specs.Region.{HasBlocks};
 
-use crate::region::STOPPED;
 use crate::seats::{joined, opened};
 use nv_claimcore::Sizes;
 use nv_claimmap::{ClaimMap, ClaimSeat};
-use nv_inode::read_tables;
+use nv_inode::Tables;
 use nv_region::MemRegion;
-use nv_scan::{NoGate, WorkerResult, worker};
+use nv_scan::{NoGate, WorkerResult, ticket_count, worker};
 use std::alloc::{AllocError, Global};
-
-/// Of the claim map of the stopped region.
-const SIZES: Sizes = Sizes {
-    blocks: STOPPED.blocks,
-    tickets: STOPPED.cpus * STOPPED.table_blocks,
-    workers: 2,
-};
 
 /// How many rows and faults workers gave back.
 #[derive(Clone, Copy)]
@@ -85,14 +77,25 @@ fn seat_of(worker: WorkerResult) -> ClaimSeat
     worker.seat
 }
 
-/// Lets two workers scan the region, one behind the other, and joins their seats, also that of one that was refused memory.
-pub(crate) fn work_in_turn(alloc: Global, memory: &MemRegion) -> Result<Work, AllocError>
-    requires { HasBlocks memory.now.region 16 }
+/// Lets two workers scan a region by its tables, one behind the other, and joins their seats, also that of one that was
+/// refused memory.
+pub(crate) fn work_in_turn(
+    alloc: Global,
+    memory: &MemRegion,
+    tables: &Tables,
+) -> Result<Work, AllocError>
+    requires sup { tables.now.layout.sup.blocks ≡ 16 }
+    requires blocks { HasBlocks memory.now.region 16 }
 {
-    let (map, one, two) = opened(alloc, SIZES)?;
-    let tables = read_tables(alloc, memory, &STOPPED)?;
-    let one = worker(alloc, memory, &tables, &map, one, &NoGate);
-    let two = worker(alloc, memory, &tables, &map, two, &NoGate);
+    tables.are_laid();
+    let sizes = Sizes {
+        blocks: 16,
+        tickets: ticket_count(tables),
+        workers: 2,
+    };
+    let (map, one, two) = opened(alloc, sizes)?;
+    let one = worker(alloc, memory, tables, &map, one, &NoGate);
+    let two = worker(alloc, memory, tables, &map, two, &NoGate);
     let (refused, whole) = given_apart(&one, &two);
     let claims = claims_of(alloc, map, seat_of(one), seat_of(two))?;
     Ok(Work {

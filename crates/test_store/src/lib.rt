@@ -1,6 +1,6 @@
-//! Tests of the crates that hold a region (its words, superblock, slots, journals, logs and format), and of those that are
-//! kept in memory (the indexes of names and of pages, values by number, the allocator, and the claims of recovery's
-//! workers). They stand here since a crate that has tests is proved twice, once with them and once without.
+//! Tests of the crates that hold a region (its words, superblock, slots, chains of tables, journals, logs and format), and of
+//! those that are kept in memory (the indexes of names and of pages, values by number, the allocator, and the claims of
+//! recovery's workers). They stand here since a crate that has tests is proved twice, once with them and once without.
 #![tactic(auto)]
 
 #[cfg(test)]
