@@ -3,6 +3,7 @@
 ghost use Rattle.std.specs.Prelude.{◌≡◌};
 ghost use Rattle.nova.specs.Changes.{change_said};
 
+use crate::REFUSED_STATUS;
 use crate::names::path_of;
 use nv_args::NamedChange;
 use nv_changes::{Change, Changed, change_image};
@@ -15,8 +16,6 @@ use nv_stream::write_text;
 use std::io::{ErrorKind, Write};
 use std::rt::Files;
 use std::time::Clock;
-
-const REFUSED_STATUS: u8 = 2;
 
 // What is told to be unreadable where the system has no time.
 const CLOCK: &str = "the clock";

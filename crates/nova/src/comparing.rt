@@ -1,14 +1,12 @@
 //! Saying what differs between the images in two files: `diff`.
 
+use crate::REFUSED_STATUS;
 use nv_comparing::{Compared, compare_images};
 use nv_images::{Failure, Image, image_at, tell_faults, tell_length, tell_unaccepted, why_refused};
 use nv_stream::ScriptError;
 use std::io;
 use std::io::Write;
 use std::rt::Files;
-
-// The status of an image that is refused.
-const REFUSED_STATUS: u8 = 2;
 
 /// Recovers the images in two files in memory, and prints what differs between them, or says among the errors which is refused.
 /// Answers the exit status: 0 where nothing differs, 1 where something does, or 2. An image with faults is compared all the same,

@@ -57,6 +57,9 @@ use std::time::Clock;
 use unpacking::{Place, untar};
 use views::show_view;
 
+/// The status of what is refused, and of what failed.
+pub(crate) const REFUSED_STATUS: u8 = 2;
+
 fn main(rt: HostRuntime) -> ExitCode {
     match act(&rt, rt.stdin(), rt.stderr()) {
         Ok(code) => code,

@@ -1,5 +1,6 @@
 //! Putting a tree of the host into the image in a file: `put -r`.
 
+use crate::REFUSED_STATUS;
 use crate::unpacking::{Place, unpack};
 use nv_cli::CallRefusal;
 use nv_host::{HostError, Misfit, hold_files, items_of, links_of, walk};
@@ -9,8 +10,6 @@ use nv_stream::{ScriptError, write_text};
 use nv_text::push_escaped;
 use std::io::Write;
 use std::rt::Files;
-
-const REFUSED_STATUS: u8 = 2;
 
 /// Puts what stands in the tree at a path of the host into an image: at a time or, without one, each at its own. The tree is read
 /// whole first. The image is written to its place, or else standard error says why it is refused, and the file isn't touched.

@@ -1,5 +1,6 @@
 //! Rolling back the journals of the image in a file.
 
+use crate::REFUSED_STATUS;
 use nv_images::{
     Failure, Held, Loaded, Lock, Target, hold, refuse_length, region_at, save_region, see_ready,
     tell_length, tell_unaccepted, why_region_refused,
@@ -14,9 +15,6 @@ use nv_text::Refusal;
 use std::io;
 use std::io::Write;
 use std::rt::Files;
-
-// The status of a region that is refused.
-const REFUSED_STATUS: u8 = 2;
 
 /// Prints the pending records of the journals of an image, and rolls them back: the image is written to its place, which is held
 /// from the start, if a record was pending. An image on standard input is written to standard output in any case, and what is

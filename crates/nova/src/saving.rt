@@ -1,11 +1,9 @@
 //! Making images.
 
+use crate::REFUSED_STATUS;
 use nv_cli::{Areas, Formatted, format_image, format_limits};
 use nv_images::{Failure, Lock, Target, hold, save_region, see_ready};
 use std::rt::Files;
-
-// The status of a region that is refused.
-const REFUSED_STATUS: u8 = 2;
 
 /// Writes the image of a region of so many blocks, formatted with these areas, to a file, or says `refused NAME` on standard
 /// error. Answers the exit status, 0 or 2.

@@ -1,5 +1,6 @@
 //! Putting an archive on standard input into the image in a file: `untar`, and whatever else has items.
 
+use crate::REFUSED_STATUS;
 use crate::names::path_of;
 use nv_cli::CallRefusal;
 use nv_images::{
@@ -15,8 +16,6 @@ use std::rt::Files;
 
 // The path of standard input.
 const ARCHIVE: &str = "-";
-
-const REFUSED_STATUS: u8 = 2;
 
 /// Where items go, and in whose name.
 #[derive(Clone, Copy)]

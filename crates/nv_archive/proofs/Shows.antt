@@ -1,7 +1,8 @@
 -- Rows, and a reader of the blocks of their files, as a tree.
-use Rattle.std.proofs.Common.{◌≡◌, ◌⊎◌, ◌∙◌, ◌<◌, ◌≤◌, ℕ, inl, inr, IsTrue, is_some, List, [], ◌∷◌, Option, Some, None, refl, sym, ap, subst, arith}
+use Rattle.std.proofs.Common.{◌≡◌, ◌⊎◌, ◌∙◌, ◌<◌, ◌≤◌, ℕ, inl, inr, Bool, true, false, cond, nat_eq, IsTrue, is_some, List, [], ◌∷◌, Option, Some, None, refl, sym, ap, subst, arith}
 use Rattle.std.specs.List.{Contains}
 use Rattle.std.specs.Option.{option_map}
+use Rattle.std.proofs.lemmas.Bool.Decides.{nat_tests}
 use Rattle.nv_region.specs.Region.{Region}
 use Rattle.nv_super.specs.declared.kind.Kind.{Kind}
 use Rattle.nv_super.proofs.Rising.{Contains-cons}
@@ -50,6 +51,22 @@ pub all_above : (rows : List Row) (limit : ℕ) → ((row : Row) → Contains ro
 all_above rows limit below i used =
     let r = row_in_use rows i used in
     subst (λ (j : ℕ). j < limit) (numbered rows i r.0 r.1) (below r.0 (row_there rows i r.0 r.1))
+
+-- the inode of a row is in use
+pub row_used : (rows : List Row) (row : Row) → Contains rows row → IsInUse rows row.inode
+row_used [] row c = absurd (let none = c.1 in omega (arith, none))
+row_used (x ∷ xs) row c = elim (Contains-cons x xs row c) [
+  | inl same ↦ first (nat_eq x.inode row.inode) (let alike : x.inode ≡ row.inode = sym (ap (λ (r : Row). r.inode) same) in grind (arith, nat_tests))
+  | inr rest ↦ later (nat_eq x.inode row.inode) (row_used xs row rest)
+]
+  where
+    first : (b : Bool) → b ≡ true → IsTrue (is_some (cond b (Some x) (row_of xs row.inode)))
+    first true e = refl
+    first false e = absurd (cc)
+
+    later : (b : Bool) → IsInUse xs row.inode → IsTrue (is_some (cond b (Some x) (row_of xs row.inode)))
+    later true used = refl
+    later false used = used
 
 -- a row is left, or it was looked at
 abbrev pub IsLeft : List Row → List Row → ℕ → Type 0

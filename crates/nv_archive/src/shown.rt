@@ -1,6 +1,6 @@
 //! Rows, and a reader of the blocks of their files, as what an archive is made of.
 
-ghost use Rattle.std.specs.Prelude.{◌≤◌};
+ghost use Rattle.std.specs.Prelude.{◌≤◌, ℕ};
 ghost use Rattle.nv_archive.specs.Shown.{AreKnown, AreLowRows, AreSmallRows, IsAbove, shown_tree};
 
 use nv_members::Inodes;
@@ -25,10 +25,11 @@ pub(crate) struct Shown<'a, B: Blocks> {
     ghost small: { AreSmallRows rows.now.items },
 }
 
-/// A number above those of all rows.
+/// The least number above those of all rows.
 pub fn limit_of(rows: &Rows) -> usize
     requires { AreLowRows rows.now.items }
-    ensures { IsAbove rows.now.items result }
+    ensures above { IsAbove rows.now.items result }
+    ensures least { (limit : ℕ) → IsAbove rows.now.items limit → result ≤ limit }
 {
     let mut limit: usize = 0;
     for (_, row) in rows.iter() {

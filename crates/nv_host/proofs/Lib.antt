@@ -1,3 +1,4 @@
 pub mod Listed
 pub mod Ordered
 pub mod Linked
+pub mod Walked

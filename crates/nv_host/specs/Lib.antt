@@ -3,3 +3,4 @@ pub mod Names
 pub mod Places
 pub mod Links
 pub mod Items
+pub mod Walking

@@ -1,6 +1,9 @@
 //! What stands in a tree of the host, found level by level.
 
-ghost use Rattle.std.specs.Prelude.{◌<◌, length};
+ghost use Rattle.std.specs.Prelude.{◌≡◌, ◌<◌, ℕ, ◌+◌, ◌++◌, List, length, map, slice_get, IfOk, OnOk, Option, string_bytes};
+ghost use Rattle.nv_host.specs.Places.{with_slash};
+ghost use Rattle.nv_host.specs.Walking.{AreIn, AreNamed, IsTop, IsWalked};
+ghost use Rattle.nv_host.specs.declared.walking.HostEntry.{HostEntry as Entry};
 
 use crate::errors::{HostError, Misfit};
 use crate::found::{Found, HostKind, found_of};
@@ -33,22 +36,24 @@ pub struct HostEntry {
 /// the names of one rise by bytes. Links are followed at the path itself alone.
 ///
 /// Errors: `At` the first place that doesn't fit or can't be read, `TooLarge` with more than 2,097,152 names, and `Memory`.
-pub fn walk<H: Files + AllocGlobal>(rt: &H, root: &str) -> Result<Vec<HostEntry>, HostError> {
+pub fn walk<H: Files + AllocGlobal>(rt: &H, root: &str) -> Result<Vec<HostEntry>, HostError>
+    ensures { IfOk result (λ entries. IsWalked root.now entries.items (length entries.items)) }
+{
     let mut entries = Vec::new(rt.alloc());
     entries.push(first_entry(rt, root)?)?;
     for next in 0..MOST_ENTRIES {
         if next >= entries.len() {
             return Ok(entries);
         }
-        if entries[next].found.kind == HostKind::Directory {
-            push_below(rt, &mut entries, next)?;
-        }
+        pass(rt, &mut entries, next)?;
     }
     Err(HostError::TooLarge)
 }
 
 // What the tree begins with.
-fn first_entry<H: Files + AllocGlobal>(rt: &H, root: &str) -> Result<HostEntry, HostError> {
+fn first_entry<H: Files + AllocGlobal>(rt: &H, root: &str) -> Result<HostEntry, HostError>
+    ensures { IfOk result (λ top. IsTop root.now top) }
+{
     let alloc = rt.alloc();
     let found = found_at(alloc, root, rt.metadata(root))?;
     let place = match found.kind {
@@ -59,6 +64,21 @@ fn first_entry<H: Files + AllocGlobal>(rt: &H, root: &str) -> Result<HostEntry, 
     Ok(HostEntry { path, place, found })
 }
 
+// Passes an entry: what stands in a directory is added.
+fn pass<H: Files + AllocGlobal>(
+    rt: &H,
+    entries: &mut Vec<HostEntry>,
+    at: usize,
+) -> Result<(), HostError>
+    requires { at < length entries.old.items }
+    ensures { OnOk result ((root : List ℕ) → IsWalked root entries.old.items at → IsWalked root entries.new.items (at + 1)) }
+{
+    match entries[at].found.kind {
+        HostKind::Directory => push_below(rt, entries, at),
+        HostKind::File => Ok(()),
+    }
+}
+
 // Adds what stands in a directory.
 fn push_below<H: Files + AllocGlobal>(
     rt: &H,
@@ -66,13 +86,29 @@ fn push_below<H: Files + AllocGlobal>(
     at: usize,
 ) -> Result<(), HostError>
     requires { at < length entries.old.items }
+    ensures { OnOk result ((folder : Entry) → slice_get entries.old.items at ≡ Option.Some folder
+        → (inside : List Entry) × (entries.new.items ≡ entries.old.items ++ inside) × AreIn folder inside) }
 {
     let alloc = rt.alloc();
     let path = String::from_str(alloc, entries[at].path.as_str())?;
     let place = String::from_str(alloc, entries[at].place.as_str())?;
     let listing = listing_of(rt, place.as_str())?;
-    for name in &names_in(alloc, &listing)? {
-        entries.push(entry_below(rt, path.as_str(), place.as_str(), name)?)?;
+    let names = names_in(alloc, &listing)?;
+    push_named(rt, entries, path.as_str(), place.as_str(), &names)
+}
+
+// Adds what has these names in a directory.
+fn push_named<H: Files + AllocGlobal>(
+    rt: &H,
+    entries: &mut Vec<HostEntry>,
+    path: &str,
+    place: &str,
+    names: &[&[u8]],
+) -> Result<(), HostError>
+    ensures { OnOk result ((inside : List Entry) × (entries.new.items ≡ entries.old.items ++ inside) × AreNamed path.now place.now (map (λ name. name.now) names.now) inside) }
+{
+    for name in names {
+        entries.push(entry_below(rt, path, place, name)?)?;
     }
     Ok(())
 }
@@ -96,7 +132,10 @@ fn entry_below<H: Files + AllocGlobal>(
     path: &str,
     place: &str,
     name: &[u8],
-) -> Result<HostEntry, HostError> {
+) -> Result<HostEntry, HostError>
+    ensures path { IfOk result (λ entry. string_bytes entry.path ≡ with_slash path.now ++ name.now) }
+    ensures place { IfOk result (λ entry. string_bytes entry.place ≡ with_slash place.now ++ name.now) }
+{
     let alloc = rt.alloc();
     let Ok(text) = std::str::from_utf8(name) else {
         let mut place = bytes_of(alloc, with_slash(alloc, place)?.as_str())?;
