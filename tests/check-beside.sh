@@ -4,8 +4,8 @@
 # usage: tests/check-beside.sh PEER [ROUNDS [BLOCKS]]
 #
 # PEER is the folder of the native program's sources, a crate `nova_ref`. It writes the images, of 65,536 blocks or BLOCKS: small
-# files, one directory of many names, files of many overwrites, and one big file. Without BLOCKS an ext4 image for e2fsck is made
-# with as many files, names or bytes, by mke2fs. In each round (9 where none are given) the three run one after the other, on 4
+# files, one directory of many names, files of many overwrites, and one big file. An ext4 image for e2fsck is made with as many
+# files, names or bytes, but for the overwrites. In each round (9 where none are given) the three run one after the other, on 4
 # workers where they have workers, and the best of all rounds counts. Images are in the cache. For nova the table has the peak of
 # its memory and the bytes that it read too. GNU time tells the peak, where it is there: a child of Python begins with Python's own
 # peak, 10 MB. Nothing else should run meanwhile.
@@ -29,24 +29,42 @@ shape() {
 
 # tree SHAPE FOLDER: files of ext4 that are as many, or as many bytes, as those of the shape.
 tree() {
-    python3 - "$1" "$2" <<'PYTHON'
+    python3 - "$1" "$2" "$blocks" <<'PYTHON'
 import os, sys
-shape, folder = sys.argv[1:]
+shape, folder, blocks = sys.argv[1], sys.argv[2], int(sys.argv[3])
 os.makedirs(folder)
 if shape == "small":
-    for number in range(31000):
+    for number in range(blocks * 31000 // 65536):
         place = f"{folder}/d{number % 200}"
         os.makedirs(place, exist_ok=True)
         with open(f"{place}/f{number}", "wb") as file:
             file.write(b"x" * 4096)
 elif shape == "names":
-    for number in range(50000):
+    for number in range(min(blocks * 60000 // 65536, 131000)):
         open(f"{folder}/name{number:06}", "wb").close()
 else:
     with open(f"{folder}/big", "wb") as file:
-        for _ in range(230):
+        for _ in range(blocks * 230 // 65536):
             file.write(b"x" * (1 << 20))
 PYTHON
+}
+
+# ext4 SHAPE: an image of ext4 with these. They are written by a mount where that is allowed: mke2fs looks for a name in all of its
+# directory.
+ext4() {
+    local bytes=$((blocks * 4800)) inodes=$((blocks > 65536 ? 140000 : 62000))
+    [ "$1" != frag ] && command -v mke2fs >/dev/null || return 0
+    mke2fs -q -t ext4 -N $inodes "$folder/ext4" $((bytes >> 20))M >"$folder/said" 2>&1
+    mkdir -p "$folder/at"
+    if mount -o loop "$folder/ext4" "$folder/at" 2>"$folder/said"; then
+        tree "$1" "$folder/at/tree"
+        umount "$folder/at"
+    else
+        tree "$1" "$folder/tree"
+        mke2fs -q -t ext4 -d "$folder/tree" -N $inodes "$folder/ext4" $((bytes >> 20))M >"$folder/said" 2>&1
+        rm -rf "$folder/tree"
+    fi
+    cat "$folder/ext4" >/dev/null
 }
 
 # peak WORD..: the most memory that a command takes, in MB.
@@ -82,12 +100,7 @@ for name in small names frag big; do
     # shellcheck disable=SC2046
     "$peer" bench $(shape "$name") --runs 1 --out "$folder/image" >"$folder/said"
     cat "$folder/image" >/dev/null
-    if [ "$blocks" = 65536 ] && [ "$name" != frag ] && command -v mke2fs >/dev/null; then
-        tree "$name" "$folder/tree"
-        mke2fs -q -t ext4 -d "$folder/tree" -N 60000 "$folder/ext4" 300M >"$folder/said" 2>&1
-        rm -rf "$folder/tree"
-        cat "$folder/ext4" >/dev/null
-    fi
+    ext4 "$name"
     for _ in $(seq "$rounds"); do
         echo "$name ours $(measured "$built" check --summary --workers 4 "$folder/image")"
         echo "$name peer $(measured "$peer" check "$folder/image" --workers 4)"

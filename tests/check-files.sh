@@ -114,7 +114,7 @@ word() {
 word 0 1
 expect "another magic" 2 "refused S2" "its first word is 1; $magic" "$program" check "$folder/changed"
 word 8 9
-expect "another version" 2 "refused S3" "its version is 9; 1 is taken" "$program" check "$folder/changed"
+expect "another version" 2 "refused S3" "its version is 9; 1 and 2 are taken" "$program" check "$folder/changed"
 word 16 65
 expect "too many CPUs" 2 "refused S4" "it has 65 CPUs; a region has 1 to 64" "$program" check "$folder/changed"
 word 24 17
@@ -236,7 +236,8 @@ expect "cleaning another state" 2 "" "refused S7${newline}its state is 2; 0 and 
 # A sparse file is as long, and takes what its words take.
 cp --sparse=always "$folder/files" "$folder/sparse"
 for image in "$folder/files" "$folder/sparse" "$here/examples/ring.img"; do
-    for asked in "ls /" "ls /d" "stat /d/a" "stat /none" "cat /d/a" "cat /d/b" "cat /d" "cat /d/none" "map" "check"; do
+    for asked in "ls /" "ls /d" "stat /d/a" "stat /none" "cat /d/a" "cat /d/b" "cat /d" "cat /d/none" "du /" "log /d/a" "log /none" \
+        "tar /" "tar /d/a" "tar /none" "map" "check"; do
         # shellcheck disable=SC2086
         set -- $asked
         "$program" "$1" "$image" ${2+"$2"} >"$folder/by_file" 2>"$folder/by_file_error"
@@ -254,7 +255,7 @@ if command -v strace >/dev/null && strace -o "$folder/trace" true 2>/dev/null; t
     reads=$(strace -f -e trace=pread64 -o /dev/stdout "$program" cat "$folder/files" /d/a 2>/dev/null | grep -ac 'pread64(')
     # The loader reads by the same call before the program does.
     second=$(($(strace -f -e trace=pread64 -o /dev/stdout "$program" --version 2>/dev/null | grep -ac 'pread64(') + 2))
-    for asked in "check" "ls /d" "stat /d/a" "map" "cat /d/a"; do
+    for asked in "check" "ls /d" "stat /d/a" "map" "cat /d/a" "du /d" "log /d/a" "tar /"; do
         # shellcheck disable=SC2086
         set -- $asked
         expect "$asked of an image that ends early" 2 "" "cannot read $folder/files${newline}failed to fill whole buffer" \
@@ -265,16 +266,34 @@ if command -v strace >/dev/null && strace -o "$folder/trace" true 2>/dev/null; t
     strace -f -qq -o "$folder/trace" -e inject=pread64:error=EIO:when="$reads" "$program" cat "$folder/files" /d/a >/dev/null 2>"$folder/error"
     [ $? = 2 ] && [ "$(head -n 1 "$folder/error")" = "cannot read $folder/files" ]
     holds "a file whose last block can't be read" $?
-    # The second read waits until the file was cut.
-    for asked in "ls /d" "stat /d/a" "map" "cat /d/a"; do
+    # Of an archive what was read before stands on the output, and no end.
+    reads=$(strace -f -e trace=pread64 -o /dev/stdout "$program" tar "$folder/files" 2>/dev/null | grep -ac 'pread64(')
+    strace -f -qq -o "$folder/trace" -e inject=pread64:error=EIO:when="$reads" "$program" tar "$folder/files" >"$folder/said" 2>"$folder/error"
+    [ $? = 2 ] && [ "$(head -n 1 "$folder/error")" = "cannot read $folder/files" ] && ! tar -tf "$folder/said" >/dev/null 2>&1
+    holds "an archive whose last block can't be read" $?
+    # The program is stopped at its first read until the file was cut, or has a byte that was stored again as it was, and goes on then.
+    # In each of its threads the read of that number stops it once more.
+    for asked in "check" "ls /d" "stat /d/a" "map" "cat /d/a" "du /d" "log /d/a" "tar /"; do
         # shellcheck disable=SC2086
         set -- $asked
-        cp "$folder/files" "$folder/cut"
-        (sleep 0.3; truncate -s 4096 "$folder/cut") &
-        strace -f -qq -o "$folder/trace" -e inject=pread64:delay_enter=900000:when=$second "$program" "$1" "$folder/cut" ${2+"$2"} >"$folder/said" 2>"$folder/error"
-        [ $? = 2 ] && [ "$(head -n 1 "$folder/error")" = "cannot read $folder/cut" ] && [ ! -s "$folder/said" ]
-        holds "$asked of an image that is cut while it is read" $?
-        wait
+        for changed in cut stored; do
+            cp "$folder/files" "$folder/changed"
+            : >"$folder/trace"
+            strace -f -qq -o "$folder/trace" -e trace=pread64 -e inject=pread64:signal=SIGSTOP:when=$((second - 1)) \
+                "$program" "$1" "$folder/changed" ${2+"$2"} >"$folder/said" 2>"$folder/error" &
+            until grep -q 'stopped by SIGSTOP' "$folder/trace" || ! kill -0 $! 2>/dev/null; do sleep 0.01; done
+            if [ $changed = cut ]; then
+                truncate -s 4096 "$folder/changed"
+            else
+                dd if="$folder/files" of="$folder/changed" bs=1 count=1 conv=notrunc status=none
+            fi
+            read -r traced _ <"$folder/trace"
+            while kill -CONT "$traced" 2>/dev/null; do sleep 0.01; done
+            wait $!
+            [ $? = 2 ] && [ "$(head -n 1 "$folder/error")" = "cannot read $folder/changed" ] && [ ! -s "$folder/said" ] &&
+                { [ $changed = cut ] || [ "$(sed -n 2p "$folder/error")" = "it was changed while it was read" ]; }
+            holds "$asked of an image that is $changed while it is read: said $(tr '\n' ' ' <"$folder/error")" $?
+        done
     done
 else
     echo "left out: images that end early; there is no strace, or it may not trace"

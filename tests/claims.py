@@ -97,21 +97,27 @@ def size_in_words(size):
     return f"{size // 2**30} GiB" if size % 2**30 == 0 else f"{size // 2**20} MiB"
 
 
-def limit(crate, file, name):
-    """A number that a definition stands for."""
-    return int(re.search(rf"^{name} = (\d+)$", (CRATES / crate / "specs" / file).read_text(), re.M)[1])
+def limit(name):
+    """A number that a definition of a region's layout stands for."""
+    return int(re.search(rf"^{name} = (\d+)$", (CRATES / "nv_super/specs/Layout.antt").read_text(), re.M)[1])
+
+
+def limits():
+    """The limits that the definitions name: blocks of a region and its bytes, pages of a file and its bytes."""
+    blocks, pages, size = (limit(name) for name in ("most_blocks", "most_pages", "most_size"))
+    return {"blocks": blocks, "bytes": 4096 * blocks, "pages": pages, "size": size}
 
 
 def check_limits(report):
     """The limits of README.md are those of the definitions."""
-    blocks, pages, size = (limit(*one) for one in (("nv_super", "Layout.antt", "most_blocks"), ("nv_entry", "Content.antt", "most_pages"), ("nv_entry", "Content.antt", "most_size")))
+    most = limits()
     wanted = (
-        f"| blocks of 4096 bytes | 8 | {blocks:,} ({size_in_words(blocks * 4096)}) |",
-        f"| pages of a file; its size in bytes | 0 | {pages:,}; {size:,} |",
+        f"| blocks of 4096 bytes | 8 | {most['blocks']:,} ({size_in_words(most['bytes'])}) |",
+        f"| pages of a file; its size in bytes | 0 | {most['pages']:,}; {most['size']:,} |",
     )
     for row in wanted:
         report(row in text_of("README.md"), f"README.md lacks the row {row}")
-    for number in (blocks, pages, size):
+    for number in (most["blocks"], most["pages"], most["size"]):
         report(f"{number:,}" in text_of("docs/LAYOUT.md"), f"docs/LAYOUT.md doesn't name the limit {number:,}")
 
 
@@ -130,7 +136,7 @@ LIMIT_PHRASES = (
     (r"the ([\d,]+\d) (?:of a file|that a file can have)", "pages"),
     (r"^/// ([\d,]{7,}) pages\.$", "pages"),
     (r"would have more than ([\d,]+\d) bytes", "size"),
-    (r"size above ([\d,]+\d)|size is above ([\d,]+\d)|UpTo (\d{8,})|Some (10\d{8})", "size"),
+    (r"size above ([\d,]+\d)|size is above ([\d,]+\d)", "size"),
 )
 # Files that name a limit at least.
 LIMIT_FILES = (
@@ -144,12 +150,10 @@ LIMIT_FILES = (
     "crates/nv_radix/src/lib.rt",
     "crates/nv_radix/src/row.rt",
     "crates/nv_args/src/command_line.rt",
-    "crates/nv_cli/src/formatting.rt",
-    "crates/nv_cli/specs/Formatting.antt",
+    "crates/nv_script/src/formatting.rt",
+    "crates/nv_script/specs/Formatting.antt",
     "crates/nv_report/src/lengths.rt",
     "crates/nv_report/specs/Lengths.antt",
-    "crates/nv_line/specs/Table.antt",
-    "crates/nv_line/specs/Excess.antt",
     "crates/nova_c/src/opening.rt",
     "bindings/c/nova.h",
     "bindings/python/nova.py",
@@ -164,8 +168,7 @@ LIMIT_FILES = (
 
 def check_limit_texts(report):
     """Each number that stands as a limit in sources, texts and documents is that of the definitions."""
-    blocks = limit("nv_super", "Layout.antt", "most_blocks")
-    limits = {"blocks": blocks, "bytes": 4096 * blocks, "pages": limit("nv_entry", "Content.antt", "most_pages"), "size": limit("nv_entry", "Content.antt", "most_size")}
+    most = limits()
     for name in LIMIT_FILES:
         lines, found = text_of(name).splitlines(), 0
         for phrase, which in LIMIT_PHRASES:
@@ -173,8 +176,38 @@ def check_limit_texts(report):
                 for match in re.finditer(phrase, line):
                     number = next(group for group in match.groups() if group)
                     found += 1
-                    report(int(re.sub("[_,]", "", number)) == limits[which], f"{name}: {match[0]} isn't the limit {limits[which]}")
+                    report(int(re.sub("[_,]", "", number)) == most[which], f"{name}: {match[0]} isn't the limit {most[which]}")
         report(found, f"{name} names no limit")
+
+
+# Numbers of these values, or of what was a limit before, stand in code, contracts and definitions where LIMIT_PHRASES say which
+# limit they are, or in a line that has one of these words.
+OTHER_MEANINGS = (
+    # How the definitions and the lowest crate name them, once each.
+    r"^most_\w+ = \d+$",
+    r"\bMOST_BYTES: usize = 1 << 30;$",
+    # The lowest crates tell the length in bytes, for which the definitions have no name.
+    r"\(2 \^ 30 < length \w+(?:\.\w+)?\)",
+    r"^  pub small : length m\.bytes\.now ≤ 2 \^ 30$",
+    r"with more than 1,073,741,824 bytes|^/// (?:bytes would end behind )?1,073,741,824(?: bytes)?, 7 where|would end behind 1,073,741,824|Errors: `Length` for more than 1,073,741,824 bytes",
+    # A field of 16 bits in a word.
+    r"65_?536 \*|/ 65_?536 |\* 65_?536\b|\+ 65_536 \*",
+    # Letters behind a size, rows of names, bytes of a page in digits, lengths of texts.
+    r"\bM\b.*\bG\b|blocks_of\(digits, 1 << 30\)|^const ROW: u64 = 65_536;$|/ 65536 % buckets|digits_room|2 \^ 31 \+ 2 \^ 30",
+)
+LIMIT_NUMBER = re.compile(r"(?<![\d,_])(?:65,?_?536|262,?_?144|1,?_?073,?_?741,?_?824|268,?_?435,?_?456)(?![\d,_]*\d)|1 << 30\b|2 \^ 30\b|256 MiB|256 MB")
+
+
+def check_limit_numbers(report):
+    """No source of the product has the number of a limit, but where it is known which, or that it means something else."""
+    meanings = [re.compile(words) for words in (*(phrase for phrase, _ in LIMIT_PHRASES), *OTHER_MEANINGS)]
+    for crate in sorted(CRATES.iterdir()):
+        if crate.name in TESTING or crate.name in ("each_call", "first_program", "lent_words", "mount_and_list"):
+            continue
+        for file in sorted([*crate.glob("src/**/*.rt"), *crate.glob("specs/**/*.antt")]):
+            for number, line in enumerate(file.read_text().splitlines(), 1):
+                if LIMIT_NUMBER.search(line):
+                    report(any(words.search(line) for words in meanings), f"{file.relative_to(ROOT)}:{number}: which limit is that? {line.strip()}")
 
 
 # ---- commands and refusals
@@ -188,7 +221,7 @@ def program_commands():
 
 def script_commands():
     """The commands of a script."""
-    return set(re.findall(r'name == b"(\w+)"', text_of("crates/nv_line/src/table.rt")))
+    return set(re.findall(r'^ +\w+ b"(\w+)" "', text_of("crates/nv_line/src/table.rt"), re.M))
 
 
 def check_commands(report):
@@ -237,6 +270,7 @@ def check_claims(crates, report):
     check_counts(report)
     check_limits(report)
     check_limit_texts(report)
+    check_limit_numbers(report)
     check_commands(report)
     check_refusals(report)
     check_spellings(report)

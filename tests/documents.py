@@ -139,7 +139,7 @@ def fault_classes():
 
 def explained():
     """What `nova explain` says of each class of a report: its name, its title, and what it means."""
-    text = (CRATES / "nv_images/src/explaining.rt").read_text()
+    text = (CRATES / "nv_super/src/classes.rt").read_text()
     return re.findall(r'name: "(\w+)",\s+title: "([^"]*)",\s+meaning: "([^"]*)"', text)
 
 

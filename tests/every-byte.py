@@ -3,8 +3,9 @@
 
 usage: tests/every-byte.py [PROGRAM] [--judge JUDGE]
 
-The region has 8 blocks, a file and its root. Each byte of the blocks 0 to 4 is changed by exclusive or with 1 and with 255.
-The recovery on one thread and that by a schedule of three workers print the same report and leave the same words, and so
+One region has 8 blocks, a file and its root; of it the blocks 0 to 4 are changed. One of version 2 has a second file, whose slot
+stands in a block in which the table goes on; that block is changed too, and the file's log. Each byte is changed by exclusive
+or with 1 and with 255. The recovery on one thread and that by a schedule of three workers print the same report and leave the same words, and so
 do 2 and 8 workers where the byte is a word's first. `nova map` of the changed image, whose recovery has no worker at all,
 shows the blocks of that report and counts its faults. JUDGE, a program that takes the same scripts, prints the same too. Then
 come regions that were cut, and scripts whose output is known. JOBS=2 processes are run at a time; it takes minutes. The last
@@ -17,17 +18,34 @@ import sys
 import tempfile
 import time
 from collections import Counter
+from typing import NamedTuple
 
 from driver import BLOCK, Case, Runner, Wrong, each, first_difference, lines, peeks, told, words_of
 
-BLOCKS = 8
-CHANGED_BLOCKS = 5
 MASKS = [1, 255]
-BUILD = lines(f"format 1 {BLOCKS} 1", "recover 1", "create 0 /a", "write 0 /a 0 5000 65")
+
+
+class Region(NamedTuple):
+    """A region: what makes it, how many blocks it has, and which of them are changed."""
+
+    build: bytes
+    blocks: int
+    changed: tuple
+
+    def seen(self):
+        """What is looked at behind a recovery."""
+        return b"report\n" + peeks(0, self.blocks)
+
+
+FIXED = Region(lines("format 1 8 1", "recover 1", "create 0 /a", "write 0 /a 0 5000 65"), 8, (0, 1, 2, 3, 4))
+# The table goes on in block 6, where inode 32 has its slot. Its log is block 7, and the root names it b.
+SECOND_FILE = {4112: 24576, 24704: 1, 24712: 1, 24720: 28672, 24728: 28704, 28672: 420 << 32 | 32 << 16 | 2}
+SECOND_NAME = {12352: 1 << 32 | 32 << 16 | 1 << 8 | 3, 12360: 32, 12376: 98, 8344: 12384}
+POKES = [f"poke {at} {word}" for at, word in {8: 2, **SECOND_FILE, **SECOND_NAME}.items()]
+CHAINED = Region(lines("format 1 9 1", "recover 1", "create 0 /a", "write 0 /a 0 100 65", *POKES), 9, (0, 1, 2, 3, 4, 6, 7))
 WAYS = [b"recover 1\n", b"replay 3 2 1 0 2 1 0\n"]
 # These are tried too where the byte is the first of its word.
 WAYS_OF_WORDS = [*WAYS, b"recover 2\n", b"recover 8\n"]
-SEEN = b"report\n" + peeks(0, BLOCKS)
 # The bytes that one process is run for.
 BATCH = 16
 
@@ -72,12 +90,16 @@ def map_of(report):
         return lines[0] + "\n", 0
     region = next(line.split() for line in lines if line.startswith("region "))
     cpus, blocks, tables = (int(region[place]) for place in (4, 6, 8))
-    letters = ["S"] * (1 + cpus + cpus * tables) + ["."] * (blocks - 1 - cpus - cpus * tables)
-    # Of a block's uses the last of these is shown: data, log, doubled.
-    uses = {"D": [], "L": [], "!": []}
+    # What isn't free, and nothing else here, is a block in which a table goes on.
+    letters = ["S"] * (1 + cpus + cpus * tables) + ["T"] * (blocks - 1 - cpus - cpus * tables)
+    # Of a block's uses the last of these is shown: free, data, log, doubled.
+    uses = {".": [], "D": [], "L": [], "!": []}
     for line in lines:
         words = line.split()
-        if line.startswith("  page "):
+        if line.startswith("free "):
+            for run in words[2:]:
+                uses["."] += range(int(run.split("-")[0]), int(run.split("-")[-1]) + 1)
+        elif line.startswith("  page "):
             uses["D"] += range(int(words[3]), int(words[3]) + int(words[2]))
         elif line.startswith("  log "):
             uses["L"] += map(int, words[1 : words.index("tail")])
@@ -86,7 +108,8 @@ def map_of(report):
     for letter, used in uses.items():
         for block in used:
             letters[block] = letter
-    shown = "".join(letters) + "\nblocks in a cell 1: . free, S system, D data, L log, ! doubled\n"
+    table = "T table, " if "T" in letters else ""
+    shown = "".join(letters) + f"\nblocks in a cell 1: . free, S system, {table}D data, L log, ! doubled\n"
     return shown, int(lines[0].split()[-1])
 
 
@@ -103,8 +126,8 @@ def mapped(program, image):
 class Bytes:
     """The cases of a batch of bytes: each with its recoveries, all of which print one text, and its map."""
 
-    def __init__(self, runner, words):
-        self.runner, self.words = runner, words
+    def __init__(self, runner, region, words):
+        self.runner, self.region, self.words = runner, region, words
 
     def __call__(self, start):
         kinds, wrong, ran, maps = Counter(), [], 0, 0
@@ -139,19 +162,19 @@ class Bytes:
         for byte in range(at, at + 8):
             for mask in MASKS:
                 word = self.words[at // 8] ^ mask << 8 * (byte - at)
-                build = BUILD + b"poke %d %d\n" % (at, word)
+                build = self.region.build + b"poke %d %d\n" % (at, word)
                 images.append(self.image(at, word))
-                groups.append([Case(build, way + SEEN) for way in (WAYS_OF_WORDS if byte == at else WAYS)])
+                groups.append([Case(build, way + self.region.seen()) for way in (WAYS_OF_WORDS if byte == at else WAYS)])
         texts = iter(self.runner.answers([case for cases in groups for case in cases]))
         return [(cases[0], image, [next(texts) for _ in cases]) for cases, image in zip(groups, images)]
 
 
-def cut(runner, words):
+def cut(runner, region, words):
     """The findings on regions that were cut: each is refused, and has the words that it had."""
-    for length in range(0, BLOCKS * BLOCK, 512):
+    for length in range(0, 8 * BLOCK, 512):
         seen = b"".join(b"peek %d\n" % at for at in range(0, length, 8))
         wanted = b"refused S1\n" + b"".join(b"word %d\n" % word for word in words[: length // 8])
-        cases = [Case(BUILD + b"cut %d\n" % length, way + seen) for way in WAYS_OF_WORDS]
+        cases = [Case(region.build + b"cut %d\n" % length, way + seen) for way in WAYS_OF_WORDS]
         for case, text in zip(cases, runner.answers(cases)):
             if text != wanted:
                 yield str(Wrong(case, f"a region of {length} bytes isn't refused S1, or was changed"))
@@ -169,15 +192,18 @@ def main():
     words = told(__doc__)
     runner = Runner(words.program, words.judge)
     began = time.monotonic()
-    base = words_of(runner.answer(BUILD, peeks(0, BLOCKS)))
     kinds, wrong, ran, maps = Counter(), [], 0, 0
-    for counted, found, number, shown in each(Bytes(runner, base), range(0, CHANGED_BLOCKS * BLOCK, BATCH)):
-        kinds += counted
-        ran += number
-        maps += shown
-        wrong += found
-        print("\n".join(found), end="\n" if found else "", flush=True)
-    for found in [*cut(runner, base), *known(runner)]:
+    for region in (FIXED, CHAINED):
+        base = words_of(runner.answer(region.build, peeks(0, region.blocks)))
+        starts = [start for block in region.changed for start in range(block * BLOCK, (block + 1) * BLOCK, BATCH)]
+        for counted, found, number, shown in each(Bytes(runner, region, base), starts):
+            kinds += counted
+            ran += number
+            maps += shown
+            wrong += found
+            print("\n".join(found), end="\n" if found else "", flush=True)
+    base = words_of(runner.answer(FIXED.build, peeks(0, FIXED.blocks)))
+    for found in [*cut(runner, FIXED, base), *known(runner)]:
         print(found, flush=True)
         wrong.append(found)
     for kind, count in sorted(kinds.items()):

@@ -49,6 +49,8 @@ FULL_OF_NAMES = ["create 0 /n0", *(f"link 0 /n0 /n{k}" for k in range(1, 127))]
 EACH_CALL = ["mkdir 0 /d", "mkdir {last} /e", "create {last} /a", "write {last} /a 0 5000 65", "size 0 /a 3", "attr {last} /a 448 1 2"]
 EACH_CALL += ["link {last} /a /d/b", "rename {last} /a /c", "rename {last} /d/b /e/b", "rename 0 /c /d/c"]
 EACH_CALL += ["unlink {last} /e/b", "unlink {last} /d/c", "rmdir {last} /d"]
+# The table is full, and goes on in block 40.
+FULL_TABLE = lines("format 1 64 1", "poke 8 2", "poke 4112 163840", "recover 1", *(f"create 0 /n{k}" for k in range(30)))
 DEAD_PAGE = ["create {last} /a", *["attr {last} /a 420 0 0"] * 127]
 # By name: the region that the calls begin with, and the calls.
 SCRIPTS = {
@@ -60,6 +62,7 @@ SCRIPTS = {
     "names that go": (SMALL, ["mkdir 0 /d", "create 0 /a", "link 0 /a /d/b", "unlink 0 /a", "rename 0 /d/b /c", "unlink 0 /c", "rmdir 0 /d"]),
     "each call, of 1 CPU": (SMALL, on_cpu(0, EACH_CALL)),
     "each call, of 64 CPUs": (BASE64, on_cpu(63, EACH_CALL)),
+    "inodes in a chain": (FULL_TABLE, ["mkdir 0 /d", "create 0 /d/x", "rename 0 /d/x /y", "rmdir 0 /d"]),
     "a log with a dead page": (SMALL + lines(*on_cpu(0, DEAD_PAGE)), ["clean /a"]),
     "a log with a dead page, of 64 CPUs": (BASE64 + lines(*on_cpu(63, DEAD_PAGE)), ["clean /a"]),
     "a region of version 1, with words where links come": (lines("format 2 64 1", "poke 4112 7", "poke 8208 9", "recover 1", "create 0 /a"), ["upgrade"]),
@@ -119,7 +122,7 @@ def peeks_of(blocks):
 
 
 class Blocks:
-    """The blocks that a call may store to, and those of them that the recovery behind it may: all but the data blocks."""
+    """The blocks that a call may store to, and those of them that the recovery behind it may: all but the data blocks that no table has."""
 
     def __init__(self, runner, call):
         self.cpus, blocks, tables = words_of(runner.answer(call.build, lines("peek 16", "peek 24", "peek 32")))
@@ -130,7 +133,19 @@ class Blocks:
         else:
             before, after = (words_in(runner, build, range(blocks)) for build in (call.build, call.build + call.command))
             self.of_call = sorted({at // BLOCK for at in before if before[at] != after[at]})
-        self.of_recovery = [block for block in self.of_call if block < first_data]
+        chained = self.chained(runner, call.build, blocks)
+        self.of_recovery = [block for block in self.of_call if block < first_data or block in chained]
+
+    def chained(self, runner, build, blocks):
+        """The blocks in which tables go on."""
+        version, *links = words_of(runner.answer(build, lines("peek 8", *(f"peek {BLOCK * (1 + cpu) + 16}" for cpu in range(self.cpus)))))
+        found = set()
+        while version == 2 and links:
+            link = links.pop()
+            if link and link // BLOCK < blocks and link // BLOCK not in found:
+                found.add(link // BLOCK)
+                links += words_of(runner.answer(build, lines(f"peek {link}")))
+        return found
 
     def is_pending(self, base, words):
         """Whether a journal has records to roll back."""

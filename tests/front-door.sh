@@ -171,7 +171,7 @@ rm "$go"
 
 # An interrupt ends the provers, and keeps what is proved.
 : >"$log"
-edit nv_cli lib.rt
+edit nv_script lib.rt
 SLOW=nova "$copy/prove.py" nova 2>/dev/null &
 within says "begin nova" "$log"
 prover=$(cat "$go.pid")
@@ -185,12 +185,12 @@ same "what was proved stays" "nova" "$(begun)"
 
 # A crate that isn't proved.
 : >"$log"
-edit nv_cli lib.rt
-same "a crate that fails" "status 2" "$(FAILS=nv_cli run run </dev/null)"
-same "says the clause" "fn why::nv_cli: not proved: clause ok" "$(grep '^fn' "$folder/said")"
+edit nv_script lib.rt
+same "a crate that fails" "status 2" "$(FAILS=nv_script run run </dev/null)"
+same "says the clause" "fn why::nv_script: not proved: clause ok" "$(grep '^fn' "$folder/said")"
 same "and not all" 0 "$(grep -c chatter "$folder/said")"
-same "what was said is kept" 40 "$(grep -c chatter "$copy/crates/nova/out/proved/logs/nv_cli")"
-same "and nothing above it is proved" "nv_cli" "$(begun)"
+same "what was said is kept" 40 "$(grep -c chatter "$copy/crates/nova/out/proved/logs/nv_script")"
+same "and nothing above it is proved" "nv_script" "$(begun)"
 
 # Without the kit, a folder of the tools that are needed is all that is on the path.
 mkdir "$folder/tools"
@@ -234,7 +234,7 @@ run_second() {
     echo "status $?"
 }
 same "a copy without the kit" "nova run status 0" "$(run_second | xargs)"
-echo '// more' >>"$folder/second/crates/nv_cli/src/lib.rt"
+echo '// more' >>"$folder/second/crates/nv_script/src/lib.rt"
 same "an edit without the kit" "status 2" "$(run_second)"
 
 close

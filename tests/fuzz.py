@@ -3,9 +3,9 @@
 
 usage: tests/fuzz.py PROGRAM MINUTES [--judge JUDGE] [--seed N] [--keep FOLDER]
 
-An image has 8 to 64 blocks: logs of random entries, and then some words of it are changed. A script formats, pokes, cuts
-and recovers regions, or makes calls on the files of one, with stops and now and then damage; commands that PROGRAM
-doesn't have yet are left out. Images and calls are run by one worker and by several, and an image is checked in a file, of
+An image has 8 to 64 blocks: logs of random entries, in version 2 also chains of table blocks, and then some words of it are
+changed. A script formats, pokes, cuts and recovers regions, or makes calls on the files of one, with stops and now and then damage;
+commands that PROGRAM doesn't have yet are left out. Images and calls are run by one worker and by several, and an image is checked in a file, of
 which the metadata alone are read, and from a pipe, which is read whole. It is wrong where a run ends by a signal or with a
 status other than 0, 1 and 2, where it takes over a second of processor time, where the number of workers or the way of
 reading changes what is printed, and where JUDGE, a program that takes the same words, prints another text or ends with
@@ -52,13 +52,45 @@ class Image:
         self.first = 1 + self.cpus + self.cpus * self.tables
         self.blocks = rng.randint(max(8, self.first + 1), 64)
         self.bytes = bytearray(BLOCK * self.blocks)
-        self.bytes[:48] = b"NOVAPM01" + struct.pack("<QQQQQ", 1, self.cpus, self.blocks, self.tables, rng.choice([0, 0, 1]))
+        self.version = rng.choice([1, 2])
+        self.bytes[:48] = b"NOVAPM01" + struct.pack("<QQQQQ", self.version, self.cpus, self.blocks, self.tables, rng.choice([0, 0, 1]))
         self.next = self.first
-        numbers = rng.sample(range(2, SLOTS * self.cpus * self.tables), rng.randint(0, 8))
+        self.chains = [self.put_chain(cpu) for cpu in range(self.cpus)]
+        numbers = rng.sample([*self.fixed_numbers(), *self.chained_numbers()], rng.randint(0, 8))
         self.put_inode(1, 2, numbers)
         for inode in numbers:
             self.put_inode(inode, rng.choice([1, 1, 2]), numbers)
         self.put_records()
+
+    def put_chain(self, cpu):
+        """Links some blocks to the table of a CPU, which has them in version 2 alone."""
+        link, blocks = BLOCK * (1 + cpu) + 16, []
+        for _ in range(self.rng.choice([0, 0, 1, 1, 2, 3])):
+            if self.next < self.blocks:
+                struct.pack_into("<Q", self.bytes, link, BLOCK * self.next)
+                link = BLOCK * self.next
+                blocks.append(self.next)
+                self.next += 1
+        if self.rng.random() < 0.2:
+            struct.pack_into("<Q", self.bytes, link, BLOCK * self.rng.randrange(self.blocks + 1) + self.rng.choice([0, 0, 8]))
+        return blocks if self.version == 2 else []
+
+    def fixed_numbers(self):
+        return range(2, SLOTS * self.cpus * self.tables)
+
+    def chained_numbers(self):
+        """The numbers of slots in chains, those of the first and the last of a block more often."""
+        for cpu, blocks in enumerate(self.chains):
+            for place in range(len(blocks)):
+                for slot in [*range(SLOTS - 1), 0, SLOTS - 2, 0, SLOTS - 2]:
+                    yield (SLOTS * self.tables + (SLOTS - 1) * place + slot) * self.cpus + cpu
+
+    def slot(self, inode):
+        cpu, slot = inode % self.cpus, inode // self.cpus
+        if slot < SLOTS * self.tables:
+            return BLOCK * (1 + self.cpus + cpu * self.tables) + slot * SLOT
+        place, slot = divmod(slot - SLOTS * self.tables, SLOTS - 1)
+        return BLOCK * self.chains[cpu][place] + (1 + slot) * SLOT
 
     def put_records(self):
         """Records of words that were changed, pending or not."""
@@ -70,15 +102,17 @@ class Image:
                 struct.pack_into("<QQ", self.bytes, start + 64 + 16 * place, self.an_address(), self.rng.randint(0, 3))
 
     def an_address(self):
-        return 8 * self.rng.randrange(BLOCK * self.blocks // 8)
+        if self.rng.random() < 0.5:
+            return 8 * self.rng.randrange(BLOCK * self.blocks // 8)
+        # A word of a slot that is in a block of a table, or would be.
+        return BLOCK * self.rng.randrange(1 + self.cpus, self.next + 1) + SLOT * self.rng.randrange(SLOTS) + self.rng.choice([0, 8, 16, 24])
 
     def put_inode(self, inode, kind, numbers):
         if self.next == self.blocks:
             return
         head = BLOCK * self.next
         tail = self.put_log([self.an_entry(kind, numbers) for _ in range(self.rng.choice([0, 1, 3, 10, 60]))])
-        at = BLOCK * (1 + self.cpus + inode % self.cpus * self.tables) + inode // self.cpus * SLOT
-        struct.pack_into("<QQQQQ", self.bytes, at, 1, kind, head, tail, self.rng.randint(0, 9))
+        struct.pack_into("<QQQQQ", self.bytes, self.slot(inode), 1, kind, head, tail, self.rng.randint(0, 9))
 
     def put_log(self, entries):
         """Writes the entries on pages one behind the other, as far as there are blocks, and answers the tail."""
@@ -111,19 +145,18 @@ class Image:
             return struct.pack("<BBHIQQ", 4, 0, 24, rng.randint(1, 3), 0, 0)[:24]
         name = rng.choice([b"a", b"b", b"eight by", b"nine byte", b"n" * 255, b"\xff"])
         length = 24 + -(-len(name) // 8) * 8
-        inode = rng.choice([*numbers, 1, 5])
+        inode = rng.choice([*numbers, 1, 5, SLOTS * self.cpus * self.tables, 31 * self.cpus * self.blocks])
         return struct.pack("<BBHIQQ", 3, 1 + (what == "remove"), length, len(name), inode, 0) + name.ljust(length - 24, b"\0")
 
     def change_words(self):
         """Changes some words, most of them among those that are read."""
         used = BLOCK * self.next // 8
         for _ in range(self.rng.choice([0, 1, 1, 2, 5, 40])):
-            at = 8 * self.rng.choice([self.rng.randrange(used), self.rng.randrange(len(self.bytes) // 8), self.rng.randrange(6)])
+            links = [512 * (1 + cpu) + 2 for cpu in range(self.cpus)] + [512 * block for block in sum(self.chains, [])]
+            places = [self.rng.randrange(used), self.rng.randrange(len(self.bytes) // 8), self.rng.randrange(6), self.rng.choice(links)]
+            at = 8 * self.rng.choice(places)
             old, = struct.unpack_from("<Q", self.bytes, at)
             struct.pack_into("<Q", self.bytes, at, self.another(old))
-        # The judge takes version 2 of the layout, which isn't here yet.
-        if self.bytes[8:16] == struct.pack("<Q", 2):
-            self.bytes[8] = 3
         if self.rng.random() < 0.03:
             del self.bytes[self.rng.randrange(len(self.bytes)) :]
 
@@ -142,12 +175,10 @@ def a_script(rng):
     for _ in range(rng.randint(1, 30)):
         at = 8 * rng.randrange(BLOCK * blocks // 8) if rng.random() < 0.3 else 8 * rng.randrange(BLOCK * 6 // 8)
         value = rng.choice([0, 1, 2, 8, 8 << 16, BLOCK * rng.randrange(blocks + 1), at, 2**64 - 1, rng.getrandbits(64)])
-        # The judge takes version 2 of the layout, which isn't here yet.
-        value = 3 if (at, value) == (8, 2) else value
         lines.append(rng.choice([
             f"poke {at} {value}", f"poke {at} {value}", f"poke {at + rng.choice([0, 4])} {value}", f"peek {at}",
             f"recover {rng.choice([0, 1, 2, 8, 65])}", "recover 1", "report", "tree", "free", "faults", f"time {rng.randint(0, 9)}",
-            f"poke 8 {rng.choice([0, 1, 3])}", f"replay 3 {' '.join(str(rng.randrange(4)) for _ in range(rng.randint(0, 9)))}".strip(),
+            f"poke 8 {rng.choice([0, 1, 2, 2, 3])}", f"poke {BLOCK * rng.choice([1, 1, 2, 3]) + 16} {BLOCK * rng.randrange(blocks + 1)}", f"replay 3 {' '.join(str(rng.randrange(4)) for _ in range(rng.randint(0, 9)))}".strip(),
             f"cut {rng.choice([at, BLOCK * blocks])}", f"format 1 {rng.choice([7, 8, 64])} {rng.choice([0, 1, 64])}", "# a comment", "",
         ]))  # fmt: skip
     if rng.random() < 0.1:

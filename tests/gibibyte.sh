@@ -3,8 +3,8 @@
 #
 # usage: tests/gibibyte.sh [PEER]
 #
-# Regions are formatted, cut around that length, and made with too little memory, and the peak of memory is compared with what
-# a region takes. PEER is the folder of the native program's sources, a crate `nova_ref`: it writes images of 1 GiB, small
+# Regions are formatted, read, saved, cut around that length, and made with too little memory, and the peak of memory is compared
+# with what a region takes. PEER is the folder of the native program's sources, a crate `nova_ref`: it writes images of 1 GiB, small
 # files, one directory of as many names as there can be inodes, files of many overwrites, and one big file. Of each the
 # reports of 1, 2, 4 and 64 workers are compared with its own, and one that is read from a pipe. It closes with
 # 'N passed, M failed'.
@@ -20,14 +20,19 @@ said() {
     echo "status $?"
 }
 
+# most WORD..: the most memory that the program takes, in KiB.
+most() {
+    python3 - "$built" "$@" <<'PYTHON'
+import resource, subprocess, sys
+subprocess.run(sys.argv[1:], stdout=subprocess.DEVNULL, stderr=subprocess.DEVNULL)
+print(resource.getrusage(resource.RUSAGE_CHILDREN).ru_maxrss)
+PYTHON
+}
+
 # peak SCRIPT: the most memory that a script takes, in KiB.
 peak() {
     printf '%s\n' "${1//, /$'\n'}" >"$folder/script"
-    python3 - "$built" "$folder/script" <<'PYTHON'
-import resource, subprocess, sys
-subprocess.run([sys.argv[1], "run", sys.argv[2]], stdout=subprocess.DEVNULL, stderr=subprocess.DEVNULL)
-print(resource.getrusage(resource.RUSAGE_CHILDREN).ru_maxrss)
-PYTHON
+    most run "$folder/script"
 }
 
 # The most CPUs and the longest tables. Each pool has 4,030 or 4,031 of the 257,983 data blocks, of which the root's log has one.
@@ -38,6 +43,12 @@ status 0"
 for workers in 1 2 4 64; do
     same "the longest tables on $workers workers" "$wanted" "$(said "format 64 $blocks 64, recover $workers")"
 done
+
+# A number of blocks that 16 bits don't hold.
+same "65,537 blocks" "ok
+recovered inodes 1 free 65533 faults 0
+free 0 4-65536
+status 0" "$(said "format 1 65537 1, recover 1, free")"
 
 # Lengths around the bound: one that isn't of whole blocks, and a block less than the superblock says.
 same "a block too many" "refused Length
@@ -63,6 +74,18 @@ made=$(peak "format 1 $blocks 1, recover 1, create 0 /f")
 written=$(peak "format 1 $blocks 1, recover 1, create 0 /f, write 0 /f 0 536870912 65")
 [ $((written - made)) -le 2048 ]
 holds "a write of 512 MiB takes $((written - made)) KiB more" $?
+
+# An image is read into the words of its region in pieces, and saved in pieces, so that both are held once.
+"$built" mkfs "$folder/image" --blocks "$blocks" --cpus 1 --tables 1 >"$folder/said"
+echo "recover 1" >"$folder/recover"
+run=(run "$folder/recover" --image "$folder/image")
+read=$(most "${run[@]}")
+[ "$read" -le $((region + 25600)) ]
+holds "an image of 1 GiB is read in $((read / 1024)) MiB" $?
+saved=$(most "${run[@]}" --save "$folder/saved")
+[ "$saved" -le $((region + 25600)) ] && cmp -s "$folder/image" "$folder/saved"
+holds "and saved in $((saved / 1024)) MiB, as it was" $?
+rm -f "$folder/image" "$folder/saved"
 
 # Where memory is wanted for it, no region is made, and nothing is written.
 printf 'format 1 %d 1\n' "$blocks" >"$folder/script"

@@ -7,6 +7,9 @@
 # the image that ext4 is mounted of, by a loop device. In each round (3 where none are given) one is measured after the other, by
 # mount/tests/speed.c, and the best of all rounds counts. What isn't installed, or isn't allowed, has a column of dashes. Calls a
 # second, or MB a second; of the library, nanoseconds a call. Nothing else should run meanwhile; the load is printed.
+#
+# Beside each rate of a mount stands how many times that of bindfs it is, and whether that is enough: once, and twice for creates,
+# renames and overwrites. A call of the library may take 1.1 times as long as by `bench calls`. It closes with the bars not met.
 set -eu
 source "$(dirname "${BASH_SOURCE[0]}")/parts.sh" || exit 2
 [ $# -le 1 ] || usage
@@ -88,10 +91,35 @@ for line in open(f"{folder}/measured"):
     row = best.setdefault(what, {})
     row[kind] = max(row.get(kind, 0), int(number))
 now = open("/proc/loadavg").read().split()[0]
+missed = []
+
+
+def bar(name, found, most, least=False):
+    """A word of whether a bar is met; one that isn't is told at the end too."""
+    met = found >= most if least else found <= most
+    if not met:
+        missed.append(f"{name}: {found:.2f}, bar {most}")
+    return "met" if met else "not met"
+
+
+# What the mount has to do as often as bindfs at least, and what twice as often.
+wanted = {"create": 2, "open": 1, "rename": 2, "overwrite 4 KiB, calls": 2, "write 128": 1, "read 128": 1}
+
+
+def beside(what, row, kind):
+    """How many times as often as bindfs, and whether that is enough."""
+    if kind not in row or not row.get("bindfs"):
+        return "-"
+    times = row[kind] / row["bindfs"]
+    least = next((least for start, least in wanted.items() if what.startswith(start)), None)
+    return f"{times:.2f}" + (f", {least}: {bar(f'{names[kind]}: {what}', round(times, 2), least, least=True)}" if least else "")
+
+
 print(f"Best of {rounds}, load {load} to {now}.\n")
-print("| a second | " + " | ".join(names[kind] for kind in kinds) + " |\n" + "|---" * (len(kinds) + 1) + "|")
+print("| a second | " + " | ".join(names[kind] for kind in kinds) + " | --mapped, times bindfs | without |\n" + "|---" * (len(kinds) + 3) + "|")
 for what, row in best.items():
-    print(f"| {what} | " + " | ".join(f"{row[kind]:,}" if kind in row else "-" for kind in kinds) + " |")
+    cells = [f"{row[kind]:,}" if kind in row else "-" for kind in kinds] + [beside(what, row, kind) for kind in ("mapped", "saved")]
+    print(f"| {what} | " + " | ".join(cells) + " |")
 # A label may stand for a call on files and for one on names: the first and the second time that it comes in a round.
 called, seen = {}, {}
 for line in open(f"{folder}/called"):
@@ -104,6 +132,11 @@ for line in open(f"{folder}/called"):
     row[who] = min(row.get(who, 1 << 60), int(number))
 print("\n| nanoseconds | library | bench | |\n|---|---|---|---|")
 for label, row in called.items():
-    ratio = f"{row['library'] / max(row['bench'], 1):.2f}" if "bench" in row else "-"
+    times = row["library"] / max(row["bench"], 1) if "bench" in row else None
+    ratio = "-" if times is None else f"{times:.2f}"
+    # Those that are made once or 16 times have no bar.
+    if times is not None and label not in ("mkdir of directories", "mkdir of the other"):
+        ratio += f", 1.1: {bar(f'library: {label}', round(times, 2), 1.1)}"
     print(f"| {label} | {row['library']:,} | {row.get('bench', '-')} | {ratio} |")
+print(f"\n{len(missed)} bars not met" + "".join(f"\n- {what}" for what in missed))
 PYTHON

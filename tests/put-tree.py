@@ -3,11 +3,12 @@
 links, holes, directories without names, long names, modes and times. What is refused leaves the image's bytes as they were.
 
     tests/put-tree.py [PROGRAM] [COUNT]     closes with 'N passed, M failed', and tells how long COUNT files of 4 KiB take,
-                                            2,000 if left out: a CPU has 2,048 inodes at most
+                                            10,000 if left out, on 8 CPUs, which have 16,384 inodes
 """
 import hashlib
 import os
 import pathlib
+import re
 import socket
 import subprocess
 import sys
@@ -16,6 +17,10 @@ import time
 
 ROOT = pathlib.Path(__file__).resolve().parent.parent
 BLOCK = 4096
+
+# What 10,000 files of 4 KiB may take on a busy machine, in seconds, of several tries the shortest. On a quiet one it is 1.
+MOST_SECONDS = 10.0
+TRIES = 3
 
 passed = failed = 0
 
@@ -165,11 +170,22 @@ def in_any_order(program, room):
     same("time", [b"9"], numbers_of(program, image, "/d/000", b"time"))
 
 
+def inodes(program, image):
+    """The numbers of the inodes in use."""
+    rows = re.findall(rb"^inode (\d+)", nova(program, "check", image).stdout, re.M)
+    return {int(row) for row in rows}
+
+
 def by_cpu(program, room):
-    """The CPU that is named has all of it."""
+    """The CPU that is named has all of it; without one each CPU has inodes of it."""
     image = made_image(program, room / "cpus.img", 256, cpus=2)
     put(program, image, room / "tree", "/d", "--cpu", 1)
     alike("by a CPU", room / "tree", given_back(program, image, room / "by-cpu") / "d")
+    same("by a CPU: inodes", {1}, {inode % 2 for inode in inodes(program, image)})
+    image = made_image(program, room / "any.img", 256, cpus=2)
+    put(program, image, room / "tree", "/d")
+    alike("by any CPU", room / "tree", given_back(program, image, room / "by-any") / "d")
+    same("by any CPU: inodes", list(range(1, len(inodes(program, image)) + 1)), sorted(inodes(program, image)))
     done = nova(program, "put", "-r", image, room / "tree", "/e", "--cpu", 2)
     same("no such CPU", (2, b"", b"refused BadCpu\nmember .\n"), (done.returncode, done.stdout, done.stderr))
 
@@ -243,21 +259,25 @@ def refusals(program, room):
 def many_files(program, room, count):
     tree = room / "many"
     for k in range(count):
-        folder = tree / f"d{k // 100}"
+        folder = tree / f"d{k % 100}"
         folder.mkdir(parents=True, exist_ok=True)
         (folder / f"f{k}").write_bytes(k.to_bytes(4, "little") * (BLOCK // 4))
-    image = made_image(program, room / "many.img", 3 * count + 1024, tables=64)
-    began = time.monotonic()
-    done = nova(program, "put", "-r", image, tree, "/")
-    taken = time.monotonic() - began
-    same("many files: answer", (0, b"", b""), (done.returncode, done.stdout, done.stderr))
+    taken = []
+    while not taken or min(taken) > MOST_SECONDS and len(taken) < TRIES:
+        image = made_image(program, room / "many.img", 65536, cpus=8, tables=64)
+        began = time.monotonic()
+        done = nova(program, "put", "-r", image, tree, "/")
+        taken.append(time.monotonic() - began)
+        same("many files: answer", (0, b"", b""), (done.returncode, done.stdout, done.stderr))
+    same("many files: check", 0, nova(program, "check", image).returncode)
     alike("many files", tree, given_back(program, image, room / "many-back"))
-    print(f"{count} files of 4 KiB: {taken:.2f} s")
+    print(f"{count} files of 4 KiB: {min(taken):.2f} s")
+    same(f"many files: {min(taken):.2f} s", True, count > 10000 or min(taken) <= MOST_SECONDS)
 
 
 def main():
     program = str(pathlib.Path(sys.argv[1]).resolve()) if len(sys.argv) > 1 else str(ROOT / "crates/nova/out/nova")
-    count = int(sys.argv[2]) if len(sys.argv) > 2 else 2000
+    count = int(sys.argv[2]) if len(sys.argv) > 2 else 10000
     with tempfile.TemporaryDirectory() as folder:
         room = pathlib.Path(folder)
         hard_tree(room / "tree")

@@ -16,8 +16,18 @@ class Calls:
         self.folders, self.files = ["", ""], []
         self.cpus, self.blocks = rng.choice([1, 1, 2, 3]), rng.choice([8, 12, 16, 40, 64])
         self.lines = [f"format {self.cpus} {max(self.blocks, 8)} 1", "recover 1"]
+        if rng.random() < 0.2:
+            self.full_table()
         # In some scripts logs grow by many entries, and are cleaned between all calls.
         self.cleans = rng.random() < 0.3
+
+    def full_table(self):
+        """The table of the one CPU is full, and goes on in two blocks, which have more slots than a script takes."""
+        self.cpus, self.blocks = 1, self.rng.choice([64, 100, 200])
+        first, second = self.rng.sample(range(40, self.blocks), 2)
+        self.lines = [f"format 1 {self.blocks} 1", "poke 8 2", f"poke {BLOCK + 16} {BLOCK * first}", f"poke {BLOCK * first} {BLOCK * second}"]
+        self.lines += ["recover 1", *(f"create 0 /full{k}" for k in range(30))]
+        self.files += [f"/full{k}" for k in range(0, 30, 6)]
 
     def script(self):
         rng = self.rng

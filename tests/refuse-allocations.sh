@@ -4,13 +4,13 @@
 # all did, one of them, or a worker, or what reads the tables and rolls the journals back in version 2, at its second try,
 # since the first was refused memory; or memory was refused outside of them.
 #
-# Two threads make the allocations of the recoveries by workers, the last two, in an order that differs from run to run, and
-# one or two more of them as the workers share the inodes: so the first few runs meet no refusal. It takes eleven minutes.
+# Two threads make the allocations of the recoveries by workers, the last three, in an order that differs from run to run, and
+# one or two more of them as the workers share the inodes: so the first few runs meet no refusal. It takes seventeen minutes.
 set -u
 source "$(dirname "${BASH_SOURCE[0]}")/refusing.sh"
-refuse_each recoveries 504
+refuse_each recoveries 750
 
-mapfile -t whole < <(head -n 9 stdout)
+mapfile -t whole < <(head -n 12 stdout)
 wanted=()
 so_far=
 for line in "${whole[@]}"; do
@@ -24,10 +24,12 @@ sed -e 's/ refused once: worker, which gave 0 rows and 0 faults;//' \
     -e 's/ refused once: \(tables\|undo\);//' \
     -e 's/ refused once: [A-Za-z]* [A-Za-z]* AsBefore;//' \
     -e 's/ refused once: \(Stopped [A-Za-z]*\) RolledBack; \1: inodes 4 free 5 doubled 2 faults 4;/ \1: inodes 4 free 5 doubled 2 faults 5;/' \
+    -e 's/ refused once: \(Chained [A-Za-z]*\) RolledBack; \1: inodes 5 free 1 doubled 2 faults 7;/ \1: inodes 5 free 1 doubled 2 faults 8;/' \
     "$ends" >"$folder/done"
 only_ways "$folder/done" "${wanted[@]}"
 each_way "${wanted[@]}"
-for place in worker, tables undo {Stopped,Names}\ {OneThread,Schedule,TwoWorkers}\ AsBefore Stopped\ {OneThread,Schedule,TwoWorkers}\ RolledBack; do
+for place in worker, tables undo {Stopped,Names,Chained}\ {OneThread,Schedule,TwoWorkers}\ AsBefore \
+    {Stopped,Chained}\ {OneThread,Schedule,TwoWorkers}\ RolledBack; do
     grep -q "refused once: $place" "$ends" || say_wrong "no run with refused once: $place"
 done
 exit $wrong

@@ -23,7 +23,7 @@ import tempfile
 HERE = os.path.dirname(os.path.abspath(__file__))
 LONG = b"n" * 255
 NOT_UTF8 = b"\xff\xfe \\ name"
-MANY = 5_000
+MANY = 60_000
 DAMAGED = 60
 LARGE = 1 << 26
 MOST_MEMORY = 16 << 20

@@ -3,11 +3,12 @@
 holes, directories without names, long names, modes and times. What is refused leaves the image's bytes as they were.
 
     tests/untar.py [PROGRAM] [COUNT]     closes with 'N passed, M failed', and tells how long COUNT files of 4 KiB take,
-                                         2,000 if left out: a CPU has 2,048 inodes at most
+                                         10,000 if left out, on 8 CPUs, which have 16,384 inodes
 """
 import hashlib
 import os
 import pathlib
+import shutil
 import subprocess
 import sys
 import tarfile
@@ -17,6 +18,10 @@ import time
 
 ROOT = pathlib.Path(__file__).resolve().parent.parent
 BLOCK = 4096
+
+# What 10,000 files of 4 KiB may take on a busy machine, in seconds, of several tries the shortest. On a quiet one it is 1.
+MOST_SECONDS = 10.0
+TRIES = 3
 
 passed = failed = 0
 
@@ -34,8 +39,8 @@ def nova(program, *words, given=b""):
     return subprocess.run([program, *map(str, words)], input=given, capture_output=True)
 
 
-def made_image(program, place, blocks, tables=1):
-    done = nova(program, "mkfs", place, "--blocks", blocks, "--cpus", 1, "--tables", tables, "--force")
+def made_image(program, place, blocks, tables=1, cpus=1):
+    done = nova(program, "mkfs", place, "--blocks", blocks, "--cpus", cpus, "--tables", tables, "--force")
     assert done.returncode == 0, done.stderr
 
 
@@ -146,25 +151,82 @@ def refusals(program, room):
     same("cut off: image", before, hashlib.sha256(image.read_bytes()).digest())
 
 
+def numbers(program, image, count):
+    """The inodes of the files f0, f1 and so on."""
+    words = [nova(program, "stat", image, f"/f{k}").stdout.split() for k in range(count)]
+    return [int(line[line.index(b"inode") + 1]) for line in words]
+
+
+def by_cpus(program, room):
+    """Two CPUs have 62 unused inodes. Without a CPU all of them are made, and by a named one its own."""
+    image = room / "cpus.img"
+    made_image(program, image, 512, cpus=2)
+    before = image.read_bytes()
+    files = [(f"f{k}", tarfile.REGTYPE, b"bytes") for k in range(63)]
+    for words, most, whose in (((), 62, range(2, 64)), (("--cpu", 0), 31, range(2, 64, 2)), (("--cpu", 1), 31, range(3, 64, 2))):
+        done = nova(program, "untar", image, *words, given=archive_with(*files[: most + 1]))
+        same(f"by {words}: too many", (2, b"", f"refused NoInodes\nmember f{most}\n"), (done.returncode, done.stdout, done.stderr.decode()))
+        same(f"by {words}: image", True, image.read_bytes() == before)
+        done = nova(program, "untar", image, *words, given=archive_with(*files[:most]))
+        same(f"by {words}: answer", (0, b"", b""), (done.returncode, done.stdout, done.stderr))
+        same(f"by {words}: check", 0, nova(program, "check", image).returncode)
+        same(f"by {words}: inodes", list(whose), sorted(numbers(program, image, most)))
+        image.write_bytes(before)
+    done = nova(program, "untar", image, "--cpu", 2, given=archive_with(files[0]))
+    same("no such CPU", (2, b"", b"refused BadCpu\nmember f0\n"), (done.returncode, done.stdout, done.stderr))
+    # The directories on the way come from the other table too.
+    deep = "/".join(f"d{k}" for k in range(60))
+    done = nova(program, "untar", image, given=archive_with((f"{deep}/file", tarfile.REGTYPE, b"")))
+    same("a long way", (0, b"", b""), (done.returncode, done.stdout, done.stderr))
+    same("a long way: check", 0, nova(program, "check", image).returncode)
+    # What is there is written anew where no inode is left.
+    done = nova(program, "untar", image, given=archive_with(("last", tarfile.REGTYPE, b"1")))
+    same("the last inode", (0, b"", b""), (done.returncode, done.stdout, done.stderr))
+    done = nova(program, "untar", image, given=archive_with(("last", tarfile.REGTYPE, b"22"), ("link", tarfile.LNKTYPE, "last")))
+    same("no inode is left", (0, b"", b""), (done.returncode, done.stdout, done.stderr))
+    same("no inode is left: bytes", b"22", nova(program, "cat", image, "/link").stdout)
+
+
+def one_save(program, room):
+    """All members are made before the image is saved, once. It is left out where strace can't be had."""
+    image, trace = room / "saved.img", room / "trace"
+    made_image(program, image, 512, cpus=2)
+    words = ["strace", "-o", str(trace), "-e", "trace=rename,renameat,renameat2", program, "untar", str(image)]
+    given = archive_with(*[(f"f{k}", tarfile.REGTYPE, b"bytes") for k in range(62)])
+    if shutil.which("strace") is None or subprocess.run(words, input=given, capture_output=True).returncode != 0:
+        print("one save: left out without strace")
+        return
+    same("one save", 1, trace.read_text().count("saved.img.new-"))
+    same("one save: inodes", 62, len(set(numbers(program, image, 62))))
+
+
 def many_files(program, room, count):
-    tree, image = room / "many", room / "many.img"
+    """In 100 directories, into an image of 256 MiB."""
+    tree, image, other = room / "many", room / "many.img", room / "other.img"
     for k in range(count):
-        folder = tree / f"d{k // 100}"
+        folder = tree / f"d{k % 100}"
         folder.mkdir(parents=True, exist_ok=True)
         (folder / f"f{k}").write_bytes(k.to_bytes(4, "little") * (BLOCK // 4))
-    made_image(program, image, 3 * count + 1024, tables=64)
-    archive = archive_of(tree)
-    began = time.monotonic()
-    done = nova(program, "untar", image, given=archive)
-    taken = time.monotonic() - began
-    same("many files: answer", (0, b"", b""), (done.returncode, done.stdout, done.stderr))
+    archive, taken = archive_of(tree), []
+    while not taken or min(taken) > MOST_SECONDS and len(taken) < TRIES:
+        made_image(program, image, 65536, tables=64, cpus=8)
+        began = time.monotonic()
+        done = nova(program, "untar", image, given=archive)
+        taken.append(time.monotonic() - began)
+        same("many files: answer", (0, b"", b""), (done.returncode, done.stdout, done.stderr))
+    same("many files: check", 0, nova(program, "check", image).returncode)
     same("many files: tree", shown(tree), given_back(program, image, room / "many-back"))
-    print(f"{count} files of 4 KiB: {taken:.2f} s")
+    made_image(program, other, 65536, tables=64, cpus=8)
+    same("many files: put -r", 0, nova(program, "put", "-r", other, tree, "/").returncode)
+    done = nova(program, "diff", image, other)
+    same("many files: diff", (0, b"", b""), (done.returncode, done.stdout, done.stderr))
+    print(f"{count} files of 4 KiB: {min(taken):.2f} s")
+    same(f"many files: {min(taken):.2f} s", True, count > 10000 or min(taken) <= MOST_SECONDS)
 
 
 def main():
     program = str(pathlib.Path(sys.argv[1]).resolve()) if len(sys.argv) > 1 else str(ROOT / "crates/nova/out/nova")
-    count = int(sys.argv[2]) if len(sys.argv) > 2 else 2000
+    count = int(sys.argv[2]) if len(sys.argv) > 2 else 10000
     with tempfile.TemporaryDirectory() as folder:
         room = pathlib.Path(folder)
         (room / "tree").mkdir()
@@ -173,6 +235,8 @@ def main():
             whole_tree(program, room, form)
         below_a_path(program, room)
         refusals(program, room)
+        by_cpus(program, room)
+        one_save(program, room)
         many_files(program, room, count)
     print(f"{passed} passed, {failed} failed")
     return 1 if failed else 0

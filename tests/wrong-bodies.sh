@@ -8,8 +8,8 @@
 # A crate has changed where a file of its src, specs, proofs or wrong bodies is not as the commit has it, committed or not.
 # They are tried by `rt must-fail` in a copy of the repository, all as must-fail. What the prover kept of the crates is linked
 # into it, or copied where that can't be, so that a crate that is proved already isn't proved once more. Prints a line for
-# each, and closes with 'N refused, M accepted, K bad': one is bad that could not be applied, compiled, read or tried. The
-# status is 1 where one was accepted or bad.
+# each, crate by crate as they are done, and closes with 'N refused, M accepted, K bad': one is bad that could not be applied,
+# compiled, read or tried. The status is 1 where one was accepted or bad.
 set -u
 here=$(cd "$(dirname "${BASH_SOURCE[0]}")/.." && pwd)
 cores=$(nproc)
@@ -73,13 +73,12 @@ for folder in "$here"/crates/*; do
 done
 
 cd "$copy" || exit 2
-printf '%s\n' "${names[@]}" | xargs -P "$jobs" -I{} sh -c 'rt must-fail "$1" >"$1.tried" 2>&1' sh {}
+printf '%s\n' "${names[@]}" | xargs -P "$jobs" -I{} sh -c 'rt must-fail "$1" >"$1.tried" 2>&1; cat "$1.tried"' sh {}
 
 refused=0
 accepted=0
 all=0
 for name in "${names[@]}"; do
-    cat "$name.tried"
     refused=$((refused + $(grep -c 'must-fail .*: refused, as it must be' "$name.tried")))
     accepted=$((accepted + $(grep -c 'must-fail .*: NOT REFUSED' "$name.tried")))
     all=$((all + $(find "crates/$name/must-fail" -name '*.edit' | wc -l)))

@@ -31,6 +31,7 @@ enum nova_status {
     NOVA_CLOSED = 16,
     NOVA_BUSY = 17,
     NOVA_TOO_SMALL = 18,
+    NOVA_IS_VERSION2 = 19,
     NOVA_SUPER_LENGTH = 20,
     NOVA_SUPER_MAGIC = 21,
     NOVA_SUPER_VERSION = 22,

@@ -39,6 +39,7 @@ STATUSES = {
     16: ("closed", errno.EBADF),
     17: ("open already", errno.EBUSY),
     18: ("too small", errno.ERANGE),
+    19: ("has version 2 already", errno.EINVAL),
     30: ("not 8 to 262,144 blocks", errno.EINVAL),
     31: ("not 1 to 64 cpus", errno.EINVAL),
     32: ("not 1 to 64 table blocks, or no block is left", errno.EINVAL),

@@ -6,7 +6,7 @@ use Rattle.nv_inode.specs.Chains.{IsLaid}
 use Rattle.nv_inode.specs.Numbers.{has_slot, number_end}
 use Rattle.nv_inode.proofs.NumberEnds.{below_end}
 use Rattle.nv_numbered.specs.Values.{AreNumbersBelow}
-use Rattle.nv_outcome.specs.nv_rows.Unused.{HaveSlots}
+use Rattle.nv_rows.specs.Unused.{HaveSlots}
 
 some_is : {A : Type 0} (o : Option A) → IsTrue (is_some o) → (a : A) × (o ≡ Some a)
 some_is (Some a) some = (a, refl)

@@ -2,9 +2,9 @@
 
 ghost use Rattle.std.specs.Prelude.{IsTrue};
 ghost use Rattle.nv_region.specs.Region.{HasBlocks};
-ghost use Rattle.nv_super.specs.Layout.{IsLayout, HasAreas, is_number, is_page_start};
+ghost use Rattle.nv_super.specs.Layout.{HasAreas, is_page_start};
 
-use nv_inode::{SlotState, read_slot};
+use nv_inode::{SlotState, Tables, read_slot, read_tables};
 use nv_logpage::{Finding, LogReader};
 use nv_recover::RecoverError;
 use nv_region::Pmem;
@@ -14,9 +14,10 @@ use std::alloc::{AllocError, Global};
 /// The entries in the logs of all inodes in use, as far as each log can be read.
 pub(crate) fn count_entries<P: Pmem>(alloc: Global, memory: &P) -> Result<u64, RecoverError> {
     let sup = read_super(memory)?;
+    let tables = read_tables(alloc, memory, &sup)?;
     let mut entries = 0u64;
-    for inode in 1..sup.max_inode() + 1 {
-        entries = entries.saturating_add(entries_of(alloc, memory, &sup, inode)?);
+    for inode in 0..tables.number_end() {
+        entries = entries.saturating_add(entries_of(alloc, memory, &tables, inode)?);
     }
     Ok(entries)
 }
@@ -24,17 +25,18 @@ pub(crate) fn count_entries<P: Pmem>(alloc: Global, memory: &P) -> Result<u64, R
 fn entries_of<P: Pmem>(
     alloc: Global,
     memory: &P,
-    sup: &Super,
+    tables: &Tables,
     inode: u64,
 ) -> Result<u64, AllocError>
-    requires layout { IsLayout sup.now }
-    requires blocks { HasBlocks (P.region memory.now) sup.now.blocks }
-    requires number { IsTrue (is_number sup.now inode) }
+    requires { HasBlocks (P.region memory.now) tables.now.layout.sup.blocks }
 {
-    let slot = read_slot(memory, sup, inode);
+    tables.are_laid();
+    let Some(slot) = read_slot(memory, tables, inode) else {
+        return Ok(0);
+    };
     match slot.state() {
-        SlotState::InUse(_) if slot.has_right_log(sup) => {
-            entries_of_log(alloc, memory, sup, slot.head, slot.tail)
+        SlotState::InUse(_) if slot.has_right_log(tables.sup()) => {
+            entries_of_log(alloc, memory, tables.sup(), slot.head, slot.tail)
         }
         _ => Ok(0),
     }

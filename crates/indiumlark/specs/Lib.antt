@@ -1,6 +1,7 @@
 pub use Rattle.nv_region.specs as nv_region
 pub use Rattle.nv_lent.specs as nv_lent
 pub use Rattle.nv_super.specs as nv_super
+pub use Rattle.nv_inode.specs as nv_inode
 pub use Rattle.nv_journal.specs as nv_journal
 pub use Rattle.nv_format.specs as nv_format
 pub use Rattle.nv_scan.specs as nv_scan

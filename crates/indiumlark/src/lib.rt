@@ -39,6 +39,7 @@ pub use nv_alloc::{Allocators, FreeRuns};
 pub use nv_calls::{Cpu, Data, Fs, Stat, Time};
 pub use nv_deadpages::DeadPages;
 pub use nv_format::{FormatRefusal, format};
+pub use nv_inode::Tables;
 pub use nv_lent::WordRegion;
 pub use nv_names::Named;
 pub use nv_recover::{MOST_WORKERS, RecoverError};

@@ -2,8 +2,10 @@
 
 use crate::names::path_of;
 use nv_args::Which;
-use nv_checking::{Blocks, BlocksError, READERS, gather_plain, see_unchanged, why_plain_refused};
-use nv_images::{
+use nv_image_check::{
+    Blocks, BlocksError, READERS, gather_plain, see_unchanged, why_plain_refused,
+};
+use nv_image_files::{
     Failure, Image, ImageFile, Reason, open_image, read_image, refuse_length, tell_faults,
     tell_length, tell_refused, tell_unaccepted,
 };

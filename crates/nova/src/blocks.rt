@@ -1,6 +1,6 @@
 //! Showing what a block of the image in a file is: `block`.
 
-use nv_images::{
+use nv_image_files::{
     Failure, Image, open_image, read_image, refuse_length, tell_faults, tell_length, tell_refused,
 };
 use nv_logs::block_image;

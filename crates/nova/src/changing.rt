@@ -7,11 +7,11 @@ use crate::REFUSED_STATUS;
 use crate::names::path_of;
 use nv_args::NamedChange;
 use nv_changes::{Change, Changed, change_image};
-use nv_cli::CallRefusal;
-use nv_images::{
+use nv_image_files::{
     Failure, Held, Image, Loaded, Lock, Reason, Target, hold, image_at, refuse_length, region_at,
     save_region, see_ready, tell_failure, tell_length, tell_unaccepted, why_region_refused,
 };
+use nv_script::CallRefusal;
 use nv_stream::write_text;
 use std::io::{ErrorKind, Write};
 use std::rt::Files;

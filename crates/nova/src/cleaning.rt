@@ -1,11 +1,11 @@
 //! Cleaning the logs of the image in a file.
 
 use crate::names::path_of;
-use nv_cli::{Cleaned, clean_image};
-use nv_images::{
+use nv_image_files::{
     Failure, Held, Loaded, Lock, Target, hold, refuse_length, region_at, save_region, see_ready,
     tell_length, tell_unaccepted, why_region_refused,
 };
+use nv_script::{Cleaned, clean_image};
 use nv_stream::write_text;
 use std::io;
 use std::io::Write;

@@ -2,7 +2,9 @@
 
 use crate::REFUSED_STATUS;
 use nv_comparing::{Compared, compare_images};
-use nv_images::{Failure, Image, image_at, tell_faults, tell_length, tell_unaccepted, why_refused};
+use nv_image_files::{
+    Failure, Image, image_at, tell_faults, tell_length, tell_unaccepted, why_refused,
+};
 use nv_stream::ScriptError;
 use std::io;
 use std::io::Write;

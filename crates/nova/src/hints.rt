@@ -1,6 +1,6 @@
 //! Hints on standard error.
 
-use nv_cli::{Hint, Hints};
+use nv_script::{Hint, Hints};
 
 /// Prints each hint as a line on standard error. Where that fails, the hint is left out.
 #[derive(Clone, Copy)]

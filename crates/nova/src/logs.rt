@@ -4,8 +4,8 @@ ghost use Rattle.nv_metadata.specs.Gathered.{IsOpen};
 
 use crate::names::path_of;
 use nv_args::Which;
-use nv_checking::{Answered, Blocks, Gathered, READERS, gather_plain, why_plain_refused};
-use nv_images::{
+use nv_image_check::{Answered, Blocks, Gathered, READERS, gather_plain, why_plain_refused};
+use nv_image_files::{
     Failure, Image, ImageFile, open_image, read_image, refuse_length, tell_faults, tell_length,
     tell_refused, tell_unaccepted,
 };

@@ -3,7 +3,7 @@
 ghost use Rattle.std.specs.Prelude.{IfOk};
 ghost use Rattle.nv_text.specs.Escapes.{SpellsName};
 
-use nv_images::Failure;
+use nv_image_files::Failure;
 use nv_text::unescaped;
 use std::alloc::Global;
 

@@ -2,9 +2,9 @@
 
 use crate::REFUSED_STATUS;
 use crate::unpacking::{Place, unpack};
-use nv_cli::CallRefusal;
 use nv_host::{HostError, Misfit, hold_files, items_of, links_of, walk};
-use nv_images::{Failure, Lock, Reason, Shown};
+use nv_image_files::{Failure, Lock, Reason, Shown};
+use nv_script::CallRefusal;
 use nv_session::refused_call_text;
 use nv_stream::{ScriptError, write_text};
 use nv_text::push_escaped;

@@ -1,7 +1,7 @@
 //! Rolling back the journals of the image in a file.
 
 use crate::REFUSED_STATUS;
-use nv_images::{
+use nv_image_files::{
     Failure, Held, Loaded, Lock, Target, hold, refuse_length, region_at, save_region, see_ready,
     tell_length, tell_unaccepted, why_region_refused,
 };

@@ -1,12 +1,12 @@
 //! Running a script, on the region of an image or on none, and saving the region that it leaves.
 
 use crate::hints::ErrorOutput;
-use nv_cli::{
-    Ended, MemRegion, ScriptError, run_script_on, run_script_strictly, run_script_to_end,
-};
-use nv_images::{
+use nv_image_files::{
     Failure, Held, ImageFile, Loaded, Lock, Reason, Stamp, Target, hold, load_image, open_image,
     save_region, see_ready,
+};
+use nv_script::{
+    Ended, MemRegion, ScriptError, run_script_on, run_script_strictly, run_script_to_end,
 };
 use nv_stream::{Opened, open_at};
 use std::io::{Read, Write};

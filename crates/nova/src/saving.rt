@@ -1,8 +1,8 @@
 //! Making images.
 
 use crate::REFUSED_STATUS;
-use nv_cli::{Areas, Formatted, format_image, format_limits};
-use nv_images::{Failure, Lock, Target, hold, save_region, see_ready};
+use nv_image_files::{Failure, Lock, Target, hold, save_region, see_ready};
+use nv_script::{Areas, Formatted, format_image, format_limits};
 use std::rt::Files;
 
 /// Writes the image of a region of so many blocks, formatted with these areas, to a file, or says `refused NAME` on standard

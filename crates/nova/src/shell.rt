@@ -1,10 +1,10 @@
 //! The shell on the image in a file: the commands that are typed run on its region, which is saved where one asks for that.
 
-use nv_cli::{Hint, Host, MemRegion, run_shell};
-use nv_images::{
+use nv_image_files::{
     Failure, Held, Loaded, Lock, Reason, Stamp, Target, hold, region_at, save_and_hold,
     save_region, see_ready, tell_failure, tell_unaccepted, why_region_refused,
 };
+use nv_script::{Hint, Host, MemRegion, run_shell};
 use nv_stream::Unsaved;
 use std::io::{IsTerminal, Read};
 use std::rt::Files;

@@ -4,10 +4,10 @@ ghost use Rattle.nv_metadata.specs.Gathered.{IsOpen};
 
 use crate::names::path_of;
 use nv_args::Which;
-use nv_checking::{
+use nv_image_check::{
     Blocks, BlocksError, Gathered, READERS, gather_plain, see_unchanged, why_plain_refused,
 };
-use nv_images::{
+use nv_image_files::{
     Failure, Image, ImageFile, Reason, open_image, read_image, refuse_length, tell_faults,
     tell_length, tell_refused, tell_unaccepted,
 };

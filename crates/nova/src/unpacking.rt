@@ -1,15 +1,18 @@
 //! Putting an archive on standard input into the image in a file: `untar`, and whatever else has items.
 
+ghost use Rattle.std.specs.Prelude.{◌≡◌};
+ghost use Rattle.nova.specs.Makers.{maker_said};
+
 use crate::REFUSED_STATUS;
 use crate::names::path_of;
-use nv_cli::CallRefusal;
-use nv_images::{
+use nv_image_files::{
     Failure, Held, Image, Loaded, Lock, Target, hold, image_at, refuse_length, region_at,
     save_region, see_ready, tell_length, tell_unaccepted, why_region_refused,
 };
+use nv_script::CallRefusal;
 use nv_session::refused_call_text;
 use nv_stream::{ScriptError, write_text};
-use nv_unpack::{Unpacked, unpack_image};
+use nv_unpack::{Maker, Unpacked, unpack_image};
 use nv_untar::{Item, UntarError, read_items};
 use std::io::Write;
 use std::rt::Files;
@@ -17,12 +20,12 @@ use std::rt::Files;
 // The path of standard input.
 const ARCHIVE: &str = "-";
 
-/// Where items go, and in whose name.
+/// Where items go, and in whose name: of any CPU where none is named.
 #[derive(Clone, Copy)]
 pub(crate) struct Place<'a> {
     pub image: &'a str,
     pub path: &'a str,
-    pub cpu: u64,
+    pub cpu: Option<u64>,
 }
 
 /// Puts the members of the archive on standard input into an image. The image is written to its place, which is held from the
@@ -72,7 +75,7 @@ where
     match region_at(rt, place.image)? {
         Loaded::Region(region) => {
             let why = why_region_refused(rt.alloc(), &region)?;
-            let unpacked = unpack_image(rt.alloc(), region, &base, items, place.cpu)?;
+            let unpacked = unpack_image(rt.alloc(), region, &base, items, maker_of(place.cpu))?;
             end(rt, errors, &held, &unpacked)?;
             tell_unaccepted(rt, why);
             Ok(unpacked.status())
@@ -82,6 +85,15 @@ where
             tell_length(rt, length);
             Ok(status)
         }
+    }
+}
+
+fn maker_of(cpu: Option<u64>) -> Maker
+    ensures { result ≡ maker_said cpu }
+{
+    match cpu {
+        Some(cpu) => Maker::Named(cpu),
+        None => Maker::Free,
     }
 }
 

@@ -1,30 +1,16 @@
 -- Why a region isn't mounted, by the error of its recovery.
-use Rattle.std.proofs.Common.{◌≡◌, inl, inr, ◌<◌, ◌^◌, ℕ, List, [], length, Option, Some, None, refl, arith}
+use Rattle.std.proofs.Common.{◌≡◌, inl, inr, ◌<◌, ◌^◌, ℕ, List, length, refl, arith}
 use Rattle.nv_region.specs.Region.{Region, region_of, size}
 use Rattle.nv_region.proofs.Bytes.{size_of_bytes}
 use Rattle.nv_super.proofs.Lengths.{longer_is_refused}
 use Rattle.nv_super.specs.declared.superblock.SuperFault.TheVariants as faults
-use Rattle.nv_recover.specs.Errors.{Fails, IsBadCount}
-use Rattle.nv_recover.specs.declared.errors.RecoverError.{RecoverError}
 use Rattle.nv_recover.specs.declared.errors.RecoverError.TheVariants as errors
 use Rattle.nv_region.specs.declared.memory.RegionRefusal.{RegionRefusal}
 use Rattle.nv_region.specs.declared.memory.RegionRefusal.TheVariants as lengths
 use Rattle.nv_super.specs.declared.superblock.Super.{Super}
 use Rattle.nv_format.specs.Format.{IsFormatted}
 use Rattle.nv_lent.specs.WordsState.{region_over}
-use Rattle.nova_c.specs.Codes.{RefusesFormat, RefusesMount, recover_status}
-
--- one worker is none too few and none too many
-one_is_right : IsBadCount 1 → ⊥
-one_is_right (inl few) = omega (arith, few)
-one_is_right (inr many) = omega (arith, many)
-
-pub refuses_mount : (R S : Region) (e : RecoverError) → Fails 1 [] e R S → (e ≡ errors.Stopped → ⊥) → RefusesMount R (recover_status e)
-refuses_mount R S (errors.Super fault) fails runs = inr (fault, refl, fails.0)
-refuses_mount R S errors.Memory fails runs = inl refl
-refuses_mount R S errors.Stopped fails runs = absurd (runs refl)
-refuses_mount R S errors.Workers fails runs = absurd (one_is_right fails.0)
-refuses_mount R S (errors.Schedule place) fails runs = absurd (let never : ◌≡◌ {A = Option ℕ} None (Some place) = fails.0 in cc)
+use Rattle.nova_c.specs.Codes.{RefusesFormat, RefusesMount}
 
 -- more words than a region can have are refused for its length
 pub words_refusal : (words : List ℕ) (e : RegionRefusal) (status : ℕ) → (e ≡ lengths.Length → 2 ^ 27 < length words) → (e ≡ lengths.Memory → ⊥)

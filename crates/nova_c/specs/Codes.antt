@@ -29,6 +29,7 @@ status_of refusals.IntoItself = 12
 status_of refusals.BadCpu = 13
 status_of refusals.Memory = 14
 status_of refusals.Stopped = 15
+status_of refusals.IsVersion2 = 19
 
 -- the status tells of a refusal, which is P
 abbrev pub TellsRefusal : (Refusal → Type 0) → ℕ → Type 0

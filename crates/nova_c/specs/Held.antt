@@ -10,6 +10,7 @@ use Rattle.std.specs.declared.alloc.Global.{Global}
 use Rattle.std.specs.contracts.impls.GlobalAllocator.TheImpl.{ghosts}
 use Rattle.nv_region.specs.Region.{Region}
 use Rattle.nv_super.specs.declared.superblock.Super.{Super}
+use Rattle.nv_super.specs.Layout.{Layout}
 use Rattle.nv_alloc.specs.FreeValue.{FreeLists}
 use Rattle.nv_lent.specs.contracts.words.WordRegion as memory
 use Rattle.nv_lent.specs.contracts.words.WordRegionPmem.TheImpl.{ghosts as memory_ghosts}
@@ -41,6 +42,10 @@ held (suc n) p m = boxed p m
 abbrev pub no_super : Super
 no_super = record { version = 0; cpus = 0; blocks = 0; table_blocks = 0; state = 0 }
 
+-- tables of no region
+abbrev pub no_layout : Layout
+no_layout = record { sup = no_super; chains = [] }
+
 -- free lists of no region
 abbrev pub no_lists : FreeLists
 no_lists = record { sup = no_super; pools = []; room = 0 }
@@ -51,4 +56,4 @@ no_region = record { words = []; rest = [] }
 
 -- the mount of no region
 abbrev pub no_mount : Mount Region
-no_mount = record { memory = no_region; sup = no_super; rows = []; free = no_lists; faults = []; read_only = false; stopped = false }
+no_mount = record { memory = no_region; sup = no_super; layout = no_layout; rows = []; free = no_lists; faults = []; read_only = false; stopped = false }

@@ -75,7 +75,7 @@ pub record TellsNames (t : Tree) (names : List (List ℕ)) (P : List ℕ → Typ
 -- The report of a mount has these bytes, of which P holds.
 pub record TellsReport (m : Mount Region) (P : List ℕ → Type 0) : Type 0 where
   pub text : List ℕ
-  pub is : IsPartText Report (outcome_told m.sup m.rows m.free [] m.faults) text
+  pub is : IsPartText Report (outcome_told m.layout m.rows m.free [] m.faults) text
   pub crosses : P text
 
 -- ---- a cleaning

@@ -1,6 +1,6 @@
 //! What a call answers to C.
 
-ghost use Rattle.std.specs.Prelude.{◌≡◌, ◌≤◌, ◌<◌};
+ghost use Rattle.std.specs.Prelude.{◌≡◌, ◌≢◌, ◌≤◌};
 ghost use Rattle.nova_c.specs.Codes.{format_status, recover_status, status_of, super_status};
 
 use nv_format::FormatRefusal;
@@ -33,11 +33,11 @@ pub(crate) const BAD_LENGTH: u32 = 20;
 /// The region's length is none that can be formatted.
 pub(crate) const BAD_FORMAT_LENGTH: u32 = 30;
 
-/// The status of a refused file call: 1 to 15, in the order of `Refusal`.
+/// The status of a refused call: 1 to 15 and 19, in the order of `Refusal`.
 pub(crate) fn code(refusal: Refusal) -> u32
     ensures says { result ≡ status_of refusal }
     ensures some { 1 ≤ result }
-    ensures low { result < 16 }
+    ensures apart { result ≢ 18 }
 {
     match refusal {
         Refusal::NotFound => 1,
@@ -55,6 +55,7 @@ pub(crate) fn code(refusal: Refusal) -> u32
         Refusal::BadCpu => 13,
         Refusal::Memory => 14,
         Refusal::Stopped => 15,
+        Refusal::IsVersion2 => 19,
     }
 }
 

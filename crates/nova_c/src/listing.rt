@@ -1,6 +1,6 @@
 //! What is told in as many bytes as it takes: the names of a directory, and the report.
 
-ghost use Rattle.std.specs.Prelude.{◌≡◌, ◌≢◌, ◌⊎◌, ◌++◌, ◌<◌, ℕ, List, Option, IfOk, IfErr, OnOk, false, map, string_bytes};
+ghost use Rattle.std.specs.Prelude.{◌≡◌, ◌≢◌, ◌⊎◌, ◌++◌, ℕ, List, Option, IfOk, IfErr, OnOk, false, map, string_bytes};
 ghost use Rattle.byteorder.specs.Endian.{little_bytes};
 ghost use Rattle.nv_tree.specs.Path.{IsPath, Says};
 ghost use Rattle.nv_tree.specs.Refusals.{Path, IsReadRefusedBy};
@@ -64,7 +64,7 @@ fn names_in(alloc: Global, mount: &Mounted, path: &[u8]) -> Result<Vec<u8>, u32>
     ensures found { (places : List (List ℕ)) → IsPath path.now places → IfOk result (λ told. TellsNames (shown mount.now) places (λ bytes. told.items ≡ bytes)) }
     ensures allowed { (p : Path) → Says path.now p → OnOk result (list_refusal mount.now p ≡ Option.None) }
     ensures refused { mount.now.stopped ≡ false → (p : Path) → Says path.now p → IfErr result (TellsRefusal (IsReadRefusedBy (list_refusal mount.now p))) }
-    ensures low { IfErr result (λ status. (status ≢ 0) × (status < 16)) }
+    ensures apart { IfErr result (λ status. (status ≢ 0) × (status ≢ 18)) }
 {
     match mount.list(path) {
         Ok(listed) => match names_told(alloc, &listed) {
@@ -116,7 +116,7 @@ fn report_of(alloc: Global, mount: &Mounted) -> Result<String, AllocError>
     ensures { IfOk result (λ text. TellsReport mount.now (λ bytes. string_bytes text ≡ bytes)) }
 {
     let shown = Shown {
-        sup: mount.superblock(),
+        sup: mount.tables().sup(),
         rows: mount.rows(),
         free: mount.free(),
         faults: mount.faults(),

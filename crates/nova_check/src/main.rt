@@ -8,8 +8,8 @@
 #![tactic(auto)]
 
 use nv_args::{CheckOutput, Todo, VERSION, read_words};
-use nv_checking::{Blocks, Output, check_file, check_files, explain_file, map_file};
-use nv_images::{Failure, Lock, Target, ended, explain, print_line, refuse_words, words_of};
+use nv_image_check::{Blocks, Output, check_file, check_files, explain_file, map_file};
+use nv_image_files::{Failure, Lock, Target, ended, explain, print_line, refuse_words, words_of};
 use nv_pending::check_journals;
 use std::alloc::AllocError;
 use std::env::Env;

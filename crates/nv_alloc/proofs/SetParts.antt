@@ -1,5 +1,5 @@
 -- Blocks put into a set and taken out of it, a word at a time, and the words that are told full.
-use Rattle.std.proofs.Common.{◌≡◌, ◌≢◌, ◌⊎◌, inl, inr, ℕ, ◌+◌, ◌-◌, ◌*◌, ◌/◌, ◌%◌, ◌^◌, ◌<◌, ◌≤◌, List, length, min, refl, sym, ap, ◌∙◌, arith, w64, length-set, get_or-set_same, get_or-set_other}
+use Rattle.std.proofs.Common.{◌≡◌, ◌≢◌, ◌⊎◌, inl, inr, ℕ, ◌+◌, ◌-◌, ◌*◌, ◌/◌, ◌%◌, ◌^◌, ◌<◌, ◌≤◌, List, length, min, sym, ap, ◌∙◌, arith, w64, length-set}
 use Rattle.std.specs.Prelude.{bit_or, bit_and, slice_set, slice_index}
 use Rattle.std.specs.Int.{bit_at, bit_not}
 use Rattle.std.proofs.lemmas.Bool.{cases_lt, cases_eq}
@@ -7,24 +7,6 @@ use Rattle.std.proofs.lemmas.Nat.Bits.{bit_at_or, bit_at_and, bit_at_not, bit_at
 use Rattle.nv_blockset.specs.BlockSet.{has}
 use Rattle.nv_blockset.proofs.TakenOut.{here, there}
 use Rattle.nv_alloc.specs.SetTo.{SetTo, TellsFull}
-
--- nothing is set yet
-pub SetTo-none : (words : List ℕ) (from bit : ℕ) → SetTo words from from bit words
-SetTo-none words from bit = record { long = refl; inside = λ b low high. absurd (omega (arith, low, high)); outside = λ b far. refl }
-
--- the next blocks are set too
-pub SetTo-more : (old now new : List ℕ) (from mid to bit : ℕ) → from ≤ mid → mid ≤ to → SetTo old from mid bit now → SetTo now mid to bit new → SetTo old from to bit new
-SetTo-more old now new from mid to bit low high first second = record {
-  long = second.long ∙ first.long;
-  inside = λ b above below. elim (cases_lt b mid) [
-    | inl w ↦ second.outside b (inl w) ∙ first.inside b above w
-    | inr w ↦ second.inside b w below
-  ];
-  outside = λ b far. elim far [
-    | inl w ↦ second.outside b (inl (omega (arith, w, low))) ∙ first.outside b (inl w)
-    | inr w ↦ second.outside b (inr w) ∙ first.outside b (inr (omega (arith, w, high)))
-  ];
-}
 
 -- the bit of a block in the word that it shares with another
 bit_of : (from b : ℕ) → from - from % 64 ≤ b → b < from - from % 64 + 64 → b / 64 ≡ from / 64
@@ -94,17 +76,6 @@ module _ (from to : ℕ) (some : from < to) (part : to ≤ from - from % 64 + 64
         | inl w ↦ (let a = lower i ∙ bit_at_mask_below (from % 64) 64 i w in omega (arith, e, a))
         | inr w ↦ (let b = upper i ∙ bit_at_ones_above (from % 64 + (to - from)) i w in omega (arith, e, b))
       ]
-
--- a word of other bits, of which it is told whether it is full
-pub tells_put : (words full told : List ℕ) (w bits : ℕ) → TellsFull words full → w < length words → length told ≡ length full → ((v : ℕ) → v ≢ w → has told v ≡ has full v) → (has told w ≡ 1 → bits ≡ 2 ^ 64 - 1)
-    → TellsFull (slice_set words w bits) told
-tells_put words full told w bits tells within long others own = record {
-  covers = (let c = tells.covers in let l = length-set words w bits in omega (arith, c, l, long));
-  all = λ v below on. elim (cases_eq v w) [
-    | inl is ↦ ap (slice_index (slice_set words w bits)) is ∙ get_or-set_same words w bits 0 within ∙ own (ap (has told) (sym is) ∙ on)
-    | inr ne ↦ get_or-set_other words w v bits 0 ne ∙ tells.all v (let l = length-set words w bits in omega (arith, below, l)) (sym (others v ne) ∙ on)
-  ];
-}
 
 -- the blocks of a word that is told full are in the set
 pub full_has : (words full : List ℕ) (b : ℕ) → TellsFull words full → b / 64 < length words → has full (b / 64) ≡ 1 → has words b ≡ 1

@@ -12,7 +12,7 @@ ghost use Rattle.nv_alloc.specs.Inside.{lists_of, bounds_of, AreBounds, TakesOnt
 
 use crate::pool::Pool;
 use crate::runs::FreeRuns;
-use nv_super::{Run, Super};
+use nv_super::{Run, Super, WITH_CHAINS};
 use std::alloc::{AllocError, Global};
 use std::marker::Model;
 use thiserror::Error;
@@ -136,6 +136,13 @@ impl Allocators {
             join_all(self.pools.as_mut_slice(), &self.sup, run);
             self.room -= 1;
         }
+    }
+
+    /// Makes these the lists of a region whose version becomes 2. Its pools lie where they lay.
+    pub fn upgrade(&mut self)
+        ensures { self.new ≡ record self.old { sup = record self.old.sup { version = 2 } } }
+    {
+        self.sup.version = WITH_CHAINS;
     }
 
     /// The runs of free blocks, by CPU. Errors: `AllocError` where a growth was refused.

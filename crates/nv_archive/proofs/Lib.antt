@@ -1,4 +1,3 @@
 pub mod Named
 pub mod Shows
 pub mod Archived
-pub mod FewInodes

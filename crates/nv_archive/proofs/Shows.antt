@@ -1,19 +1,18 @@
 -- Rows, and a reader of the blocks of their files, as a tree.
-use Rattle.std.proofs.Common.{◌≡◌, ◌⊎◌, ◌∙◌, ◌<◌, ◌≤◌, ℕ, inl, inr, Bool, true, false, cond, nat_eq, IsTrue, is_some, List, [], ◌∷◌, Option, Some, None, refl, sym, ap, subst, arith}
+use Rattle.std.proofs.Common.{◌≡◌, ◌∙◌, ℕ, IsTrue, is_some, List, Option, Some, None, refl, sym, ap, subst}
 use Rattle.std.specs.List.{Contains}
 use Rattle.std.specs.Option.{option_map}
-use Rattle.std.proofs.lemmas.Bool.Decides.{nat_tests}
 use Rattle.nv_region.specs.Region.{Region}
 use Rattle.nv_super.specs.declared.kind.Kind.{Kind}
-use Rattle.nv_super.proofs.Rising.{Contains-cons}
-use Rattle.nv_rows.specs.Rows.{row_of, IsInUse}
+use Rattle.nv_super.proofs.Members.{into_map}
+use Rattle.nv_rows.specs.Rows.{inodes_of, row_of, IsInUse}
 use Rattle.nv_rows.proofs.Places.{numbered, row_in_use}
 use Rattle.nv_scan.specs.declared.piece.Row.{Row}
 use Rattle.nv_tree.specs.Tree.{Node}
 use Rattle.nv_calls.proofs.RowChange.{row_there}
 use Rattle.nv_paths.specs.Seen.{node_of, tree_of}
 use Rattle.nv_members.specs.Members.{kind_of}
-use Rattle.nv_archive.specs.Shown.{AreKnown, IsAbove}
+use Rattle.nv_archive.specs.Shown.{AreKnown}
 
 -- ---- what stands for a row
 
@@ -45,47 +44,11 @@ module _ (R : Region) (rows : List Row) (i : ℕ) where
   pub node_is : (row : Row) (node : Node) → row_of rows i ≡ Some row → tree_of R rows i ≡ Some node → node_of R row ≡ node
   node_is row node is e = let s : Some (node_of R row) ≡ Some node = sym (ap (option_map (node_of R)) is) ∙ e in cc
 
--- ---- a number above those of all rows
-
-pub all_above : (rows : List Row) (limit : ℕ) → ((row : Row) → Contains rows row → row.inode < limit) → IsAbove rows limit
-all_above rows limit below i used =
-    let r = row_in_use rows i used in
-    subst (λ (j : ℕ). j < limit) (numbered rows i r.0 r.1) (below r.0 (row_there rows i r.0 r.1))
-
--- the inode of a row is in use
-pub row_used : (rows : List Row) (row : Row) → Contains rows row → IsInUse rows row.inode
-row_used [] row c = absurd (let none = c.1 in omega (arith, none))
-row_used (x ∷ xs) row c = elim (Contains-cons x xs row c) [
-  | inl same ↦ first (nat_eq x.inode row.inode) (let alike : x.inode ≡ row.inode = sym (ap (λ (r : Row). r.inode) same) in grind (arith, nat_tests))
-  | inr rest ↦ later (nat_eq x.inode row.inode) (row_used xs row rest)
-]
-  where
-    first : (b : Bool) → b ≡ true → IsTrue (is_some (cond b (Some x) (row_of xs row.inode)))
-    first true e = refl
-    first false e = absurd (cc)
-
-    later : (b : Bool) → IsInUse xs row.inode → IsTrue (is_some (cond b (Some x) (row_of xs row.inode)))
-    later true used = refl
-    later false used = used
-
--- a row is left, or it was looked at
-abbrev pub IsLeft : List Row → List Row → ℕ → Type 0
-IsLeft rows left limit = (row : Row) → Contains rows row → (row.inode < limit) ⊎ Contains left row
-
-pub one_less : (rows left more : List Row) (x : Row) (limit new : ℕ) → left ≡ x ∷ more → limit ≤ new → x.inode < new → IsLeft rows left limit → IsLeft rows more new
-one_less rows left more x limit new is more_high high l row c = elim (l row c) [
-  | inl below ↦ inl (omega (arith, below, more_high))
-  | inr there ↦ elim (Contains-cons x more row (subst (λ (xs : List Row). Contains xs row) is there)) [
-    | inl same ↦ inl (subst (λ (r : Row). r.inode < new) (sym same) high)
-    | inr rest ↦ inr rest
-  ]
-]
-
-pub none_left : (rows left : List Row) (limit : ℕ) → left ≡ [] → IsLeft rows left limit → (row : Row) → Contains rows row → row.inode < limit
-none_left rows left limit is l row c = elim (l row c) [
-  | inl below ↦ below
-  | inr there ↦ absurd (let none = (subst (λ (xs : List Row). Contains xs row) is there).1 in omega (arith, none))
-]
+-- the number of one that is in use is among those of the rows
+pub used_number : (R : Region) (rows : List Row) (i : ℕ) → IsTrue (is_some (tree_of R rows i)) → Contains (inodes_of rows) i
+used_number R rows i used =
+    let r = row_in_use rows i (used_in_tree R rows i used) in
+    subst (λ (j : ℕ). Contains (inodes_of rows) j) (numbered rows i r.0 r.1) (into_map (λ (row : Row). row.inode) rows r.0 (row_there rows i r.0 r.1))
 
 -- ---- known bytes
 

@@ -1,11 +1,11 @@
 -- What rows show over the bytes of a reader.
-use Rattle.std.specs.Prelude.{ℕ, ◌<◌, ◌≤◌, ◌^◌, IsTrue, is_some, List, [], Option, Some, None}
+use Rattle.std.specs.Prelude.{ℕ, ◌≤◌, List, [], Option, Some, None}
 use Rattle.std.specs.List.{Contains}
 use Rattle.nv_region.specs.Region.{region_of}
 use Rattle.nv_bytes.specs.Bytes.{LieInside}
 use Rattle.nv_pages.specs.Blocks.{AreRegionBlocks}
-use Rattle.nv_rows.specs.Rows.{row_of}
 use Rattle.nv_scan.specs.declared.piece.Row.{Row}
+use Rattle.nv_super.specs.Layout.{most_size}
 use Rattle.nv_tree.specs.Tree.{Tree}
 use Rattle.nv_paths.specs.Seen.{tree_of}
 
@@ -25,17 +25,9 @@ AreKnown (Some bytes) rows = (row : Row) → Contains rows row → LieInside (re
 
 -- the blocks of a row's file are blocks that a region may have, and it has no more bytes than a file can have
 pub record IsSmallRow (row : Row) : Type 0 where
-  pub size : row.numbers.size ≤ 1073741824
+  pub size : row.numbers.size ≤ most_size
   pub blocks : AreRegionBlocks row.index
 
 -- the same of each row
 abbrev pub AreSmallRows : List Row → Type 0
 AreSmallRows rows = (row : Row) → Contains rows row → IsSmallRow row
-
--- the numbers of rows are small
-abbrev pub AreLowRows : List Row → Type 0
-AreLowRows rows = (row : Row) → Contains rows row → row.inode < 2 ^ 32
-
--- a number above those of all rows
-abbrev pub IsAbove : List Row → ℕ → Type 0
-IsAbove rows limit = (i : ℕ) → IsTrue (is_some (row_of rows i)) → i < limit

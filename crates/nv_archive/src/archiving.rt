@@ -3,11 +3,11 @@
 ghost use Rattle.std.specs.Prelude.{OnOk, IfErr};
 ghost use Rattle.nv_rows.specs.Rows.{IsInUse};
 ghost use Rattle.nv_archive.specs.Chosen.{IsNamedBy};
-ghost use Rattle.nv_archive.specs.Shown.{AreKnown, AreLowRows, AreSmallRows, shown_tree};
+ghost use Rattle.nv_archive.specs.Shown.{AreKnown, AreSmallRows, shown_tree};
 ghost use Rattle.nv_archive.specs.Archiving.{FailsArchiveOf, WritesArchiveOf};
 
 use crate::chosen::{Chosen, base_of};
-use crate::shown::{Shown, limit_of};
+use crate::shown::Shown;
 use nv_metadata::Blocks;
 use nv_rows::Rows;
 use nv_tar::{TarError, Tops, write_tar};
@@ -30,7 +30,6 @@ pub fn write_archive<B: Blocks, W: Write>(
     writer: &mut W,
 ) -> Result<(), TarError>
     requires small { AreSmallRows rows.now.items }
-    requires low { AreLowRows rows.now.items }
     requires used { IsInUse rows.now.items inode }
     requires named { IsNamedBy chosen inode }
     ensures ok { AreKnown (B.bytes source.now) rows.now.items
@@ -47,7 +46,6 @@ pub fn write_archive<B: Blocks, W: Write>(
         alloc,
         source,
         rows,
-        limit: limit_of(rows),
     };
     write_tar(alloc, &shown, inode, tops, all, writer)
 }

@@ -11,4 +11,4 @@ mod shown;
 
 pub use archiving::write_archive;
 pub use chosen::{Chosen, inode_of};
-pub use shown::limit_of;
+pub use shown::inode_numbers;

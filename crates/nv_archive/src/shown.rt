@@ -1,7 +1,8 @@
 //! Rows, and a reader of the blocks of their files, as what an archive is made of.
 
-ghost use Rattle.std.specs.Prelude.{◌≤◌, ℕ};
-ghost use Rattle.nv_archive.specs.Shown.{AreKnown, AreLowRows, AreSmallRows, IsAbove, shown_tree};
+ghost use Rattle.std.specs.Prelude.{◌≡◌, IfOk};
+ghost use Rattle.nv_rows.specs.Rows.{inodes_of};
+ghost use Rattle.nv_archive.specs.Shown.{AreKnown, AreSmallRows, shown_tree};
 
 use nv_members::Inodes;
 use nv_metadata::{Blocks, GatherError};
@@ -19,30 +20,25 @@ pub(crate) struct Shown<'a, B: Blocks> {
     pub(crate) alloc: Global,
     pub(crate) source: &'a B,
     pub(crate) rows: &'a Rows,
-    // A number above those of all rows.
-    pub(crate) limit: usize,
-    ghost above: { IsAbove rows.now.items limit },
     ghost small: { AreSmallRows rows.now.items },
 }
 
-/// The least number above those of all rows.
-pub fn limit_of(rows: &Rows) -> usize
-    requires { AreLowRows rows.now.items }
-    ensures above { IsAbove rows.now.items result }
-    ensures least { (limit : ℕ) → IsAbove rows.now.items limit → result ≤ limit }
+/// The numbers of all rows, rising.
+pub fn inode_numbers(alloc: Global, rows: &Rows) -> Result<Vec<u64>, AllocError>
+    ensures { IfOk result (λ numbers. numbers.items ≡ inodes_of rows.now.items) }
 {
-    let mut limit: usize = 0;
-    for (_, row) in rows.iter() {
-        limit = limit.max(row.inode as usize + 1);
+    let mut numbers = Vec::new(alloc);
+    for (inode, _) in rows.iter() {
+        numbers.push(inode)?;
     }
-    limit
+    Ok(numbers)
 }
 
 impl<B: Blocks> Inodes for Shown<'_, B> {
     ghost tree = { λ s. shown_tree (B.bytes s.source.now) s.rows.now.items };
 
-    fn limit(&self) -> usize {
-        self.limit
+    fn numbers(&self, alloc: Global) -> Result<Vec<u64>, AllocError> {
+        inode_numbers(alloc, self.rows)
     }
 
     fn kind_of(&self, inode: u64) -> Option<Kind> {

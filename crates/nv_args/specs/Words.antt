@@ -219,11 +219,11 @@ HasValues values (Clean image path) = (first_of (codes "image") values ≡ Some 
 HasValues values (Change image change cpu time) = (first_of (codes "image") values ≡ Some image.now) × HasChange values change
     × IsCpu (first_of (codes "cpu") values) cpu × MayBeNumber (first_of (codes "time") values) time
 HasValues values (PutTree image host path cpu time) = (first_of (codes "image") values ≡ Some image.now) × (first_of (codes "host") values ≡ Some host.now)
-    × (first_of (codes "path") values ≡ Some path.now) × IsCpu (first_of (codes "cpu") values) cpu × MayBeNumber (first_of (codes "time") values) time
+    × (first_of (codes "path") values ≡ Some path.now) × MayBeNumber (first_of (codes "cpu") values) cpu × MayBeNumber (first_of (codes "time") values) time
     × IsGiven (codes "recursive") values
 -- the root, where none is written
 HasValues values (Untar image path cpu) = (first_of (codes "image") values ≡ Some image.now) × (path.now ≡ unwrap_or (first_of (codes "path") values) (codes "/"))
-    × IsCpu (first_of (codes "cpu") values) cpu
+    × MayBeNumber (first_of (codes "cpu") values) cpu
 HasValues values (Recover image dry_run) = (first_of (codes "image") values ≡ Some image.now) × (IsTrue dry_run ↔ IsGiven (codes "dry-run") values)
 -- the root, where none is written
 HasValues values (Ls image which long) = (first_of (codes "image") values ≡ Some image.now)

@@ -15,6 +15,18 @@ const CPU: Argument<'static> = Argument {
     help: "The number of the CPU whose journal, table and free blocks are used; 0 if left out",
 };
 
+const ANY_CPU: Argument<'static> = Argument {
+    written: Written::Number,
+    name: "cpu",
+    help: "The number of the CPU whose journal, table and free blocks are used; any if left out",
+};
+
+const PUT_CPU: Argument<'static> = Argument {
+    written: Written::Number,
+    name: "cpu",
+    help: "The number of the CPU whose journal, table and free blocks are used; if left out 0, or with -r any",
+};
+
 const TIME: Argument<'static> = Argument {
     written: Written::Number,
     name: "time",
@@ -189,7 +201,7 @@ pub(crate) const CHANGES: [CommandForm<'static>; 11] = [
                 name: "recursive",
                 help: "Copy a directory with all that is below it, and with modes, owners and times",
             },
-            CPU,
+            PUT_CPU,
             TIME,
         ],
     },
@@ -204,7 +216,7 @@ pub(crate) const CHANGES: [CommandForm<'static>; 11] = [
                 name: "path",
                 help: "The path of the directory that they go to; / if left out",
             },
-            CPU,
+            ANY_CPU,
         ],
     },
     CommandForm {

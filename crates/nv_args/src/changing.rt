@@ -50,7 +50,7 @@ fn put_tree_of<'a>(values: &ArgMatches<'a>) -> Option<Todo<'a>>
     let image = text_of(values, "image")?;
     let host = text_of(values, "host")?;
     let path = text_of(values, "path")?;
-    let cpu = cpu_of(text_of(values, "cpu"))?;
+    let cpu = may_be_number(text_of(values, "cpu"))?;
     Some(Todo::PutTree {
         image,
         host,
@@ -66,7 +66,7 @@ pub(crate) fn untar_of<'a>(values: &ArgMatches<'a>) -> Option<Todo<'a>>
 {
     let image = text_of(values, "image")?;
     let path = text_of(values, "path").unwrap_or("/");
-    let cpu = cpu_of(text_of(values, "cpu"))?;
+    let cpu = may_be_number(text_of(values, "cpu"))?;
     Some(Todo::Untar { image, path, cpu })
 }
 

@@ -52,20 +52,21 @@ pub enum Todo<'a> {
         cpu: u64,
         time: Option<u64>,
     },
-    /// Put a directory of the host into an image with all that is below it, or a file, in the name of this CPU; at this time or,
-    /// without one, each at its own.
+    /// Put a directory of the host into an image with all that is below it, or a file, in the name of this CPU or, without one,
+    /// of each that has an unused inode; at this time or, without one, each at its own.
     PutTree {
         image: &'a str,
         host: &'a str,
         path: &'a str,
-        cpu: u64,
+        cpu: Option<u64>,
         time: Option<u64>,
     },
-    /// Put the members of the archive on standard input into an image below a path, in the name of this CPU.
+    /// Put the members of the archive on standard input into an image below a path, in the name of this CPU or, without one, of
+    /// each that has an unused inode.
     Untar {
         image: &'a str,
         path: &'a str,
-        cpu: u64,
+        cpu: Option<u64>,
     },
     /// Tell the pending records of the journals of an image, and roll them back unless it is a dry run.
     Recover {

@@ -6,7 +6,7 @@ use Rattle.nv_super.specs.declared.owners.Owner.{Owner}
 use Rattle.nv_super.specs.FaultText.{owner_text}
 use Rattle.nv_super.specs.Layout.{Layout, system_blocks}
 use Rattle.nv_super.specs.Order.{Lists, owner_key}
-use Rattle.nv_outcome.specs.nv_scan.Owners.{Owns}
+use Rattle.nv_scan.specs.Owners.{Owns}
 use Rattle.nv_text.specs.Answers.{line}
 
 -- the start of each line

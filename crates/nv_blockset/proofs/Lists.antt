@@ -1,5 +1,5 @@
 -- Blocks in a list, each once, and as a set.
-use Rattle.std.proofs.Common.{◌≡◌, ◌≢◌, ◌*◌, ◌/◌, ◌<◌, ◌≤◌, ◌||◌, ◌⊎◌, inl, inr, ℕ, Bool, true, false, List, [], ◌∷◌, ◌++◌, length, get_or, eqb, vec_capacity, IsTrue, refl, sym, ap, ◌∙◌, subst, arith, replicate}
+use Rattle.std.proofs.Common.{◌≡◌, ◌≢◌, ◌*◌, ◌/◌, ◌<◌, ◌≤◌, ◌||◌, ◌⊎◌, inl, inr, ℕ, Bool, true, false, List, [], ◌∷◌, ◌++◌, length, get_or, eqb, vec_capacity, refl, sym, ap, ◌∙◌, subst, arith, replicate}
 use Rattle.std.specs.List.{list_any, IsDistinct}
 use Rattle.std.proofs.Math.Bool.{or-false}
 use Rattle.std.proofs.lemmas.Bool.{cases_eq, ne_eqb, eq-eqb}
@@ -61,10 +61,6 @@ block_listed s t block listed below fresh bound blocks words wide = record {
     is_listed : (b : ℕ) → (b ≡ block) ⊎ (b ≢ block) → is_set (with_block s.words.items block) b ≡ list_any (eqb b) (s.blocks.items ++ block ∷ [])
     is_listed b (inl is) = ap (λ (x : ℕ). is_set (with_block s.words.items block) x) is ∙ ap (λ (x : ℕ). eqb x 1) (has_same s.words.items block within) ∙ sym (last_in s.blocks.items block b is)
     is_listed b (inr differs) = ap (λ (x : ℕ). eqb x 1) (has_other s.words.items block b within differs) ∙ listed.listed b ∙ sym (other_in s.blocks.items block b differs)
-
--- a bit stands for a block of the list
-pub bit_in : (s : Inside) → AreListed s → (b : ℕ) → IsTrue (is_set s.words.items b) → list_any (eqb b) s.blocks.items ≡ true
-bit_in s listed b on = sym (listed.listed b) ∙ on
 
 -- each block has its bit among the words
 pub block_in : (s : Inside) → AreListed s → (k : ℕ) → k < length s.blocks.items → get_or s.blocks.items k 0 < 64 * length s.words.items

@@ -18,8 +18,8 @@ use Rattle.nv_radix.specs.Pages.{Pages, block_at}
 use Rattle.nv_alloc.specs.Taking.{HasBlock, blocks_in}
 use Rattle.nv_alloc.proofs.Fronts.{blocks_cons}
 use Rattle.nv_alloc.proofs.Leaving.{first_block, later_block}
-use Rattle.nv_held.specs.Bytes.{byte_in}
-use Rattle.nv_held.proofs.BytesKept.{byte_stays}
+use Rattle.nv_mounted.specs.Bytes.{byte_in}
+use Rattle.nv_mounted.proofs.BytesKept.{byte_stays}
 use Rattle.nv_bytes.specs.Bytes.{byte_of_word, byte_after, file_byte}
 use Rattle.nv_bytes.specs.Storing.{HoldsPage, block_given, HoldPages, InBlocks, AreFresh}
 

@@ -2,7 +2,7 @@
 use Rattle.std.specs.Prelude.{◌≡◌, ℕ, ◌+◌, ◌-◌, ◌*◌, ◌/◌, ◌%◌, ◌^◌, ◌≤◌, nat_le, nat_lt, ◌&&◌, if◌then◌else◌, List, length, slice_index, Some}
 use Rattle.nv_region.specs.Region.{Region, size}
 use Rattle.nv_radix.specs.Pages.{Pages, block_at}
-use Rattle.nv_held.specs.Bytes.{byte_in}
+use Rattle.nv_mounted.specs.Bytes.{byte_in}
 
 -- byte k of a word, the lowest first
 abbrev pub byte_of_word : ℕ → ℕ → ℕ

@@ -5,7 +5,7 @@ use Rattle.nv_region.specs.Stops.{Choices}
 use Rattle.nv_super.specs.declared.owners.Run.{Run}
 use Rattle.nv_radix.specs.Pages.{Pages, block_at}
 use Rattle.nv_alloc.specs.Taking.{HasBlock, Disjoint}
-use Rattle.nv_held.specs.Bytes.{byte_in}
+use Rattle.nv_mounted.specs.Bytes.{byte_in}
 
 -- the block holds a file's bytes of this page
 abbrev pub HoldsPage : Region → (ℕ → ℕ) → ℕ → ℕ → Type 0

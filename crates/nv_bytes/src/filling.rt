@@ -3,7 +3,7 @@
 ghost use Rattle.std.specs.Prelude.{◌≡◌, ◌+◌, ◌*◌, ◌/◌, ◌%◌, ◌<◌, ◌≤◌, ◌^◌, ◌++◌, map, drop, length, IfSome};
 ghost use Rattle.std.specs.List.{range_with_len};
 ghost use Rattle.nv_region.specs.Region.{size};
-ghost use Rattle.nv_held.specs.Bytes.{byte_in};
+ghost use Rattle.nv_mounted.specs.Bytes.{byte_in};
 ghost use Rattle.nv_bytes.specs.Bytes.{file_byte, LieInside};
 
 use crate::change::LINE_SIZE;

@@ -9,7 +9,7 @@ ghost use Rattle.nv_region.specs.Fuses.{KeepsFuse};
 ghost use Rattle.nv_super.specs.Runs.{InRun};
 ghost use Rattle.nv_radix.specs.Pages.{block_at};
 ghost use Rattle.nv_alloc.specs.Taking.{HasBlock, blocks_in};
-ghost use Rattle.nv_held.specs.Bytes.{byte_in};
+ghost use Rattle.nv_mounted.specs.Bytes.{byte_in};
 ghost use Rattle.nv_bytes.specs.Bytes.{byte_after, byte_of_word, file_byte, LieInside};
 ghost use Rattle.nv_bytes.specs.Storing.{AreFresh, HoldPages, HoldsPage, InBlocks};
 ghost use Rattle.nv_bytes.specs.Data.{data_bytes};

@@ -4,7 +4,7 @@ use Rattle.std.proofs.Math.Logic.{∥∥₁_elim, ∥∥₁_map}
 use Rattle.std.proofs.Math.Nat.{ℕ_set}
 use Rattle.std.proofs.Props.{props}
 use Rattle.nv_region.specs.Region.{Region}
-use Rattle.nv_held.specs.nv_outcome.Outcome.{IsOutcome, Outcome}
+use Rattle.nv_outcome.specs.Outcome.{IsOutcome, Outcome}
 use Rattle.nv_paths.specs.Seen.{tree_of}
 use Rattle.nv_calls.specs.Alike.{AreAlike}
 use Rattle.nv_calls.specs.Listing.{ListsNamesIn}

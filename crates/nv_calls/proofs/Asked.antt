@@ -3,6 +3,7 @@ use Rattle.std.proofs.Common.{◌≡◌, ℕ, ◌+◌, ◌%◌, ◌<◌, ◌≤�
 use Rattle.nv_region.specs.Region.{Region}
 use Rattle.nv_super.specs.declared.superblock.Super.{Super}
 use Rattle.nv_super.specs.declared.faults.Fault.{Fault}
+use Rattle.nv_super.specs.Layout.{Layout}
 use Rattle.nv_alloc.specs.FreeValue.{FreeLists}
 use Rattle.nv_scan.specs.declared.piece.Row.{Row}
 use Rattle.nv_steps.specs.Writes.{plan_of}
@@ -10,7 +11,7 @@ use Rattle.nv_steps.specs.declared.planning.Plan.{Plan}
 use Rattle.nv_calls.specs.Mount.{IsKept}
 
 -- a CPU of the superblock has a pool
-pub low_pools : {R : Region} {s : Super} {rows : List Row} {free : FreeLists} {faults : List Fault} {read_only stopped : Bool} → IsKept R s rows free faults read_only stopped → (cpu : ℕ) → cpu < s.cpus → cpu < free.sup.cpus
+pub low_pools : {R : Region} {s : Super} {l : Layout} {rows : List Row} {free : FreeLists} {faults : List Fault} {read_only stopped : Bool} → IsKept R s l rows free faults read_only stopped → (cpu : ℕ) → cpu < l.sup.cpus → cpu < free.sup.cpus
 low_pools kept cpu low = subst (λ (t : Super). cpu < t.cpus) (sym kept.lists) low
 
 -- the low 12 bits of a mode

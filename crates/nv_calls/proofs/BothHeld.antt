@@ -5,22 +5,21 @@ use Rattle.std.specs.List.{Contains, IsDistinct}
 use Rattle.std.proofs.lemmas.List.Elements.{Contains-append_cases, Contains-append_left, Contains-append_right}
 use Rattle.std.proofs.lemmas.Option.{slice_get_within}
 use Rattle.nv_region.specs.Region.{Region}
-use Rattle.nv_super.specs.declared.superblock.Super.{Super}
-use Rattle.nv_super.specs.Layout.{Layout, fixed_layout}
+use Rattle.nv_super.specs.Layout.{Layout}
 use Rattle.nv_alloc.specs.FreeValue.{FreeLists}
 use Rattle.nv_entry.specs.declared.entry.Entry.{Entry}
 use Rattle.nv_logpage.specs.Append.{needed}
 use Rattle.nv_logpage.proofs.DataBlocks.{one_page, pages_are}
 use Rattle.nv_logpage.proofs.RightLogs.{head_starts}
 use Rattle.nv_scan.specs.declared.piece.Row.{Row}
-use Rattle.nv_held.specs.Held.{Held, Store, Shows}
-use Rattle.nv_held.specs.Blocks.{IsUnowned, KeepsFree, NoneDoubled, OwnsNew}
-use Rattle.nv_held.specs.Grows.{AreFree, SameFile}
-use Rattle.nv_held.specs.Mounted.{IsFaultless, KeepsRow, KeepsRows, ShowsSound}
-use Rattle.nv_held.proofs.Growing.{free_but, grown_owns}
-use Rattle.nv_held.proofs.Owning.{other_held, same_held, still_undoubled}
-use Rattle.nv_held.proofs.RowsKept.{rows_follow}
-use Rattle.nv_held.proofs.Shown.{stands_at}
+use Rattle.nv_mounted.specs.Held.{Held, Store, Shows}
+use Rattle.nv_mounted.specs.Blocks.{IsUnowned, KeepsFree, NoneDoubled, OwnsNew}
+use Rattle.nv_mounted.specs.Grows.{AreFree, SameFile}
+use Rattle.nv_mounted.specs.Mounted.{IsFaultless, KeepsRow, KeepsRows, ShowsSound}
+use Rattle.nv_mounted.proofs.Growing.{free_but, grown_owns}
+use Rattle.nv_mounted.proofs.Owning.{other_held, same_held, still_undoubled}
+use Rattle.nv_mounted.proofs.RowsKept.{rows_follow}
+use Rattle.nv_mounted.proofs.Shown.{stands_at}
 use Rattle.nv_commit.specs.Extends.{extended, with_log}
 use Rattle.nv_commit.specs.Together.{ShowsIdle}
 use Rattle.nv_steps.specs.Steps.{ShowsRow}
@@ -34,12 +33,9 @@ use Rattle.nv_steps.proofs.TwoLogs.{cut_each, taken_apart}
 shown_once : (l : Layout) (S : Region) (held : Store) (i : ℕ) (h : Held) → Shows S l held → held i ≡ Some h → IsDistinct eqb h.pages
 shown_once l S held i h shows is = let v = stands_at shows i h is in let all = pages_are (one_page l.sup h.head (head_starts l.sup h.head h.tail v.is.right)) v.is.reads in all.once
 
-module _ {R : Region} {s : Super} {held : Store} {f h : Held} {first second : Row} {free after : FreeLists} {cpu : ℕ} (entries others : List Entry) (fresh more : List ℕ) (shows : ShowsRow R s held f first free) (shows_other : ShowsRow R s held h second free) (differ : first.inode ≢ second.inode)
-    (stays : SameFile (fixed_layout s) f (extended f entries fresh)) (other_stays : SameFile (fixed_layout s) h (extended h others more)) (lists : free.sup ≡ s) (taken : TakesEach free cpu (fresh ++ more) after)
+module _ {R : Region} {l : Layout} {held : Store} {f h : Held} {first second : Row} {free after : FreeLists} {cpu : ℕ} (entries others : List Entry) (fresh more : List ℕ) (shows : ShowsRow R l held f first free) (shows_other : ShowsRow R l held h second free) (differ : first.inode ≢ second.inode)
+    (stays : SameFile l f (extended f entries fresh)) (other_stays : SameFile l h (extended h others more)) (lists : free.sup ≡ l.sup) (taken : TakesEach free cpu (fresh ++ more) after)
     (count : length fresh ≡ needed (f.tail % 4096) entries) (more_count : length more ≡ needed (h.tail % 4096) others) where
-  abbrev l : Layout
-  l = fixed_layout s
-
   abbrev mid : Store
   mid = with_log held first.inode f entries fresh
 
@@ -92,7 +88,7 @@ module _ {R : Region} {s : Super} {held : Store} {f h : Held} {first second : Ro
     from b w = (but_both b).1 ((but_first b).1 (w.0, λ c. w.1 (Contains-append_left fresh more b c)), λ c. w.1 (Contains-append_right fresh more b c))
 
   -- What both own was theirs or free.
-  module _ {S : Region} (idle : ShowsIdle S s then) where
+  module _ {S : Region} (idle : ShowsIdle S l then) where
     pub own_first : OwnsNew l held first.inode (Some (extended f entries fresh))
     own_first = grown_owns l held first.inode f (extended f entries fresh) shows.holds fresh pages_now fresh_free stays was.undoubled
         (shown_once l S then first.inode (extended f entries fresh) idle.shows (other_held mid second.inode first.inode (Some (extended h others more)) differ ∙ same_held held first.inode (Some (extended f entries fresh))))
@@ -104,9 +100,9 @@ module _ {R : Region} {s : Super} {held : Store} {f h : Held} {first second : Ro
     own_second = grown_owns l mid second.inode h (extended h others more) there more other_pages still_free other_stays mid_undoubled (shown_once l S then second.inode (extended h others more) idle.shows (same_held mid second.inode (Some (extended h others more))))
 
     -- The region is sound where nothing is wrong with what is held.
-    pub both_sound : IsFaultless l then → ShowsSound S s then
+    pub both_sound : IsFaultless l then → ShowsSound S l then
     both_sound faultless = record {
-      sup = idle.sup;
+      tables = idle.tables;
       idle = idle.idle;
       shows = idle.shows;
       faultless = faultless;

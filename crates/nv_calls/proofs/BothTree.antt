@@ -7,9 +7,9 @@ use Rattle.nv_region.specs.Region.{Region}
 use Rattle.nv_super.specs.Order.{Rises}
 use Rattle.nv_radix.specs.Pages.{block_at}
 use Rattle.nv_scan.specs.declared.piece.Row.{Row}
-use Rattle.nv_held.specs.nv_check.Cross.{row_key}
-use Rattle.nv_held.specs.nv_graph.Read.{row_of}
-use Rattle.nv_held.specs.Bytes.{byte_in}
+use Rattle.nv_cross_check.specs.Cross.{row_key}
+use Rattle.nv_graph.specs.Read.{row_of}
+use Rattle.nv_mounted.specs.Bytes.{byte_in}
 use Rattle.nv_tree.specs.Tree.{Node, SameNode, SameNodes, SameTree, Tree}
 use Rattle.nv_tree.specs.Calls.{edit}
 use Rattle.nv_paths.specs.Seen.{node_of, tree_of}

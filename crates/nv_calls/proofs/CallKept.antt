@@ -23,7 +23,7 @@ module _ {P T : Type 0} (region : P → Region) (fuse : P → FuseState) where
     stopped_before = λ on. (is ∙ ap (λ (f : Refusal). Err f) (same ∙ (let told = before on in let one : e ≡ Stopped = cc in one)), refl);
     unchanged = if_err r _ (λ f on. same_mount m);
     stopped = λ runs. early_reply m.stopped r e x is same (off runs) runs;
-    keeps = record { sup = refl; faults = refl; read_only = refl };
+    keeps = record { sup = refl; layout = refl; faults = refl; read_only = refl };
     length = refl;
     keeps_fuse = same_fuse _ _;
     read_only = λ only. same_mount m;
@@ -39,7 +39,7 @@ module _ {P T : Type 0} (region : P → Region) (fuse : P → FuseState) where
     stopped_before = λ on. absurd (let clash : true ≡ false = sym on ∙ runs in cc);
     unchanged = tt;
     stopped = λ still. good_reply m.stopped a runs;
-    keeps = record { sup = refl; faults = refl; read_only = refl };
+    keeps = record { sup = refl; layout = refl; faults = refl; read_only = refl };
     length = refl;
     keeps_fuse = same_fuse _ _;
     read_only = λ only. same_mount m;
@@ -48,13 +48,13 @@ module _ {P T : Type 0} (region : P → Region) (fuse : P → FuseState) where
   module _ {n m : Mount P} (same : n ≡ m) (now : P) (news : List Row) (after : FreeLists) (runs : n.stopped ≡ false) (writes : n.read_only ≡ false) where
     -- done by its step
     pub call_done : {A : Type 0} (a : A) (b : T) → KeepsStep region fuse n.memory now n.free after (Ok a)
-        → KeepsCall region fuse m (record { memory = now; sup = n.sup; rows = news; free = after; faults = n.faults; read_only = n.read_only; stopped = n.stopped }) (Ok b)
+        → KeepsCall region fuse m (record { memory = now; sup = n.sup; layout = n.layout; rows = news; free = after; faults = n.faults; read_only = n.read_only; stopped = n.stopped }) (Ok b)
     call_done a b kept =
-        subst (λ (k : Mount P). KeepsCall region fuse k (record { memory = now; sup = n.sup; rows = news; free = after; faults = n.faults; read_only = n.read_only; stopped = n.stopped }) (Ok b)) same (record {
+        subst (λ (k : Mount P). KeepsCall region fuse k (record { memory = now; sup = n.sup; layout = n.layout; rows = news; free = after; faults = n.faults; read_only = n.read_only; stopped = n.stopped }) (Ok b)) same (record {
           stopped_before = λ on. absurd (let clash : true ≡ false = sym on ∙ runs in cc);
           unchanged = tt;
           stopped = λ still. good_reply n.stopped b runs;
-          keeps = record { sup = refl; faults = refl; read_only = refl };
+          keeps = record { sup = refl; layout = refl; faults = refl; read_only = refl };
           length = kept.length;
           keeps_fuse = kept.keeps_fuse;
           read_only = λ only. absurd (let clash : true ≡ false = sym only ∙ writes in cc);
@@ -62,15 +62,15 @@ module _ {P T : Type 0} (region : P → Region) (fuse : P → FuseState) where
 
     -- its step was refused
     pub refused_late : {A : Type 0} (e : Refusal) (stops : Bool) → (IsTrue stops → e ≡ Stopped) → (stops ≡ false → e ≡ Stopped → ⊥) → KeepsStep {T = A} region fuse n.memory now n.free after (Err e)
-        → ((e ≡ Stopped → ⊥) → SameMount m (record { memory = now; sup = n.sup; rows = news; free = after; faults = n.faults; read_only = n.read_only; stopped = stops }))
-        → KeepsCall {T = T} region fuse m (record { memory = now; sup = n.sup; rows = news; free = after; faults = n.faults; read_only = n.read_only; stopped = stops }) (Err e)
+        → ((e ≡ Stopped → ⊥) → SameMount m (record { memory = now; sup = n.sup; layout = n.layout; rows = news; free = after; faults = n.faults; read_only = n.read_only; stopped = stops }))
+        → KeepsCall {T = T} region fuse m (record { memory = now; sup = n.sup; layout = n.layout; rows = news; free = after; faults = n.faults; read_only = n.read_only; stopped = stops }) (Err e)
     refused_late e stops stopped_by goes_by kept left =
-        let new : Mount P = record { memory = now; sup = n.sup; rows = news; free = after; faults = n.faults; read_only = n.read_only; stopped = stops } in
+        let new : Mount P = record { memory = now; sup = n.sup; layout = n.layout; rows = news; free = after; faults = n.faults; read_only = n.read_only; stopped = stops } in
         subst (λ (k : Mount P). KeepsCall {T = T} region fuse k new (Err e)) same (record {
           stopped_before = λ on. absurd (let clash : true ≡ false = sym on ∙ runs in cc);
           unchanged = λ off. subst (λ (k : Mount P). SameMount k new) (sym same) (left off);
           stopped = λ still. late_reply e stops stopped_by goes_by kept.stopped;
-          keeps = record { sup = refl; faults = refl; read_only = refl };
+          keeps = record { sup = refl; layout = refl; faults = refl; read_only = refl };
           length = kept.length;
           keeps_fuse = kept.keeps_fuse;
           read_only = λ only. absurd (let clash : true ≡ false = sym only ∙ writes in cc);

@@ -5,23 +5,22 @@ use Rattle.std.specs.Option.{option_map}
 use Rattle.std.proofs.Math.Logic.{∥∥₁_elim, ∥∥₁_map, ∥∥₁_prop}
 use Rattle.std.proofs.lemmas.Bool.{cases_eq, cases_lt}
 use Rattle.nv_region.specs.Region.{Region}
-use Rattle.nv_super.specs.declared.superblock.Super.{Super}
 use Rattle.nv_super.specs.declared.owners.Run.{Run}
 use Rattle.nv_super.specs.declared.kind.Kind.{Kind}
-use Rattle.nv_super.specs.Layout.{fixed_layout}
+use Rattle.nv_super.specs.Layout.{Layout}
 use Rattle.nv_alloc.specs.Taking.{Takes}
 use Rattle.nv_entry.specs.declared.entry.Operation.TheVariants.{Add, Remove}
 use Rattle.nv_scan.specs.State.{block_of, size_of}
 use Rattle.nv_scan.specs.declared.piece.Row.{Row}
 use Rattle.nv_rows.specs.Unused.{unused_number}
 use Rattle.nv_rows.proofs.Places.{numbered}
-use Rattle.nv_held.specs.nv_outcome.Outcome.{IsOutcome}
-use Rattle.nv_held.specs.nv_outcome.Same.{SameOutcome}
-use Rattle.nv_held.specs.nv_graph.Read.{row_of}
-use Rattle.nv_held.specs.Held.{Held, Store, good_in}
-use Rattle.nv_held.specs.Bytes.{byte_in, byte_of}
-use Rattle.nv_held.specs.Mounted.{IsMounted, KeepsRow, ShowsSound, faultless_outcome}
-use Rattle.nv_held.proofs.Closes as closes
+use Rattle.nv_outcome.specs.Outcome.{IsOutcome}
+use Rattle.nv_outcome.specs.Same.{SameOutcome}
+use Rattle.nv_graph.specs.Read.{row_of}
+use Rattle.nv_mounted.specs.Held.{Held, Store, good_in}
+use Rattle.nv_mounted.specs.Bytes.{byte_in, byte_of}
+use Rattle.nv_mounted.specs.Mounted.{IsMounted, KeepsRow, ShowsSound, faultless_outcome}
+use Rattle.nv_mounted.proofs.Closes as closes
 use Rattle.nv_tree.specs.Path.{last_name}
 use Rattle.nv_tree.specs.Tree.{Node, SameNodes, SameTree, Tree, found, walk}
 use Rattle.nv_tree.specs.Calls.{links_at}
@@ -48,7 +47,7 @@ use Rattle.nv_calls.specs.declared.stating.Stat.{Stat}
 use Rattle.nv_calls.proofs.Allowed.{directory_used, first_passes, leads_passes, named_passes, some_passes, walk_passes, writing_passes}
 use Rattle.nv_calls.proofs.CreatedRows.{not_held}
 use Rattle.nv_calls.proofs.Decided.{both_decided, created_decided, grown_decided, removed_decided, resized_decided, written_decided}
-use Rattle.nv_calls.proofs.OneOutcome.{as_faultless, files_alike, one_outcome, trees_alike}
+use Rattle.nv_calls.proofs.OneOutcome.{as_faultless, files_alike, one_outcome, same_layout, trees_alike}
 use Rattle.nv_calls.proofs.RowChange.{row_there}
 use Rattle.nv_calls.proofs.SameContents.{SameFiles, attributed_same, between, created_same, linked_same, removed_same, renamed_same, resized_same, unlinked_same, written_same}
 use Rattle.nv_calls.proofs.SeenAlike.{Alike, found_alike, unused_same, walk_alike}
@@ -56,29 +55,29 @@ use Rattle.nv_calls.proofs.SeenAlike.{Alike, found_alike, unused_same, walk_alik
 -- ---- rows of what is held
 
 -- a row for an inode that is held
-record HasRow (R : Region) (s : Super) (rows : List Row) (i : ℕ) (h : Held) : Type 0 where
+record HasRow (R : Region) (l : Layout) (rows : List Row) (i : ℕ) (h : Held) : Type 0 where
   row : Row
   is : row_of rows i ≡ Some row
-  keeps : KeepsRow (fixed_layout s) h row
+  keeps : KeepsRow l h row
 
-module _ {R : Region} {s : Super} {held : Store} {rows : List Row} {free : List (List Run)} (m : IsMounted R s held rows free) where
+module _ {R : Region} {l : Layout} {held : Store} {rows : List Row} {free : List (List Run)} (m : IsMounted R l held rows free) where
   -- what is held of the inode of a row
-  row_held : (i : ℕ) (row : Row) → row_of rows i ≡ Some row → (h : Held) × (held i ≡ Some h) × KeepsRow (fixed_layout s) h row
+  row_held : (i : ℕ) (row : Row) → row_of rows i ≡ Some row → (h : Held) × (held i ≡ Some h) × KeepsRow l h row
   row_held i row is =
       let keeps = m.keeps in
       let in_rows = keeps.in_rows in
       let w = in_rows.each row (row_there rows i row is) in
       (w.0, ap held (sym (numbered rows i row is)) ∙ w.1, w.2)
 
-  has_row : (i : ℕ) (h : Held) → held i ≡ Some h → HasRow R s rows i h
+  has_row : (i : ℕ) (h : Held) → held i ≡ Some h → HasRow R l rows i h
   has_row i h at = by (row_of rows i) refl where
-    by : (o : Option Row) → row_of rows i ≡ o → HasRow R s rows i h
+    by : (o : Option Row) → row_of rows i ≡ o → HasRow R l rows i h
     by None none = absurd (let clash : Some h ≡ None = sym at ∙ not_held m i none in cc)
     by (Some row) is =
         let w = row_held i row is in
         let both : Some w.0 ≡ Some h = sym w.1 ∙ at in
         let same : w.0 ≡ h = cc in
-        record { row = row; is = is; keeps = subst (λ (g : Held). KeepsRow (fixed_layout s) g row) same w.2 }
+        record { row = row; is = is; keeps = subst (λ (g : Held). KeepsRow l g row) same w.2 }
 
   -- what is held of an inode in use
   pub held_there : (i : ℕ) (node : Node) → tree_of R rows i ≡ Some node → (h : Held) × (held i ≡ Some h)
@@ -90,13 +89,13 @@ module _ {R : Region} {s : Super} {held : Store} {rows : List Row} {free : List 
 -- ---- what two calls have left
 
 -- two regions that show the same, and trees of them whose files have the same bytes
-alike_after : (s : Super) (T U : Region) (rows others : List Row) (free more : List (List Run)) (t u : Tree) → ShowSame s T U → IsOutcome T (faultless_outcome s rows free) → IsOutcome U (faultless_outcome s others more)
+alike_after : (l : Layout) (T U : Region) (rows others : List Row) (free more : List (List Run)) (t u : Tree) → ShowSame l T U → IsOutcome T (faultless_outcome l rows free) → IsOutcome U (faultless_outcome l others more)
     → SameTree (tree_of T rows) t → SameTree (tree_of U others) u → SameFiles t u → AreAlike T U
-alike_after s T U rows others free more t u shows is other seen seen_other files = ∥∥₁_map shows (λ v. (s, v.0, record { first = v.1; second = v.2; bytes = bytes v.0 v.1 v.2 })) where
-  bytes : (held : Store) → ShowsSound T s held → ShowsSound U s held → (i x : ℕ) (h : Held) → held i ≡ Some h → x < size_of (good_in (fixed_layout s) h) → byte_of U (fixed_layout s) h x ≡ byte_of T (fixed_layout s) h x
+alike_after l T U rows others free more t u shows is other seen seen_other files = ∥∥₁_map shows (λ v. (l, v.0, record { first = v.1; second = v.2; bytes = bytes v.0 v.1 v.2 })) where
+  bytes : (held : Store) → ShowsSound T l held → ShowsSound U l held → (i x : ℕ) (h : Held) → held i ≡ Some h → x < size_of (good_in l h) → byte_of U l h x ≡ byte_of T l h x
   bytes held first second i x h at below =
-      let a = has_row (record { sound = first; keeps = closes.outcome_kept first (faultless_outcome s rows free) is }) i h at in
-      let b = has_row (record { sound = second; keeps = closes.outcome_kept second (faultless_outcome s others more) other }) i h at in
+      let a = has_row (record { sound = first; keeps = closes.outcome_kept first (faultless_outcome l rows free) is }) i h at in
+      let b = has_row (record { sound = second; keeps = closes.outcome_kept second (faultless_outcome l others more) other }) i h at in
       let mine : tree_of T rows i ≡ Some (node_of T a.row) = ap (λ (o : Option Row). option_map (node_of T) o) a.is in
       let theirs : tree_of U others i ≡ Some (node_of U b.row) = ap (λ (o : Option Row). option_map (node_of U) o) b.is in
       let one = subst (λ (o : Option Node). SameNodes o (t i)) mine (seen i) in
@@ -134,37 +133,41 @@ abbrev numbered_as : Node → Stat → Node
 numbered_as node x = record node { kind = x.kind; mode = x.mode; owner = x.owner; group = x.group; size = x.size; links = x.links; time = x.time }
 
 -- a new size leaves the same of two inodes with the same numbers
-as_node : (U : Region) (s : Super) (pools : List (List Run)) (cpu : ℕ) (held : Store) (i : ℕ) (h : Held) (a b : Node) (bytes time : ℕ) → stat_of i b ≡ stat_of i a → ShowsResizedLog U s pools cpu held i h b bytes time → ShowsResizedLog U s pools cpu held i h a bytes time
-as_node U s pools cpu held i h a b bytes time same known =
-    ∥∥₁_map (subst (λ (x : Stat). ShowsResizedLog U s pools cpu held i h (numbered_as b x) bytes time) same known) (λ x. record { to = x.to; copied = x.copied; between = x.between; taken = x.taken; free = x.free; grew = x.grew; zeros = x.zeros })
+as_node : (U : Region) (l : Layout) (pools : List (List Run)) (cpu : ℕ) (held : Store) (i : ℕ) (h : Held) (a b : Node) (bytes time : ℕ) → stat_of i b ≡ stat_of i a → ShowsResizedLog U l pools cpu held i h b bytes time → ShowsResizedLog U l pools cpu held i h a bytes time
+as_node U l pools cpu held i h a b bytes time same known =
+    ∥∥₁_map (subst (λ (x : Stat). ShowsResizedLog U l pools cpu held i h (numbered_as b x) bytes time) same known) (λ x. record { to = x.to; copied = x.copied; between = x.between; taken = x.taken; free = x.free; grew = x.grew; zeros = x.zeros })
 
 -- ---- each call, where both regions show what is held
 
-module _ (held : Store) (R S T U : Region) (m k : Mount ⊤) (names : List (List ℕ)) (is : IsFaultlessMount R m) (other : IsFaultlessMount S k) (w : ShowAlike m.sup held R S) where
+module _ (held : Store) (R S T U : Region) (m k : Mount ⊤) (names : List (List ℕ)) (is : IsFaultlessMount R m) (other : IsFaultlessMount S k) (w : ShowAlike m.layout held R S) where
   abbrev t : Tree
   t = tree_of R m.rows
 
   abbrev u : Tree
   u = tree_of S k.rows
 
-  pub same : SameOutcome (faultless_outcome m.sup m.rows m.free.pools) (faultless_outcome k.sup k.rows k.free.pools)
-  same = one_outcome w (faultless_outcome m.sup m.rows m.free.pools) (faultless_outcome k.sup k.rows k.free.pools) is other
+  pub same : SameOutcome (faultless_outcome m.layout m.rows m.free.pools) (faultless_outcome k.layout k.rows k.free.pools)
+  same = one_outcome w (faultless_outcome m.layout m.rows m.free.pools) (faultless_outcome k.layout k.rows k.free.pools) is other
+
+  -- both have one layout
+  pub laid : k.layout ≡ m.layout
+  laid = same_layout m.layout k.layout m.rows k.rows m.free.pools k.free.pools same
 
   pub alike : Alike t u
-  alike = trees_alike w (faultless_outcome m.sup m.rows m.free.pools) (faultless_outcome k.sup k.rows k.free.pools) is other
+  alike = trees_alike w (faultless_outcome m.layout m.rows m.free.pools) (faultless_outcome k.layout k.rows k.free.pools) is other
 
   pub files : SameFiles t u
-  files = files_alike w (faultless_outcome m.sup m.rows m.free.pools) (faultless_outcome k.sup k.rows k.free.pools) is other
+  files = files_alike w (faultless_outcome m.layout m.rows m.free.pools) (faultless_outcome k.layout k.rows k.free.pools) is other
 
-  pub mounted : IsMounted R m.sup held m.rows m.free.pools
-  mounted = record { sound = w.first; keeps = closes.outcome_kept w.first (faultless_outcome m.sup m.rows m.free.pools) is }
+  pub mounted : IsMounted R m.layout held m.rows m.free.pools
+  mounted = record { sound = w.first; keeps = closes.outcome_kept w.first (faultless_outcome m.layout m.rows m.free.pools) is }
 
-  pub there : ShowsSound S k.sup held
-  there = subst (λ (s : Super). ShowsSound S s held) (sym same.sup) w.second
+  pub there : ShowsSound S k.layout held
+  there = subst (λ (l : Layout). ShowsSound S l held) (sym laid) w.second
 
   -- what is said by the numbers and the free lists of the second mount is said by those of the first
-  pub by_first : (P : Super → List (List Run) → Type 0) → P k.sup k.free.pools → P m.sup m.free.pools
-  by_first P p = subst (λ (s : Super). P s m.free.pools) same.sup (subst (λ (pools : List (List Run)). P k.sup pools) same.free p)
+  pub by_first : (P : Layout → List (List Run) → Type 0) → P k.layout k.free.pools → P m.layout m.free.pools
+  by_first P p = subst (λ (l : Layout). P l m.free.pools) laid (subst (λ (pools : List (List Run)). P k.layout pools) same.free p)
 
   pub walks : (path : List (List ℕ)) → walk t 1 path ≡ walk u 1 path
   walks path = sym (walk_alike t u alike path 1)
@@ -175,11 +178,11 @@ module _ (held : Store) (R S T U : Region) (m k : Mount ⊤) (names : List (List
   links : (i : ℕ) → links_at t i ≡ links_at u i
   links i = sym (alike.links i)
 
-  pub finish : {makes : Makes ⊤} {logs others : Logs ⊤} → WasDone makes logs R m names T → WasDone makes others S k names U → SameFiles (makes R m names) (makes S k names) → ShowSame m.sup T U → AreAlike T U
-  finish {makes} a b contents shows = alike_after m.sup T U a.rows b.rows a.free b.free (makes R m names) (makes S k names) shows a.shown (subst (λ (s : Super). IsOutcome U (faultless_outcome s b.rows b.free)) same.sup b.shown) a.tree b.tree contents
+  pub finish : {makes : Makes ⊤} {logs others : Logs ⊤} → WasDone makes logs R m names T → WasDone makes others S k names U → SameFiles (makes R m names) (makes S k names) → ShowSame m.layout T U → AreAlike T U
+  finish {makes} a b contents shows = alike_after m.layout T U a.rows b.rows a.free b.free (makes R m names) (makes S k names) shows a.shown (subst (λ (l : Layout). IsOutcome U (faultless_outcome l b.rows b.free)) laid b.shown) a.tree b.tree contents
 
-  number : (cpu j : ℕ) → unused_number (fixed_layout m.sup) m.rows cpu ≡ Some j → unused_number (fixed_layout k.sup) k.rows cpu ≡ Some j
-  number cpu j at = unused_same m.sup k.sup m.rows k.rows same.sup same.rows cpu ∙ at
+  number : (cpu j : ℕ) → unused_number m.layout m.rows cpu ≡ Some j → unused_number k.layout k.rows cpu ≡ Some j
+  number cpu j at = unused_same m.layout k.layout m.rows k.rows laid same.rows cpu ∙ at
 
   -- ---- names that come
 
@@ -190,13 +193,13 @@ module _ (held : Store) (R S T U : Region) (m k : Mount ⊤) (names : List (List
       let one = named_passes names (walk_tests t (Some names) ++ behind) (writing_passes (world_of m) cpu (is_bad_name (Some names) ∷ walk_tests t (Some names) ++ behind) allowed.1) in
       let way = walk_passes t names behind one.3 in
       let free = first_passes (is_there t (Some names)) (has_no_slot (world_of m) cpu ∷ last) way.2 in
-      let unused = some_passes (unused_number (fixed_layout m.sup) m.rows cpu) (first_passes (has_no_slot (world_of m) cpu) last free.1).0 in
+      let unused = some_passes (unused_number m.layout m.rows cpu) (first_passes (has_no_slot (world_of m) cpu) last free.1).0 in
       let used = directory_used t names one.0 one.1 way.0 one.2 way.1 in
       let h = held_there mounted way.0 used.0 used.1 in
-      let first : ShowsCreated T m.sup m.free.pools cpu held kind mode time unused.0 way.0 h.0 (last_name names) = a.left way.0 unused.0 held h.0 way.1 unused.1 w.first h.1 in
-      let second : ShowsCreated U k.sup k.free.pools cpu held kind mode time unused.0 way.0 h.0 (last_name names) = b.left way.0 unused.0 held h.0 (sym (walks names) ∙ way.1) (number cpu unused.0 unused.1) there h.1 in
-      finish a b (created_same t u files walks finds links kind (unused_number (fixed_layout m.sup) m.rows cpu) (unused_number (fixed_layout k.sup) k.rows cpu) (unused.1 ∙ sym (number cpu unused.0 unused.1)) names mode time)
-      (created_decided m.sup m.free.pools cpu held kind mode time unused.0 way.0 h.0 (last_name names) T U first (by_first (λ s pools. ShowsCreated U s pools cpu held kind mode time unused.0 way.0 h.0 (last_name names)) second))
+      let first : ShowsCreated T m.layout m.free.pools cpu held kind mode time unused.0 way.0 h.0 (last_name names) = a.left way.0 unused.0 held h.0 way.1 unused.1 w.first h.1 in
+      let second : ShowsCreated U k.layout k.free.pools cpu held kind mode time unused.0 way.0 h.0 (last_name names) = b.left way.0 unused.0 held h.0 (sym (walks names) ∙ way.1) (number cpu unused.0 unused.1) there h.1 in
+      finish a b (created_same t u files walks finds links kind (unused_number m.layout m.rows cpu) (unused_number k.layout k.rows cpu) (unused.1 ∙ sym (number cpu unused.0 unused.1)) names mode time)
+      (created_decided m.layout m.free.pools cpu held kind mode time unused.0 way.0 h.0 (last_name names) T U first (by_first (λ l pools. ShowsCreated U l pools cpu held kind mode time unused.0 way.0 h.0 (last_name names)) second))
 
   link_alike : (cpu time : ℕ) (q : Path) → IsAllowed (λ R m p n. link_tests (world_of m) (tree_of R m.rows) cpu p q n) R m names → WasDone (makes_link time q) (logs_link cpu time q) R m names T → WasDone (makes_link time q) (logs_link cpu time q) S k names U → AreAlike T U
   link_alike cpu time None allowed a b = absurd a.left
@@ -214,11 +217,11 @@ module _ (held : Store) (R S T U : Region) (m k : Mount ⊤) (names : List (List
       let shown = led.2 in
       let f = held_there mounted led.0 led.1 shown.shows in
       let entries = name_entries Add led.0 (last_name others) time in
-      let first : ShowsBothGrew T m.sup m.free.pools cpu held led.0 f.0 (links_entries (led.1.links + 1) time) way.0 h.0 entries = a.left led.0 way.0 led.1 held f.0 h.0 led.2 way.1 w.first f.1 h.1 in
-      let second : ShowsBothGrew U k.sup k.free.pools cpu held led.0 f.0 (links_entries (led_there.other.links + 1) time) way.0 h.0 entries = b.left led.0 way.0 led_there.other held f.0 h.0 led_there.leads (sym (walks others) ∙ way.1) there f.1 h.1 in
-      let as_first : ShowsBothGrew U k.sup k.free.pools cpu held led.0 f.0 (links_entries (led.1.links + 1) time) way.0 h.0 entries = subst (λ (n : ℕ). ShowsBothGrew U k.sup k.free.pools cpu held led.0 f.0 (links_entries (n + 1) time) way.0 h.0 entries) (ap (λ (x : Stat). x.links) led_there.numbers) second in
+      let first : ShowsBothGrew T m.layout m.free.pools cpu held led.0 f.0 (links_entries (led.1.links + 1) time) way.0 h.0 entries = a.left led.0 way.0 led.1 held f.0 h.0 led.2 way.1 w.first f.1 h.1 in
+      let second : ShowsBothGrew U k.layout k.free.pools cpu held led.0 f.0 (links_entries (led_there.other.links + 1) time) way.0 h.0 entries = b.left led.0 way.0 led_there.other held f.0 h.0 led_there.leads (sym (walks others) ∙ way.1) there f.1 h.1 in
+      let as_first : ShowsBothGrew U k.layout k.free.pools cpu held led.0 f.0 (links_entries (led.1.links + 1) time) way.0 h.0 entries = subst (λ (n : ℕ). ShowsBothGrew U k.layout k.free.pools cpu held led.0 f.0 (links_entries (n + 1) time) way.0 h.0 entries) (ap (λ (x : Stat). x.links) led_there.numbers) second in
       finish a b (linked_same t u files walks finds links names others time)
-      (both_decided m.sup m.free.pools cpu held led.0 f.0 (links_entries (led.1.links + 1) time) way.0 h.0 entries T U first (by_first (λ s pools. ShowsBothGrew U s pools cpu held led.0 f.0 (links_entries (led.1.links + 1) time) way.0 h.0 entries) as_first))
+      (both_decided m.layout m.free.pools cpu held led.0 f.0 (links_entries (led.1.links + 1) time) way.0 h.0 entries T U first (by_first (λ l pools. ShowsBothGrew U l pools cpu held led.0 f.0 (links_entries (led.1.links + 1) time) way.0 h.0 entries) as_first))
 
   -- ---- names that go
 
@@ -242,16 +245,16 @@ module _ (held : Store) (R S T U : Region) (m k : Mount ⊤) (names : List (List
       let logs_there = b.left in
       elim (cases_lt 1 led.1.links) [
         | inl more ↦ (
-            let first : ShowsBothGrew T m.sup m.free.pools cpu held way.0 h.0 entries led.0 f.0 (links_entries (led.1.links - 1) time) = logs.more led.0 way.0 led.1 held h.0 f.0 led.2 way.1 w.first h.1 f.1 more in
-            let second : ShowsBothGrew U k.sup k.free.pools cpu held way.0 h.0 entries led.0 f.0 (links_entries (led_there.other.links - 1) time) = logs_there.more led.0 way.0 led_there.other held h.0 f.0 led_there.leads walked there h.1 f.1 (subst (λ (n : ℕ). 1 < n) (sym (ap (λ (x : Stat). x.links) led_there.numbers)) more) in
-            let as_first : ShowsBothGrew U k.sup k.free.pools cpu held way.0 h.0 entries led.0 f.0 (links_entries (led.1.links - 1) time) = subst (λ (n : ℕ). ShowsBothGrew U k.sup k.free.pools cpu held way.0 h.0 entries led.0 f.0 (links_entries (n - 1) time)) (ap (λ (x : Stat). x.links) led_there.numbers) second in
+            let first : ShowsBothGrew T m.layout m.free.pools cpu held way.0 h.0 entries led.0 f.0 (links_entries (led.1.links - 1) time) = logs.more led.0 way.0 led.1 held h.0 f.0 led.2 way.1 w.first h.1 f.1 more in
+            let second : ShowsBothGrew U k.layout k.free.pools cpu held way.0 h.0 entries led.0 f.0 (links_entries (led_there.other.links - 1) time) = logs_there.more led.0 way.0 led_there.other held h.0 f.0 led_there.leads walked there h.1 f.1 (subst (λ (n : ℕ). 1 < n) (sym (ap (λ (x : Stat). x.links) led_there.numbers)) more) in
+            let as_first : ShowsBothGrew U k.layout k.free.pools cpu held way.0 h.0 entries led.0 f.0 (links_entries (led.1.links - 1) time) = subst (λ (n : ℕ). ShowsBothGrew U k.layout k.free.pools cpu held way.0 h.0 entries led.0 f.0 (links_entries (n - 1) time)) (ap (λ (x : Stat). x.links) led_there.numbers) second in
             finish a b contents
-            (both_decided m.sup m.free.pools cpu held way.0 h.0 entries led.0 f.0 (links_entries (led.1.links - 1) time) T U first (by_first (λ s pools. ShowsBothGrew U s pools cpu held way.0 h.0 entries led.0 f.0 (links_entries (led.1.links - 1) time)) as_first)))
+            (both_decided m.layout m.free.pools cpu held way.0 h.0 entries led.0 f.0 (links_entries (led.1.links - 1) time) T U first (by_first (λ l pools. ShowsBothGrew U l pools cpu held way.0 h.0 entries led.0 f.0 (links_entries (led.1.links - 1) time)) as_first)))
         | inr few ↦ (
-            let first : ShowsRemoved T m.sup m.free.pools cpu held way.0 h.0 entries led.0 = logs.last led.0 way.0 led.1 held h.0 led.2 way.1 w.first h.1 few in
-            let second : ShowsRemoved U k.sup k.free.pools cpu held way.0 h.0 entries led.0 = logs_there.last led.0 way.0 led_there.other held h.0 led_there.leads walked there h.1 (subst (λ (n : ℕ). n ≤ 1) (sym (ap (λ (x : Stat). x.links) led_there.numbers)) few) in
+            let first : ShowsRemoved T m.layout m.free.pools cpu held way.0 h.0 entries led.0 = logs.last led.0 way.0 led.1 held h.0 led.2 way.1 w.first h.1 few in
+            let second : ShowsRemoved U k.layout k.free.pools cpu held way.0 h.0 entries led.0 = logs_there.last led.0 way.0 led_there.other held h.0 led_there.leads walked there h.1 (subst (λ (n : ℕ). n ≤ 1) (sym (ap (λ (x : Stat). x.links) led_there.numbers)) few) in
             finish a b contents
-            (removed_decided m.sup m.free.pools cpu held way.0 h.0 entries led.0 T U first (by_first (λ s pools. ShowsRemoved U s pools cpu held way.0 h.0 entries led.0) second)))
+            (removed_decided m.layout m.free.pools cpu held way.0 h.0 entries led.0 T U first (by_first (λ l pools. ShowsRemoved U l pools cpu held way.0 h.0 entries led.0) second)))
       ]
 
   remove_alike : (cpu time : ℕ) → IsAllowed (λ R m p n. rmdir_tests (world_of m) (tree_of R m.rows) cpu p n) R m names → WasDone (makes_removal time) (logs_removal cpu time) R m names T → WasDone (makes_removal time) (logs_removal cpu time) S k names U → AreAlike T U
@@ -265,10 +268,10 @@ module _ (held : Store) (R S T U : Region) (m k : Mount ⊤) (names : List (List
       let used = directory_used t names one.0 one.1 way.0 one.2 way.1 in
       let h = held_there mounted way.0 used.0 used.1 in
       let entries = name_entries Remove led.0 (last_name names) time in
-      let first : ShowsRemoved T m.sup m.free.pools cpu held way.0 h.0 entries led.0 = a.left led.0 way.0 led.1 held h.0 led.2 way.1 w.first h.1 in
-      let second : ShowsRemoved U k.sup k.free.pools cpu held way.0 h.0 entries led.0 = b.left led.0 way.0 led_there.other held h.0 led_there.leads (sym (walks names) ∙ way.1) there h.1 in
+      let first : ShowsRemoved T m.layout m.free.pools cpu held way.0 h.0 entries led.0 = a.left led.0 way.0 led.1 held h.0 led.2 way.1 w.first h.1 in
+      let second : ShowsRemoved U k.layout k.free.pools cpu held way.0 h.0 entries led.0 = b.left led.0 way.0 led_there.other held h.0 led_there.leads (sym (walks names) ∙ way.1) there h.1 in
       finish a b (removed_same t u files walks finds links names time)
-      (removed_decided m.sup m.free.pools cpu held way.0 h.0 entries led.0 T U first (by_first (λ s pools. ShowsRemoved U s pools cpu held way.0 h.0 entries led.0) second))
+      (removed_decided m.layout m.free.pools cpu held way.0 h.0 entries led.0 T U first (by_first (λ l pools. ShowsRemoved U l pools cpu held way.0 h.0 entries led.0) second))
 
   -- ---- names that move
 
@@ -298,13 +301,13 @@ module _ (held : Store) (R S T U : Region) (m k : Mount ⊤) (names : List (List
       elim (cases_eq from.0 way.0) [
         | inl one_place ↦ (
             let ends : walk t 1 others ≡ Ok from.0 = way.1 ∙ ap (λ (d : ℕ). Ok d) (sym one_place) in
-            let first : ShowsGrownLog T m.sup m.free.pools cpu held from.0 h.0 both = logs.within led.0 from.0 led.1 held h.0 led.2 from.1 ends w.first h.1 in
-            let second : ShowsGrownLog U k.sup k.free.pools cpu held from.0 h.0 both = logs_there.within led.0 from.0 led_there.other held h.0 led_there.leads left (sym (walks others) ∙ ends) there h.1 in
-            finish a b contents (grown_decided m.sup m.free.pools cpu held from.0 h.0 both T U first (by_first (λ s pools. ShowsGrownLog U s pools cpu held from.0 h.0 both) second)))
+            let first : ShowsGrownLog T m.layout m.free.pools cpu held from.0 h.0 both = logs.within led.0 from.0 led.1 held h.0 led.2 from.1 ends w.first h.1 in
+            let second : ShowsGrownLog U k.layout k.free.pools cpu held from.0 h.0 both = logs_there.within led.0 from.0 led_there.other held h.0 led_there.leads left (sym (walks others) ∙ ends) there h.1 in
+            finish a b contents (grown_decided m.layout m.free.pools cpu held from.0 h.0 both T U first (by_first (λ l pools. ShowsGrownLog U l pools cpu held from.0 h.0 both) second)))
         | inr apart ↦ (
-            let first : ShowsBothGrew T m.sup m.free.pools cpu held from.0 h.0 less way.0 g.0 more = logs.across led.0 from.0 way.0 led.1 held h.0 g.0 led.2 from.1 way.1 apart w.first h.1 g.1 in
-            let second : ShowsBothGrew U k.sup k.free.pools cpu held from.0 h.0 less way.0 g.0 more = logs_there.across led.0 from.0 way.0 led_there.other held h.0 g.0 led_there.leads left (sym (walks others) ∙ way.1) apart there h.1 g.1 in
-            finish a b contents (both_decided m.sup m.free.pools cpu held from.0 h.0 less way.0 g.0 more T U first (by_first (λ s pools. ShowsBothGrew U s pools cpu held from.0 h.0 less way.0 g.0 more) second)))
+            let first : ShowsBothGrew T m.layout m.free.pools cpu held from.0 h.0 less way.0 g.0 more = logs.across led.0 from.0 way.0 led.1 held h.0 g.0 led.2 from.1 way.1 apart w.first h.1 g.1 in
+            let second : ShowsBothGrew U k.layout k.free.pools cpu held from.0 h.0 less way.0 g.0 more = logs_there.across led.0 from.0 way.0 led_there.other held h.0 g.0 led_there.leads left (sym (walks others) ∙ way.1) apart there h.1 g.1 in
+            finish a b contents (both_decided m.layout m.free.pools cpu held from.0 h.0 less way.0 g.0 more T U first (by_first (λ l pools. ShowsBothGrew U l pools cpu held from.0 h.0 less way.0 g.0 more) second)))
       ]
 
   -- ---- one inode
@@ -318,10 +321,10 @@ module _ (held : Store) (R S T U : Region) (m k : Mount ⊤) (names : List (List
       let led_there = leads_there t u alike names led.0 led.1 led.2 in
       let shown = led.2 in
       let h = held_there mounted led.0 led.1 shown.shows in
-      let first : ShowsResizedLog T m.sup m.free.pools cpu held led.0 h.0 led.1 bytes time = a.left led.0 led.1 held h.0 led.2 w.first h.1 in
-      let second : ShowsResizedLog U k.sup k.free.pools cpu held led.0 h.0 led_there.other bytes time = b.left led.0 led_there.other held h.0 led_there.leads there h.1 in
+      let first : ShowsResizedLog T m.layout m.free.pools cpu held led.0 h.0 led.1 bytes time = a.left led.0 led.1 held h.0 led.2 w.first h.1 in
+      let second : ShowsResizedLog U k.layout k.free.pools cpu held led.0 h.0 led_there.other bytes time = b.left led.0 led_there.other held h.0 led_there.leads there h.1 in
       finish a b (resized_same t u files walks finds links names bytes time)
-      (resized_decided m.sup m.free.pools cpu held led.0 h.0 led.1 bytes time T U first (by_first (λ s pools. ShowsResizedLog U s pools cpu held led.0 h.0 led.1 bytes time) (as_node U k.sup k.free.pools cpu held led.0 h.0 led.1 led_there.other bytes time led_there.numbers second)))
+      (resized_decided m.layout m.free.pools cpu held led.0 h.0 led.1 bytes time T U first (by_first (λ l pools. ShowsResizedLog U l pools cpu held led.0 h.0 led.1 bytes time) (as_node U k.layout k.free.pools cpu held led.0 h.0 led.1 led_there.other bytes time led_there.numbers second)))
 
   attributes_alike : (cpu mode owner group time : ℕ) → IsAllowed (λ R m p n. set_attr_tests (world_of m) (tree_of R m.rows) cpu p n) R m names → WasDone (makes_attributes mode owner group time) (logs_attributes cpu mode owner group time) R m names T → WasDone (makes_attributes mode owner group time) (logs_attributes cpu mode owner group time) S k names U → AreAlike T U
   attributes_alike cpu mode owner group time allowed a b =
@@ -332,11 +335,11 @@ module _ (held : Store) (R S T U : Region) (m k : Mount ⊤) (names : List (List
       let led_there = leads_there t u alike names led.0 led.1 led.2 in
       let shown = led.2 in
       let h = held_there mounted led.0 led.1 shown.shows in
-      let first : ShowsGrownLog T m.sup m.free.pools cpu held led.0 h.0 (attributes led.1.size mode owner group time) = a.left led.0 led.1 held h.0 led.2 w.first h.1 in
-      let second : ShowsGrownLog U k.sup k.free.pools cpu held led.0 h.0 (attributes led_there.other.size mode owner group time) = b.left led.0 led_there.other held h.0 led_there.leads there h.1 in
-      let as_first : ShowsGrownLog U k.sup k.free.pools cpu held led.0 h.0 (attributes led.1.size mode owner group time) = subst (λ (n : ℕ). ShowsGrownLog U k.sup k.free.pools cpu held led.0 h.0 (attributes n mode owner group time)) (ap (λ (x : Stat). x.size) led_there.numbers) second in
+      let first : ShowsGrownLog T m.layout m.free.pools cpu held led.0 h.0 (attributes led.1.size mode owner group time) = a.left led.0 led.1 held h.0 led.2 w.first h.1 in
+      let second : ShowsGrownLog U k.layout k.free.pools cpu held led.0 h.0 (attributes led_there.other.size mode owner group time) = b.left led.0 led_there.other held h.0 led_there.leads there h.1 in
+      let as_first : ShowsGrownLog U k.layout k.free.pools cpu held led.0 h.0 (attributes led.1.size mode owner group time) = subst (λ (n : ℕ). ShowsGrownLog U k.layout k.free.pools cpu held led.0 h.0 (attributes n mode owner group time)) (ap (λ (x : Stat). x.size) led_there.numbers) second in
       finish a b (attributed_same t u files walks finds links names mode owner group time)
-      (grown_decided m.sup m.free.pools cpu held led.0 h.0 (attributes led.1.size mode owner group time) T U first (by_first (λ s pools. ShowsGrownLog U s pools cpu held led.0 h.0 (attributes led.1.size mode owner group time)) as_first))
+      (grown_decided m.layout m.free.pools cpu held led.0 h.0 (attributes led.1.size mode owner group time) T U first (by_first (λ l pools. ShowsGrownLog U l pools cpu held led.0 h.0 (attributes led.1.size mode owner group time)) as_first))
 
   -- a write that was told by the second mount, told by the first
   write_there : (cpu i : ℕ) (h : Held) (plan : Plan) → ShowsLogWrite U k cpu held i h plan → ShowsLogWrite U m cpu held i h plan
@@ -344,7 +347,7 @@ module _ (held : Store) (R S T U : Region) (m k : Mount ⊤) (names : List (List
     runs = x.runs;
     rest = x.rest;
     taken = subst (λ (pools : List (List Run)). Takes pools cpu (data_blocks plan) x.runs x.rest) same.free x.taken;
-    grew = subst (λ (s : Super). ShowsGrownLog U s x.rest cpu held i h (data_entries plan x.runs)) same.sup x.grew;
+    grew = subst (λ (l : Layout). ShowsGrownLog U l x.rest cpu held i h (data_entries plan x.runs)) laid x.grew;
     zeros = x.zeros;
   })
 
@@ -359,23 +362,24 @@ module _ (held : Store) (R S T U : Region) (m k : Mount ⊤) (names : List (List
       let h = held_there mounted led.0 led.1 shown.shows in
       let logs = a.left in
       let logs_there = b.left in
-      let plan : Super → ℕ → Plan = λ s size. plan_of (block_of (good_in (fixed_layout s) h.0)) size offset count time in
+      let plan : Layout → ℕ → Plan = λ l size. plan_of (block_of (good_in l h.0)) size offset count time in
       elim (cases_lt 0 count) [
         | inl some ↦ (
-            let first : ShowsLogWrite T m cpu held led.0 h.0 (plan m.sup led.1.size) = logs.some led.0 led.1 held h.0 led.2 w.first h.1 some in
-            let second : ShowsLogWrite U k cpu held led.0 h.0 (plan k.sup led_there.other.size) = logs_there.some led.0 led_there.other held h.0 led_there.leads there h.1 some in
-            let by_sup : ShowsLogWrite U k cpu held led.0 h.0 (plan m.sup led_there.other.size) = subst (λ (s : Super). ShowsLogWrite U k cpu held led.0 h.0 (plan s led_there.other.size)) same.sup second in
-            let by_size : ShowsLogWrite U k cpu held led.0 h.0 (plan m.sup led.1.size) = subst (λ (n : ℕ). ShowsLogWrite U k cpu held led.0 h.0 (plan m.sup n)) (ap (λ (x : Stat). x.size) led_there.numbers) by_sup in
-            finish a b (written_same t u files walks finds links names offset bytes time) (written_decided m cpu held led.0 h.0 (plan m.sup led.1.size) T U first (write_there cpu led.0 h.0 (plan m.sup led.1.size) by_size)))
+            let first : ShowsLogWrite T m cpu held led.0 h.0 (plan m.layout led.1.size) = logs.some led.0 led.1 held h.0 led.2 w.first h.1 some in
+            let second : ShowsLogWrite U k cpu held led.0 h.0 (plan k.layout led_there.other.size) = logs_there.some led.0 led_there.other held h.0 led_there.leads there h.1 some in
+            let by_sup : ShowsLogWrite U k cpu held led.0 h.0 (plan m.layout led_there.other.size) = subst (λ (l : Layout). ShowsLogWrite U k cpu held led.0 h.0 (plan l led_there.other.size)) laid second in
+            let by_size : ShowsLogWrite U k cpu held led.0 h.0 (plan m.layout led.1.size) = subst (λ (n : ℕ). ShowsLogWrite U k cpu held led.0 h.0 (plan m.layout n)) (ap (λ (x : Stat). x.size) led_there.numbers) by_sup in
+            finish a b (written_same t u files walks finds links names offset bytes time) (written_decided m cpu held led.0 h.0 (plan m.layout led.1.size) T U first (write_there cpu led.0 h.0 (plan m.layout led.1.size) by_size)))
         | inr none ↦ (
             let zero : count ≡ 0 = omega (arith, none) in
-            ∣ (m.sup, held, subst (λ (x : Region). ShowAlike m.sup held x U) (sym (logs.none zero)) (subst (λ (x : Region). ShowAlike m.sup held R x) (sym (logs_there.none zero)) w)) ∣₁)
+            ∣ (m.layout, held, subst (λ (x : Region). ShowAlike m.layout held x U) (sym (logs.none zero)) (subst (λ (x : Region). ShowAlike m.layout held R x) (sym (logs_there.none zero)) w)) ∣₁)
       ]
 
 -- ---- where only that both regions are alike is known
 
-pub by_held : (R S : Region) (m k : Mount ⊤) (Left : Type 0) → IsProp Left → IsFaultlessMount R m → AreAlike R S → ((held : Store) → ShowAlike m.sup held R S → Left) → Left
-by_held R S m k Left prop is known each = ∥∥₁_elim known prop (λ w. (let same = as_faultless w.2.first (faultless_outcome m.sup m.rows m.free.pools) is in each w.1 (subst (λ (s : Super). ShowAlike s w.1 R S) (sym same.sup) w.2)))
+pub by_held : (R S : Region) (m k : Mount ⊤) (Left : Type 0) → IsProp Left → IsFaultlessMount R m → AreAlike R S → ((held : Store) → ShowAlike m.layout held R S → Left) → Left
+by_held R S m k Left prop is known each = ∥∥₁_elim known prop (λ w. (let same = as_faultless w.2.first (faultless_outcome m.layout m.rows m.free.pools) is in
+    each w.1 (subst (λ (l : Layout). ShowAlike l w.1 R S) (sym (same_layout w.0 m.layout m.rows m.rows m.free.pools m.free.pools same)) w.2)))
 
 pub creates_alike : (kind : Kind) (cpu mode time : ℕ) → KeepsAlike (λ R m p n. create_tests (world_of m) (tree_of R m.rows) cpu p n) (makes_inode kind cpu mode time) (logs_inode kind cpu mode time)
 creates_alike kind cpu mode time R S T U m k names known is other allowed a b = by_held R S m k (AreAlike T U) ∥∥₁_prop is known (λ held w. create_alike held R S T U m k names is other w kind cpu mode time allowed a b)

@@ -3,9 +3,9 @@ use Rattle.std.proofs.Common.{◌≡◌, ◌⊎◌, inl, inr, ℕ, Bool, true, f
 use Rattle.std.specs.Option.{option_map}
 use Rattle.nv_region.specs.Region.{Region}
 use Rattle.nv_scan.specs.declared.piece.Row.{Row}
-use Rattle.nv_held.specs.nv_graph.Read.{row_of}
-use Rattle.nv_held.specs.Held.{Held, Store}
-use Rattle.nv_held.specs.Mounted.{ShowsSound}
+use Rattle.nv_graph.specs.Read.{row_of}
+use Rattle.nv_mounted.specs.Held.{Held, Store}
+use Rattle.nv_mounted.specs.Mounted.{ShowsSound}
 use Rattle.nv_tree.specs.declared.refusal.Refusal.{Refusal}
 use Rattle.nv_tree.specs.declared.refusal.Refusal.TheVariants.{Memory, NotFound, ReadOnly, Stopped}
 use Rattle.nv_tree.specs.Tree.{SameTree}
@@ -46,15 +46,15 @@ inode_there {P} region {n} {m} same writes i row there =
 
 -- Which page of the log of an inode went, by its number.
 pub number_told : {P : Type 0} (region : P → Region) {n m : Mount P} → n ≡ m → (S : Region) (row : Row) (i : ℕ) (held : Store) (h : Held) (block : Option ℕ) → row.inode ≡ i
-    → ((st : Store) (g : Held) → ShowsSound (region n.memory) n.sup st → st row.inode ≡ Some g → ShowsCleaned (region n.memory) S n.sup st row.inode g block)
-    → ShowsSound (region m.memory) m.sup held → held i ≡ Some h → ShowsCleaned (region m.memory) S m.sup held i h block
+    → ((st : Store) (g : Held) → ShowsSound (region n.memory) n.layout st → st row.inode ≡ Some g → ShowsCleaned (region n.memory) S n.layout st row.inode g block)
+    → ShowsSound (region m.memory) m.layout held → held i ≡ Some h → ShowsCleaned (region m.memory) S m.layout held i h block
 number_told {P} region {n} {m} same S row i held h block number told sound is =
-    subst (λ (k : Mount P). ShowsSound (region k.memory) k.sup held → ShowsCleaned (region k.memory) S k.sup held i h block) same
-    (λ shows. subst (λ (k : ℕ). ShowsCleaned (region n.memory) S n.sup held k h block) number (told held h shows (subst (λ (k : ℕ). held k ≡ Some h) (sym number) is))) sound
+    subst (λ (k : Mount P). ShowsSound (region k.memory) k.layout held → ShowsCleaned (region k.memory) S k.layout held i h block) same
+    (λ shows. subst (λ (k : ℕ). ShowsCleaned (region n.memory) S n.layout held k h block) number (told held h shows (subst (λ (k : ℕ). held k ≡ Some h) (sym number) is))) sound
 
 -- What is known of a page is so of the row of the inode.
-pub known_here : {P : Type 0} (region : P → Region) {n m : Mount P} → n ≡ m → {i j : ℕ} (known : Option ℕ) → i ≡ j → IsKnown (region m.memory) m.sup j known → IsKnown (region n.memory) n.sup i known
-known_here {P} region {n} {m} same {i} {j} known number is = subst (λ (q : ℕ). IsKnown (region n.memory) n.sup q known) (sym number) (subst (λ (k : Mount P). IsKnown (region k.memory) k.sup j known) (sym same) is)
+pub known_here : {P : Type 0} (region : P → Region) {n m : Mount P} → n ≡ m → {i j : ℕ} (known : Option ℕ) → i ≡ j → IsKnown (region m.memory) m.layout j known → IsKnown (region n.memory) n.layout i known
+known_here {P} region {n} {m} same {i} {j} known number is = subst (λ (q : ℕ). IsKnown (region n.memory) n.layout q known) (sym number) (subst (λ (k : Mount P). IsKnown (region k.memory) k.layout j known) (sym same) is)
 
 -- A step that was refused is so for memory, where no test holds, or since it was stopped.
 pub step_refused : (first : Option Refusal) (e : Refusal) → first ≡ None → (e ≡ Memory) ⊎ (e ≡ Stopped) → IsRefusedBy first e

@@ -10,7 +10,7 @@ use Rattle.std.proofs.lemmas.Option.{slice_get_within, same_Some}
 use Rattle.nv_region.specs.Region.{Region}
 use Rattle.nv_super.specs.declared.superblock.Super.{Super}
 use Rattle.nv_super.specs.declared.faults.Fault.{Fault}
-use Rattle.nv_super.specs.Layout.{fixed_layout}
+use Rattle.nv_super.specs.Layout.{Layout}
 use Rattle.nv_super.specs.Order.{Rises}
 use Rattle.nv_super.proofs.Members.{stands}
 use Rattle.nv_alloc.specs.FreeValue.{FreeLists}
@@ -18,13 +18,13 @@ use Rattle.nv_radix.specs.Pages.{block_at}
 use Rattle.nv_names.specs.Names.{Names, name_at}
 use Rattle.nv_scan.specs.declared.piece.Row.{Row}
 use Rattle.nv_deadpages.specs.Dead.{IsFirstDead}
-use Rattle.nv_held.specs.nv_check.Cross.{row_key}
-use Rattle.nv_held.specs.nv_graph.Read.{row_of}
-use Rattle.nv_held.specs.Held.{Held, Store, with_inode}
-use Rattle.nv_held.specs.Bytes.{byte_in, byte_of}
-use Rattle.nv_held.specs.Cleaned.{cleaned}
-use Rattle.nv_held.specs.Mounted.{IsMounted, ShowsSound}
-use Rattle.nv_held.proofs.RowsKept.{rows_follow}
+use Rattle.nv_cross_check.specs.Cross.{row_key}
+use Rattle.nv_graph.specs.Read.{row_of}
+use Rattle.nv_mounted.specs.Held.{Held, Store, with_inode}
+use Rattle.nv_mounted.specs.Bytes.{byte_in, byte_of}
+use Rattle.nv_mounted.specs.Cleaned.{cleaned}
+use Rattle.nv_mounted.specs.Mounted.{IsMounted, ShowsSound}
+use Rattle.nv_mounted.proofs.RowsKept.{rows_follow}
 use Rattle.nv_rows.proofs.Places.{number_at, row_of_other, set_rising}
 use Rattle.nv_tree.specs.Tree.{Node, SameNode, SameNodes, SameTree}
 use Rattle.nv_steps.specs.Cleans.{Cleans, KeepsFile}
@@ -54,22 +54,22 @@ same_node R S {row} {new} file bytes = record {
 }
 
 -- a row that is kept is that of what is held of its inode
-pub held_row : {R : Region} {s : Super} {rows : List Row} {free : FreeLists} {faults : List Fault} {read_only stopped : Bool} → IsKept R s rows free faults read_only stopped → (row : Row) → Contains rows row → (held : Store) (h : Held) → held row.inode ≡ Some h
-    → IsMounted R s held rows free.pools → ShowsRow R s held h row free
-held_row {R} {s} {rows} {free} kept row there held h is m =
+pub held_row : {R : Region} {s : Super} {l : Layout} {rows : List Row} {free : FreeLists} {faults : List Fault} {read_only stopped : Bool} → IsKept R s l rows free faults read_only stopped → (row : Row) → Contains rows row → (held : Store) (h : Held) → held row.inode ≡ Some h
+    → IsMounted R l held rows free.pools → ShowsRow R l held h row free
+held_row {R} {s} {l} {rows} {free} kept row there held h is m =
     let w = shows_row {free = free} m kept.lists row there in
     let here = w.1 in
-    subst (λ (g : Held). ShowsRow R s held g row free) (same_Some _ _ (sym here.holds ∙ is)) here
+    subst (λ (g : Held). ShowsRow R l held g row free) (same_Some _ _ (sym here.holds ∙ is)) here
 
-module _ {R : Region} {s : Super} {rows : List Row} {free : FreeLists} {faults : List Fault} {read_only stopped : Bool} (kept : IsKept R s rows free faults read_only stopped) (runs : stopped ≡ false) (writes : read_only ≡ false)
-    (place : ℕ) (row new : Row) (at : slice_get rows place ≡ Some row) (S : Region) (after : FreeLists) (block : Option ℕ) (follows : (held : Store) (h : Held) → ShowsRow R s held h row free → Cleans R S s held h row new free after block) where
-  pub mounted_cleaned : (held : Store) → IsMounted R s held rows free.pools → (then : Store) × IsMounted S s then (set rows place new) after.pools
+module _ {R : Region} {s : Super} {l : Layout} {rows : List Row} {free : FreeLists} {faults : List Fault} {read_only stopped : Bool} (kept : IsKept R s l rows free faults read_only stopped) (runs : stopped ≡ false) (writes : read_only ≡ false)
+    (place : ℕ) (row new : Row) (at : slice_get rows place ≡ Some row) (S : Region) (after : FreeLists) (block : Option ℕ) (follows : (held : Store) (h : Held) → ShowsRow R l held h row free → Cleans R S l held h row new free after block) where
+  pub mounted_cleaned : (held : Store) → IsMounted R l held rows free.pools → (then : Store) × IsMounted S l then (set rows place new) after.pools
   mounted_cleaned held m = by block (follows held w.0 w.1) where
-    w : (h : Held) × ShowsRow R s held h row free
+    w : (h : Held) × ShowsRow R l held h row free
     w = shows_row m kept.lists row (stands rows place row at)
 
-    by : (o : Option ℕ) → Cleans R S s held w.0 row new free after o → (then : Store) × IsMounted S s then (set rows place new) after.pools
-    by None f = (let none = f.1 in (held, subst (λ (Q : Region). IsMounted Q s held (set rows place new) after.pools) (sym none.region) (mounted_same kept runs writes place row new at none.row none.free held m)))
+    by : (o : Option ℕ) → Cleans R S l held w.0 row new free after o → (then : Store) × IsMounted S l then (set rows place new) after.pools
+    by None f = (let none = f.1 in (held, subst (λ (Q : Region). IsMounted Q l held (set rows place new) after.pools) (sym none.region) (mounted_same kept runs writes place row new at none.row none.free held m)))
     by (Some b) f =
         let keeps = m.keeps in
         let went = f.2 in (
@@ -77,30 +77,30 @@ module _ {R : Region} {s : Super} {rows : List Row} {free : FreeLists} {faults :
           record {
             sound = went.sound;
             keeps = record {
-              in_rows = rows_follow (fixed_layout s) held row.inode (cleaned w.0 f.0) rows keeps.in_rows place (slice_get_within rows place row at) new (number_at rows place row new at) went.inode went.told;
+              in_rows = rows_follow l held row.inode (cleaned w.0 f.0) rows keeps.in_rows place (slice_get_within rows place row at) new (number_at rows place row new at) went.inode went.told;
               in_lists = went.lists;
             };
           },
         )
 
   -- It is kept.
-  pub kept_cleaned : after.sup ≡ free.sup → (now : Bool) → IsKept S s (set rows place new) after faults read_only now
-  kept_cleaned lists now = kept_of_mounted S s (set rows place new) after faults read_only now kept.writes writes (lists ∙ kept.lists) (∥∥₁_map (mounted_of_kept kept runs writes) (λ w. mounted_cleaned w.0 w.1))
+  pub kept_cleaned : after.sup ≡ free.sup → (now : Bool) → IsKept S s l (set rows place new) after faults read_only now
+  kept_cleaned lists now = kept_of_mounted S s l (set rows place new) after faults read_only now kept.tables kept.writes writes (lists ∙ kept.lists) (∥∥₁_map (mounted_of_kept kept runs writes) (λ w. mounted_cleaned w.0 w.1))
 
-  bytes_there : (held : Store) → IsMounted R s held rows free.pools → (i : ℕ) (g : Held) → held i ≡ Some g → (x : ℕ) → byte_of S (fixed_layout s) g x ≡ byte_of R (fixed_layout s) g x
+  bytes_there : (held : Store) → IsMounted R l held rows free.pools → (i : ℕ) (g : Held) → held i ≡ Some g → (x : ℕ) → byte_of S l g x ≡ byte_of R l g x
   bytes_there held m i g is x = by block (follows held w.0 w.1) where
-    w : (h : Held) × ShowsRow R s held h row free
+    w : (h : Held) × ShowsRow R l held h row free
     w = shows_row m kept.lists row (stands rows place row at)
 
-    by : (o : Option ℕ) → Cleans R S s held w.0 row new free after o → byte_of S (fixed_layout s) g x ≡ byte_of R (fixed_layout s) g x
-    by None f = (let none = f.1 in ap (λ (Q : Region). byte_of Q (fixed_layout s) g x) none.region)
+    by : (o : Option ℕ) → Cleans R S l held w.0 row new free after o → byte_of S l g x ≡ byte_of R l g x
+    by None f = (let none = f.1 in ap (λ (Q : Region). byte_of Q l g x) none.region)
     by (Some b) f = (let went = f.2 in went.bytes i g is x)
 
   bytes_kept : (r : Row) → Contains rows r → (x : ℕ) → byte_in S (block_at r.index (x / 4096)) x ≡ byte_in R (block_at r.index (x / 4096)) x
   bytes_kept = bytes_stay kept runs writes S bytes_there
 
   rising : Rises row_key rows
-  rising = rows_rise R s rows free faults read_only stopped kept runs
+  rising = rows_rise R s l rows free faults read_only stopped kept runs
 
   -- The tree is as before.
   pub tree_cleaned : KeepsFile row new → SameTree (tree_of S (set rows place new)) (tree_of R rows)
@@ -126,10 +126,10 @@ module _ {R : Region} {s : Super} {rows : List Row} {free : FreeLists} {faults :
         subst (λ (o : Option Row). SameNodes (option_map (node_of S) o) (tree_of R rows j)) (sym left) (unchanged R S rows bytes_kept j (row_of rows j) refl)
 
   -- Which page went, for whatever is held of the region.
-  pub log_cleaned : (held : Store) (h : Held) → ShowsSound R s held → held row.inode ≡ Some h → ShowsCleaned R S s held row.inode h block
+  pub log_cleaned : (held : Store) (h : Held) → ShowsSound R l held → held row.inode ≡ Some h → ShowsCleaned R S l held row.inode h block
   log_cleaned held h sound is = by block (∥∥₁_map (mounted_with kept runs held sound) (λ m. follows held h (held_row kept row (stands rows place row at) held h is m))) where
-    by : (o : Option ℕ) → ∥ (Cleans R S s held h row new free after o) ∥₁ → ShowsCleaned R S s held row.inode h o
+    by : (o : Option ℕ) → ∥ (Cleans R S l held h row new free after o) ∥₁ → ShowsCleaned R S l held row.inode h o
     by None known = ∥∥₁_elim known prop (λ f. (f.0, (let none = f.1 in none.region))) where
-      prop : IsProp (IsFirstDead s h.kind row.inode h.created h.entries h.pages None × (S ≡ R))
+      prop : IsProp (IsFirstDead l.sup h.kind row.inode h.created h.entries h.pages None × (S ≡ R))
       prop = hlevel (props, ℕ_set)
     by (Some b) known = ∥∥₁_map known (λ f. (f.0, (let went = f.2 in record { first = f.1; block = went.block; sound = went.sound })))

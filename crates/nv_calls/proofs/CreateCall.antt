@@ -7,21 +7,22 @@ use Rattle.nv_super.specs.declared.faults.Fault.{Fault}
 use Rattle.nv_super.specs.declared.kind.Kind.{Kind}
 use Rattle.nv_super.specs.declared.kind.Kind.TheVariants.{Directory}
 use Rattle.nv_super.specs.declared.owners.Run.{Run}
-use Rattle.nv_super.specs.Layout.{fixed_layout, is_number}
+use Rattle.nv_super.specs.Layout.{Layout}
+use Rattle.nv_inode.specs.Numbers.{has_slot}
 use Rattle.nv_super.proofs.Members.{stands}
 use Rattle.nv_alloc.specs.FreeValue.{FreeLists}
 use Rattle.nv_alloc.specs.Taking.{all_blocks}
 use Rattle.nv_entry.specs.declared.entry.Operation.TheVariants.{Add}
 use Rattle.nv_logpage.specs.Append.{needed}
 use Rattle.nv_scan.specs.declared.piece.Row.{Row}
-use Rattle.nv_held.specs.nv_check.Cross.{row_key}
-use Rattle.nv_held.specs.nv_outcome.Same.{SameRows}
-use Rattle.nv_held.proofs.nv_outcome.SameRows.{from_first, from_second, rises_too}
-use Rattle.nv_held.specs.nv_graph.Read.{row_of}
-use Rattle.nv_held.specs.nv_graph.Step.{IsGoodName}
-use Rattle.nv_held.specs.Held.{Held, Store}
-use Rattle.nv_held.specs.Blocks.{KeepsFree}
-use Rattle.nv_held.specs.Mounted.{IsMounted, ShowsSound}
+use Rattle.nv_cross_check.specs.Cross.{row_key}
+use Rattle.nv_outcome.specs.Same.{SameRows}
+use Rattle.nv_outcome.proofs.SameRows.{from_first, from_second, rises_too}
+use Rattle.nv_graph.specs.Read.{row_of}
+use Rattle.nv_graph.specs.Step.{IsGoodName}
+use Rattle.nv_mounted.specs.Held.{Held, Store}
+use Rattle.nv_mounted.specs.Blocks.{KeepsFree}
+use Rattle.nv_mounted.specs.Mounted.{IsMounted, ShowsSound}
 use Rattle.nv_tree.specs.declared.refusal.Refusal.{Refusal}
 use Rattle.nv_tree.specs.declared.refusal.Refusal.TheVariants.{Stopped}
 use Rattle.nv_tree.specs.Path.{IsPath, IsPathName, Says, last_name}
@@ -43,65 +44,65 @@ use Rattle.nv_calls.proofs.CreatedTree.{created_by, made_tree, named_node, new_n
 use Rattle.nv_paths.proofs.CreateTests.{good_name, spot_allows}
 use Rattle.nv_calls.proofs.Kept.{rows_rise}
 use Rattle.nv_calls.proofs.Mounts.{kept_of_mounted, kept_when_stopped, mounted_of_kept}
-use Rattle.nv_calls.proofs.NewNumbers.{unused_is}
+use Rattle.nv_calls.proofs.NewNumbers.{named_number, unused_is}
 use Rattle.nv_calls.proofs.RowChange.{keeps_same}
 use Rattle.nv_calls.proofs.Tests.{space_allows, space_refuses}
 
-module _ {R S : Region} {s : Super} {rows news : List Row} {free after : FreeLists} {faults : List Fault} {read_only stopped : Bool} (kept : IsKept R s rows free faults read_only stopped) (runs : stopped ≡ false) (writes : read_only ≡ false)
-    {place : ℕ} {kind : Kind} {cpu mode time j : ℕ} {name : List ℕ} (step : CreatesAt R S s free after cpu rows news place kind mode time j name) (low : cpu < s.cpus) (spelled : IsPathName name) (names : List (List ℕ)) (spot : IsSpot (tree_of R rows) rows (fixed_layout s) cpu names place name j) where
+module _ {R S : Region} {s : Super} {l : Layout} {rows news : List Row} {free after : FreeLists} {faults : List Fault} {read_only stopped : Bool} (kept : IsKept R s l rows free faults read_only stopped) (runs : stopped ≡ false) (writes : read_only ≡ false)
+    {place : ℕ} {kind : Kind} {cpu mode time j : ℕ} {name : List ℕ} (step : CreatesAt R S l free after cpu rows news place kind mode time j name) (low : cpu < l.sup.cpus) (spelled : IsPathName name) (names : List (List ℕ)) (spot : IsSpot (tree_of R rows) rows l cpu names place name j) where
   directory : step.row.kind ≡ Directory
   directory = (spot.directory step.row step.at).1
 
   walked : walk (tree_of R rows) 1 names ≡ Ok step.row.inode
   walked = (spot.directory step.row step.at).0
 
-  number : IsTrue (is_number s j)
-  number = (unused_is s rows cpu j low spot.unused).1
+  number : IsTrue (has_slot l j)
+  number = (unused_is l rows cpu j low spot.unused).1
 
   unused : row_of rows j ≡ None
-  unused = (unused_is s rows cpu j low spot.unused).0
+  unused = (unused_is l rows cpu j low spot.unused).0
 
-  good : IsGoodName s j name
-  good = good_name s j name spelled number
+  good : IsGoodName l.sup j name
+  good = good_name l.sup j name spelled (named_number kept runs writes j number)
 
   absent : IsNoneNamed rows step.row name
   absent = spot.absent step.row step.at
 
   -- What is mounted, for what is held of the region of before.
-  pub created_mounted : (held : Store) (m : IsMounted R s held rows free.pools) → (then : Store) × IsMounted S s then news after.pools
+  pub created_mounted : (held : Store) (m : IsMounted R l held rows free.pools) → (then : Store) × IsMounted S l then news after.pools
   created_mounted held m = (_, mounted_then kept runs writes step directory good unused absent held m)
 
   -- What is kept.
-  pub created_kept : (now : Bool) → IsKept S s news after faults read_only now
+  pub created_kept : (now : Bool) → IsKept S s l news after faults read_only now
   created_kept = kept_then kept runs writes step directory good unused absent
 
   -- The tree is what the call makes of that of before.
-  pub created_tree : SameTree (tree_of S news) (created kind (unused_number (fixed_layout s) rows cpu) names mode time (tree_of R rows))
+  pub created_tree : SameTree (tree_of S news) (created kind (unused_number l rows cpu) names mode time (tree_of R rows))
   created_tree =
       let made = step.step in
       let new = made.row in
       let here = stands rows place step.row step.at in
       let there : step.made.inode ≡ j = new.inode in
       let same = subst (λ (i : ℕ). SameTree (tree_of S news) (made_tree R rows step.row i kind mode time name)) there
-      (tree_then R S rows news place step.row step.now step.made kind mode time name (rows_rise R s rows free faults read_only stopped kept runs) step.at number_stays step.put (ap (row_of rows) there ∙ unused)
+      (tree_then R S rows news place step.row step.now step.made kind mode time name (rows_rise R s l rows free faults read_only stopped kept runs) step.at number_stays step.put (ap (row_of rows) there ∙ unused)
       (subst (λ (i : ℕ). SameNode (node_of S step.now) (with_name name i time (node_of R step.row))) (sym there)
       (named_node R S made.fresh _ name j _ time made.directory made.once made.once_now (name_absent kept runs writes step.row here name absent) (bytes_kept kept runs writes step directory good unused absent step.row here)))
       (new_node_is S j kind mode time made.page _ new) (bytes_kept kept runs writes step directory good unused absent)) in
-      subst (λ (t : Tree). SameTree (tree_of S news) t) (sym (created_by kind (unused_number (fixed_layout s) rows cpu) names mode time (tree_of R rows) j step.row.inode name spot.unused walked spot.name_is)) same
+      subst (λ (t : Tree). SameTree (tree_of S news) t) (sym (created_by kind (unused_number l rows cpu) names mode time (tree_of R rows) j step.row.inode name spot.unused walked spot.name_is)) same
     where
       number_stays : step.now.inode ≡ step.row.inode
       number_stays = let made = step.step in let dir = made.directory in dir.inode
 
   -- The logs, for whatever is held of the region.
-  pub created_log : (d i : ℕ) (held : Store) (h : Held) → walk (tree_of R rows) 1 names ≡ Ok d → unused_number (fixed_layout s) rows cpu ≡ Some i → ShowsSound R s held → held d ≡ Some h → ShowsCreated S s free.pools cpu held kind mode time i d h (last_name names)
+  pub created_log : (d i : ℕ) (held : Store) (h : Held) → walk (tree_of R rows) 1 names ≡ Ok d → unused_number l rows cpu ≡ Some i → ShowsSound R l held → held d ≡ Some h → ShowsCreated S l free.pools cpu held kind mode time i d h (last_name names)
   created_log d i held h ended free_number sound is =
       let both : Ok step.row.inode ≡ Ok d = sym walked ∙ ended in
       let same : step.row.inode ≡ d = cc in
       let numbers : Some j ≡ Some i = sym spot.unused ∙ free_number in
       let one : j ≡ i = cc in
-      subst (λ (k : ℕ). ShowsCreated S s free.pools cpu held kind mode time k d h (last_name names)) one
-      (subst (λ (q : List ℕ). ShowsCreated S s free.pools cpu held kind mode time j d h q) spot.name_is
-      (subst (λ (k : ℕ). ShowsCreated S s free.pools cpu held kind mode time j k h name) same
+      subst (λ (k : ℕ). ShowsCreated S l free.pools cpu held kind mode time k d h (last_name names)) one
+      (subst (λ (q : List ℕ). ShowsCreated S l free.pools cpu held kind mode time j d h q) spot.name_is
+      (subst (λ (k : ℕ). ShowsCreated S l free.pools cpu held kind mode time j k h name) same
       (was_created kept runs writes step directory good unused absent held h sound (ap held same ∙ is))))
 
 -- ---- why it is refused
@@ -115,15 +116,15 @@ blocks_by rows t row names j time name walked is last =
     ∙ ap (λ (q : List ℕ). 1 + needed (row.tail % 4096) (name_entries Add 0 q 0)) (sym last)
 
 module _ {P : Type 0} (region : P → Region) {n m : Mount P} (same : n ≡ m) (cpu : ℕ) (passed : (tests : Tests) → first_refusal (writing (world_of m) cpu tests) ≡ first_refusal tests) (place : ℕ) (row : Row) (at : slice_get n.rows place ≡ Some row) (is : row_of n.rows row.inode ≡ Some row)
-    (name : List ℕ) (j time : ℕ) (text : List ℕ) (spot : (names : List (List ℕ)) → IsPath text names → IsSpot (tree_of (region n.memory) n.rows) n.rows (fixed_layout n.sup) cpu names place name j) (p : Path) (says : Says text p)
-    (none : first_refusal (spot_tests (tree_of (region n.memory) n.rows) (unused_number (fixed_layout n.sup) n.rows cpu) p) ≡ None) where
+    (name : List ℕ) (j time : ℕ) (text : List ℕ) (spot : (names : List (List ℕ)) → IsPath text names → IsSpot (tree_of (region n.memory) n.rows) n.rows n.layout cpu names place name j) (p : Path) (says : Says text p)
+    (none : first_refusal (spot_tests (tree_of (region n.memory) n.rows) (unused_number n.layout n.rows cpu) p) ≡ None) where
   abbrev tests : Mount P → Option Refusal
   tests k = first_refusal (create_tests (world_of k) (tree_of (region k.memory) k.rows) cpu p (create_blocks k.rows (tree_of (region k.memory) k.rows) p))
 
   abbrev count : ℕ
   count = 1 + needed (row.tail % 4096) (name_entries Add j name time)
 
-  blocks_there : (q : Path) → Says text q → first_refusal (spot_tests (tree_of (region n.memory) n.rows) (unused_number (fixed_layout n.sup) n.rows cpu) q) ≡ None → create_blocks n.rows (tree_of (region n.memory) n.rows) q ≡ count
+  blocks_there : (q : Path) → Says text q → first_refusal (spot_tests (tree_of (region n.memory) n.rows) (unused_number n.layout n.rows cpu) q) ≡ None → create_blocks n.rows (tree_of (region n.memory) n.rows) q ≡ count
   blocks_there None says none = absurd (cc)
   blocks_there (Some names) says none = let there = spot names says in blocks_by n.rows (tree_of (region n.memory) n.rows) row names j time name (there.directory row at).0 is there.name_is
 
@@ -142,8 +143,8 @@ module _ {P : Type 0} (region : P → Region) {n m : Mount P} (same : n ≡ m) (
 
 -- ---- a step that was refused
 
-mounted_same : {R : Region} {s : Super} {rows news : List Row} {pools lists : List (List Run)} (held : Store) → IsMounted R s held rows pools → SameRows rows news → lists ≡ pools → IsMounted R s held news lists
-mounted_same {R} {s} {rows} {news} {pools} {lists} held m same free =
+mounted_same : {R : Region} {l : Layout} {rows news : List Row} {pools lists : List (List Run)} (held : Store) → IsMounted R l held rows pools → SameRows rows news → lists ≡ pools → IsMounted R l held news lists
+mounted_same {R} {l} {rows} {news} {pools} {lists} held m same free =
     let keeps = m.keeps in
     let in_rows = keeps.in_rows in
     record {
@@ -151,29 +152,30 @@ mounted_same {R} {s} {rows} {news} {pools} {lists} held m same free =
       keeps = record {
         in_rows = record {
           rising = rises_too row_key (λ a b one. ap (λ (n : ℕ). n ∷ []) (sym one.inode)) rows news same in_rows.rising;
-          each = λ r c. (let w = from_second rows news same r c in let k = in_rows.each w.0 w.1 in let one = w.2 in (k.0, ap held one.inode ∙ k.1, keeps_same s k.0 w.0 r one k.2));
+          each = λ r c. (let w = from_second rows news same r c in let k = in_rows.each w.0 w.1 in let one = w.2 in (k.0, ap held one.inode ∙ k.1, keeps_same l k.0 w.0 r one k.2));
           all = λ i h is. (let k = in_rows.all i h is in let w = from_first rows news same k.0 k.1 in let one = w.2 in (w.0, w.1, one.inode ∙ k.2));
         };
-        in_lists = subst (λ (l : List (List Run)). KeepsFree (fixed_layout s) held l) (sym free) keeps.in_lists;
+        in_lists = subst (λ (all : List (List Run)). KeepsFree l held all) (sym free) keeps.in_lists;
       };
     }
 
 -- what is kept where rows are the same
-pub kept_or_stopped : {P : Type 0} (region : P → Region) {old now : P} {s : Super} {rows news : List Row} {free after : FreeLists} {faults : List Fault} {read_only stopped : Bool} → IsKept (region old) s rows free faults read_only stopped → stopped ≡ false → read_only ≡ false
-    → (e : Refusal) (stops : Bool) → (IsTrue stops → e ≡ Stopped) → (stops ≡ false → e ≡ Stopped → ⊥) → after.sup ≡ free.sup → ((e ≡ Stopped → ⊥) → LeavesRows old now free after rows news) → IsKept (region now) s news after faults read_only stops
-kept_or_stopped region {old} {now} {s} {rows} {news} {free} {after} {faults} {read_only} kept runs writes e true stopped_by goes_by lists leaves = kept_when_stopped (region now) s news after faults read_only true kept.writes (lists ∙ kept.lists) refl
-kept_or_stopped {P} region {old} {now} {s} {rows} {news} {free} {after} {faults} {read_only} kept runs writes e false stopped_by goes_by lists leaves =
+pub kept_or_stopped : {P : Type 0} (region : P → Region) {old now : P} {s : Super} {l : Layout} {rows news : List Row} {free after : FreeLists} {faults : List Fault} {read_only stopped : Bool} → IsKept (region old) s l rows free faults read_only stopped → stopped ≡ false → read_only ≡ false
+    → (e : Refusal) (stops : Bool) → (IsTrue stops → e ≡ Stopped) → (stops ≡ false → e ≡ Stopped → ⊥) → after.sup ≡ free.sup → ((e ≡ Stopped → ⊥) → LeavesRows old now free after rows news) → IsKept (region now) s l news after faults read_only stops
+kept_or_stopped region {old} {now} {s} {l} {rows} {news} {free} {after} {faults} {read_only} kept runs writes e true stopped_by goes_by lists leaves = kept_when_stopped (region now) s l news after faults read_only true kept.tables kept.writes (lists ∙ kept.lists) refl
+kept_or_stopped {P} region {old} {now} {s} {l} {rows} {news} {free} {after} {faults} {read_only} kept runs writes e false stopped_by goes_by lists leaves =
     let left = leaves (goes_by refl) in
-    subst (λ (q : P). IsKept (region q) s news after faults read_only false) (sym left.memory)
-    (kept_of_mounted (region old) s news after faults read_only false kept.writes writes (lists ∙ kept.lists) (∥∥₁_map (mounted_of_kept kept runs writes) (λ w. (w.0, mounted_same w.0 w.1 left.rows left.free.pools))))
+    subst (λ (q : P). IsKept (region q) s l news after faults read_only false) (sym left.memory)
+    (kept_of_mounted (region old) s l news after faults read_only false kept.tables kept.writes writes (lists ∙ kept.lists) (∥∥₁_map (mounted_of_kept kept runs writes) (λ w. (w.0, mounted_same w.0 w.1 left.rows left.free.pools))))
 
 -- And all is as before.
 pub unchanged_rows : {P : Type 0} {n m : Mount P} → n ≡ m → (now : P) (news : List Row) (after : FreeLists) (stops : Bool) → n.stopped ≡ false → stops ≡ false → LeavesRows n.memory now n.free after n.rows news
-    → SameMount m (record { memory = now; sup = n.sup; rows = news; free = after; faults = n.faults; read_only = n.read_only; stopped = stops })
+    → SameMount m (record { memory = now; sup = n.sup; layout = n.layout; rows = news; free = after; faults = n.faults; read_only = n.read_only; stopped = stops })
 unchanged_rows {P} {n} {m} same now news after stops runs off left =
-    subst (λ (k : Mount P). SameMount k (record { memory = now; sup = n.sup; rows = news; free = after; faults = n.faults; read_only = n.read_only; stopped = stops })) same (record {
+    subst (λ (k : Mount P). SameMount k (record { memory = now; sup = n.sup; layout = n.layout; rows = news; free = after; faults = n.faults; read_only = n.read_only; stopped = stops })) same (record {
       memory = left.memory;
       sup = refl;
+      layout = refl;
       rows = left.rows;
       free = left.free;
       faults = refl;

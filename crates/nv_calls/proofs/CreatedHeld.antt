@@ -2,10 +2,9 @@
 use Rattle.std.proofs.Common.{◌≡◌, ◌≢◌, ◌↔◌, ℕ, ◌*◌, ◌%◌, inl, inr, eqb, List, [], ◌∷◌, ◌++◌, length, take, take_all, refl, ap, sym, ◌∙◌, subst, arith, Some, None}
 use Rattle.std.specs.List.{Contains, IsDistinct}
 use Rattle.nv_region.specs.Region.{Region}
-use Rattle.nv_super.specs.declared.superblock.Super.{Super}
 use Rattle.nv_super.specs.declared.kind.Kind.{Kind}
 use Rattle.nv_super.specs.declared.kind.Kind.TheVariants.{Directory}
-use Rattle.nv_super.specs.Layout.{Layout, fixed_layout}
+use Rattle.nv_super.specs.Layout.{Layout}
 use Rattle.nv_super.proofs.Rising.{Contains-cons, Contains-head, Contains-tail}
 use Rattle.nv_alloc.specs.FreeValue.{FreeLists}
 use Rattle.nv_entry.specs.declared.entry.Entry.{Entry}
@@ -16,15 +15,15 @@ use Rattle.nv_logpage.proofs.RightLogs.{head_starts}
 use Rattle.nv_scan.specs.Rows.{AreNumbers}
 use Rattle.nv_scan.specs.declared.numbers.Numbers.{Numbers}
 use Rattle.nv_scan.specs.declared.piece.Row.{Row}
-use Rattle.nv_held.specs.Held.{Held, Store, good_in, with_inode}
-use Rattle.nv_held.specs.Blocks.{IsUnowned, KeepsFree, NoneDoubled, OwnsNew}
-use Rattle.nv_held.specs.Graph.{graph_in}
-use Rattle.nv_held.specs.Grows.{AreFree}
-use Rattle.nv_held.specs.Mounted.{IsFaultless, KeepsRow, ShowsSound}
-use Rattle.nv_held.proofs.Growing.{free_but, grown_owns}
-use Rattle.nv_held.proofs.Owning.{other_held, same_held, still_undoubled}
-use Rattle.nv_held.proofs.Shown.{stands_at}
-use Rattle.nv_held.specs.nv_graph.Step.{IsGoodName}
+use Rattle.nv_mounted.specs.Held.{Held, Store, good_in, with_inode}
+use Rattle.nv_mounted.specs.Blocks.{IsUnowned, KeepsFree, NoneDoubled, OwnsNew}
+use Rattle.nv_mounted.specs.Graph.{graph_in}
+use Rattle.nv_mounted.specs.Grows.{AreFree}
+use Rattle.nv_mounted.specs.Mounted.{IsFaultless, KeepsRow, ShowsSound}
+use Rattle.nv_mounted.proofs.Growing.{free_but, grown_owns}
+use Rattle.nv_mounted.proofs.Owning.{other_held, same_held, still_undoubled}
+use Rattle.nv_mounted.proofs.Shown.{stands_at}
+use Rattle.nv_graph.specs.Step.{IsGoodName}
 use Rattle.nv_commit.specs.Extends.{extended}
 use Rattle.nv_commit.specs.Pages.{MapsNothing}
 use Rattle.nv_commit.specs.Together.{ShowsIdle}
@@ -37,12 +36,9 @@ use Rattle.nv_steps.specs.Taken.{TakesEach}
 use Rattle.nv_steps.proofs.NameEntries.{first, first_in_range, at_page, name_file, new_maps_nothing, new_names, new_numbers}
 use Rattle.nv_steps.proofs.TakenBlocks.{are_free, lists_without}
 
-module _ {R : Region} {s : Super} {held : Store} {h : Held} {row : Row} {free after : FreeLists} {cpu : ℕ} (kind : Kind) (mode time j : ℕ) (name : List ℕ) (page : ℕ) (fresh : List ℕ)
-    (shows : ShowsRow R s held h row free) (unused : held j ≡ None) (directory : h.kind ≡ Directory) (good : IsGoodName s j name) (absent : (graph_in (fixed_layout s) held).name row.inode name ≡ None)
-    (lists : free.sup ≡ s) (taken : TakesEach free cpu (page ∷ fresh) after) (apart : Contains fresh page → ⊥) (count : length fresh ≡ needed (h.tail % 4096) (name_entries Add j name time)) where
-  abbrev l : Layout
-  l = fixed_layout s
-
+module _ {R : Region} {l : Layout} {held : Store} {h : Held} {row : Row} {free after : FreeLists} {cpu : ℕ} (kind : Kind) (mode time j : ℕ) (name : List ℕ) (page : ℕ) (fresh : List ℕ)
+    (shows : ShowsRow R l held h row free) (unused : held j ≡ None) (directory : h.kind ≡ Directory) (good : IsGoodName l.sup j name) (absent : (graph_in l held).name row.inode name ≡ None)
+    (lists : free.sup ≡ l.sup) (taken : TakesEach free cpu (page ∷ fresh) after) (apart : Contains fresh page → ⊥) (count : length fresh ≡ needed (h.tail % 4096) (name_entries Add j name time)) where
   abbrev new : Held
   new = new_held kind mode time page
 
@@ -114,23 +110,23 @@ module _ {R : Region} {s : Super} {held : Store} {h : Held} {row : Row} {free af
 
   -- ---- nothing is wrong
 
-  module _ {S : Region} (idle : ShowsIdle S s (with_named held kind mode time j row.inode h name page fresh)) where
+  module _ {S : Region} (idle : ShowsIdle S l (with_named held kind mode time j row.inode h name page fresh)) where
     once : IsDistinct eqb grown_log.pages
     once =
         let v = stands_at idle.shows row.inode grown_log (same_held mid row.inode (Some grown_log)) in
-        let all = pages_are (one_page s h.head (head_starts s h.head grown_log.tail v.is.right)) v.is.reads in
+        let all = pages_are (one_page l.sup h.head (head_starts l.sup h.head grown_log.tail v.is.right)) v.is.reads in
         all.once
 
     owns_more : OwnsNew l mid row.inode (Some grown_log)
     owns_more = grown_owns l mid row.inode h grown_log there fresh pages_now fresh_free (name_file l h directory Add j name good at time end pages) mid_undoubled once
 
     -- The region is sound.
-    pub made_sound : ShowsSound S s (with_named held kind mode time j row.inode h name page fresh)
+    pub made_sound : ShowsSound S l (with_named held kind mode time j row.inode h name page fresh)
     made_sound = record {
-      sup = idle.sup;
+      tables = idle.tables;
       idle = idle.idle;
       shows = idle.shows;
-      faultless = created_faultless l held was row.inode h shows.holds directory j name good at time end pages new (at_page l kind mode time page) (first mode time) unused refl (first_in_range s kind mode time) absent owns_page owns_more;
+      faultless = created_faultless l held was row.inode h shows.holds directory j name good at time end pages new (at_page l kind mode time page) (first mode time) unused refl (first_in_range l.sup kind mode time) absent owns_page owns_more;
     }
 
   -- ---- the new row

@@ -15,21 +15,21 @@ use Rattle.nv_super.specs.declared.owners.Run.{Run}
 use Rattle.nv_super.specs.declared.faults.Fault.{Fault}
 use Rattle.nv_super.specs.declared.kind.Kind.{Kind}
 use Rattle.nv_super.specs.declared.kind.Kind.TheVariants.{Directory}
-use Rattle.nv_super.specs.Layout.{fixed_layout}
+use Rattle.nv_super.specs.Layout.{Layout}
 use Rattle.nv_alloc.specs.FreeValue.{FreeLists}
 use Rattle.nv_entry.specs.declared.entry.Operation.TheVariants.{Add}
 use Rattle.nv_logpage.specs.Append.{end_of, needed}
 use Rattle.nv_names.specs.Names.{name_at}
 use Rattle.nv_radix.specs.Pages.{block_at}
 use Rattle.nv_scan.specs.declared.piece.Row.{Row}
-use Rattle.nv_held.specs.nv_graph.Read.{row_of}
-use Rattle.nv_held.specs.nv_graph.Step.{IsGoodName}
-use Rattle.nv_held.specs.Held.{Held, Store, with_inode}
-use Rattle.nv_held.specs.Bytes.{byte_in, byte_of}
-use Rattle.nv_held.specs.Graph.{graph_in, node_in, target_in}
-use Rattle.nv_held.specs.Mounted.{IsMounted, KeepsRow, KeepsRows, ShowsSound}
-use Rattle.nv_held.proofs.Owning.{other_held}
-use Rattle.nv_held.proofs.RowsKept.{rows_follow, rows_more}
+use Rattle.nv_graph.specs.Read.{row_of}
+use Rattle.nv_graph.specs.Step.{IsGoodName}
+use Rattle.nv_mounted.specs.Held.{Held, Store, with_inode}
+use Rattle.nv_mounted.specs.Bytes.{byte_in, byte_of}
+use Rattle.nv_mounted.specs.Graph.{graph_in, node_in, target_in}
+use Rattle.nv_mounted.specs.Mounted.{IsMounted, KeepsRow, KeepsRows, ShowsSound}
+use Rattle.nv_mounted.proofs.Owning.{other_held}
+use Rattle.nv_mounted.proofs.RowsKept.{rows_follow, rows_more}
 use Rattle.nv_commit.specs.Extends.{extended}
 use Rattle.nv_calls.specs.Mount.{IsKept}
 use Rattle.nv_calls.specs.NameCalls.{ShowsCreated, WasCreated}
@@ -59,8 +59,8 @@ is_inserted (x ∷ rows) (suc p) row = Contains-tail x (insert rows p row) row (
 
 -- ---- what is held of rows
 
-module _ {R : Region} {s : Super} {held : Store} {rows : List Row} {pools : List (List Run)} (m : IsMounted R s held rows pools) where
-  pub in_rows : KeepsRows (fixed_layout s) held rows
+module _ {R : Region} {l : Layout} {held : Store} {rows : List Row} {pools : List (List Run)} (m : IsMounted R l held rows pools) where
+  pub in_rows : KeepsRows l held rows
   in_rows = let keeps = m.keeps in keeps.in_rows
 
   has_row : (j : ℕ) (g : Held) → held j ≡ Some g → row_of rows j ≡ None → ⊥
@@ -92,16 +92,16 @@ module _ {R : Region} {s : Super} {held : Store} {rows : List Row} {pools : List
         let sound = m.sound in
         let faultless = sound.faultless in
         let cross = faultless.named in
-        let is : (graph_in (fixed_layout s) held).name row.inode name ≡ Some x.0 =
-        ap (λ (o : Option Held). option_and_then (target_in (fixed_layout s) name) o) w.1 ∙ ap (λ (o : Option (ℕ × ℕ)). option_map (λ (y : ℕ × ℕ). y.0) o) (sym (told.names name) ∙ e) in
+        let is : (graph_in l held).name row.inode name ≡ Some x.0 =
+        ap (λ (o : Option Held). option_and_then (target_in l name) o) w.1 ∙ ap (λ (o : Option (ℕ × ℕ)). option_map (λ (y : ℕ × ℕ). y.0) o) (sym (told.names name) ∙ e) in
         let used = cross.in_use row.inode name x.0 is in
-        let gone : option_map (node_in (fixed_layout s)) (held x.0) ≡ None = ap (λ (o : Option Held). option_map (node_in (fixed_layout s)) o) (not_held x.0 none) in
+        let gone : option_map (node_in l) (held x.0) ≡ None = ap (λ (o : Option Held). option_map (node_in l) o) (not_held x.0 none) in
         let clash : None ≡ Some used.0 = sym gone ∙ used.1 in
         absurd (cc)
 
 -- Nor is it where the file system can be written.
-pub name_absent : {R : Region} {s : Super} {rows : List Row} {free : FreeLists} {faults : List Fault} {read_only stopped : Bool} → IsKept R s rows free faults read_only stopped → stopped ≡ false → read_only ≡ false → (row : Row) → Contains rows row → (name : List ℕ) → IsNoneNamed rows row name → name_at row.names name ≡ None
-name_absent {R} {s} {rows} kept runs writes row here name none = ∥∥₁_elim (mounted_of_kept kept runs writes) prop (λ w. not_named w.1 row here name none) where
+pub name_absent : {R : Region} {s : Super} {l : Layout} {rows : List Row} {free : FreeLists} {faults : List Fault} {read_only stopped : Bool} → IsKept R s l rows free faults read_only stopped → stopped ≡ false → read_only ≡ false → (row : Row) → Contains rows row → (name : List ℕ) → IsNoneNamed rows row name → name_at row.names name ≡ None
+name_absent {R} {s} {l} {rows} kept runs writes row here name none = ∥∥₁_elim (mounted_of_kept kept runs writes) prop (λ w. not_named w.1 row here name none) where
   prop : IsProp (name_at row.names name ≡ None)
   prop = hlevel (props, ℕ_set)
 
@@ -119,8 +119,8 @@ two_changes held i j a b differ = λ t k. (each k) t where
         ap (λ (t : Bool). cond t b (with_inode held i a k)) off ∙ ap (λ (o : Option Held). cond (nat_eq k i) a o) (sym (ap (λ (t : Bool). cond t b (held k)) off)))
   ]
 
-module _ {R S : Region} {s : Super} {rows news : List Row} {free after : FreeLists} {faults : List Fault} {read_only stopped : Bool} (kept : IsKept R s rows free faults read_only stopped) (runs : stopped ≡ false) (writes : read_only ≡ false)
-    {place : ℕ} {kind : Kind} {cpu mode time j : ℕ} {name : List ℕ} (step : CreatesAt R S s free after cpu rows news place kind mode time j name) (directory : step.row.kind ≡ Directory) (good : IsGoodName s j name)
+module _ {R S : Region} {s : Super} {l : Layout} {rows news : List Row} {free after : FreeLists} {faults : List Fault} {read_only stopped : Bool} (kept : IsKept R s l rows free faults read_only stopped) (runs : stopped ≡ false) (writes : read_only ≡ false)
+    {place : ℕ} {kind : Kind} {cpu mode time j : ℕ} {name : List ℕ} (step : CreatesAt R S l free after cpu rows news place kind mode time j name) (directory : step.row.kind ≡ Directory) (good : IsGoodName l.sup j name)
     (unused : row_of rows j ≡ None) (absent : IsNoneNamed rows step.row name) where
   abbrev row : Row
   row = step.row
@@ -141,11 +141,11 @@ module _ {R S : Region} {s : Super} {rows news : List Row} {free after : FreeLis
   apart c = let made = step.step in all_differ made.taken 0 (suc c.0) (omega arith) (omega (arith, c.1)) (sym (get_or_default made.fresh c.0 0 made.page c.1 ∙ c.2))
 
   -- what is held, and what it shows of the directory
-  module _ (held : Store) (m : IsMounted R s held rows free.pools) where
+  module _ (held : Store) (m : IsMounted R l held rows free.pools) where
     abbrev pub h : Held
     h = (shows_row {free = free} m kept.lists row here).0
 
-    shows : ShowsRow R s held h row free
+    shows : ShowsRow R l held h row free
     shows = (shows_row {free = free} m kept.lists row here).1
 
     out : held j ≡ None
@@ -154,10 +154,10 @@ module _ {R S : Region} {s : Super} {rows news : List Row} {free after : FreeLis
     of_kind : h.kind ≡ Directory
     of_kind = let told = shows.told in sym told.kind ∙ directory
 
-    not_there : (graph_in (fixed_layout s) held).name row.inode name ≡ None
+    not_there : (graph_in l held).name row.inode name ≡ None
     not_there =
         let told = shows.told in
-        ap (λ (o : Option Held). option_and_then (target_in (fixed_layout s) name) o) shows.holds ∙ ap (λ (o : Option (ℕ × ℕ)). option_map (λ (y : ℕ × ℕ). y.0) o) (sym (told.names name) ∙ not_named m row here name absent)
+        ap (λ (o : Option Held). option_and_then (target_in l name) o) shows.holds ∙ ap (λ (o : Option (ℕ × ℕ)). option_map (λ (y : ℕ × ℕ). y.0) o) (sym (told.names name) ∙ not_named m row here name absent)
 
     count : length makes_fresh ≡ needed (h.tail % 4096) (name_entries Add j name time)
     count = let made = step.step in let told = shows.told in made.count ∙ ap (λ (t : ℕ). needed (t % 4096) (name_entries Add j name time)) told.tail
@@ -165,39 +165,39 @@ module _ {R S : Region} {s : Super} {rows news : List Row} {free after : FreeLis
     abbrev then : Store
     then = with_named held kind mode time j row.inode h name makes_page makes_fresh
 
-    sound_then : ShowsSound S s then
+    sound_then : ShowsSound S l then
     sound_then =
         let made = step.step in
         let seen = made.shows held h shows out in
         made_sound kind mode time j name made.page made.fresh shows out of_kind good not_there kept.lists made.taken apart count seen.idle
 
-    bytes_then : (i : ℕ) (g : Held) → held i ≡ Some g → (x : ℕ) → byte_of S (fixed_layout s) g x ≡ byte_of R (fixed_layout s) g x
+    bytes_then : (i : ℕ) (g : Held) → held i ≡ Some g → (x : ℕ) → byte_of S l g x ≡ byte_of R l g x
     bytes_then = let made = step.step in let seen = made.shows held h shows out in seen.bytes
 
     differ : row.inode ≢ j
     differ same = let e : Some h ≡ None = sym shows.holds ∙ ap held same ∙ out in cc
 
-    rows_then : KeepsRows (fixed_layout s) then news
+    rows_then : KeepsRows l then news
     rows_then =
         let made = step.step in
         let put = step.put in
         let new = made.row in
-        let follow = rows_follow (fixed_layout s) held row.inode (extended h (name_entries Add j name time) made.fresh) rows (in_rows m) place inside step.now (number_at rows place row step.now step.at) dir.inode dir_told in
+        let follow = rows_follow l held row.inode (extended h (name_entries Add j name time) made.fresh) rows (in_rows m) place inside step.now (number_at rows place row step.now step.at) dir.inode dir_told in
         let still_out : with_inode held row.inode (Some (extended h (name_entries Add j name time) made.fresh)) j ≡ None = other_held held row.inode j (Some (extended h (name_entries Add j name time) made.fresh)) (λ e. differ (sym e)) ∙ out in
-        let more = rows_more (fixed_layout s) (with_inode held row.inode (Some (extended h (name_entries Add j name time) made.fresh))) j (new_held kind mode time made.page) (set rows place step.now) news step.made follow still_out put.rising
+        let more = rows_more l (with_inode held row.inode (Some (extended h (name_entries Add j name time) made.fresh))) j (new_held kind mode time made.page) (set rows place step.now) news step.made follow still_out put.rising
         (λ r c. from_inserted (set rows place step.now) put.place step.made r (subst (λ (rs : List Row). Contains rs r) put.all c)) (λ r c. subst (λ (rs : List Row). Contains rs r) (sym put.all) (stays_inserted (set rows place step.now) put.place step.made r c))
         (subst (λ (rs : List Row). Contains rs step.made) (sym put.all) (is_inserted (set rows place step.now) put.place step.made)) new.inode
         (new_told kind mode time j name made.page made.fresh shows out of_kind good not_there kept.lists made.taken apart count new) in
-        subst (λ (st : Store). KeepsRows (fixed_layout s) st news) (two_changes held row.inode j (Some (extended h (name_entries Add j name time) made.fresh)) (Some (new_held kind mode time made.page)) differ) more
+        subst (λ (st : Store). KeepsRows l st news) (two_changes held row.inode j (Some (extended h (name_entries Add j name time) made.fresh)) (Some (new_held kind mode time made.page)) differ) more
       where
         dir : HasNamed row makes_fresh (end_of makes_fresh 0 row.tail (name_entries Add j name time)) name j (place_named makes_fresh row.tail j name time) time step.now
         dir = let made = step.step in made.directory
 
-        dir_told : KeepsRow (fixed_layout s) (extended h (name_entries Add j name time) makes_fresh) step.now
-        dir_told = let made = step.step in named_told s j name time made.fresh shows.told directory good made.count made.directory
+        dir_told : KeepsRow l (extended h (name_entries Add j name time) makes_fresh) step.now
+        dir_told = let made = step.step in named_told l j name time made.fresh shows.told directory good made.count made.directory
 
     -- The rows and the free lists are those of what is held.
-    pub mounted_then : IsMounted S s then news after.pools
+    pub mounted_then : IsMounted S l then news after.pools
     mounted_then =
         let made = step.step in
         record {
@@ -209,22 +209,22 @@ module _ {R S : Region} {s : Super} {rows news : List Row} {free after : FreeLis
         }
 
   -- What is kept then.
-  pub kept_then : (now : Bool) → IsKept S s news after faults read_only now
+  pub kept_then : (now : Bool) → IsKept S s l news after faults read_only now
   kept_then now =
       let made = step.step in
-      kept_of_mounted S s news after faults read_only now kept.writes writes (taken_sup made.taken ∙ kept.lists) (∥∥₁_map (mounted_of_kept kept runs writes) (λ w. (with_named w.0 kind mode time j row.inode (h w.0 w.1) name makes_page makes_fresh, mounted_then w.0 w.1)))
+      kept_of_mounted S s l news after faults read_only now kept.tables kept.writes writes (taken_sup made.taken ∙ kept.lists) (∥∥₁_map (mounted_of_kept kept runs writes) (λ w. (with_named w.0 kind mode time j row.inode (h w.0 w.1) name makes_page makes_fresh, mounted_then w.0 w.1)))
 
   -- Each byte that a row's file had is where it was.
   pub bytes_kept : (r : Row) → Contains rows r → (x : ℕ) → byte_in S (block_at r.index (x / 4096)) x ≡ byte_in R (block_at r.index (x / 4096)) x
   bytes_kept = bytes_stay kept runs writes S bytes_then
 
   -- The new inode and its name, for whatever is held of the region.
-  pub was_created : (held : Store) (g : Held) → ShowsSound R s held → held row.inode ≡ Some g → ShowsCreated S s free.pools cpu held kind mode time j row.inode g name
+  pub was_created : (held : Store) (g : Held) → ShowsSound R l held → held row.inode ≡ Some g → ShowsCreated S l free.pools cpu held kind mode time j row.inode g name
   was_created held g sound is = ∥∥₁_map (mounted_with kept runs held sound) (λ m.
       let shown = shows held m in
       let both : Some (h held m) ≡ Some g = sym shown.holds ∙ is in
       let same : h held m ≡ g = cc in
-      subst (λ (k : Held). WasCreated S s free.pools cpu held kind mode time j row.inode k name) same (record {
+      subst (λ (k : Held). WasCreated S l free.pools cpu held kind mode time j row.inode k name) same (record {
         page = makes_page;
         fresh = makes_fresh;
         rest = after.pools;

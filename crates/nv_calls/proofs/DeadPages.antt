@@ -8,6 +8,7 @@ use Rattle.nv_region.specs.Region.{Region}
 use Rattle.nv_super.specs.declared.superblock.Super.{Super}
 use Rattle.nv_super.specs.declared.kind.Kind.{Kind}
 use Rattle.nv_super.specs.declared.faults.Fault.{Fault}
+use Rattle.nv_super.specs.Layout.{Layout}
 use Rattle.nv_alloc.specs.FreeValue.{FreeLists}
 use Rattle.nv_logpage.specs.declared.found.Placed.{Placed}
 use Rattle.nv_logpage.specs.Unlinked.{without_page}
@@ -15,8 +16,8 @@ use Rattle.nv_deadpages.specs.Dead.{IsFirstDead}
 use Rattle.nv_deadpages.specs.InTurn.{AreDeadPages, GoInTurn}
 use Rattle.nv_deadpages.specs.declared.in_turn.DeadPages.{DeadPages}
 use Rattle.nv_scan.specs.declared.piece.Row.{Row}
-use Rattle.nv_held.specs.Held.{Held, Store}
-use Rattle.nv_held.specs.Mounted.{ShowsSound}
+use Rattle.nv_mounted.specs.Held.{Held, Store}
+use Rattle.nv_mounted.specs.Mounted.{ShowsSound}
 use Rattle.nv_steps.specs.Steps.{ShowsRow}
 use Rattle.nv_calls.specs.Mount.{IsKept, Mount}
 use Rattle.nv_calls.proofs.CleanedMount.{held_row}
@@ -38,15 +39,15 @@ pub dead_prop : (s : Super) (kind : Kind) (i created : ℕ) (es : List Placed) (
 dead_prop s kind i created es pages None = first_prop s kind i created es pages None
 dead_prop s kind i created es pages (Some found) = let turns = turns_prop s kind i created found.first found.count es pages in hlevel (props, ℕ_set, turns)
 
-abbrev IsTold : Region → Super → ℕ → Option DeadPages → Type 0
-IsTold R s i found = (held : Store) (h : Held) → ShowsSound R s held → held i ≡ Some h → AreDeadPages s h.kind i h.created h.entries h.pages found
+abbrev IsTold : Region → Layout → ℕ → Option DeadPages → Type 0
+IsTold R l i found = (held : Store) (h : Held) → ShowsSound R l held → held i ≡ Some h → AreDeadPages l.sup h.kind i h.created h.entries h.pages found
 
 -- What is told of the log by its row is so of what is held of it.
-pub dead_told : {R : Region} {s : Super} {rows : List Row} {free : FreeLists} {faults : List Fault} {read_only stopped : Bool} → IsKept R s rows free faults read_only stopped → stopped ≡ false → (row : Row) → Contains rows row → (found : Option DeadPages)
-    → ((held : Store) (h : Held) → ShowsRow R s held h row free → AreDeadPages s h.kind row.inode h.created h.entries h.pages found) → IsTold R s row.inode found
-dead_told {R} {s} {rows} {free} kept runs row there found told held h sound is =
-    ∥∥₁_elim (mounted_with kept runs held sound) (dead_prop s h.kind row.inode h.created h.entries h.pages found) (λ m. told held h (held_row kept row there held h is m))
+pub dead_told : {R : Region} {s : Super} {l : Layout} {rows : List Row} {free : FreeLists} {faults : List Fault} {read_only stopped : Bool} → IsKept R s l rows free faults read_only stopped → stopped ≡ false → (row : Row) → Contains rows row → (found : Option DeadPages)
+    → ((held : Store) (h : Held) → ShowsRow R l held h row free → AreDeadPages l.sup h.kind row.inode h.created h.entries h.pages found) → IsTold R l row.inode found
+dead_told {R} {s} {l} {rows} {free} kept runs row there found told held h sound is =
+    ∥∥₁_elim (mounted_with kept runs held sound) (dead_prop l.sup h.kind row.inode h.created h.entries h.pages found) (λ m. told held h (held_row kept row there held h is m))
 
 -- and of the inode of a number
-pub dead_here : {P : Type 0} (region : P → Region) {n m : Mount P} → n ≡ m → {i j : ℕ} (found : Option DeadPages) → i ≡ j → IsTold (region n.memory) n.sup i found → IsTold (region m.memory) m.sup j found
-dead_here {P} region {n} {m} same {i} {j} found number told = subst (λ (k : Mount P). IsTold (region k.memory) k.sup j found) same (subst (λ (q : ℕ). IsTold (region n.memory) n.sup q found) number told)
+pub dead_here : {P : Type 0} (region : P → Region) {n m : Mount P} → n ≡ m → {i j : ℕ} (found : Option DeadPages) → i ≡ j → IsTold (region n.memory) n.layout i found → IsTold (region m.memory) m.layout j found
+dead_here {P} region {n} {m} same {i} {j} found number told = subst (λ (k : Mount P). IsTold (region k.memory) k.layout j found) same (subst (λ (q : ℕ). IsTold (region n.memory) n.layout q found) number told)

@@ -3,14 +3,14 @@ use Rattle.std.proofs.Common.{◌≡◌, ℕ, suc, List, ◌∷◌, ◌++◌, le
 use Rattle.std.specs.Prelude.{⊤}
 use Rattle.std.proofs.Math.Logic.{∥∥₁_elim, ∥∥₁_map, ∥∥₁_prop}
 use Rattle.nv_region.specs.Region.{Region}
-use Rattle.nv_super.specs.declared.superblock.Super.{Super}
 use Rattle.nv_super.specs.declared.owners.Run.{Run}
 use Rattle.nv_super.specs.declared.kind.Kind.{Kind}
+use Rattle.nv_super.specs.Layout.{Layout}
 use Rattle.nv_alloc.specs.Taking.{TakesSingly}
 use Rattle.nv_alloc.proofs.Singly.{single_takes_are_one, singly_cut, takes_once}
 use Rattle.nv_entry.specs.declared.entry.Entry.{Entry}
-use Rattle.nv_held.specs.Held.{Held, Store}
-use Rattle.nv_held.specs.Mounted.{ShowsSound}
+use Rattle.nv_mounted.specs.Held.{Held, Store}
+use Rattle.nv_mounted.specs.Mounted.{ShowsSound}
 use Rattle.nv_commit.specs.Extends.{with_log}
 use Rattle.nv_tree.specs.Tree.{Node}
 use Rattle.nv_steps.specs.Across.{with_three_logs, with_two_gone}
@@ -29,78 +29,78 @@ use Rattle.nv_calls.specs.SizeCall.{LogResized, ShowsResizedLog}
 use Rattle.nv_calls.specs.WriteCall.{LogsWrite, ShowsLogWrite}
 
 -- both show the same
-abbrev Same : Super → Region → Region → Type 0
-Same s S T = (held : Store) × ShowsSound S s held × ShowsSound T s held
+abbrev Same : Layout → Region → Region → Type 0
+Same l S T = (held : Store) × ShowsSound S l held × ShowsSound T l held
 
 -- what holds of two regions by what is known of them
-by_both : (s : Super) (S T : Region) {A B : Type 0} → ∥ A ∥₁ → ∥ B ∥₁ → (A → B → Same s S T) → ShowSame s S T
-by_both s S T first second same = ∥∥₁_elim first ∥∥₁_prop (λ a. ∥∥₁_map second (λ b. same a b))
+by_both : (l : Layout) (S T : Region) {A B : Type 0} → ∥ A ∥₁ → ∥ B ∥₁ → (A → B → Same l S T) → ShowSame l S T
+by_both l S T first second same = ∥∥₁_elim first ∥∥₁_prop (λ a. ∥∥₁_map second (λ b. same a b))
 
 -- ---- one log
 
-grew_same : {S T : Region} {s : Super} {pools : List (List Run)} {cpu : ℕ} {held : Store} {i : ℕ} {h : Held} {entries : List Entry} → LogGrew S s pools cpu held i h entries → LogGrew T s pools cpu held i h entries → Same s S T
-grew_same {S} {T} {s} {pools} {cpu} {held} {i} {h} {entries} a b =
+grew_same : {S T : Region} {l : Layout} {pools : List (List Run)} {cpu : ℕ} {held : Store} {i : ℕ} {h : Held} {entries : List Entry} → LogGrew S l pools cpu held i h entries → LogGrew T l pools cpu held i h entries → Same l S T
+grew_same {S} {T} {l} {pools} {cpu} {held} {i} {h} {entries} a b =
     let one = single_takes_are_one pools cpu a.fresh b.fresh a.rest b.rest (a.count ∙ sym b.count) a.taken b.taken in
-    (with_log held i h entries a.fresh, a.sound, subst (λ (blocks : List ℕ). ShowsSound T s (with_log held i h entries blocks)) (sym one.0) b.sound)
+    (with_log held i h entries a.fresh, a.sound, subst (λ (blocks : List ℕ). ShowsSound T l (with_log held i h entries blocks)) (sym one.0) b.sound)
 
-pub grown_decided : (s : Super) (pools : List (List Run)) (cpu : ℕ) (held : Store) (i : ℕ) (h : Held) (entries : List Entry) → IsDecided s (λ S. ShowsGrownLog S s pools cpu held i h entries)
-grown_decided s pools cpu held i h entries S T first second = by_both s S T first second (λ a b. grew_same a b)
+pub grown_decided : (l : Layout) (pools : List (List Run)) (cpu : ℕ) (held : Store) (i : ℕ) (h : Held) (entries : List Entry) → IsDecided l (λ S. ShowsGrownLog S l pools cpu held i h entries)
+grown_decided l pools cpu held i h entries S T first second = by_both l S T first second (λ a b. grew_same a b)
 
 -- ---- two logs
 
-both_same : {S T : Region} {s : Super} {pools : List (List Run)} {cpu : ℕ} {held : Store} {i : ℕ} {h : Held} {entries : List Entry} {j : ℕ} {g : Held} {others : List Entry}
-    → BothGrew S s pools cpu held i h entries j g others → BothGrew T s pools cpu held i h entries j g others → Same s S T
-both_same {S} {T} {s} {pools} {cpu} {held} {i} {h} {entries} {j} {g} {others} a b =
+both_same : {S T : Region} {l : Layout} {pools : List (List Run)} {cpu : ℕ} {held : Store} {i : ℕ} {h : Held} {entries : List Entry} {j : ℕ} {g : Held} {others : List Entry}
+    → BothGrew S l pools cpu held i h entries j g others → BothGrew T l pools cpu held i h entries j g others → Same l S T
+both_same {S} {T} {l} {pools} {cpu} {held} {i} {h} {entries} {j} {g} {others} a b =
     let c = singly_cut pools cpu a.fresh a.more a.rest a.taken in
     let d = singly_cut pools cpu b.fresh b.more b.rest b.taken in
     let one = single_takes_are_one pools cpu a.fresh b.fresh c.0 d.0 (a.count ∙ sym b.count) c.1 d.1 in
     let two = single_takes_are_one c.0 cpu a.more b.more a.rest b.rest (a.more_count ∙ sym b.more_count) c.2 (subst (λ (ps : List (List Run)). TakesSingly ps cpu b.more b.rest) (sym one.1) d.2) in
-    let first = subst (λ (blocks : List ℕ). ShowsSound T s (with_log (with_log held i h entries b.fresh) j g others blocks)) (sym two.0) b.sound in
-    (with_log (with_log held i h entries a.fresh) j g others a.more, a.sound, subst (λ (blocks : List ℕ). ShowsSound T s (with_log (with_log held i h entries blocks) j g others a.more)) (sym one.0) first)
+    let first = subst (λ (blocks : List ℕ). ShowsSound T l (with_log (with_log held i h entries b.fresh) j g others blocks)) (sym two.0) b.sound in
+    (with_log (with_log held i h entries a.fresh) j g others a.more, a.sound, subst (λ (blocks : List ℕ). ShowsSound T l (with_log (with_log held i h entries blocks) j g others a.more)) (sym one.0) first)
 
-pub both_decided : (s : Super) (pools : List (List Run)) (cpu : ℕ) (held : Store) (i : ℕ) (h : Held) (entries : List Entry) (j : ℕ) (g : Held) (others : List Entry) → IsDecided s (λ S. ShowsBothGrew S s pools cpu held i h entries j g others)
-both_decided s pools cpu held i h entries j g others S T first second = by_both s S T first second (λ a b. both_same a b)
+pub both_decided : (l : Layout) (pools : List (List Run)) (cpu : ℕ) (held : Store) (i : ℕ) (h : Held) (entries : List Entry) (j : ℕ) (g : Held) (others : List Entry) → IsDecided l (λ S. ShowsBothGrew S l pools cpu held i h entries j g others)
+both_decided l pools cpu held i h entries j g others S T first second = by_both l S T first second (λ a b. both_same a b)
 
 -- ---- a new inode
 
-created_same : {S T : Region} {s : Super} {pools : List (List Run)} {cpu : ℕ} {held : Store} {kind : Kind} {mode time j d : ℕ} {h : Held} {name : List ℕ}
-    → WasCreated S s pools cpu held kind mode time j d h name → WasCreated T s pools cpu held kind mode time j d h name → Same s S T
-created_same {S} {T} {s} {pools} {cpu} {held} {kind} {mode} {time} {j} {d} {h} {name} a b =
+created_same : {S T : Region} {l : Layout} {pools : List (List Run)} {cpu : ℕ} {held : Store} {kind : Kind} {mode time j d : ℕ} {h : Held} {name : List ℕ}
+    → WasCreated S l pools cpu held kind mode time j d h name → WasCreated T l pools cpu held kind mode time j d h name → Same l S T
+created_same {S} {T} {l} {pools} {cpu} {held} {kind} {mode} {time} {j} {d} {h} {name} a b =
     let count : length a.fresh ≡ length b.fresh = a.count ∙ sym b.count in
     let one = single_takes_are_one pools cpu (a.page ∷ a.fresh) (b.page ∷ b.fresh) a.rest b.rest (ap suc count) a.taken b.taken in
-    (with_named held kind mode time j d h name a.page a.fresh, a.sound, subst (λ (blocks : List ℕ). ShowsSound T s (with_named held kind mode time j d h name (get_or blocks 0 0) (remove blocks 0))) (sym one.0) b.sound)
+    (with_named held kind mode time j d h name a.page a.fresh, a.sound, subst (λ (blocks : List ℕ). ShowsSound T l (with_named held kind mode time j d h name (get_or blocks 0 0) (remove blocks 0))) (sym one.0) b.sound)
 
-pub created_decided : (s : Super) (pools : List (List Run)) (cpu : ℕ) (held : Store) (kind : Kind) (mode time j d : ℕ) (h : Held) (name : List ℕ) → IsDecided s (λ S. ShowsCreated S s pools cpu held kind mode time j d h name)
-created_decided s pools cpu held kind mode time j d h name S T first second = by_both s S T first second (λ a b. created_same a b)
+pub created_decided : (l : Layout) (pools : List (List Run)) (cpu : ℕ) (held : Store) (kind : Kind) (mode time j d : ℕ) (h : Held) (name : List ℕ) → IsDecided l (λ S. ShowsCreated S l pools cpu held kind mode time j d h name)
+created_decided l pools cpu held kind mode time j d h name S T first second = by_both l S T first second (λ a b. created_same a b)
 
 -- ---- an inode less
 
-removed_same : {S T : Region} {s : Super} {pools : List (List Run)} {cpu : ℕ} {held : Store} {d : ℕ} {h : Held} {entries : List Entry} {i : ℕ} → WasRemoved S s pools cpu held d h entries i → WasRemoved T s pools cpu held d h entries i → Same s S T
-removed_same {S} {T} {s} {pools} {cpu} {held} {d} {h} {entries} {i} a b =
+removed_same : {S T : Region} {l : Layout} {pools : List (List Run)} {cpu : ℕ} {held : Store} {d : ℕ} {h : Held} {entries : List Entry} {i : ℕ} → WasRemoved S l pools cpu held d h entries i → WasRemoved T l pools cpu held d h entries i → Same l S T
+removed_same {S} {T} {l} {pools} {cpu} {held} {d} {h} {entries} {i} a b =
     let one = single_takes_are_one pools cpu a.fresh b.fresh a.rest b.rest (a.count ∙ sym b.count) a.taken b.taken in
-    (with_gone held d h entries a.fresh i, a.sound, subst (λ (blocks : List ℕ). ShowsSound T s (with_gone held d h entries blocks i)) (sym one.0) b.sound)
+    (with_gone held d h entries a.fresh i, a.sound, subst (λ (blocks : List ℕ). ShowsSound T l (with_gone held d h entries blocks i)) (sym one.0) b.sound)
 
-pub removed_decided : (s : Super) (pools : List (List Run)) (cpu : ℕ) (held : Store) (d : ℕ) (h : Held) (entries : List Entry) (i : ℕ) → IsDecided s (λ S. ShowsRemoved S s pools cpu held d h entries i)
-removed_decided s pools cpu held d h entries i S T first second = by_both s S T first second (λ a b. removed_same a b)
+pub removed_decided : (l : Layout) (pools : List (List Run)) (cpu : ℕ) (held : Store) (d : ℕ) (h : Held) (entries : List Entry) (i : ℕ) → IsDecided l (λ S. ShowsRemoved S l pools cpu held d h entries i)
+removed_decided l pools cpu held d h entries i S T first second = by_both l S T first second (λ a b. removed_same a b)
 
 -- ---- two logs and an inode less, and three logs
 
-less_same : {S T : Region} {s : Super} {pools : List (List Run)} {cpu : ℕ} {held : Store} {i : ℕ} {h : Held} {entries : List Entry} {e : ℕ} {g : Held} {others : List Entry} {j : ℕ}
-    → BothLess S s pools cpu held i h entries e g others j → BothLess T s pools cpu held i h entries e g others j → Same s S T
-less_same {S} {T} {s} {pools} {cpu} {held} {i} {h} {entries} {e} {g} {others} {j} a b =
+less_same : {S T : Region} {l : Layout} {pools : List (List Run)} {cpu : ℕ} {held : Store} {i : ℕ} {h : Held} {entries : List Entry} {e : ℕ} {g : Held} {others : List Entry} {j : ℕ}
+    → BothLess S l pools cpu held i h entries e g others j → BothLess T l pools cpu held i h entries e g others j → Same l S T
+less_same {S} {T} {l} {pools} {cpu} {held} {i} {h} {entries} {e} {g} {others} {j} a b =
     let c = singly_cut pools cpu a.fresh a.more a.rest a.taken in
     let d = singly_cut pools cpu b.fresh b.more b.rest b.taken in
     let one = single_takes_are_one pools cpu a.fresh b.fresh c.0 d.0 (a.count ∙ sym b.count) c.1 d.1 in
     let two = single_takes_are_one c.0 cpu a.more b.more a.rest b.rest (a.more_count ∙ sym b.more_count) c.2 (subst (λ (ps : List (List Run)). TakesSingly ps cpu b.more b.rest) (sym one.1) d.2) in
-    let first = subst (λ (blocks : List ℕ). ShowsSound T s (with_two_gone held i h entries b.fresh e g others blocks j)) (sym two.0) b.sound in
-    (with_two_gone held i h entries a.fresh e g others a.more j, a.sound, subst (λ (blocks : List ℕ). ShowsSound T s (with_two_gone held i h entries blocks e g others a.more j)) (sym one.0) first)
+    let first = subst (λ (blocks : List ℕ). ShowsSound T l (with_two_gone held i h entries b.fresh e g others blocks j)) (sym two.0) b.sound in
+    (with_two_gone held i h entries a.fresh e g others a.more j, a.sound, subst (λ (blocks : List ℕ). ShowsSound T l (with_two_gone held i h entries blocks e g others a.more j)) (sym one.0) first)
 
-pub less_decided : (s : Super) (pools : List (List Run)) (cpu : ℕ) (held : Store) (i : ℕ) (h : Held) (entries : List Entry) (e : ℕ) (g : Held) (others : List Entry) (j : ℕ) → IsDecided s (λ S. ShowsBothLess S s pools cpu held i h entries e g others j)
-less_decided s pools cpu held i h entries e g others j S T first second = by_both s S T first second (λ a b. less_same a b)
+pub less_decided : (l : Layout) (pools : List (List Run)) (cpu : ℕ) (held : Store) (i : ℕ) (h : Held) (entries : List Entry) (e : ℕ) (g : Held) (others : List Entry) (j : ℕ) → IsDecided l (λ S. ShowsBothLess S l pools cpu held i h entries e g others j)
+less_decided l pools cpu held i h entries e g others j S T first second = by_both l S T first second (λ a b. less_same a b)
 
-three_same : {S T : Region} {s : Super} {pools : List (List Run)} {cpu : ℕ} {held : Store} {i : ℕ} {h : Held} {entries : List Entry} {e : ℕ} {g : Held} {others : List Entry} {j : ℕ} {f : Held} {lasts : List Entry}
-    → ThreeGrew S s pools cpu held i h entries e g others j f lasts → ThreeGrew T s pools cpu held i h entries e g others j f lasts → Same s S T
-three_same {S} {T} {s} {pools} {cpu} {held} {i} {h} {entries} {e} {g} {others} {j} {f} {lasts} a b =
+three_same : {S T : Region} {l : Layout} {pools : List (List Run)} {cpu : ℕ} {held : Store} {i : ℕ} {h : Held} {entries : List Entry} {e : ℕ} {g : Held} {others : List Entry} {j : ℕ} {f : Held} {lasts : List Entry}
+    → ThreeGrew S l pools cpu held i h entries e g others j f lasts → ThreeGrew T l pools cpu held i h entries e g others j f lasts → Same l S T
+three_same {S} {T} {l} {pools} {cpu} {held} {i} {h} {entries} {e} {g} {others} {j} {f} {lasts} a b =
     let c = singly_cut pools cpu (a.fresh ++ a.more) a.last a.rest a.taken in
     let d = singly_cut pools cpu (b.fresh ++ b.more) b.last b.rest b.taken in
     let inner = singly_cut pools cpu a.fresh a.more c.0 c.1 in
@@ -111,11 +111,11 @@ three_same {S} {T} {s} {pools} {cpu} {held} {i} {h} {entries} {e} {g} {others} {
     let blocks : (b.fresh, b.more, b.last) ≡ (a.fresh, a.more, a.last) = λ x. (sym one.0 x, sym two.0 x, sym three.0 x) in (
       with_three_logs held i h entries a.fresh e g others a.more j f lasts a.last,
       a.sound,
-      subst (λ (w : List ℕ × List ℕ × List ℕ). ShowsSound T s (with_three_logs held i h entries w.0 e g others w.1 j f lasts w.2)) blocks b.sound,
+      subst (λ (w : List ℕ × List ℕ × List ℕ). ShowsSound T l (with_three_logs held i h entries w.0 e g others w.1 j f lasts w.2)) blocks b.sound,
     )
 
-pub three_decided : (s : Super) (pools : List (List Run)) (cpu : ℕ) (held : Store) (i : ℕ) (h : Held) (entries : List Entry) (e : ℕ) (g : Held) (others : List Entry) (j : ℕ) (f : Held) (lasts : List Entry) → IsDecided s (λ S. ShowsThreeGrew S s pools cpu held i h entries e g others j f lasts)
-three_decided s pools cpu held i h entries e g others j f lasts S T first second = by_both s S T first second (λ a b. three_same a b)
+pub three_decided : (l : Layout) (pools : List (List Run)) (cpu : ℕ) (held : Store) (i : ℕ) (h : Held) (entries : List Entry) (e : ℕ) (g : Held) (others : List Entry) (j : ℕ) (f : Held) (lasts : List Entry) → IsDecided l (λ S. ShowsThreeGrew S l pools cpu held i h entries e g others j f lasts)
+three_decided l pools cpu held i h entries e g others j f lasts S T first second = by_both l S T first second (λ a b. three_same a b)
 
 -- ---- another size
 
@@ -132,24 +132,24 @@ same_copy None (Some y) same = absurd (let n = ap (λ (xs : List ℕ). length xs
 same_copy (Some x) None same = absurd (let n = ap (λ (xs : List ℕ). length xs) same in omega (arith, n))
 same_copy (Some x) (Some y) same = ap (λ (xs : List ℕ). Some (get_or xs 0 0)) same
 
-resized_same : {S T : Region} {s : Super} {pools : List (List Run)} {cpu : ℕ} {held : Store} {i : ℕ} {h : Held} {node : Node} {size time : ℕ}
-    → LogResized S s pools cpu held i h node size time → LogResized T s pools cpu held i h node size time → Same s S T
-resized_same {S} {T} {s} {pools} {cpu} {held} {i} {h} {node} {size} {time} a b =
+resized_same : {S T : Region} {l : Layout} {pools : List (List Run)} {cpu : ℕ} {held : Store} {i : ℕ} {h : Held} {node : Node} {size time : ℕ}
+    → LogResized S l pools cpu held i h node size time → LogResized T l pools cpu held i h node size time → Same l S T
+resized_same {S} {T} {l} {pools} {cpu} {held} {i} {h} {node} {size} {time} a b =
     let one = single_takes_are_one pools cpu (copied_to a.to) (copied_to b.to) a.between b.between (as_many a.to b.to (a.copied ∙ sym b.copied)) a.taken b.taken in
     let to = same_copy a.to b.to one.0 in
-    let grew = subst (λ (ps : List (List Run)). LogGrew T s ps cpu held i h (resizing node.size (sized node size time) b.to)) (sym one.1) b.grew in
-    grew_same a.grew (subst (λ (o : Option ℕ). LogGrew T s a.between cpu held i h (resizing node.size (sized node size time) o)) (sym to) grew)
+    let grew = subst (λ (ps : List (List Run)). LogGrew T l ps cpu held i h (resizing node.size (sized node size time) b.to)) (sym one.1) b.grew in
+    grew_same a.grew (subst (λ (o : Option ℕ). LogGrew T l a.between cpu held i h (resizing node.size (sized node size time) o)) (sym to) grew)
 
-pub resized_decided : (s : Super) (pools : List (List Run)) (cpu : ℕ) (held : Store) (i : ℕ) (h : Held) (node : Node) (size time : ℕ) → IsDecided s (λ S. ShowsResizedLog S s pools cpu held i h node size time)
-resized_decided s pools cpu held i h node size time S T first second = by_both s S T first second (λ a b. resized_same a b)
+pub resized_decided : (l : Layout) (pools : List (List Run)) (cpu : ℕ) (held : Store) (i : ℕ) (h : Held) (node : Node) (size time : ℕ) → IsDecided l (λ S. ShowsResizedLog S l pools cpu held i h node size time)
+resized_decided l pools cpu held i h node size time S T first second = by_both l S T first second (λ a b. resized_same a b)
 
 -- ---- new bytes
 
-written_same : {P : Type 0} {S T : Region} {m : Mount P} {cpu : ℕ} {held : Store} {i : ℕ} {h : Held} {plan : Plan} → LogsWrite S m cpu held i h plan → LogsWrite T m cpu held i h plan → ShowSame m.sup S T
+written_same : {P : Type 0} {S T : Region} {m : Mount P} {cpu : ℕ} {held : Store} {i : ℕ} {h : Held} {plan : Plan} → LogsWrite S m cpu held i h plan → LogsWrite T m cpu held i h plan → ShowSame m.layout S T
 written_same {P} {S} {T} {m} {cpu} {held} {i} {h} {plan} a b =
     let one = takes_once m.free.pools cpu (data_blocks plan) a.runs b.runs a.rest b.rest a.taken b.taken in
-    let grew = subst (λ (ps : List (List Run)). ShowsGrownLog T m.sup ps cpu held i h (data_entries plan b.runs)) (sym one.1) b.grew in
-    grown_decided m.sup a.rest cpu held i h (data_entries plan a.runs) S T a.grew (subst (λ (runs : List Run). ShowsGrownLog T m.sup a.rest cpu held i h (data_entries plan runs)) (sym one.0) grew)
+    let grew = subst (λ (ps : List (List Run)). ShowsGrownLog T m.layout ps cpu held i h (data_entries plan b.runs)) (sym one.1) b.grew in
+    grown_decided m.layout a.rest cpu held i h (data_entries plan a.runs) S T a.grew (subst (λ (runs : List Run). ShowsGrownLog T m.layout a.rest cpu held i h (data_entries plan runs)) (sym one.0) grew)
 
-pub written_decided : (m : Mount ⊤) (cpu : ℕ) (held : Store) (i : ℕ) (h : Held) (plan : Plan) → IsDecided m.sup (λ S. ShowsLogWrite S m cpu held i h plan)
+pub written_decided : (m : Mount ⊤) (cpu : ℕ) (held : Store) (i : ℕ) (h : Held) (plan : Plan) → IsDecided m.layout (λ S. ShowsLogWrite S m cpu held i h plan)
 written_decided m cpu held i h plan S T first second = ∥∥₁_elim first ∥∥₁_prop (λ a. ∥∥₁_elim second ∥∥₁_prop (λ b. written_same {S = S} {T = T} {m = m} a b))

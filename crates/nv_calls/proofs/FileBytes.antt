@@ -12,6 +12,7 @@ use Rattle.nv_super.specs.declared.superblock.Super.{Super}
 use Rattle.nv_super.specs.declared.faults.Fault.{Fault}
 use Rattle.nv_super.specs.declared.kind.Kind.{Kind}
 use Rattle.nv_super.specs.declared.kind.Kind.TheVariants.{File, Directory}
+use Rattle.nv_super.specs.Layout.{Layout}
 use Rattle.nv_entry.specs.declared.entry.Entry.{Entry}
 use Rattle.nv_entry.specs.declared.entry.Entry.TheVariants.{NextPage, Write, Attr, Name, Links}
 use Rattle.nv_entry.specs.declared.entry.WriteEntry.{WriteEntry}
@@ -23,7 +24,7 @@ use Rattle.nv_alloc.specs.FreeValue.{FreeLists}
 use Rattle.nv_scan.specs.declared.piece.Row.{Row}
 use Rattle.nv_scan.specs.State.{size_in, says_size, size_of}
 use Rattle.nv_scan.proofs.Blocks.{data_pages, good_is_good, in_range, last_word-all}
-use Rattle.nv_held.proofs.nv_outcome.SuperOf.{blocks_of_super}
+use Rattle.nv_outcome.proofs.SuperOf.{blocks_of_super}
 use Rattle.nv_bytes.specs.Bytes.{LieInside}
 use Rattle.nv_tree.specs.declared.refusal.Refusal.{Refusal}
 use Rattle.nv_tree.specs.declared.refusal.Refusal.TheVariants.{NotFound, IsDirectory}
@@ -34,8 +35,8 @@ use Rattle.nv_calls.specs.Mount.{Mount, IsKept}
 -- ---- where the blocks of a file lie
 
 -- the size in an entry that isn't out of range
-write_size : (s : Super) (e : WriteEntry) → is_write_out_of_range s e ≡ false → e.size ≤ 1073741824
-write_size s e good = grind (arith, nat_tests)
+write_size : (l : Layout) (e : WriteEntry) → is_write_out_of_range l.sup e ≡ false → e.size ≤ 1073741824
+write_size l e good = grind (arith, nat_tests)
 
 none_last : (a b : Bool) → (a || not b) ≡ false → b ≡ true
 none_last true b h = absurd (cc)
@@ -49,30 +50,30 @@ attr_size : (k : Kind) (e : AttrEntry) → is_attr_out_of_range k e ≡ false �
 attr_size File e good = grind (arith, nat_tests)
 attr_size Directory e good = no_size e (none_last (nat_lt 4095 e.mode) (e.size == 0) good)
 
-size_fits : (s : Super) (k : Kind) (e : Entry) (z : ℕ) → is_good s k e ≡ true → size_in e ≡ Some z → z ≤ 1073741824
-size_fits s k (Write e) z good is = subst (λ (n : ℕ). n ≤ 1073741824) (same_Some e.size z is) (write_size s e (in_range s k (Write e) good))
-size_fits s k (Attr e) z good is = subst (λ (n : ℕ). n ≤ 1073741824) (same_Some e.size z is) (attr_size k e (in_range s k (Attr e) good))
-size_fits s k NextPage z good is = absurd (cc)
-size_fits s k (Name e) z good is = absurd (cc)
-size_fits s k (Links e) z good is = absurd (cc)
+size_fits : (l : Layout) (k : Kind) (e : Entry) (z : ℕ) → is_good l.sup k e ≡ true → size_in e ≡ Some z → z ≤ 1073741824
+size_fits l k (Write e) z good is = subst (λ (n : ℕ). n ≤ 1073741824) (same_Some e.size z is) (write_size l e (in_range l.sup k (Write e) good))
+size_fits l k (Attr e) z good is = subst (λ (n : ℕ). n ≤ 1073741824) (same_Some e.size z is) (attr_size k e (in_range l.sup k (Attr e) good))
+size_fits l k NextPage z good is = absurd (cc)
+size_fits l k (Name e) z good is = absurd (cc)
+size_fits l k (Links e) z good is = absurd (cc)
 
 -- no file has more bytes
-small_size : (s : Super) (k : Kind) (es : List Placed) → size_of (good_entries s k es) ≤ 1073741824
-small_size s k es = last_word-all says_size (λ z. z ≤ 1073741824) 0 (good_entries s k es) (omega arith) (λ x z c is. size_fits s k x.entry z (good_is_good s k es x c) is)
+small_size : (l : Layout) (k : Kind) (es : List Placed) → size_of (good_entries l.sup k es) ≤ 1073741824
+small_size l k es = last_word-all says_size (λ z. z ≤ 1073741824) 0 (good_entries l.sup k es) (omega arith) (λ x z c is. size_fits l k x.entry z (good_is_good l.sup k es x c) is)
 
 -- the blocks of a row lie inside the region
-pub blocks_inside : (R : Region) (s : Super) (rows : List Row) (free : FreeLists) (faults : List Fault) (read_only stopped : Bool) → IsKept R s rows free faults read_only stopped → stopped ≡ false → (row : Row) → Contains rows row → LieInside R row.index
-blocks_inside R s rows free faults read_only stopped kept runs row c p b at = ∥∥₁_elim (kept.shown runs) (hlevel (props, ℕ_set)) (λ w.
+pub blocks_inside : (R : Region) (s : Super) (l : Layout) (rows : List Row) (free : FreeLists) (faults : List Fault) (read_only stopped : Bool) → IsKept R s l rows free faults read_only stopped → stopped ≡ false → (row : Row) → Contains rows row → LieInside R row.index
+blocks_inside R s l rows free faults read_only stopped kept runs row c p b at = ∥∥₁_elim (kept.shown runs) (hlevel (props, ℕ_set)) (λ w.
     let r = w.1.rows.each row c in
-    let inside = data_pages s r.1.kind r.1.entries p b (sym (r.2.index p) ∙ at) in
-    let blocks = blocks_of_super R s w.1.sup in
+    let inside = data_pages l.sup r.1.kind r.1.entries p b (sym (r.2.index p) ∙ at) in
+    let blocks = blocks_of_super R l.sup w.1.sup in
     omega (arith, inside.2, blocks))
 
 -- and its size is small
-pub row_size : (R : Region) (s : Super) (rows : List Row) (free : FreeLists) (faults : List Fault) (read_only stopped : Bool) → IsKept R s rows free faults read_only stopped → stopped ≡ false → (row : Row) → Contains rows row → row.numbers.size ≤ 1073741824
-row_size R s rows free faults read_only stopped kept runs row c = ∥∥₁_elim (kept.shown runs) (hlevel (props, ℕ_set)) (λ w.
+pub row_size : (R : Region) (s : Super) (l : Layout) (rows : List Row) (free : FreeLists) (faults : List Fault) (read_only stopped : Bool) → IsKept R s l rows free faults read_only stopped → stopped ≡ false → (row : Row) → Contains rows row → row.numbers.size ≤ 1073741824
+row_size R s l rows free faults read_only stopped kept runs row c = ∥∥₁_elim (kept.shown runs) (hlevel (props, ℕ_set)) (λ w.
     let r = w.1.rows.each row c in
-    subst (λ (z : ℕ). z ≤ 1073741824) (sym r.2.numbers.size) (small_size s r.1.kind r.1.entries))
+    subst (λ (z : ℕ). z ≤ 1073741824) (sym r.2.numbers.size) (small_size l r.1.kind r.1.entries))
 
 -- what is said of a mount, and of what it is equal to
 pub contains_as : {P : Type 0} {m n : Mount P} (row : Row) → m ≡ n → Contains n.rows row → Contains m.rows row

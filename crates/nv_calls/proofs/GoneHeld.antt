@@ -2,9 +2,8 @@
 use Rattle.std.proofs.Common.{◌≡◌, ◌≢◌, ◌↔◌, ℕ, ◌%◌, ◌<◌, ◌≤◌, ◌⊎◌, inl, inr, eqb, List, ◌++◌, length, take_all, ap, sym, ◌∙◌, subst, arith, Some, None}
 use Rattle.std.specs.List.{Contains, IsDistinct}
 use Rattle.nv_region.specs.Region.{Region}
-use Rattle.nv_super.specs.declared.superblock.Super.{Super}
 use Rattle.nv_super.specs.declared.owners.Run.{Run}
-use Rattle.nv_super.specs.Layout.{Layout, fixed_layout, system_blocks}
+use Rattle.nv_super.specs.Layout.{Layout, system_blocks}
 use Rattle.nv_alloc.specs.FreeValue.{FreeLists}
 use Rattle.nv_alloc.specs.Taking.{HasBlock}
 use Rattle.nv_entry.specs.declared.entry.Entry.{Entry}
@@ -12,15 +11,15 @@ use Rattle.nv_logpage.specs.Append.{needed}
 use Rattle.nv_logpage.proofs.DataBlocks.{one_page, pages_are}
 use Rattle.nv_logpage.proofs.RightLogs.{head_starts}
 use Rattle.nv_scan.specs.declared.piece.Row.{Row}
-use Rattle.nv_held.specs.Held.{Held, Store}
-use Rattle.nv_held.specs.Blocks.{IsUnowned, KeepsFree, NoneDoubled, OwnsNew}
-use Rattle.nv_held.specs.Grows.{AreFree, Maps, SameFile}
-use Rattle.nv_held.specs.Lists.{WasTaken}
-use Rattle.nv_held.specs.Mounted.{IsFaultless}
-use Rattle.nv_held.proofs.Growing.{free_but, grown_owns}
-use Rattle.nv_held.proofs.ListsKept.{lists_change}
-use Rattle.nv_held.proofs.Owning.{other_held, same_held, still_undoubled}
-use Rattle.nv_held.proofs.Shown.{stands_at}
+use Rattle.nv_mounted.specs.Held.{Held, Store}
+use Rattle.nv_mounted.specs.Blocks.{IsUnowned, KeepsFree, NoneDoubled, OwnsNew}
+use Rattle.nv_mounted.specs.Grows.{AreFree, Maps, SameFile}
+use Rattle.nv_mounted.specs.Lists.{WasTaken}
+use Rattle.nv_mounted.specs.Mounted.{IsFaultless}
+use Rattle.nv_mounted.proofs.Growing.{free_but, grown_owns}
+use Rattle.nv_mounted.proofs.ListsKept.{lists_change}
+use Rattle.nv_mounted.proofs.Owning.{other_held, same_held, still_undoubled}
+use Rattle.nv_mounted.proofs.Shown.{stands_at}
 use Rattle.nv_commit.specs.Extends.{extended, with_log}
 use Rattle.nv_commit.specs.Together.{ShowsIdle}
 use Rattle.nv_commit.proofs.BlocksOf.{gone_free}
@@ -31,11 +30,8 @@ use Rattle.nv_steps.specs.Taken.{TakesEach}
 use Rattle.nv_steps.proofs.TakenBlocks.{are_free, is_taken, was_taken}
 use Rattle.nv_steps.proofs.OneByOne.{single_takes, takes_of}
 
-module _ {R : Region} {s : Super} {held : Store} {h f : Held} {row gone : Row} {free mid : FreeLists} {cpu : ℕ} (entries : List Entry) (fresh : List ℕ) (shows : ShowsRow R s held h row free) (shows_gone : ShowsRow R s held f gone free) (differ : row.inode ≢ gone.inode)
-    (file_stays : SameFile (fixed_layout s) h (extended h entries fresh)) (lists : free.sup ≡ s) (taken : TakesEach free cpu fresh mid) (count : length fresh ≡ needed (h.tail % 4096) entries) where
-  abbrev l : Layout
-  l = fixed_layout s
-
+module _ {R : Region} {l : Layout} {held : Store} {h f : Held} {row gone : Row} {free mid : FreeLists} {cpu : ℕ} (entries : List Entry) (fresh : List ℕ) (shows : ShowsRow R l held h row free) (shows_gone : ShowsRow R l held f gone free) (differ : row.inode ≢ gone.inode)
+    (file_stays : SameFile l h (extended h entries fresh)) (lists : free.sup ≡ l.sup) (taken : TakesEach free cpu fresh mid) (count : length fresh ≡ needed (h.tail % 4096) entries) where
   abbrev i : ℕ
   i = gone.inode
 
@@ -74,18 +70,18 @@ module _ {R : Region} {s : Super} {held : Store} {h f : Held} {row gone : Row} {
       let told = shows_gone.told in
       (given.blocks b).1 (elim w [ inl log ↦ inl (subst (λ (ps : List ℕ). Contains ps b) (sym told.pages) log) | inr mapped ↦ inr (mapped.0, told.index mapped.0 ∙ mapped.1) ])
 
-  pages_inside : (b : ℕ) → Contains f.pages b → (system_blocks s ≤ b) × (b < s.blocks)
+  pages_inside : (b : ℕ) → Contains f.pages b → (system_blocks l.sup ≤ b) × (b < l.sup.blocks)
   pages_inside b c =
       let sound = shows_gone.sound in
       let v = stands_at sound.shows i f shows_gone.holds in
-      let all = pages_are (one_page s f.head (head_starts s f.head f.tail v.is.right)) v.is.reads in
+      let all = pages_are (one_page l.sup f.head (head_starts l.sup f.head f.tail v.is.right)) v.is.reads in
       (all.behind b c, all.within b c)
 
-  module _ {S : Region} (idle : ShowsIdle S s then) where
+  module _ {S : Region} (idle : ShowsIdle S l then) where
     once : IsDistinct eqb grown_log.pages
     once =
         let v = stands_at idle.shows row.inode grown_log (other_held less i row.inode None differ ∙ same_held held row.inode (Some grown_log)) in
-        let all = pages_are (one_page s h.head (head_starts s h.head grown_log.tail v.is.right)) v.is.reads in
+        let all = pages_are (one_page l.sup h.head (head_starts l.sup h.head grown_log.tail v.is.right)) v.is.reads in
         all.once
 
     pub own_then : OwnsNew l held row.inode (Some grown_log)

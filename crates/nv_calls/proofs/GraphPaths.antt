@@ -2,16 +2,15 @@
 use Rattle.std.proofs.Common.{◌≡◌, ℕ, List, [], ◌∷◌, refl, ap, sym, ◌∙◌, Option, Some, None, Result, Ok, Err}
 use Rattle.std.specs.Option.{option_and_then, option_map, option_map_or}
 use Rattle.nv_region.specs.Region.{Region}
-use Rattle.nv_super.specs.declared.superblock.Super.{Super}
 use Rattle.nv_super.specs.declared.owners.Run.{Run}
-use Rattle.nv_super.specs.Layout.{fixed_layout}
+use Rattle.nv_super.specs.Layout.{Layout}
 use Rattle.nv_scan.specs.declared.piece.Row.{Row}
-use Rattle.nv_held.specs.nv_graph.Graph.{Graph}
-use Rattle.nv_held.specs.nv_graph.Graph as graph
-use Rattle.nv_held.specs.Held.{Held, Store}
-use Rattle.nv_held.specs.Graph.{graph_in, target_in}
-use Rattle.nv_held.specs.Mounted.{IsMounted}
-use Rattle.nv_held.specs.nv_graph.Read.{row_of}
+use Rattle.nv_graph.specs.Graph.{Graph}
+use Rattle.nv_graph.specs.Graph as graph
+use Rattle.nv_mounted.specs.Held.{Held, Store}
+use Rattle.nv_mounted.specs.Graph.{graph_in, target_in}
+use Rattle.nv_mounted.specs.Mounted.{IsMounted}
+use Rattle.nv_graph.specs.Read.{row_of}
 use Rattle.nv_tree.specs.declared.refusal.Refusal.{Refusal}
 use Rattle.nv_tree.specs.Tree.{Node, Tree, and_then, as_directory, name_in, or_not_found, passed, walk}
 use Rattle.nv_paths.specs.Seen.{node_of, tree_of}
@@ -50,13 +49,13 @@ module _ (g : Graph) (t : Tree) (agree : (d : ℕ) (q : List ℕ) → g.name d q
     by (Some i) rest = rest i
 
 -- The graph of what is held has the names of the tree of its rows.
-pub graph_agrees : {R : Region} {s : Super} {held : Store} {rows : List Row} {pools : List (List Run)} → IsMounted R s held rows pools → (d : ℕ) (q : List ℕ) → (graph_in (fixed_layout s) held).name d q ≡ name_in (tree_of R rows) d q
-graph_agrees {R} {s} {held} {rows} m d q = by (row_of rows d) refl where
-  by : (o : Option Row) → row_of rows d ≡ o → (graph_in (fixed_layout s) held).name d q ≡ name_in (tree_of R rows) d q
-  by None e = ap (λ (o : Option Held). option_and_then (target_in (fixed_layout s) q) o) (not_held m d e) ∙ sym (ap (λ (o : Option Row). option_and_then (λ (n : Node). n.names q) (option_map (node_of R) o)) e)
+pub graph_agrees : {R : Region} {l : Layout} {held : Store} {rows : List Row} {pools : List (List Run)} → IsMounted R l held rows pools → (d : ℕ) (q : List ℕ) → (graph_in l held).name d q ≡ name_in (tree_of R rows) d q
+graph_agrees {R} {l} {held} {rows} m d q = by (row_of rows d) refl where
+  by : (o : Option Row) → row_of rows d ≡ o → (graph_in l held).name d q ≡ name_in (tree_of R rows) d q
+  by None e = ap (λ (o : Option Held). option_and_then (target_in l q) o) (not_held m d e) ∙ sym (ap (λ (o : Option Row). option_and_then (λ (n : Node). n.names q) (option_map (node_of R) o)) e)
   by (Some row) e =
       let is : row.inode ≡ d = numbered rows d row e in
       let k = (in_rows m).each row (row_there rows d row e) in
       let told = k.2 in
-      ap (λ (o : Option Held). option_and_then (target_in (fixed_layout s) q) o) (ap held (sym is) ∙ k.1) ∙ ap (λ (o : Option (ℕ × ℕ)). option_map (λ (y : ℕ × ℕ). y.0) o) (sym (told.names q))
+      ap (λ (o : Option Held). option_and_then (target_in l q) o) (ap held (sym is) ∙ k.1) ∙ ap (λ (o : Option (ℕ × ℕ)). option_map (λ (y : ℕ × ℕ). y.0) o) (sym (told.names q))
       ∙ sym (ap (λ (o : Option Row). option_and_then (λ (n : Node). n.names q) (option_map (node_of R) o)) e)

@@ -9,7 +9,7 @@ use Rattle.nv_region.specs.Region.{Region}
 use Rattle.nv_super.specs.declared.superblock.Super.{Super}
 use Rattle.nv_super.specs.declared.faults.Fault.{Fault}
 use Rattle.nv_super.specs.declared.kind.Kind.TheVariants.{File, Directory}
-use Rattle.nv_super.specs.Layout.{Layout, fixed_layout}
+use Rattle.nv_super.specs.Layout.{Layout}
 use Rattle.nv_super.proofs.Members.{none_in, stands}
 use Rattle.nv_alloc.specs.FreeValue.{FreeLists}
 use Rattle.nv_entry.specs.declared.entry.Entry.{Entry}
@@ -19,15 +19,15 @@ use Rattle.nv_logpage.specs.Append.{end_of, needed, place_of}
 use Rattle.nv_radix.specs.Pages.{block_at}
 use Rattle.nv_scan.specs.declared.piece.Row.{Row}
 use Rattle.nv_rows.proofs.Places.{number_at}
-use Rattle.nv_held.specs.nv_graph.Step.{IsGoodName}
-use Rattle.nv_held.specs.Held.{Held, Store}
-use Rattle.nv_held.specs.Blocks.{OwnsNew}
-use Rattle.nv_held.specs.Graph.{node_in}
-use Rattle.nv_held.specs.Bytes.{byte_in, byte_of}
-use Rattle.nv_held.specs.Grows.{AreFree, SameFile}
-use Rattle.nv_held.specs.Mounted.{IsFaultless, IsMounted, KeepsRows, ShowsSound}
-use Rattle.nv_held.proofs.Owning.{other_held, same_held}
-use Rattle.nv_held.proofs.RowsKept.{rows_follow}
+use Rattle.nv_graph.specs.Step.{IsGoodName}
+use Rattle.nv_mounted.specs.Held.{Held, Store}
+use Rattle.nv_mounted.specs.Blocks.{OwnsNew}
+use Rattle.nv_mounted.specs.Graph.{node_in}
+use Rattle.nv_mounted.specs.Bytes.{byte_in, byte_of}
+use Rattle.nv_mounted.specs.Grows.{AreFree, SameFile}
+use Rattle.nv_mounted.specs.Mounted.{IsFaultless, IsMounted, KeepsRows, ShowsSound}
+use Rattle.nv_mounted.proofs.Owning.{other_held, same_held}
+use Rattle.nv_mounted.proofs.RowsKept.{rows_follow}
 use Rattle.nv_commit.specs.Extends.{extended, with_log}
 use Rattle.nv_commit.specs.ReplacedNames.{CanTakeName}
 use Rattle.nv_commit.specs.Together.{ShowsIdle}
@@ -57,19 +57,16 @@ use Rattle.nv_calls.proofs.LinkedHeld.{counted_file, counted_told}
 use Rattle.nv_calls.proofs.ReplaceAt.{more_links}
 use Rattle.nv_calls.proofs.UnlinkedHeld.{few_links}
 
-module _ {R S : Region} {s : Super} {rows news : List Row} {free after : FreeLists} {faults : List Fault} {read_only stopped : Bool} (kept : IsKept R s rows free faults read_only stopped) (runs : stopped ≡ false) (writes : read_only ≡ false)
+module _ {R S : Region} {s : Super} {l : Layout} {rows news : List Row} {free after : FreeLists} {faults : List Fault} {read_only stopped : Bool} (kept : IsKept R s l rows free faults read_only stopped) (runs : stopped ≡ false) (writes : read_only ≡ false)
     {cpu place source end : ℕ} (target : ℕ) {name other : List ℕ} {time : ℕ} {from from_now to to_now file file_now : Row} (moved : Row) (at : slice_get rows place ≡ Some from) (to_at : slice_get rows end ≡ Some to) (moved_at : slice_get rows source ≡ Some moved) (file_at : slice_get rows target ≡ Some file)
-    (step : LessensAcross R S s free after cpu from from_now to to_now file file_now moved.inode name other time) (put : news ≡ set (set (set rows place from_now) end to_now) target file_now) (names : List (List ℕ)) (first : List ℕ) (rest : List (List ℕ))
-    (spot : IsReplaceSpot (tree_of R rows) rows names (first ∷ rest) place name source end other (Some file.inode)) (good : IsGoodName s moved.inode name) (good_other : IsGoodName s moved.inode other) (good_there : IsGoodName s file.inode other)
+    (step : LessensAcross R S l free after cpu from from_now to to_now file file_now moved.inode name other time) (put : news ≡ set (set (set rows place from_now) end to_now) target file_now) (names : List (List ℕ)) (first : List ℕ) (rest : List (List ℕ))
+    (spot : IsReplaceSpot (tree_of R rows) rows names (first ∷ rest) place name source end other (Some file.inode)) (good : IsGoodName l.sup moved.inode name) (good_other : IsGoodName l.sup moved.inode other) (good_there : IsGoodName l.sup file.inode other)
     (apart : moved.inode ≢ file.inode) (has_more : keeps_others file ≡ true) (differ : from.inode ≢ to.inode) (from_differs : from.inode ≢ file.inode) (to_differs : to.inode ≢ file.inode) where
   abbrev i : ℕ
   i = moved.inode
 
   abbrev j : ℕ
   j = file.inode
-
-  abbrev l : Layout
-  l = fixed_layout s
 
   abbrev cut : List Entry
   cut = name_entries Remove i name time
@@ -90,33 +87,33 @@ module _ {R S : Region} {s : Super} {rows news : List Row} {free after : FreeLis
   some = more_links file has_more
 
   from_directory : from.kind ≡ Directory
-  from_directory = spot_directory R s rows target moved at to_at moved_at file_at names first rest spot apart
+  from_directory = spot_directory R l rows target moved at to_at moved_at file_at names first rest spot apart
 
   to_directory : to.kind ≡ Directory
-  to_directory = spot_to R s rows target moved at to_at moved_at file_at names first rest spot apart
+  to_directory = spot_to R l rows target moved at to_at moved_at file_at names first rest spot apart
 
   -- what is held, and what it shows of the rows
-  module _ (held : Store) (m : IsMounted R s held rows free.pools) where
+  module _ (held : Store) (m : IsMounted R l held rows free.pools) where
     abbrev pub h : Held
     h = (shows_row {free = free} m kept.lists from (stands rows place from at)).0
 
-    shows : ShowsRow R s held h from free
+    shows : ShowsRow R l held h from free
     shows = (shows_row {free = free} m kept.lists from (stands rows place from at)).1
 
     abbrev pub k : Held
     k = (shows_row {free = free} m kept.lists to (stands rows end to to_at)).0
 
-    shows_to : ShowsRow R s held k to free
+    shows_to : ShowsRow R l held k to free
     shows_to = (shows_row {free = free} m kept.lists to (stands rows end to to_at)).1
 
     abbrev f : Held
     f = (shows_row {free = free} m kept.lists file (stands rows target file file_at)).0
 
-    shows_file : ShowsRow R s held f file free
+    shows_file : ShowsRow R l held f file free
     shows_file = (shows_row {free = free} m kept.lists file (stands rows target file file_at)).1
 
     can : CanTakeName l held from.inode h name (way_to (first ∷ rest)) to.inode k other i j f
-    can = can_take R s rows target moved at to_at moved_at file_at names first rest spot apart free m shows shows_to shows_file good good_other good_there
+    can = can_take R l rows target moved at to_at moved_at file_at names first rest spot apart free m shows shows_to shows_file good good_other good_there
 
     count : length step.fresh ≡ needed (h.tail % 4096) cut
     count = let told = shows.told in step.count ∙ ap (λ (t : ℕ). needed (t % 4096) cut) told.tail
@@ -134,10 +131,10 @@ module _ {R S : Region} {s : Super} {rows news : List Row} {free after : FreeLis
     file_stays = counted_file (links - 1) time step.rest shows_file is_file (omega (arith, some)) (omega (arith, few))
 
     stays : SameFile l h (extended h cut step.fresh)
-    stays = named_file s i name time step.fresh shows.told from_directory good Remove
+    stays = named_file l i name time step.fresh shows.told from_directory good Remove
 
     to_stays : SameFile l k (extended k hand step.more)
-    to_stays = handed_file s i j other other time step.more shows_to.told to_directory good_there good_other
+    to_stays = handed_file l i j other other time step.more shows_to.told to_directory good_there good_other
 
     abbrev one : Store
     one = with_log held from.inode h cut step.fresh
@@ -148,7 +145,7 @@ module _ {R S : Region} {s : Super} {rows news : List Row} {free after : FreeLis
     abbrev then : Store
     then = with_three_logs held from.inode h cut step.fresh to.inode k hand step.more j f less step.rest
 
-    idle : ShowsIdle S s then
+    idle : ShowsIdle S l then
     idle = let seen = step.shows held h k f shows shows_to shows_file in seen.idle
 
     to_there : one to.inode ≡ Some k
@@ -212,14 +209,14 @@ module _ {R S : Region} {s : Super} {rows news : List Row} {free after : FreeLis
     follows more small own =
         let count = (node_in l f).links - 1 in
         less_across l held from.inode h name (way_to (first ∷ rest)) to.inode k other i j f can (place_of step.fresh 0 h.tail (Name (record { operation = Remove; inode = i; time = time; name = name }))) time (end_of step.fresh 0 h.tail cut) (take (needed (h.tail % 4096) cut) step.fresh)
-        (cut_place s i j other other time step.more shows_to.told to_directory good_there good_other) (given_place s i j other other time step.more shows_to.told to_directory good_there good_other) (end_of step.more 0 k.tail hand) (take (needed (k.tail % 4096) hand) step.more) (λ e. differ (sym e))
+        (cut_place l i j other other time step.more shows_to.told to_directory good_there good_other) (given_place l i j other other time step.more shows_to.told to_directory good_there good_other) (end_of step.more 0 k.tail hand) (take (needed (k.tail % 4096) hand) step.more) (λ e. differ (sym e))
         own_first own_second file_kind more small (place_of step.rest 0 f.tail (Links (record { count = count; time = time }))) (end_of step.rest 0 f.tail (links_entries count time)) (take (needed (f.tail % 4096) (links_entries count time)) step.rest) own
 
     faultless : IsFaultless l then
     faultless = subst Follows (sym links_are) follows some few own_third
 
-    sound_then : ShowsSound S s then
-    sound_then = record { sup = idle.sup; idle = idle.idle; shows = idle.shows; faultless = faultless }
+    sound_then : ShowsSound S l then
+    sound_then = record { tables = idle.tables; idle = idle.idle; shows = idle.shows; faultless = faultless }
 
     bytes_then : (n : ℕ) (g : Held) → held n ≡ Some g → (x : ℕ) → byte_of S l g x ≡ byte_of R l g x
     bytes_then = let seen = step.shows held h k f shows shows_to shows_file in seen.bytes
@@ -232,8 +229,8 @@ module _ {R S : Region} {s : Super} {rows news : List Row} {free after : FreeLis
         let has = step.other_is in
         let counts = step.third_is in
         let counted = counts.0 in
-        let told = lost_told s i name time step.fresh shows.told from_directory good step.count lost in
-        let to_told = handed_told s i j other other time step.more shows_to.told to_directory good_there good_other step.more_count has in
+        let told = lost_told l i name time step.fresh shows.told from_directory good step.count lost in
+        let to_told = handed_told l i j other other time step.more shows_to.told to_directory good_there good_other step.more_count has in
         let to_still : slice_get (set rows place from_now) end ≡ Some to = other_set rows place end from_now (places_differ rows place end from to at to_at differ) ∙ to_at in
         let first_follow = rows_follow l held from.inode (extended h cut step.fresh) rows keeps.in_rows place (slice_get_within rows place from at) from_now (number_at rows place from from_now at) lost.inode told in
         let follow = rows_follow l one to.inode (extended k hand step.more) (set rows place from_now) first_follow end (slice_get_within (set rows place from_now) end to to_still) to_now (number_at (set rows place from_now) end to to_now to_still) has.inode to_told in
@@ -244,19 +241,19 @@ module _ {R S : Region} {s : Super} {rows news : List Row} {free after : FreeLis
         subst (λ (rs : List Row). KeepsRows l then rs) (sym put) last_follow
 
     -- The rows and the free lists are those of what is held.
-    pub mounted_then : IsMounted S s then news after.pools
+    pub mounted_then : IsMounted S l then news after.pools
     mounted_then = record { sound = sound_then; keeps = record { in_rows = rows_then; in_lists = lists_grew all_grew step.taken shows.lists kept.lists } }
 
   -- What is kept then.
-  pub kept_then : (later : Bool) → IsKept S s news after faults read_only later
-  kept_then later = kept_of_mounted S s news after faults read_only later kept.writes writes (taken_sup step.taken ∙ kept.lists) (∥∥₁_map (mounted_of_kept kept runs writes) (λ w. (_, mounted_then w.0 w.1)))
+  pub kept_then : (later : Bool) → IsKept S s l news after faults read_only later
+  kept_then later = kept_of_mounted S s l news after faults read_only later kept.tables kept.writes writes (taken_sup step.taken ∙ kept.lists) (∥∥₁_map (mounted_of_kept kept runs writes) (λ w. (_, mounted_then w.0 w.1)))
 
   -- Each byte that a row's file had is where it was.
   pub bytes_kept : (r : Row) → Contains rows r → (x : ℕ) → byte_in S (block_at r.index (x / 4096)) x ≡ byte_in R (block_at r.index (x / 4096)) x
   bytes_kept = bytes_stay kept runs writes S bytes_then
 
   -- All three logs, for whatever is held of the region.
-  pub three_grew : (held : Store) (a b c : Held) → ShowsSound R s held → held from.inode ≡ Some a → held to.inode ≡ Some b → held j ≡ Some c → ShowsThreeGrew S s free.pools cpu held from.inode a cut to.inode b hand j c less
+  pub three_grew : (held : Store) (a b c : Held) → ShowsSound R l held → held from.inode ≡ Some a → held to.inode ≡ Some b → held j ≡ Some c → ShowsThreeGrew S l free.pools cpu held from.inode a cut to.inode b hand j c less
   three_grew held a b c sound is other_is last_is = ∥∥₁_map (mounted_with kept runs held sound) (λ m.
       let shown = shows held m in
       let shown_to = shows_to held m in
@@ -267,9 +264,9 @@ module _ {R S : Region} {s : Super} {rows news : List Row} {free after : FreeLis
       let same : h held m ≡ a = cc in
       let same_to : k held m ≡ b = cc in
       let same_file : f held m ≡ c = cc in
-      subst (λ (x : Held). ThreeGrew S s free.pools cpu held from.inode x cut to.inode b hand j c less) same
-      (subst (λ (x : Held). ThreeGrew S s free.pools cpu held from.inode (h held m) cut to.inode x hand j c less) same_to
-      (subst (λ (x : Held). ThreeGrew S s free.pools cpu held from.inode (h held m) cut to.inode (k held m) hand j x less) same_file (record {
+      subst (λ (x : Held). ThreeGrew S l free.pools cpu held from.inode x cut to.inode b hand j c less) same
+      (subst (λ (x : Held). ThreeGrew S l free.pools cpu held from.inode (h held m) cut to.inode x hand j c less) same_to
+      (subst (λ (x : Held). ThreeGrew S l free.pools cpu held from.inode (h held m) cut to.inode (k held m) hand j x less) same_file (record {
         fresh = step.fresh;
         more = step.more;
         last = step.rest;

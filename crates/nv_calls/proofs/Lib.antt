@@ -2,7 +2,6 @@ pub mod Stated
 pub mod Kept
 pub mod Listed
 pub mod FileBytes
-pub mod FreshBlocks
 pub mod Mounts
 pub mod OneRow
 pub mod RowChange
@@ -94,6 +93,8 @@ pub mod CleanedMount
 pub mod DeadPages
 pub mod CleanCall
 pub mod StoppedCleaning
+pub mod UpgradeCall
+pub mod UpgradeAlike
 pub mod Decided
 pub mod Mounted
 pub mod InOrder

@@ -13,12 +13,12 @@ use Rattle.nv_entry.specs.declared.entry.Operation.TheVariants.{Add}
 use Rattle.nv_logpage.specs.Append.{needed}
 use Rattle.nv_radix.specs.Pages.{block_at}
 use Rattle.nv_scan.specs.declared.piece.Row.{Row}
-use Rattle.nv_held.specs.nv_check.Cross.{row_key}
-use Rattle.nv_held.specs.nv_graph.Read.{row_of}
-use Rattle.nv_held.specs.nv_graph.Step.{IsGoodName}
-use Rattle.nv_held.specs.Held.{Held, Store}
-use Rattle.nv_held.specs.Bytes.{byte_in}
-use Rattle.nv_held.specs.Mounted.{IsMounted, ShowsSound}
+use Rattle.nv_cross_check.specs.Cross.{row_key}
+use Rattle.nv_graph.specs.Read.{row_of}
+use Rattle.nv_graph.specs.Step.{IsGoodName}
+use Rattle.nv_mounted.specs.Held.{Held, Store}
+use Rattle.nv_mounted.specs.Bytes.{byte_in}
+use Rattle.nv_mounted.specs.Mounted.{IsMounted, ShowsSound}
 use Rattle.nv_tree.specs.declared.refusal.Refusal.{Refusal}
 use Rattle.nv_tree.specs.Path.{IsPath, IsPathName, Says, last_name}
 use Rattle.nv_tree.specs.Tree.{Node, SameTree, Tree, found, walk}
@@ -45,12 +45,13 @@ use Rattle.nv_calls.proofs.LinkedHeld.{kinds_differ, link_right}
 use Rattle.nv_calls.proofs.LinkedTree.{counted_node, linked_by, links_told}
 use Rattle.nv_steps.proofs.NamesCounted.{as_many}
 use Rattle.nv_super.proofs.Members.{stands}
-use Rattle.nv_calls.proofs.RowNumbers.{row_number}
+use Rattle.nv_super.specs.Layout.{Layout}
+use Rattle.nv_calls.proofs.RowNumbers.{row_named}
 use Rattle.nv_steps.proofs.RowOf.{row_at}
 use Rattle.nv_calls.proofs.Tests.{space_allows, space_refuses}
 
-module _ {R S : Region} {s : Super} {rows news : List Row} {free after : FreeLists} {faults : List Fault} {read_only stopped : Bool} (kept : IsKept R s rows free faults read_only stopped) (runs : stopped ≡ false) (writes : read_only ≡ false)
-    {cpu target place : ℕ} {name : List ℕ} {time : ℕ} (step : LinksAt R S s free after cpu rows news target place name time) (spelled : IsPathName name) (names others : List (List ℕ)) (spot : IsLinkSpot (tree_of R rows) rows names others place name target) where
+module _ {R S : Region} {s : Super} {l : Layout} {rows news : List Row} {free after : FreeLists} {faults : List Fault} {read_only stopped : Bool} (kept : IsKept R s l rows free faults read_only stopped) (runs : stopped ≡ false) (writes : read_only ≡ false)
+    {cpu target place : ℕ} {name : List ℕ} {time : ℕ} (step : LinksAt R S l free after cpu rows news target place name time) (spelled : IsPathName name) (names others : List (List ℕ)) (spot : IsLinkSpot (tree_of R rows) rows names others place name target) where
   abbrev file : Row
   file = step.file
 
@@ -63,8 +64,8 @@ module _ {R S : Region} {s : Super} {rows news : List Row} {free after : FreeLis
   directory_at : slice_get rows place ≡ Some directory
   directory_at = let both = step.step in both.other_at
 
-  good : IsGoodName s file.inode name
-  good = good_name s file.inode name spelled (row_number kept runs writes file (stands rows target file at))
+  good : IsGoodName l.sup file.inode name
+  good = good_name l.sup file.inode name spelled (row_named kept runs writes file (stands rows target file at))
 
   is_file : file.kind ≡ File
   is_file = (spot.file file at).0
@@ -85,17 +86,17 @@ module _ {R S : Region} {s : Super} {rows news : List Row} {free after : FreeLis
   absent = let free_name = spot.spot in free_name.absent directory directory_at
 
   rising : Rises row_key rows
-  rising = rows_rise R s rows free faults read_only stopped kept runs
+  rising = rows_rise R s l rows free faults read_only stopped kept runs
 
   differ : file.inode ≢ directory.inode
   differ = kinds_differ rows target place file directory rising at directory_at is_file is_directory
 
   -- What is mounted, for what is held of the region of before.
-  pub linked_mounted : (held : Store) (m : IsMounted R s held rows free.pools) → (then : Store) × IsMounted S s then news after.pools
+  pub linked_mounted : (held : Store) (m : IsMounted R l held rows free.pools) → (then : Store) × IsMounted S l then news after.pools
   linked_mounted held m = (_, mounted_then kept runs writes step.step differ (link_right step is_file is_directory few good absent) held m)
 
   -- What is kept.
-  pub linked_kept : (now : Bool) → IsKept S s news after faults read_only now
+  pub linked_kept : (now : Bool) → IsKept S s l news after faults read_only now
   linked_kept = both_kept kept runs writes step.step differ (link_right step is_file is_directory few good absent)
 
   bytes : (r : Row) → Contains rows r → (x : ℕ) → byte_in S (block_at r.index (x / 4096)) x ≡ byte_in R (block_at r.index (x / 4096)) x
@@ -116,8 +117,8 @@ module _ {R S : Region} {s : Super} {rows news : List Row} {free after : FreeLis
       subst (λ (t : Tree). SameTree (tree_of S news) t) made (subst (λ (rs : List Row). SameTree (tree_of S rs) (edit directory.inode (with_name name file.inode time) (edit file.inode (with_links (file.numbers.links + 1) time) (tree_of R rows)))) (sym both.put) same)
 
   -- The logs, for whatever is held of the region.
-  pub linked_logs : (i d : ℕ) (node : Node) (held : Store) (f h : Held) → LeadsTo (tree_of R rows) names i node → walk (tree_of R rows) 1 others ≡ Ok d → ShowsSound R s held → held i ≡ Some f → held d ≡ Some h
-      → ShowsBothGrew S s free.pools cpu held i f (links_entries (node.links + 1) time) d h (name_entries Add i (last_name others) time)
+  pub linked_logs : (i d : ℕ) (node : Node) (held : Store) (f h : Held) → LeadsTo (tree_of R rows) names i node → walk (tree_of R rows) 1 others ≡ Ok d → ShowsSound R l held → held i ≡ Some f → held d ≡ Some h
+      → ShowsBothGrew S l free.pools cpu held i f (links_entries (node.links + 1) time) d h (name_entries Add i (last_name others) time)
   linked_logs i d node held f h led ended sound is other_is =
       let both : Ok directory.inode ≡ Ok d = sym walked ∙ ended in
       let same : directory.inode ≡ d = cc in
@@ -125,10 +126,10 @@ module _ {R S : Region} {s : Super} {rows news : List Row} {free after : FreeLis
       let one : file.inode ≡ i = cc in
       let links : file.numbers.links ≡ node.links = sym (links_told R rows file (row_at rows target file rising at)) ∙ ap (λ (k : ℕ). links_at (tree_of R rows) k) one ∙ ap (λ (o : Option Node). option_map_or (λ (n : Node). n.links) o 0) led.shows in
       let grew = both_logs kept runs writes step.step differ (link_right step is_file is_directory few good absent) held f h sound (ap held one ∙ is) (ap held same ∙ other_is) in
-      subst (λ (k : ℕ). ShowsBothGrew S s free.pools cpu held k f (links_entries (node.links + 1) time) d h (name_entries Add k (last_name others) time)) one
-      (subst (λ (n : ℕ). ShowsBothGrew S s free.pools cpu held file.inode f (links_entries (n + 1) time) d h (name_entries Add file.inode (last_name others) time)) links
-      (subst (λ (q : List ℕ). ShowsBothGrew S s free.pools cpu held file.inode f (links_entries (file.numbers.links + 1) time) d h (name_entries Add file.inode q time)) name_is
-      (subst (λ (k : ℕ). ShowsBothGrew S s free.pools cpu held file.inode f (links_entries (file.numbers.links + 1) time) k h (name_entries Add file.inode name time)) same grew)))
+      subst (λ (k : ℕ). ShowsBothGrew S l free.pools cpu held k f (links_entries (node.links + 1) time) d h (name_entries Add k (last_name others) time)) one
+      (subst (λ (n : ℕ). ShowsBothGrew S l free.pools cpu held file.inode f (links_entries (n + 1) time) d h (name_entries Add file.inode (last_name others) time)) links
+      (subst (λ (q : List ℕ). ShowsBothGrew S l free.pools cpu held file.inode f (links_entries (file.numbers.links + 1) time) d h (name_entries Add file.inode q time)) name_is
+      (subst (λ (k : ℕ). ShowsBothGrew S l free.pools cpu held file.inode f (links_entries (file.numbers.links + 1) time) k h (name_entries Add file.inode name time)) same grew)))
 
 -- ---- why it is refused
 

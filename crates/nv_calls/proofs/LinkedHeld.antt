@@ -3,9 +3,8 @@ use Rattle.std.proofs.Common.{◌≡◌, ◌≢◌, ℕ, ◌+◌, ◌%◌, ◌<�
 use Rattle.std.specs.List.{Contains}
 use Rattle.std.specs.Option.{option_and_then, option_map}
 use Rattle.nv_region.specs.Region.{Region}
-use Rattle.nv_super.specs.declared.superblock.Super.{Super}
 use Rattle.nv_super.specs.declared.kind.Kind.TheVariants.{File, Directory}
-use Rattle.nv_super.specs.Layout.{Layout, fixed_layout}
+use Rattle.nv_super.specs.Layout.{Layout}
 use Rattle.nv_super.specs.Order.{Rises}
 use Rattle.nv_alloc.specs.FreeValue.{FreeLists}
 use Rattle.nv_entry.specs.declared.entry.Entry.{Entry}
@@ -13,14 +12,14 @@ use Rattle.nv_entry.specs.declared.entry.Entry.TheVariants.{Links}
 use Rattle.nv_entry.specs.declared.entry.Operation.TheVariants.{Add}
 use Rattle.nv_logpage.specs.Append.{end_of, needed, place_of}
 use Rattle.nv_scan.specs.declared.piece.Row.{Row}
-use Rattle.nv_held.specs.nv_check.Cross.{row_key}
-use Rattle.nv_held.specs.Held.{Held, Store}
-use Rattle.nv_held.specs.Blocks.{OwnsNew}
-use Rattle.nv_held.specs.Graph.{graph_in, node_in, target_in}
-use Rattle.nv_held.specs.Grows.{SameFile}
-use Rattle.nv_held.specs.Mounted.{IsFaultless, IsMounted, KeepsRow}
-use Rattle.nv_held.specs.nv_graph.Read.{row_of}
-use Rattle.nv_held.specs.nv_graph.Step.{IsGoodName}
+use Rattle.nv_cross_check.specs.Cross.{row_key}
+use Rattle.nv_mounted.specs.Held.{Held, Store}
+use Rattle.nv_mounted.specs.Blocks.{OwnsNew}
+use Rattle.nv_mounted.specs.Graph.{graph_in, node_in, target_in}
+use Rattle.nv_mounted.specs.Grows.{SameFile}
+use Rattle.nv_mounted.specs.Mounted.{IsFaultless, IsMounted, KeepsRow}
+use Rattle.nv_graph.specs.Read.{row_of}
+use Rattle.nv_graph.specs.Step.{IsGoodName}
 use Rattle.nv_commit.specs.Extends.{extended, with_log}
 use Rattle.nv_commit.proofs.Called.{linked_faultless}
 use Rattle.nv_steps.specs.NameEntries.{links_entries, name_entries}
@@ -37,10 +36,7 @@ use Rattle.nv_steps.proofs.RowOf.{row_at}
 
 -- ---- a file that counts a link more or less
 
-module _ {R : Region} {s : Super} {held : Store} {f : Held} {file : Row} {free : FreeLists} (n time : ℕ) (fresh : List ℕ) (shows : ShowsRow R s held f file free) (is_file : file.kind ≡ File) (some : 0 < n) (few : n ≤ 1000) where
-  abbrev l : Layout
-  l = fixed_layout s
-
+module _ {R : Region} {l : Layout} {held : Store} {f : Held} {file : Row} {free : FreeLists} (n time : ℕ) (fresh : List ℕ) (shows : ShowsRow R l held f file free) (is_file : file.kind ≡ File) (some : 0 < n) (few : n ≤ 1000) where
   abbrev entries : List Entry
   entries = links_entries n time
 
@@ -72,11 +68,11 @@ module _ {R : Region} {s : Super} {held : Store} {f : Held} {file : Row} {free :
 -- ---- the directory
 
 -- a name that no row's inode has isn't in the graph
-pub absent_in : {R : Region} {s : Super} {held : Store} {h : Held} {row : Row} {rows : List Row} {free : FreeLists} (name : List ℕ) → IsMounted R s held rows free.pools → ShowsRow R s held h row free → Contains rows row → IsNoneNamed rows row name
-    → (graph_in (fixed_layout s) held).name row.inode name ≡ None
-absent_in {R} {s} {held} {h} {row} {rows} {free} name m shows here none =
+pub absent_in : {R : Region} {l : Layout} {held : Store} {h : Held} {row : Row} {rows : List Row} {free : FreeLists} (name : List ℕ) → IsMounted R l held rows free.pools → ShowsRow R l held h row free → Contains rows row → IsNoneNamed rows row name
+    → (graph_in l held).name row.inode name ≡ None
+absent_in {R} {l} {held} {h} {row} {rows} {free} name m shows here none =
     let told = shows.told in
-    ap (λ (o : Option Held). option_and_then (target_in (fixed_layout s) name) o) shows.holds ∙ ap (λ (o : Option (ℕ × ℕ)). option_map (λ (y : ℕ × ℕ). y.0) o) (sym (told.names name) ∙ not_named m row here name none)
+    ap (λ (o : Option Held). option_and_then (target_in l name) o) shows.holds ∙ ap (λ (o : Option (ℕ × ℕ)). option_map (λ (y : ℕ × ℕ). y.0) o) (sym (told.names name) ∙ not_named m row here name none)
 
 -- rows of different kinds have different numbers
 pub kinds_differ : (rows : List Row) (i j : ℕ) (file directory : Row) → Rises row_key rows → slice_get rows i ≡ Some file → slice_get rows j ≡ Some directory → file.kind ≡ File → directory.kind ≡ Directory → file.inode ≢ directory.inode
@@ -94,8 +90,8 @@ kinds_apart rows i j file directory at other_at is_file is_directory same =
     let clash : File ≡ Directory = sym is_file ∙ ap (λ (r : Row). r.kind) one ∙ is_directory in
     cc
 
-module _ {R S : Region} {s : Super} {rows news : List Row} {free after : FreeLists} {cpu target place : ℕ} {name : List ℕ} {time : ℕ} (step : LinksAt R S s free after cpu rows news target place name time)
-    (is_file : step.file.kind ≡ File) (is_directory : step.directory.kind ≡ Directory) (few : step.file.numbers.links < 1000) (good : IsGoodName s step.file.inode name) (absent : IsNoneNamed rows step.directory name) where
+module _ {R S : Region} {l : Layout} {rows news : List Row} {free after : FreeLists} {cpu target place : ℕ} {name : List ℕ} {time : ℕ} (step : LinksAt R S l free after cpu rows news target place name time)
+    (is_file : step.file.kind ≡ File) (is_directory : step.directory.kind ≡ Directory) (few : step.file.numbers.links < 1000) (good : IsGoodName l.sup step.file.inode name) (absent : IsNoneNamed rows step.directory name) where
   abbrev i : ℕ
   i = step.file.inode
 
@@ -111,8 +107,8 @@ module _ {R S : Region} {s : Super} {rows news : List Row} {free after : FreeLis
   abbrev more_blocks : List ℕ
   more_blocks = step.step.more
 
-  module _ (held : Store) (f h : Held) (m : IsMounted R s held rows free.pools) (shows : ShowsRow R s held f step.file free) (shows_directory : ShowsRow R s held h step.directory free) where
-    links_are : links ≡ (node_in (fixed_layout s) f).links
+  module _ (held : Store) (f h : Held) (m : IsMounted R l held rows free.pools) (shows : ShowsRow R l held f step.file free) (shows_directory : ShowsRow R l held h step.directory free) where
+    links_are : links ≡ (node_in l f).links
     links_are = let told = shows.told in let numbers = told.numbers in numbers.links
 
     file_kind : f.kind ≡ File
@@ -121,33 +117,33 @@ module _ {R S : Region} {s : Super} {rows news : List Row} {free after : FreeLis
     directory_kind : h.kind ≡ Directory
     directory_kind = let told = shows_directory.told in sym told.kind ∙ is_directory
 
-    was : IsFaultless (fixed_layout s) held
+    was : IsFaultless l held
     was = let sound = shows.sound in sound.faultless
 
-    not_there : (graph_in (fixed_layout s) held).name d name ≡ None
+    not_there : (graph_in l held).name d name ≡ None
     not_there = let both = step.step in absent_in {free = free} name m shows_directory (stands rows place step.directory both.other_at) absent
 
     abbrev Follows : ℕ → Type 0
-    Follows n = n < 1000 → OwnsNew (fixed_layout s) held i (Some (extended f (links_entries (n + 1) time) fresh_blocks))
-        → OwnsNew (fixed_layout s) (with_log held i f (links_entries (n + 1) time) fresh_blocks) d (Some (extended h (name_entries Add i name time) more_blocks))
-        → IsFaultless (fixed_layout s) (with_log (with_log held i f (links_entries (n + 1) time) fresh_blocks) d h (name_entries Add i name time) more_blocks)
+    Follows n = n < 1000 → OwnsNew l held i (Some (extended f (links_entries (n + 1) time) fresh_blocks))
+        → OwnsNew l (with_log held i f (links_entries (n + 1) time) fresh_blocks) d (Some (extended h (name_entries Add i name time) more_blocks))
+        → IsFaultless l (with_log (with_log held i f (links_entries (n + 1) time) fresh_blocks) d h (name_entries Add i name time) more_blocks)
 
-    follows : Follows (node_in (fixed_layout s) f).links
-    follows below = linked_faultless (fixed_layout s) held was d h shows_directory.holds directory_kind i name good (place_named more_blocks h.tail i name time) time (end_of more_blocks 0 h.tail (name_entries Add i name time))
-        (take (needed (h.tail % 4096) (name_entries Add i name time)) more_blocks) f shows.holds file_kind (place_of fresh_blocks 0 f.tail (Links (record { count = (node_in (fixed_layout s) f).links + 1; time = time })))
-        (end_of fresh_blocks 0 f.tail (links_entries ((node_in (fixed_layout s) f).links + 1) time)) (take (needed (f.tail % 4096) (links_entries ((node_in (fixed_layout s) f).links + 1) time)) fresh_blocks) below not_there
+    follows : Follows (node_in l f).links
+    follows below = linked_faultless l held was d h shows_directory.holds directory_kind i name good (place_named more_blocks h.tail i name time) time (end_of more_blocks 0 h.tail (name_entries Add i name time))
+        (take (needed (h.tail % 4096) (name_entries Add i name time)) more_blocks) f shows.holds file_kind (place_of fresh_blocks 0 f.tail (Links (record { count = (node_in l f).links + 1; time = time })))
+        (end_of fresh_blocks 0 f.tail (links_entries ((node_in l f).links + 1) time)) (take (needed (f.tail % 4096) (links_entries ((node_in l f).links + 1) time)) fresh_blocks) below not_there
 
     linked_right : Follows links
     linked_right = subst Follows (sym links_are) follows
 
   -- What is owed of the call is so.
-  pub link_right : IsRight R s free rows step.file (links_entries (links + 1) time) fresh_blocks step.step.first_now step.directory (name_entries Add i name time) more_blocks step.step.second_now
+  pub link_right : IsRight R l free rows step.file (links_entries (links + 1) time) fresh_blocks step.step.first_now step.directory (name_entries Add i name time) more_blocks step.step.second_now
   link_right = record {
     number = (let both = step.step in let counted = both.is in counted.inode);
     other_number = (let both = step.step in let named = both.other_is in named.inode);
     stays = λ held f shows. counted_file (links + 1) time fresh_blocks shows is_file (omega arith) (omega (arith, few));
-    other_stays = λ held h shows. named_file s i name time more_blocks shows.told is_directory good Add;
+    other_stays = λ held h shows. named_file l i name time more_blocks shows.told is_directory good Add;
     told = λ held f shows. (let both = step.step in counted_told (links + 1) time fresh_blocks shows is_file (omega arith) (omega (arith, few)) both.count both.is);
-    other_told = λ held h shows. (let both = step.step in named_told s i name time more_blocks shows.told is_directory good both.more_count both.other_is);
+    other_told = λ held h shows. (let both = step.step in named_told l i name time more_blocks shows.told is_directory good both.more_count both.other_is);
     faultless = λ held f h m shows shows_directory. linked_right held f h m shows shows_directory few;
   }

@@ -3,9 +3,8 @@ use Rattle.std.proofs.Common.{◌≡◌, ◌↔◌, ◌⊎◌, ℕ, ◌%◌, ◌
 use Rattle.std.specs.List.{Contains, IsDistinct}
 use Rattle.std.proofs.lemmas.List.Elements.{Contains-append_cases, Contains-append_left, Contains-append_right}
 use Rattle.nv_region.specs.Region.{Region}
-use Rattle.nv_super.specs.declared.superblock.Super.{Super}
 use Rattle.nv_super.specs.declared.owners.Run.{Run}
-use Rattle.nv_super.specs.Layout.{Layout, fixed_layout, system_blocks}
+use Rattle.nv_super.specs.Layout.{Layout, system_blocks}
 use Rattle.nv_super.proofs.Members.{none_in}
 use Rattle.nv_alloc.specs.FreeValue.{FreeLists}
 use Rattle.nv_alloc.specs.Taking.{HasBlock}
@@ -14,14 +13,14 @@ use Rattle.nv_logpage.specs.Append.{needed}
 use Rattle.nv_logpage.proofs.DataBlocks.{one_page, pages_are}
 use Rattle.nv_logpage.proofs.RightLogs.{head_starts}
 use Rattle.nv_scan.specs.declared.piece.Row.{Row}
-use Rattle.nv_held.specs.Held.{Held, Store, Shows, with_inode}
-use Rattle.nv_held.specs.Blocks.{IsUnowned, KeepsFree, NoneDoubled, OwnsNew}
-use Rattle.nv_held.specs.Grows.{AreFree, Maps, SameFile}
-use Rattle.nv_held.specs.Lists.{WasTaken}
-use Rattle.nv_held.proofs.Growing.{free_but, grown_owns}
-use Rattle.nv_held.proofs.ListsKept.{lists_change}
-use Rattle.nv_held.proofs.Owning.{still_undoubled}
-use Rattle.nv_held.proofs.Shown.{stands_at}
+use Rattle.nv_mounted.specs.Held.{Held, Store, Shows, with_inode}
+use Rattle.nv_mounted.specs.Blocks.{IsUnowned, KeepsFree, NoneDoubled, OwnsNew}
+use Rattle.nv_mounted.specs.Grows.{AreFree, Maps, SameFile}
+use Rattle.nv_mounted.specs.Lists.{WasTaken}
+use Rattle.nv_mounted.proofs.Growing.{free_but, grown_owns}
+use Rattle.nv_mounted.proofs.ListsKept.{lists_change}
+use Rattle.nv_mounted.proofs.Owning.{still_undoubled}
+use Rattle.nv_mounted.proofs.Shown.{stands_at}
 use Rattle.nv_commit.specs.Extends.{extended, with_log}
 use Rattle.nv_commit.proofs.BlocksOf.{gone_free}
 use Rattle.nv_steps.specs.LessNames.{GivesRow}
@@ -75,10 +74,7 @@ module _ {l : Layout} {held now : Store} {blocks : List ℕ} (grew : GrewOver l 
   lists_grew = lists_without taken l held kept lists now grew.but
 
 -- And with those of an inode that is gone, which were given back.
-module _ {R : Region} {s : Super} {held now : Store} {blocks : List ℕ} (grew : GrewOver (fixed_layout s) held now blocks) {f : Held} {gone : Row} {free mid : FreeLists} {cpu : ℕ} (taken : TakesEach free cpu blocks mid) (lists : free.sup ≡ s) (shows_gone : ShowsRow R s held f gone free) (there : now gone.inode ≡ Some f) where
-  abbrev l : Layout
-  l = fixed_layout s
-
+module _ {R : Region} {l : Layout} {held now : Store} {blocks : List ℕ} (grew : GrewOver l held now blocks) {f : Held} {gone : Row} {free mid : FreeLists} {cpu : ℕ} (taken : TakesEach free cpu blocks mid) (lists : free.sup ≡ l.sup) (shows_gone : ShowsRow R l held f gone free) (there : now gone.inode ≡ Some f) where
   abbrev then : Store
   then = with_inode now gone.inode None
 
@@ -92,11 +88,11 @@ module _ {R : Region} {s : Super} {held now : Store} {blocks : List ℕ} (grew :
       let told = shows_gone.told in
       (given.blocks b).1 (elim w [ inl log ↦ inl (subst (λ (ps : List ℕ). Contains ps b) (sym told.pages) log) | inr mapped ↦ inr (mapped.0, told.index mapped.0 ∙ mapped.1) ])
 
-  pages_inside : (b : ℕ) → Contains f.pages b → (system_blocks s ≤ b) × (b < s.blocks)
+  pages_inside : (b : ℕ) → Contains f.pages b → (system_blocks l.sup ≤ b) × (b < l.sup.blocks)
   pages_inside b c =
       let sound = shows_gone.sound in
       let v = stands_at sound.shows gone.inode f shows_gone.holds in
-      let all = pages_are (one_page s f.head (head_starts s f.head f.tail v.is.right)) v.is.reads in
+      let all = pages_are (one_page l.sup f.head (head_starts l.sup f.head f.tail v.is.right)) v.is.reads in
       (all.behind b c, all.within b c)
 
   pub lists_gone : {after : FreeLists} (given : GivesRow mid gone after) → KeepsFree l then after.pools

@@ -12,11 +12,11 @@ use Rattle.nv_alloc.specs.Taking.{all_blocks}
 use Rattle.nv_entry.specs.declared.entry.Operation.TheVariants.{Add, Remove}
 use Rattle.nv_logpage.specs.Append.{needed}
 use Rattle.nv_scan.specs.declared.piece.Row.{Row}
-use Rattle.nv_held.specs.nv_check.Cross.{row_key}
-use Rattle.nv_held.specs.nv_graph.Read.{row_of}
-use Rattle.nv_held.specs.nv_graph.Step.{IsGoodName}
-use Rattle.nv_held.specs.Held.{Held, Store}
-use Rattle.nv_held.specs.Mounted.{IsMounted, ShowsSound}
+use Rattle.nv_cross_check.specs.Cross.{row_key}
+use Rattle.nv_graph.specs.Read.{row_of}
+use Rattle.nv_graph.specs.Step.{IsGoodName}
+use Rattle.nv_mounted.specs.Held.{Held, Store}
+use Rattle.nv_mounted.specs.Mounted.{IsMounted, ShowsSound}
 use Rattle.nv_tree.specs.declared.refusal.Refusal.{Refusal}
 use Rattle.nv_tree.specs.Path.{IsPath, IsPathName, Says, last_name}
 use Rattle.nv_tree.specs.Tree.{Node, SameTree, Tree, walk}
@@ -39,7 +39,8 @@ use Rattle.nv_calls.proofs.MoveTests.{rename_allows}
 use Rattle.nv_calls.proofs.MovedAcross.{across_kept, across_logs, across_mounted, across_tree}
 use Rattle.nv_calls.proofs.MovedWithin.{within_kept, within_log, within_mounted, within_tree}
 use Rattle.nv_super.proofs.Members.{stands}
-use Rattle.nv_calls.proofs.RowNumbers.{row_number}
+use Rattle.nv_super.specs.Layout.{Layout}
+use Rattle.nv_calls.proofs.RowNumbers.{row_named}
 use Rattle.nv_calls.proofs.Tests.{space_allows, space_refuses}
 
 -- rows at different places have different numbers
@@ -47,42 +48,42 @@ pub places_numbers : (rows : List Row) (i j : ℕ) (a b : Row) → Rises row_key
 places_numbers rows i j a b rising at other_at differ same = differ (one_place row_key rows i j a rising (slice_get_within rows i a at) (slice_get_within rows j b other_at)
     (ap (λ (m : ℕ). m ∷ []) (ap (λ (r : Row). r.inode) (get_or_from_slice_get rows i a a at) ∙ same ∙ sym (ap (λ (r : Row). r.inode) (get_or_from_slice_get rows j b a other_at)))))
 
-module _ {R : Region} {s : Super} {rows : List Row} {free : FreeLists} {faults : List Fault} {read_only stopped : Bool} (kept : IsKept R s rows free faults read_only stopped) (runs : stopped ≡ false) (writes : read_only ≡ false)
+module _ {R : Region} {s : Super} {l : Layout} {rows : List Row} {free : FreeLists} {faults : List Fault} {read_only stopped : Bool} (kept : IsKept R s l rows free faults read_only stopped) (runs : stopped ≡ false) (writes : read_only ≡ false)
     {place target end : ℕ} {name other : List ℕ} (spelled : IsPathName name) (spelled_other : IsPathName other) (names : List (List ℕ)) (first : List ℕ) (rest : List (List ℕ)) (spot : IsMoveSpot (tree_of R rows) rows names (first ∷ rest) place name target end other) where
   rising : Rises row_key rows
-  rising = rows_rise R s rows free faults read_only stopped kept runs
+  rising = rows_rise R s l rows free faults read_only stopped kept runs
 
-  good : (q : List ℕ) → IsPathName q → (moved : Row) → slice_get rows target ≡ Some moved → IsGoodName s moved.inode q
-  good q is moved at = good_name s moved.inode q is (row_number kept runs writes moved (stands rows target moved at))
+  good : (q : List ℕ) → IsPathName q → (moved : Row) → slice_get rows target ≡ Some moved → IsGoodName l.sup moved.inode q
+  good q is moved at = good_name l.sup moved.inode q is (row_named kept runs writes moved (stands rows target moved at))
 
   spot_here : place ≡ end → IsMoveSpot (tree_of R rows) rows names (first ∷ rest) place name target place other
   spot_here same = subst (λ (k : ℕ). IsMoveSpot (tree_of R rows) rows names (first ∷ rest) place name target k other) (sym same) spot
 
-  apart : {S : Region} {news : List Row} {after : FreeLists} {cpu time : ℕ} (step : MovesAcross R S s free after cpu rows news place target end name other time) → place ≢ end → step.from.inode ≢ step.to.inode
+  apart : {S : Region} {news : List Row} {after : FreeLists} {cpu time : ℕ} (step : MovesAcross R S l free after cpu rows news place target end name other time) → place ≢ end → step.from.inode ≢ step.to.inode
   apart step differ = let both = step.step in places_numbers rows place end step.from step.to rising both.at both.other_at differ
 
   -- What is kept.
-  pub moved_kept : {S : Region} {news : List Row} {after : FreeLists} {cpu time : ℕ} → MovesAt R S s free after cpu rows news place target end name other time → (now : Bool) → IsKept S s news after faults read_only now
+  pub moved_kept : {S : Region} {news : List Row} {after : FreeLists} {cpu time : ℕ} → MovesAt R S l free after cpu rows news place target end name other time → (now : Bool) → IsKept S s l news after faults read_only now
   moved_kept {S} {news} {after} {cpu} {time} (inl w) now =
       let step = w.1 in
-      subst (λ (rs : List Row). IsKept S s rs after faults read_only now) (sym step.put)
+      subst (λ (rs : List Row). IsKept S s l rs after faults read_only now) (sym step.put)
       (within_kept kept runs writes step.moved step.at step.moved_at step.step names first rest (spot_here w.0) (good name spelled step.moved step.moved_at) (good other spelled_other step.moved step.moved_at) now)
   moved_kept {S} {news} {after} {cpu} {time} (inr w) now =
       let step = w.1 in
       across_kept kept runs writes step names first rest spot (good name spelled step.moved step.moved_at) (good other spelled_other step.moved step.moved_at) (apart step w.0) now
 
   -- What is mounted, for what is held of the region of before.
-  pub moved_mounted : {S : Region} {news : List Row} {after : FreeLists} {cpu time : ℕ} → MovesAt R S s free after cpu rows news place target end name other time → (held : Store) (m : IsMounted R s held rows free.pools) → (then : Store) × IsMounted S s then news after.pools
+  pub moved_mounted : {S : Region} {news : List Row} {after : FreeLists} {cpu time : ℕ} → MovesAt R S l free after cpu rows news place target end name other time → (held : Store) (m : IsMounted R l held rows free.pools) → (then : Store) × IsMounted S l then news after.pools
   moved_mounted {S} {news} {after} {cpu} {time} (inl w) held m =
       let step = w.1 in
-      subst (λ (rs : List Row). (then : Store) × IsMounted S s then rs after.pools) (sym step.put)
+      subst (λ (rs : List Row). (then : Store) × IsMounted S l then rs after.pools) (sym step.put)
       (within_mounted kept runs writes step.moved step.at step.moved_at step.step names first rest (spot_here w.0) (good name spelled step.moved step.moved_at) (good other spelled_other step.moved step.moved_at) held m)
   moved_mounted {S} {news} {after} {cpu} {time} (inr w) held m =
       let step = w.1 in
       across_mounted kept runs writes step names first rest spot (good name spelled step.moved step.moved_at) (good other spelled_other step.moved step.moved_at) (apart step w.0) held m
 
   -- The tree is what the call makes of that of before.
-  pub moved_tree : {S : Region} {news : List Row} {after : FreeLists} {cpu time : ℕ} → MovesAt R S s free after cpu rows news place target end name other time → SameTree (tree_of S news) (renamed names (first ∷ rest) time (tree_of R rows))
+  pub moved_tree : {S : Region} {news : List Row} {after : FreeLists} {cpu time : ℕ} → MovesAt R S l free after cpu rows news place target end name other time → SameTree (tree_of S news) (renamed names (first ∷ rest) time (tree_of R rows))
   moved_tree {S} {news} {after} {cpu} {time} (inl w) =
       let step = w.1 in
       subst (λ (rs : List Row). SameTree (tree_of S rs) (renamed names (first ∷ rest) time (tree_of R rows))) (sym step.put)
@@ -99,8 +100,8 @@ module _ {R : Region} {s : Super} {rows : List Row} {free : FreeLists} {faults :
   to_ends row at = let free_name = spot.spot in let in_directory = free_name.directory in (in_directory.row row at).0
 
   -- The logs of two directories, for whatever is held of the region.
-  pub moved_logs : {S : Region} {news : List Row} {after : FreeLists} {cpu time : ℕ} → MovesAt R S s free after cpu rows news place target end name other time → (i d e : ℕ) (node : Node) (held : Store) (h k : Held) → LeadsTo (tree_of R rows) names i node → walk (tree_of R rows) 1 names ≡ Ok d → walk (tree_of R rows) 1 (first ∷ rest) ≡ Ok e → d ≢ e → ShowsSound R s held → held d ≡ Some h → held e ≡ Some k
-      → ShowsBothGrew S s free.pools cpu held d h (name_entries Remove i (last_name names) time) e k (name_entries Add i (last_name (first ∷ rest)) time)
+  pub moved_logs : {S : Region} {news : List Row} {after : FreeLists} {cpu time : ℕ} → MovesAt R S l free after cpu rows news place target end name other time → (i d e : ℕ) (node : Node) (held : Store) (h k : Held) → LeadsTo (tree_of R rows) names i node → walk (tree_of R rows) 1 names ≡ Ok d → walk (tree_of R rows) 1 (first ∷ rest) ≡ Ok e → d ≢ e → ShowsSound R l held → held d ≡ Some h → held e ≡ Some k
+      → ShowsBothGrew S l free.pools cpu held d h (name_entries Remove i (last_name names) time) e k (name_entries Add i (last_name (first ∷ rest)) time)
   moved_logs {S} {news} {after} {cpu} {time} (inl w) i d e node held h k led walked ended differ sound is other_is =
       let step = w.1 in
       let both : Ok d ≡ Ok e = sym walked ∙ from_ends step.row step.at ∙ sym (to_ends step.row (subst (λ (m : ℕ). slice_get rows m ≡ Some step.row) w.0 step.at)) ∙ ended in
@@ -118,15 +119,15 @@ module _ {R : Region} {s : Super} {rows : List Row} {free : FreeLists} {faults :
       let to_is : step.to.inode ≡ e = cc in
       let moved_is : step.moved.inode ≡ i = cc in
       let grew = across_logs kept runs writes step names first rest spot (good name spelled step.moved step.moved_at) (good other spelled_other step.moved step.moved_at) (apart step w.0) held h k sound (ap held from_is ∙ is) (ap held to_is ∙ other_is) in
-      subst (λ (m : ℕ). ShowsBothGrew S s free.pools cpu held d h (name_entries Remove m (last_name names) time) e k (name_entries Add m (last_name (first ∷ rest)) time)) moved_is
-      (subst (λ (q : List ℕ). ShowsBothGrew S s free.pools cpu held d h (name_entries Remove step.moved.inode q time) e k (name_entries Add step.moved.inode (last_name (first ∷ rest)) time)) there.name_is
-      (subst (λ (q : List ℕ). ShowsBothGrew S s free.pools cpu held d h (name_entries Remove step.moved.inode name time) e k (name_entries Add step.moved.inode q time)) in_directory.name_is
-      (subst (λ (m : ℕ). ShowsBothGrew S s free.pools cpu held m h (name_entries Remove step.moved.inode name time) e k (name_entries Add step.moved.inode other time)) from_is
-      (subst (λ (m : ℕ). ShowsBothGrew S s free.pools cpu held step.from.inode h (name_entries Remove step.moved.inode name time) m k (name_entries Add step.moved.inode other time)) to_is grew))))
+      subst (λ (m : ℕ). ShowsBothGrew S l free.pools cpu held d h (name_entries Remove m (last_name names) time) e k (name_entries Add m (last_name (first ∷ rest)) time)) moved_is
+      (subst (λ (q : List ℕ). ShowsBothGrew S l free.pools cpu held d h (name_entries Remove step.moved.inode q time) e k (name_entries Add step.moved.inode (last_name (first ∷ rest)) time)) there.name_is
+      (subst (λ (q : List ℕ). ShowsBothGrew S l free.pools cpu held d h (name_entries Remove step.moved.inode name time) e k (name_entries Add step.moved.inode q time)) in_directory.name_is
+      (subst (λ (m : ℕ). ShowsBothGrew S l free.pools cpu held m h (name_entries Remove step.moved.inode name time) e k (name_entries Add step.moved.inode other time)) from_is
+      (subst (λ (m : ℕ). ShowsBothGrew S l free.pools cpu held step.from.inode h (name_entries Remove step.moved.inode name time) m k (name_entries Add step.moved.inode other time)) to_is grew))))
 
   -- The log of the only directory.
-  pub moved_log : {S : Region} {news : List Row} {after : FreeLists} {cpu time : ℕ} → MovesAt R S s free after cpu rows news place target end name other time → (i d : ℕ) (node : Node) (held : Store) (h : Held) → LeadsTo (tree_of R rows) names i node → walk (tree_of R rows) 1 names ≡ Ok d → walk (tree_of R rows) 1 (first ∷ rest) ≡ Ok d → ShowsSound R s held → held d ≡ Some h
-      → ShowsGrownLog S s free.pools cpu held d h (move_entries i (last_name names) (last_name (first ∷ rest)) time)
+  pub moved_log : {S : Region} {news : List Row} {after : FreeLists} {cpu time : ℕ} → MovesAt R S l free after cpu rows news place target end name other time → (i d : ℕ) (node : Node) (held : Store) (h : Held) → LeadsTo (tree_of R rows) names i node → walk (tree_of R rows) 1 names ≡ Ok d → walk (tree_of R rows) 1 (first ∷ rest) ≡ Ok d → ShowsSound R l held → held d ≡ Some h
+      → ShowsGrownLog S l free.pools cpu held d h (move_entries i (last_name names) (last_name (first ∷ rest)) time)
   moved_log {S} {news} {after} {cpu} {time} (inl w) i d node held h led walked ended sound is =
       let step = w.1 in
       let there = spot.from in
@@ -137,10 +138,10 @@ module _ {R : Region} {s : Super} {rows : List Row} {free : FreeLists} {faults :
       let row_is : step.row.inode ≡ d = cc in
       let moved_is : step.moved.inode ≡ i = cc in
       let grew = within_log kept runs writes step.moved step.at step.moved_at step.step names first rest (spot_here w.0) (good name spelled step.moved step.moved_at) (good other spelled_other step.moved step.moved_at) held h sound (ap held row_is ∙ is) in
-      subst (λ (m : ℕ). ShowsGrownLog S s free.pools cpu held d h (move_entries m (last_name names) (last_name (first ∷ rest)) time)) moved_is
-      (subst (λ (q : List ℕ). ShowsGrownLog S s free.pools cpu held d h (move_entries step.moved.inode q (last_name (first ∷ rest)) time)) there.name_is
-      (subst (λ (q : List ℕ). ShowsGrownLog S s free.pools cpu held d h (move_entries step.moved.inode name q time)) in_directory.name_is
-      (subst (λ (m : ℕ). ShowsGrownLog S s free.pools cpu held m h (move_entries step.moved.inode name other time)) row_is grew)))
+      subst (λ (m : ℕ). ShowsGrownLog S l free.pools cpu held d h (move_entries m (last_name names) (last_name (first ∷ rest)) time)) moved_is
+      (subst (λ (q : List ℕ). ShowsGrownLog S l free.pools cpu held d h (move_entries step.moved.inode q (last_name (first ∷ rest)) time)) there.name_is
+      (subst (λ (q : List ℕ). ShowsGrownLog S l free.pools cpu held d h (move_entries step.moved.inode name q time)) in_directory.name_is
+      (subst (λ (m : ℕ). ShowsGrownLog S l free.pools cpu held m h (move_entries step.moved.inode name other time)) row_is grew)))
   moved_log {S} {news} {after} {cpu} {time} (inr w) i d node held h led walked ended sound is =
       let step = w.1 in
       let both = step.step in

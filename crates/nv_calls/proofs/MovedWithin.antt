@@ -10,7 +10,7 @@ use Rattle.nv_region.specs.Region.{Region}
 use Rattle.nv_super.specs.declared.superblock.Super.{Super}
 use Rattle.nv_super.specs.declared.faults.Fault.{Fault}
 use Rattle.nv_super.specs.declared.kind.Kind.TheVariants.{Directory}
-use Rattle.nv_super.specs.Layout.{Layout, fixed_layout, slot_address}
+use Rattle.nv_super.specs.Layout.{Layout}
 use Rattle.nv_super.proofs.Options.{some_is}
 use Rattle.nv_alloc.specs.FreeValue.{FreeLists}
 use Rattle.nv_entry.specs.declared.entry.Entry.{Entry}
@@ -21,15 +21,15 @@ use Rattle.nv_names.specs.Names.{name_at}
 use Rattle.nv_radix.specs.Pages.{block_at}
 use Rattle.nv_scan.specs.declared.numbers.Numbers.{Numbers}
 use Rattle.nv_scan.specs.declared.piece.Row.{Row}
-use Rattle.nv_held.specs.nv_graph.Graph.{IsOfKind, Node}
-use Rattle.nv_held.specs.nv_graph.Graph as graph
-use Rattle.nv_held.specs.Held.{Held, Store}
-use Rattle.nv_held.specs.Bytes.{byte_in}
-use Rattle.nv_held.specs.Graph.{graph_in, node_in, target_in}
-use Rattle.nv_held.specs.Mounted.{IsFaultless, IsMounted, KeepsRow, ShowsSound}
-use Rattle.nv_held.proofs.Fronts.{sound_moves}
-use Rattle.nv_held.proofs.Growing.{free_but, grown_owns}
-use Rattle.nv_held.specs.nv_graph.Step.{IsGoodName}
+use Rattle.nv_graph.specs.Graph.{IsOfKind, Node}
+use Rattle.nv_graph.specs.Graph as graph
+use Rattle.nv_mounted.specs.Held.{Held, Store}
+use Rattle.nv_mounted.specs.Bytes.{byte_in}
+use Rattle.nv_mounted.specs.Graph.{graph_in, node_in, target_in}
+use Rattle.nv_mounted.specs.Mounted.{IsFaultless, IsMounted, KeepsRow, ShowsSound}
+use Rattle.nv_mounted.proofs.Fronts.{sound_moves}
+use Rattle.nv_mounted.proofs.Growing.{free_but, grown_owns}
+use Rattle.nv_graph.specs.Step.{IsGoodName}
 use Rattle.nv_commit.specs.Extends.{CanExtend, extended, with_log}
 use Rattle.nv_commit.proofs.Called.{either_none, moved_here_faultless}
 use Rattle.nv_tree.specs.Tree.{SameNode, SameTree, Tree, walk}
@@ -53,20 +53,18 @@ use Rattle.nv_calls.proofs.MovedEntries.{moved_file}
 use Rattle.nv_calls.proofs.Mounts.{mounted_with}
 use Rattle.nv_steps.proofs.NamesCounted.{one_less, one_more}
 use Rattle.nv_super.proofs.Members.{stands}
+use Rattle.nv_steps.specs.Slots.{slot_in}
 use Rattle.nv_calls.proofs.RemovedTree.{none_of}
 use Rattle.nv_calls.proofs.RowChange.{kept_after, log_grew, mounted_after, row_bytes, tree_after}
 use Rattle.nv_calls.proofs.RowsTree.{edit_twice}
 use Rattle.nv_steps.proofs.TakenBlocks.{lists_without, taken_sup}
 use Rattle.nv_steps.proofs.OneByOne.{by_rule}
 
-module _ {R S : Region} {s : Super} {rows : List Row} {free after : FreeLists} {faults : List Fault} {read_only stopped : Bool} (kept : IsKept R s rows free faults read_only stopped) (runs : stopped ≡ false) (writes : read_only ≡ false)
-    {cpu place target : ℕ} {name other : List ℕ} {time : ℕ} {row new : Row} (moved : Row) (at : slice_get rows place ≡ Some row) (moved_at : slice_get rows target ≡ Some moved) (step : MovesWithin R S s free after cpu row new moved.inode name other time) (names : List (List ℕ)) (first : List ℕ) (rest : List (List ℕ))
-    (spot : IsMoveSpot (tree_of R rows) rows names (first ∷ rest) place name target place other) (good : IsGoodName s moved.inode name) (good_other : IsGoodName s moved.inode other) where
+module _ {R S : Region} {s : Super} {l : Layout} {rows : List Row} {free after : FreeLists} {faults : List Fault} {read_only stopped : Bool} (kept : IsKept R s l rows free faults read_only stopped) (runs : stopped ≡ false) (writes : read_only ≡ false)
+    {cpu place target : ℕ} {name other : List ℕ} {time : ℕ} {row new : Row} (moved : Row) (at : slice_get rows place ≡ Some row) (moved_at : slice_get rows target ≡ Some moved) (step : MovesWithin R S l free after cpu row new moved.inode name other time) (names : List (List ℕ)) (first : List ℕ) (rest : List (List ℕ))
+    (spot : IsMoveSpot (tree_of R rows) rows names (first ∷ rest) place name target place other) (good : IsGoodName l.sup moved.inode name) (good_other : IsGoodName l.sup moved.inode other) where
   abbrev i : ℕ
   i = moved.inode
-
-  abbrev l : Layout
-  l = fixed_layout s
 
   abbrev entries : List Entry
   entries = move_entries i name other time
@@ -89,7 +87,7 @@ module _ {R S : Region} {s : Super} {rows : List Row} {free after : FreeLists} {
   given : AreGiven entries
   given = (refl, (refl, tt))
 
-  module _ (held : Store) (h : Held) (shows : ShowsRow R s held h row free) where
+  module _ (held : Store) (h : Held) (shows : ShowsRow R l held h row free) where
     of_kind : h.kind ≡ Directory
     of_kind = let told = shows.told in sym told.kind ∙ is_directory
 
@@ -105,7 +103,7 @@ module _ {R S : Region} {s : Super} {rows : List Row} {free after : FreeLists} {
     abbrev pages : List ℕ
     pages = take (needed (h.tail % 4096) entries) fresh
 
-    can : CanExtend R s held row.inode h (slot_address s row.inode) row.tail entries fresh
+    can : CanExtend R l held row.inode h (slot_in l row.inode) row.tail entries fresh
     can = can_extend entries shows kept.lists step.taken step.count given (omega arith)
 
     is_named : (graph_in l held).name row.inode name ≡ Some i
@@ -113,7 +111,7 @@ module _ {R S : Region} {s : Super} {rows : List Row} {free after : FreeLists} {
         let told = shows.told in
         ap (λ (o : Option Held). option_and_then (target_in l name) o) shows.holds ∙ ap (λ (o : Option (ℕ × ℕ)). option_map (λ (y : ℕ × ℕ). y.0) o) (sym (told.names name)) ∙ named
 
-    known : ∥ (IsMounted R s held rows free.pools) ∥₁
+    known : ∥ (IsMounted R l held rows free.pools) ∥₁
     known = mounted_with kept runs held shows.sound
 
     leads : graph.walked (graph_in l held) 1 (way_to (first ∷ rest)) ≡ Some row.inode
@@ -140,10 +138,10 @@ module _ {R S : Region} {s : Super} {rows : List Row} {free after : FreeLists} {
 
     -- The row is of its log.
     told_now : KeepsRow l (extended h entries fresh) new
-    told_now = handed_told s i i name other time fresh shows.told is_directory good good_other step.count step.row
+    told_now = handed_told l i i name other time fresh shows.told is_directory good good_other step.count step.row
 
     -- The log has grown by both entries.
-    follows : LogFollows R S s held h entries free.pools cpu row new after
+    follows : LogFollows R S l held h entries free.pools cpu row new after
     follows =
         let shown = step.moved held h can in
         let has = step.row in
@@ -153,7 +151,7 @@ module _ {R S : Region} {s : Super} {rows : List Row} {free after : FreeLists} {
           taken = by_rule step.taken;
           blocks = fresh_free entries shows kept.lists step.taken step.count given (omega arith);
           count = count_held entries shows kept.lists step.taken step.count given (omega arith);
-          sound = sound_moves R S s held (with_log held row.inode h entries fresh) shows.sound shown.front shown.shows faultless;
+          sound = sound_moves R S l held (with_log held row.inode h entries fresh) shows.sound shown.front shown.shows faultless;
           told = told_now;
           inode = has.inode;
           lists = lists_without step.taken l held shows.lists kept.lists (with_log held row.inode h entries fresh)
@@ -163,15 +161,15 @@ module _ {R S : Region} {s : Super} {rows : List Row} {free after : FreeLists} {
         }
 
   -- What is mounted, for what is held of the region of before.
-  pub within_mounted : (held : Store) → IsMounted R s held rows free.pools → (then : Store) × IsMounted S s then (set rows place new) after.pools
+  pub within_mounted : (held : Store) → IsMounted R l held rows free.pools → (then : Store) × IsMounted S l then (set rows place new) after.pools
   within_mounted = mounted_after kept runs writes place row new at entries follows
 
   -- What is kept.
-  pub within_kept : (now : Bool) → IsKept S s (set rows place new) after faults read_only now
+  pub within_kept : (now : Bool) → IsKept S s l (set rows place new) after faults read_only now
   within_kept = kept_after kept runs writes place row new at entries follows (taken_sup step.taken)
 
   -- The log, for whatever is held of the region.
-  pub within_log : (held : Store) (h : Held) → ShowsSound R s held → held row.inode ≡ Some h → ShowsGrownLog S s free.pools cpu held row.inode h entries
+  pub within_log : (held : Store) (h : Held) → ShowsSound R l held → held row.inode ≡ Some h → ShowsGrownLog S l free.pools cpu held row.inode h entries
   within_log = log_grew kept runs writes place row new at entries follows
 
   bytes : (r : Row) → Contains rows r → (x : ℕ) → byte_in S (block_at r.index (x / 4096)) x ≡ byte_in R (block_at r.index (x / 4096)) x

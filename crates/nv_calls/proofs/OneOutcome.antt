@@ -8,7 +8,7 @@ use Rattle.nv_region.specs.Region.{Region, size}
 use Rattle.nv_super.specs.declared.superblock.Super.{Super}
 use Rattle.nv_super.specs.declared.superblock.SuperFault.{SuperFault}
 use Rattle.nv_super.specs.declared.superblock.SuperFault.TheVariants.{Length}
-use Rattle.nv_super.specs.Layout.{fixed_layout}
+use Rattle.nv_super.specs.Layout.{Layout}
 use Rattle.nv_super.specs.Super.{IsRefused, IsSuper}
 use Rattle.nv_super.specs.declared.owners.Run.{Run}
 use Rattle.nv_super.specs.declared.kind.Kind.{Kind}
@@ -16,17 +16,16 @@ use Rattle.nv_super.specs.declared.kind.Kind.TheVariants.{File, Directory}
 use Rattle.nv_journal.specs.Undo.{undone}
 use Rattle.nv_radix.specs.Pages.{block_at}
 use Rattle.nv_scan.specs.declared.piece.Row.{Row}
-use Rattle.nv_held.specs.nv_outcome.Outcome.{Outcome, IsOutcome}
-use Rattle.nv_held.specs.nv_outcome.Same.{SameOutcome, SameRow, SameRows}
-use Rattle.nv_held.specs.nv_graph.Read.{row_of}
-use Rattle.nv_held.proofs.nv_outcome.Fixed.{fixed_outcome}
-use Rattle.nv_held.proofs.nv_outcome.OnlyOne.{same_outcome}
-use Rattle.nv_held.proofs.nv_outcome.SuperOf.{blocks_of_super, is_equal}
-use Rattle.nv_held.specs.Held.{Store}
-use Rattle.nv_held.specs.Bytes.{byte_in}
-use Rattle.nv_held.specs.Mounted.{ShowsSound, faultless_outcome}
-use Rattle.nv_held.proofs.Closes as closes
-use Rattle.nv_held.proofs.Opens as opens
+use Rattle.nv_outcome.specs.Outcome.{Outcome, IsOutcome}
+use Rattle.nv_outcome.specs.Same.{SameOutcome, SameRow, SameRows}
+use Rattle.nv_graph.specs.Read.{row_of}
+use Rattle.nv_outcome.proofs.OnlyOne.{same_outcome}
+use Rattle.nv_outcome.proofs.SuperOf.{blocks_of_super, is_equal}
+use Rattle.nv_mounted.specs.Held.{Store}
+use Rattle.nv_mounted.specs.Bytes.{byte_in}
+use Rattle.nv_mounted.specs.Mounted.{ShowsSound, faultless_outcome, outcome_layout}
+use Rattle.nv_mounted.proofs.Closes as closes
+use Rattle.nv_mounted.proofs.Opens as opens
 use Rattle.nv_paths.specs.Seen.{tree_of}
 use Rattle.nv_calls.specs.Alike.{AreAlike, ShowAlike}
 use Rattle.nv_calls.proofs.RowChange.{row_there}
@@ -77,14 +76,18 @@ super_set a b = hlevel (props, ℕ_set)
 
 -- ---- one outcome
 
--- What is seen of a region that shows something sound: its outcome has no fault, and these rows and free lists.
-pub as_faultless : {R : Region} {s : Super} {held : Store} (m : ShowsSound R s held) (o : Outcome) (is : IsOutcome R o) → SameOutcome (faultless_outcome s o.rows o.free) o
-as_faultless {R} {s} m o is = same_outcome R (faultless_outcome s o.rows o.free) o (closes.closing m o.rows o.free (closes.outcome_kept m o is)) is
+-- the layouts of outcomes that are the same are one
+pub same_layout : (l k : Layout) (rows others : List Row) (free more : List (List Run)) → SameOutcome (faultless_outcome l rows free) (faultless_outcome k others more) → k ≡ l
+same_layout l k rows others free more same = λ j. record { sup = same.sup j; chains = same.tables j }
 
-module _ {s : Super} {held : Store} {R S : Region} (w : ShowAlike s held R S) where
+-- What is seen of a region that shows something sound: its outcome has no fault, and these rows and free lists.
+pub as_faultless : {R : Region} {l : Layout} {held : Store} (m : ShowsSound R l held) (o : Outcome) (is : IsOutcome R o) → SameOutcome (faultless_outcome l o.rows o.free) o
+as_faultless {R} {l} m o is = same_outcome R (faultless_outcome l o.rows o.free) o (closes.closing m o.rows o.free (closes.outcome_kept m o is)) is
+
+module _ {l : Layout} {held : Store} {R S : Region} (w : ShowAlike l held R S) where
   module _ (o other : Outcome) (is : IsOutcome R o) (is_other : IsOutcome S other) where
-    there : SameOutcome (faultless_outcome s o.rows o.free) other
-    there = same_outcome S (faultless_outcome s o.rows o.free) other (closes.closing w.second o.rows o.free (closes.outcome_kept w.first o is)) is_other
+    there : SameOutcome (faultless_outcome l o.rows o.free) other
+    there = same_outcome S (faultless_outcome l o.rows o.free) other (closes.closing w.second o.rows o.free (closes.outcome_kept w.first o is)) is_other
 
     pub one_outcome : SameOutcome o other
     one_outcome =
@@ -132,7 +135,7 @@ pub alike_itself : (R : Region) (o : Outcome) → IsOutcome R o → o.faults ≡
 alike_itself R o is none own =
     let w = opens.opening R o is none own in
     let m = w.1 in
-    ∣ (o.sup, w.0, record { first = m.sound; second = m.sound; bytes = λ i x h at below. refl }) ∣₁
+    ∣ (outcome_layout o, w.0, record { first = m.sound; second = m.sound; bytes = λ i x h at below. refl }) ∣₁
 
 -- ---- what follows for a region that is alike another
 
@@ -155,29 +158,26 @@ alike_own R S known o other is is_other = (
 
 -- an outcome without doubled blocks and faults
 abbrev bare : Outcome → Outcome
-bare o = faultless_outcome o.sup o.rows o.free
+bare o = faultless_outcome (outcome_layout o) o.rows o.free
 
 made_bare : (R : Region) (o : Outcome) → IsOutcome R o → [] ≡ o.doubled → [] ≡ o.faults → IsOutcome R (bare o)
 made_bare R o is doubled faults = subst (λ (p : Outcome). IsOutcome R p) same is where
-  tables : o.tables ≡ (fixed_layout o.sup).chains
-  tables = (fixed_outcome R o is).tables
-
   same : o ≡ bare o
-  same = λ j. record o { tables = tables j; doubled = (sym doubled) j; faults = (sym faults) j }
+  same = λ j. record o { doubled = (sym doubled) j; faults = (sym faults) j }
 
 -- the outcome of each has none
-pub alike_faultless : (R S : Region) → AreAlike R S → (o : Outcome) → IsOutcome R o → IsOutcome R (faultless_outcome o.sup o.rows o.free)
+pub alike_faultless : (R S : Region) → AreAlike R S → (o : Outcome) → IsOutcome R o → IsOutcome R (faultless_outcome (outcome_layout o) o.rows o.free)
 alike_faultless R S known o is = made_bare R o is
     (none_known o.doubled (∥∥₁_map known (λ w. (let x = as_faultless w.2.first o is in sym x.doubled))))
     (none_known o.faults (∥∥₁_map known (λ w. (let x = as_faultless w.2.first o is in sym x.faults))))
 
-pub second_faultless : (R S : Region) → AreAlike R S → (o : Outcome) → IsOutcome S o → IsOutcome S (faultless_outcome o.sup o.rows o.free)
+pub second_faultless : (R S : Region) → AreAlike R S → (o : Outcome) → IsOutcome S o → IsOutcome S (faultless_outcome (outcome_layout o) o.rows o.free)
 second_faultless R S known o is = made_bare S o is
     (none_known o.doubled (∥∥₁_map known (λ w. (let x = as_faultless w.2.second o is in sym x.doubled))))
     (none_known o.faults (∥∥₁_map known (λ w. (let x = as_faultless w.2.second o is in sym x.faults))))
 
 -- an outcome without faults has no doubled blocks
-pub faultless_bare : (R : Region) (o : Outcome) → IsOutcome R o → o.faults ≡ [] → undone o.sup R ≡ R → IsOutcome R (faultless_outcome o.sup o.rows o.free)
+pub faultless_bare : (R : Region) (o : Outcome) → IsOutcome R o → o.faults ≡ [] → undone o.sup R ≡ R → IsOutcome R (faultless_outcome (outcome_layout o) o.rows o.free)
 faultless_bare R o is none own =
     let w = opens.opening R o is none own in
     let m = w.1 in
@@ -186,10 +186,10 @@ faultless_bare R o is none own =
 -- ---- their length
 
 -- a region has just its blocks
-size_is : (R : Region) (s : Super) → IsSuper R s → size R ≡ s.blocks * 4096
-size_is R s is =
+size_is : (R : Region) (l : Layout) → IsSuper R l.sup → size R ≡ l.sup.blocks * 4096
+size_is R l is =
     let whole = is_equal (size R % 4096) 0 (λ part. is.sound Length (inl part)) in
-    let blocks = blocks_of_super R s is in
+    let blocks = blocks_of_super R l.sup is in
     omega (arith, whole, blocks)
 
 sizes_prop : (a b : ℕ) → IsProp (a ≡ b)

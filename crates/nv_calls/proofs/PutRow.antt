@@ -3,8 +3,8 @@ use Rattle.std.proofs.Common.{◌≡◌, ℕ, List, set, slice_get, refl, sym, s
 use Rattle.nv_super.specs.Order.{Rises}
 use Rattle.nv_alloc.specs.FreeValue.{FreeLists}
 use Rattle.nv_scan.specs.declared.piece.Row.{Row}
-use Rattle.nv_held.specs.nv_check.Cross.{row_key}
-use Rattle.nv_held.specs.nv_outcome.Same.{SameRows}
+use Rattle.nv_cross_check.specs.Cross.{row_key}
+use Rattle.nv_outcome.specs.Same.{SameRows}
 use Rattle.nv_calls.specs.AtPlaces.{LeavesRows}
 use Rattle.nv_steps.specs.Steps.{LeavesStep}
 use Rattle.nv_rows.proofs.Places.{set_rising}

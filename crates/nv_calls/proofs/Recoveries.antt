@@ -6,15 +6,16 @@ use Rattle.nv_super.specs.declared.superblock.Super.{Super}
 use Rattle.nv_super.specs.declared.owners.Run.{Run}
 use Rattle.nv_super.specs.declared.faults.Fault.{Fault}
 use Rattle.nv_super.specs.Super.{IsSuper}
+use Rattle.nv_super.specs.Layout.{Layout}
 use Rattle.nv_journal.specs.Undo.{undone}
 use Rattle.nv_scan.specs.declared.piece.Row.{Row}
-use Rattle.nv_held.specs.nv_outcome.Outcome.{Outcome, IsOutcome}
-use Rattle.nv_held.specs.nv_outcome.Same.{SameOutcome, SameRow, SameRows, is_lasting, lasting_outcome}
-use Rattle.nv_held.specs.Mounted.{faultless_outcome}
-use Rattle.nv_held.proofs.nv_outcome.Again.{rolled_back}
-use Rattle.nv_held.proofs.nv_outcome.Exists.{has_outcome}
-use Rattle.nv_held.proofs.nv_outcome.OnlyOne.{same_outcome}
-use Rattle.nv_held.proofs.nv_outcome.SuperOf.{one_super}
+use Rattle.nv_outcome.specs.Outcome.{Outcome, IsOutcome}
+use Rattle.nv_outcome.specs.Same.{SameOutcome, SameRow, SameRows, is_lasting, lasting_outcome}
+use Rattle.nv_mounted.specs.Mounted.{faultless_outcome}
+use Rattle.nv_outcome.proofs.Again.{rolled_back}
+use Rattle.nv_outcome.proofs.Exists.{has_outcome}
+use Rattle.nv_outcome.proofs.OnlyOne.{same_outcome}
+use Rattle.nv_outcome.proofs.SuperOf.{one_super}
 use Rattle.nv_calls.specs.Stopped.{RecoversTo}
 
 -- what is the same as the same
@@ -39,14 +40,14 @@ rows_then (x ∷ xs) (y ∷ ys) [] first second = absurd second
 rows_then (x ∷ xs) (y ∷ ys) (z ∷ zs) first second = (row_then first.0 second.0, rows_then xs ys zs first.1 second.1)
 
 -- What is found again, where the region rolls back to the same.
-pub later_same : {left next : Region} {s : Super} {rows : List Row} {free : List (List Run)} → RecoversTo left s rows free → IsSuper next s → undone s next ≡ undone s left → (o : Outcome) → IsOutcome next o → SameOutcome (faultless_outcome s rows free) (lasting_outcome o)
-later_same {left} {next} {s} {rows} {free} w sup same o is =
-    let e = has_outcome left s w.sup in
+pub later_same : {left next : Region} {l : Layout} {rows : List Row} {free : List (List Run)} → RecoversTo left l rows free → IsSuper next l.sup → undone l.sup next ≡ undone l.sup left → (o : Outcome) → IsOutcome next o → SameOutcome (faultless_outcome l rows free) (lasting_outcome o)
+later_same {left} {next} {l} {rows} {free} w sup same o is =
+    let e = has_outcome left l.sup w.sup in
     let first = w.shows e.0 e.2 in
-    let one : o.sup ≡ s = one_super next s o.sup sup is.sup in
-    let here : IsOutcome (undone s left) (lasting_outcome e.0) = subst (λ (t : Super). IsOutcome (undone t left) (lasting_outcome e.0)) first.sup (rolled_back left e.0 e.2) in
-    let there : IsOutcome (undone s left) (lasting_outcome o) = subst (λ (U : Region). IsOutcome U (lasting_outcome o)) same (subst (λ (t : Super). IsOutcome (undone t next) (lasting_outcome o)) one (rolled_back next o is)) in
-    let both = same_outcome (undone s left) (lasting_outcome e.0) (lasting_outcome o) here there in
+    let one : o.sup ≡ l.sup = one_super next l.sup o.sup sup is.sup in
+    let here : IsOutcome (undone l.sup left) (lasting_outcome e.0) = subst (λ (t : Super). IsOutcome (undone t left) (lasting_outcome e.0)) first.sup (rolled_back left e.0 e.2) in
+    let there : IsOutcome (undone l.sup left) (lasting_outcome o) = subst (λ (U : Region). IsOutcome U (lasting_outcome o)) same (subst (λ (t : Super). IsOutcome (undone t next) (lasting_outcome o)) one (rolled_back next o is)) in
+    let both = same_outcome (undone l.sup left) (lasting_outcome e.0) (lasting_outcome o) here there in
     record {
       sup = one;
       tables = both.tables ∙ first.tables;

@@ -10,10 +10,10 @@ use Rattle.nv_entry.specs.declared.entry.Operation.TheVariants.{Add, Remove}
 use Rattle.nv_logpage.specs.Append.{needed}
 use Rattle.nv_names.specs.Names.{name_at}
 use Rattle.nv_scan.specs.declared.piece.Row.{Row}
-use Rattle.nv_held.specs.nv_graph.Read.{row_of}
-use Rattle.nv_held.specs.nv_graph.Step.{IsGoodName}
-use Rattle.nv_held.specs.Held.{Held, Store}
-use Rattle.nv_held.specs.Mounted.{IsMounted, ShowsSound}
+use Rattle.nv_graph.specs.Read.{row_of}
+use Rattle.nv_graph.specs.Step.{IsGoodName}
+use Rattle.nv_mounted.specs.Held.{Held, Store}
+use Rattle.nv_mounted.specs.Mounted.{IsMounted, ShowsSound}
 use Rattle.nv_tree.specs.declared.refusal.Refusal.{Refusal}
 use Rattle.nv_tree.specs.Path.{IsPath, IsPathName, Says, last_name}
 use Rattle.nv_tree.specs.Tree.{Node, SameTree, Tree, walk}
@@ -34,32 +34,33 @@ use Rattle.nv_paths.proofs.CreateTests.{good_name}
 use Rattle.nv_calls.proofs.Kept.{rows_rise}
 use Rattle.nv_calls.proofs.NewNumbers.{can_name}
 use Rattle.nv_super.proofs.Members.{stands}
-use Rattle.nv_calls.proofs.RowNumbers.{row_number}
+use Rattle.nv_super.specs.Layout.{Layout}
+use Rattle.nv_calls.proofs.RowNumbers.{row_named, row_number}
 use Rattle.nv_calls.proofs.RemovedRows.{bytes_kept, kept_then, mounted_some, numbers_differ, was_removed}
 use Rattle.nv_calls.proofs.RemovedTree.{lost_node, removed_by, removed_tree, tree_less}
 use Rattle.nv_paths.proofs.RemoveTests.{rmdir_allows}
 use Rattle.nv_steps.proofs.RowOf.{row_at}
 
-module _ {R S : Region} {s : Super} {rows news : List Row} {free mid : FreeLists} {faults : List Fault} {read_only stopped : Bool} (kept : IsKept R s rows free faults read_only stopped) (runs : stopped ≡ false) (writes : read_only ≡ false)
-    {cpu place target : ℕ} {name : List ℕ} {time : ℕ} (step : CutsAt R S s free mid cpu rows news place target name time) (spelled : IsPathName name) (can_go : CanGo step.gone) (names : List (List ℕ)) (spot : IsNamedAt (tree_of R rows) rows names place name target) where
+module _ {R S : Region} {s : Super} {l : Layout} {rows news : List Row} {free mid : FreeLists} {faults : List Fault} {read_only stopped : Bool} (kept : IsKept R s l rows free faults read_only stopped) (runs : stopped ≡ false) (writes : read_only ≡ false)
+    {cpu place target : ℕ} {name : List ℕ} {time : ℕ} (step : CutsAt R S l free mid cpu rows news place target name time) (spelled : IsPathName name) (can_go : CanGo step.gone) (names : List (List ℕ)) (spot : IsNamedAt (tree_of R rows) rows names place name target) where
   directory : step.row.kind ≡ Directory
   directory = (spot.directory step.row step.at).1
 
   walked : walk (tree_of R rows) 1 names ≡ Ok step.row.inode
   walked = (spot.directory step.row step.at).0
 
-  good : IsGoodName s step.gone.inode name
-  good = good_name s step.gone.inode name spelled (row_number kept runs writes step.gone (stands rows target step.gone step.gone_at))
+  good : IsGoodName l.sup step.gone.inode name
+  good = good_name l.sup step.gone.inode name spelled (row_named kept runs writes step.gone (stands rows target step.gone step.gone_at))
 
   named : option_map (λ (x : ℕ × ℕ). x.0) (name_at step.row.names name) ≡ Some step.gone.inode
   named = spot.named step.row step.gone step.at step.gone_at
 
   -- What is kept.
-  pub removed_kept : {after : FreeLists} → GivesRow mid step.gone after → (now : Bool) → IsKept S s news after faults read_only now
+  pub removed_kept : {after : FreeLists} → GivesRow mid step.gone after → (now : Bool) → IsKept S s l news after faults read_only now
   removed_kept given = kept_then kept runs writes step directory good named can_go given
 
   -- What is mounted, for what is held of the region of before.
-  pub removed_mounted : (held : Store) (m : IsMounted R s held rows free.pools) → (then : Store) × (lists : List (List Run)) × IsMounted S s then news lists
+  pub removed_mounted : (held : Store) (m : IsMounted R l held rows free.pools) → (then : Store) × (lists : List (List Run)) × IsMounted S l then news lists
   removed_mounted held m = let w = mounted_some kept runs writes step directory good named can_go held m in (_, w.0, w.1)
 
   -- The tree without the name and without what it stood for.
@@ -69,7 +70,7 @@ module _ {R S : Region} {s : Super} {rows news : List Row} {free mid : FreeLists
       let lost = cuts.directory in
       let bytes = bytes_kept kept runs writes step directory good named can_go in
       subst (λ (rs : List Row). SameTree (tree_of S rs) (removed_tree R rows step.row step.gone.inode time name)) (sym step.put)
-      (tree_less R S rows place target step.row step.now step.gone time name (rows_rise R s rows free faults read_only stopped kept runs) step.at step.gone_at lost.inode (numbers_differ kept runs writes step directory good named can_go)
+      (tree_less R S rows place target step.row step.now step.gone time name (rows_rise R s l rows free faults read_only stopped kept runs) step.at step.gone_at lost.inode (numbers_differ kept runs writes step directory good named can_go)
       (lost_node R S cuts.fresh _ name step.gone.inode time lost cuts.once cuts.once_now named (bytes step.row (stands rows place step.row step.at))) bytes)
 
   -- It is what `rmdir` makes of that of before.
@@ -77,15 +78,15 @@ module _ {R S : Region} {s : Super} {rows news : List Row} {free mid : FreeLists
   rmdir_tree = subst (λ (t : Tree). SameTree (tree_of S news) t) (sym (removed_by names time (tree_of R rows) step.gone.inode step.row.inode name (spot.leads step.gone step.gone_at) walked spot.name_is)) tree_is
 
   -- The logs, for whatever is held of the region.
-  pub removed_log : (i d : ℕ) (node : Node) (held : Store) (h : Held) → LeadsTo (tree_of R rows) names i node → walk (tree_of R rows) 1 names ≡ Ok d → ShowsSound R s held → held d ≡ Some h → ShowsRemoved S s free.pools cpu held d h (name_entries Remove i (last_name names) time) i
+  pub removed_log : (i d : ℕ) (node : Node) (held : Store) (h : Held) → LeadsTo (tree_of R rows) names i node → walk (tree_of R rows) 1 names ≡ Ok d → ShowsSound R l held → held d ≡ Some h → ShowsRemoved S l free.pools cpu held d h (name_entries Remove i (last_name names) time) i
   removed_log i d node held h led ended sound is =
       let both : Ok step.row.inode ≡ Ok d = sym walked ∙ ended in
       let same : step.row.inode ≡ d = cc in
       let numbers : Some step.gone.inode ≡ Some i = sym (spot.leads step.gone step.gone_at) ∙ led.leads in
       let one : step.gone.inode ≡ i = cc in
-      subst (λ (k : ℕ). ShowsRemoved S s free.pools cpu held d h (name_entries Remove k (last_name names) time) k) one
-      (subst (λ (q : List ℕ). ShowsRemoved S s free.pools cpu held d h (name_entries Remove step.gone.inode q time) step.gone.inode) spot.name_is
-      (subst (λ (k : ℕ). ShowsRemoved S s free.pools cpu held k h (name_entries Remove step.gone.inode name time) step.gone.inode) same
+      subst (λ (k : ℕ). ShowsRemoved S l free.pools cpu held d h (name_entries Remove k (last_name names) time) k) one
+      (subst (λ (q : List ℕ). ShowsRemoved S l free.pools cpu held d h (name_entries Remove step.gone.inode q time) step.gone.inode) spot.name_is
+      (subst (λ (k : ℕ). ShowsRemoved S l free.pools cpu held k h (name_entries Remove step.gone.inode name time) step.gone.inode) same
       (was_removed kept runs writes step directory good named can_go held h sound (ap held same ∙ is))))
 
 -- ---- what is owed before
@@ -99,12 +100,12 @@ other_number row gone name directory named (inl w) one same =
 other_number row gone name directory named (inr w) one same = let clash : Directory ≡ File = sym directory ∙ ap (λ (r : Row). r.kind) (one same) ∙ w.0 in cc
 
 -- What is known where a name and its inode go.
-pub can_cut : {R : Region} {s : Super} {rows : List Row} {free : FreeLists} {faults : List Fault} {read_only stopped : Bool} → IsKept R s rows free faults read_only stopped → stopped ≡ false → read_only ≡ false → (cpu : ℕ) → cpu < s.cpus → (place target : ℕ) (name : List ℕ) (names : List (List ℕ)) → IsNamedAt (tree_of R rows) rows names place name target
-    → (row gone : Row) → slice_get rows place ≡ Some row → slice_get rows target ≡ Some gone → CanGo gone → CanName R s cpu gone.inode row × (row.inode ≢ gone.inode)
-can_cut {R} {s} {rows} {free} {faults} {read_only} {stopped} kept runs writes cpu low place target name names spot row gone at gone_at can_go = (
+pub can_cut : {R : Region} {s : Super} {l : Layout} {rows : List Row} {free : FreeLists} {faults : List Fault} {read_only stopped : Bool} → IsKept R s l rows free faults read_only stopped → stopped ≡ false → read_only ≡ false → (cpu : ℕ) → cpu < l.sup.cpus → (place target : ℕ) (name : List ℕ) (names : List (List ℕ)) → IsNamedAt (tree_of R rows) rows names place name target
+    → (row gone : Row) → slice_get rows place ≡ Some row → slice_get rows target ≡ Some gone → CanGo gone → CanName R l cpu gone.inode row × (row.inode ≢ gone.inode)
+can_cut {R} {s} {l} {rows} {free} {faults} {read_only} {stopped} kept runs writes cpu low place target name names spot row gone at gone_at can_go = (
   can_name kept runs writes cpu gone.inode low (row_number kept runs writes gone (stands rows target gone gone_at)) row (stands rows place row at),
   other_number row gone name (spot.directory row at).1 (spot.named row gone at gone_at) can_go (λ same. (
-      let up = rows_rise R s rows free faults read_only stopped kept runs in
+      let up = rows_rise R s l rows free faults read_only stopped kept runs in
       let both : Some row ≡ Some gone = sym (row_at rows place row up at) ∙ ap (row_of rows) same ∙ row_at rows target gone up gone_at in
       cc)),
 )

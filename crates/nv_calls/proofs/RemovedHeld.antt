@@ -2,9 +2,8 @@
 use Rattle.std.proofs.Common.{◌≡◌, ◌≢◌, ℕ, ◌%◌, ◌≤◌, inl, inr, List, length, take, ap, sym, ◌∙◌, subst, Option, Some, None}
 use Rattle.std.specs.Option.{option_and_then, option_map}
 use Rattle.nv_region.specs.Region.{Region}
-use Rattle.nv_super.specs.declared.superblock.Super.{Super}
 use Rattle.nv_super.specs.declared.kind.Kind.TheVariants.{File, Directory}
-use Rattle.nv_super.specs.Layout.{Layout, fixed_layout}
+use Rattle.nv_super.specs.Layout.{Layout}
 use Rattle.nv_super.proofs.Options.{some_is}
 use Rattle.nv_alloc.specs.FreeValue.{FreeLists}
 use Rattle.nv_entry.specs.declared.entry.Entry.{Entry}
@@ -13,12 +12,12 @@ use Rattle.nv_entry.specs.declared.entry.Operation.TheVariants.{Remove}
 use Rattle.nv_logpage.specs.Append.{end_of, needed, place_of}
 use Rattle.nv_names.specs.Names.{name_at}
 use Rattle.nv_scan.specs.declared.piece.Row.{Row}
-use Rattle.nv_held.specs.Held.{Held, Store}
-use Rattle.nv_held.specs.Blocks.{KeepsFree, OwnsNew}
-use Rattle.nv_held.specs.Graph.{graph_in, target_in}
-use Rattle.nv_held.specs.Grows.{AreFree, SameFile}
-use Rattle.nv_held.specs.Mounted.{IsFaultless, ShowsSound}
-use Rattle.nv_held.specs.nv_graph.Step.{IsGoodName}
+use Rattle.nv_mounted.specs.Held.{Held, Store}
+use Rattle.nv_mounted.specs.Blocks.{KeepsFree, OwnsNew}
+use Rattle.nv_mounted.specs.Graph.{graph_in, target_in}
+use Rattle.nv_mounted.specs.Grows.{AreFree, SameFile}
+use Rattle.nv_mounted.specs.Mounted.{IsFaultless, ShowsSound}
+use Rattle.nv_graph.specs.Step.{IsGoodName}
 use Rattle.nv_commit.specs.Extends.{extended}
 use Rattle.nv_commit.specs.Together.{ShowsIdle}
 use Rattle.nv_commit.proofs.Called.{directory_gone_faultless, file_gone_faultless}
@@ -31,12 +30,9 @@ use Rattle.nv_steps.proofs.NameEntries.{name_file}
 use Rattle.nv_steps.proofs.TakenBlocks.{are_free}
 use Rattle.nv_calls.proofs.GoneHeld.{lists_then, own_then}
 
-module _ {R : Region} {s : Super} {held : Store} {h f : Held} {row gone : Row} {free mid : FreeLists} {cpu : ℕ} (time : ℕ) (name : List ℕ) (fresh : List ℕ) (shows : ShowsRow R s held h row free) (shows_gone : ShowsRow R s held f gone free)
-    (directory : h.kind ≡ Directory) (good : IsGoodName s gone.inode name) (named : (graph_in (fixed_layout s) held).name row.inode name ≡ Some gone.inode) (can_go : CanGo gone)
-    (lists : free.sup ≡ s) (taken : TakesEach free cpu fresh mid) (count : length fresh ≡ needed (h.tail % 4096) (name_entries Remove gone.inode name time)) where
-  abbrev l : Layout
-  l = fixed_layout s
-
+module _ {R : Region} {l : Layout} {held : Store} {h f : Held} {row gone : Row} {free mid : FreeLists} {cpu : ℕ} (time : ℕ) (name : List ℕ) (fresh : List ℕ) (shows : ShowsRow R l held h row free) (shows_gone : ShowsRow R l held f gone free)
+    (directory : h.kind ≡ Directory) (good : IsGoodName l.sup gone.inode name) (named : (graph_in l held).name row.inode name ≡ Some gone.inode) (can_go : CanGo gone)
+    (lists : free.sup ≡ l.sup) (taken : TakesEach free cpu fresh mid) (count : length fresh ≡ needed (h.tail % 4096) (name_entries Remove gone.inode name time)) where
   abbrev i : ℕ
   i = gone.inode
 
@@ -83,7 +79,7 @@ module _ {R : Region} {s : Super} {held : Store} {h f : Held} {row gone : Row} {
   pub fresh_free : AreFree l held fresh
   fresh_free = are_free taken l held shows.lists lists
 
-  module _ {S : Region} (idle : ShowsIdle S s then) where
+  module _ {S : Region} (idle : ShowsIdle S l then) where
     own : OwnsNew l held row.inode (Some grown_log)
     own = own_then entries fresh shows shows_gone differ file_stays lists taken count idle
 
@@ -91,8 +87,8 @@ module _ {R : Region} {s : Super} {held : Store} {h f : Held} {row gone : Row} {
     removed_lists given = lists_then entries fresh shows shows_gone differ file_stays lists taken count idle given
 
     -- The region is sound.
-    pub removed_sound : ShowsSound S s then
-    removed_sound = record { sup = idle.sup; idle = idle.idle; shows = idle.shows; faultless = by can_go } where
+    pub removed_sound : ShowsSound S l then
+    removed_sound = record { tables = idle.tables; idle = idle.idle; shows = idle.shows; faultless = by can_go } where
       by : CanGo gone → IsFaultless l then
       by (inl w) =
           let told = shows_gone.told in

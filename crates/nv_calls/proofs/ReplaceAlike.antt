@@ -10,9 +10,9 @@ use Rattle.nv_entry.specs.declared.entry.Entry.{Entry}
 use Rattle.nv_entry.specs.declared.entry.Operation.TheVariants.{Remove}
 use Rattle.nv_names.specs.Names.{found_in}
 use Rattle.nv_scan.specs.declared.piece.Row.{Row}
-use Rattle.nv_held.specs.nv_graph.Read.{row_of}
-use Rattle.nv_held.specs.Held.{Held, Store}
-use Rattle.nv_held.specs.Mounted.{ShowsSound}
+use Rattle.nv_graph.specs.Read.{row_of}
+use Rattle.nv_mounted.specs.Held.{Held, Store}
+use Rattle.nv_mounted.specs.Mounted.{ShowsSound}
 use Rattle.nv_tree.specs.Path.{last_name}
 use Rattle.nv_tree.specs.Tree.{Node, SameTree, Tree, found, is_directory, name_in, walk}
 use Rattle.nv_tree.specs.Calls.{edit, links_at, put_node, with_links, with_name, without_name}
@@ -81,7 +81,7 @@ bare R rows j none q = by (row_of rows j) refl where
 
 -- ---- the call, where both regions show what is held
 
-module _ (held : Store) (R S T U : Region) (m k : Mount ⊤) (names : List (List ℕ)) (is : IsFaultlessMount R m) (other : IsFaultlessMount S k) (w : ShowAlike m.sup held R S) (cpu time : ℕ) (others : List (List ℕ))
+module _ (held : Store) (R S T U : Region) (m k : Mount ⊤) (names : List (List ℕ)) (is : IsFaultlessMount R m) (other : IsFaultlessMount S k) (w : ShowAlike m.layout held R S) (cpu time : ℕ) (others : List (List ℕ))
     (a : WasDone (makes_replace time (Some others)) (logs_replace cpu time (Some others)) R m names T) (b : WasDone (makes_replace time (Some others)) (logs_replace cpu time (Some others)) S k names U) where
   abbrev t : Tree
   t = tree_of R m.rows
@@ -108,7 +108,7 @@ module _ (held : Store) (R S T U : Region) (m k : Mount ⊤) (names : List (List
       let logs_there = b.left in
       let first : T ≡ R = logs.one i led leads_too in
       let second : U ≡ S = logs_there.one i (sym (finds held R S T U m k names is other w names) ∙ led) (sym (finds held R S T U m k names is other w others) ∙ leads_too) in
-      ∣ (m.sup, held, subst (λ (x : Region). ShowAlike m.sup held x U) (sym first) (subst (λ (x : Region). ShowAlike m.sup held R x) (sym second) w)) ∣₁
+      ∣ (m.layout, held, subst (λ (x : Region). ShowAlike m.layout held x U) (sym first) (subst (λ (x : Region). ShowAlike m.layout held R x) (sym second) w)) ∣₁
 
   -- and else another inode goes, or loses a link
   module _ (i j d e : ℕ) (node from_node to_node : Node) (takes : TakesPlace t names others i j d e node) (takes_there : LeadsThere u others j node) (from_shows : t d ≡ Some from_node) (to_shows : t e ≡ Some to_node) (contents : SameFiles (replaced names others time t) (replaced names others time u)) where
@@ -151,7 +151,7 @@ module _ (held : Store) (R S T U : Region) (m k : Mount ⊤) (names : List (List
     abbrev f : Held
     f = f_there.0
 
-    shows_there : ShowsSound S k.sup held
+    shows_there : ShowsSound S k.layout held
     shows_there = there held R S T U m k names is other w
 
     abbrev hand : List Entry
@@ -169,17 +169,17 @@ module _ (held : Store) (R S T U : Region) (m k : Mount ⊤) (names : List (List
         let logs_there = b.left in
         let across = logs.across in
         let across_there = logs_there.across in
-        let first : ShowsThreeGrew T m.sup m.free.pools cpu held d h cut e g hand j f (less node.links) = across.more i j d e node held h g f takes apart w.first h_is g_is f_there.1 on in
-        let second : ShowsThreeGrew U k.sup k.free.pools cpu held d h cut e g hand j f (less node.links) = subst (λ (es : List Entry). ShowsThreeGrew U k.sup k.free.pools cpu held d h cut e g hand j f es) counted (across_there.more i j d e twin held h g f beside apart shows_there h_is g_is f_there.1 (as_many ∙ on)) in
-        finish held R S T U m k names is other w a b contents (three_decided m.sup m.free.pools cpu held d h cut e g hand j f (less node.links) T U first (by_first held R S T U m k names is other w (λ s pools. ShowsThreeGrew U s pools cpu held d h cut e g hand j f (less node.links)) second))
+        let first : ShowsThreeGrew T m.layout m.free.pools cpu held d h cut e g hand j f (less node.links) = across.more i j d e node held h g f takes apart w.first h_is g_is f_there.1 on in
+        let second : ShowsThreeGrew U k.layout k.free.pools cpu held d h cut e g hand j f (less node.links) = subst (λ (es : List Entry). ShowsThreeGrew U k.layout k.free.pools cpu held d h cut e g hand j f es) counted (across_there.more i j d e twin held h g f beside apart shows_there h_is g_is f_there.1 (as_many ∙ on)) in
+        finish held R S T U m k names is other w a b contents (three_decided m.layout m.free.pools cpu held d h cut e g hand j f (less node.links) T U first (by_first held R S T U m k names is other w (λ l pools. ShowsThreeGrew U l pools cpu held d h cut e g hand j f (less node.links)) second))
     over apart false off =
         let logs = a.left in
         let logs_there = b.left in
         let across = logs.across in
         let across_there = logs_there.across in
-        let first : ShowsBothLess T m.sup m.free.pools cpu held d h cut e g hand j = across.last i j d e node held h g takes apart w.first h_is g_is off in
-        let second : ShowsBothLess U k.sup k.free.pools cpu held d h cut e g hand j = across_there.last i j d e twin held h g beside apart shows_there h_is g_is (as_many ∙ off) in
-        finish held R S T U m k names is other w a b contents (less_decided m.sup m.free.pools cpu held d h cut e g hand j T U first (by_first held R S T U m k names is other w (λ s pools. ShowsBothLess U s pools cpu held d h cut e g hand j) second))
+        let first : ShowsBothLess T m.layout m.free.pools cpu held d h cut e g hand j = across.last i j d e node held h g takes apart w.first h_is g_is off in
+        let second : ShowsBothLess U k.layout k.free.pools cpu held d h cut e g hand j = across_there.last i j d e twin held h g beside apart shows_there h_is g_is (as_many ∙ off) in
+        finish held R S T U m k names is other w a b contents (less_decided m.layout m.free.pools cpu held d h cut e g hand j T U first (by_first held R S T U m k names is other w (λ l pools. ShowsBothLess U l pools cpu held d h cut e g hand j) second))
 
     within : d ≡ e → (stays : Bool) → has_others node ≡ stays → AreAlike T U
     within one true on =
@@ -187,17 +187,17 @@ module _ (held : Store) (R S T U : Region) (m k : Mount ⊤) (names : List (List
         let logs_there = b.left in
         let here = logs.within in
         let here_there = logs_there.within in
-        let first : ShowsBothGrew T m.sup m.free.pools cpu held d h take j f (less node.links) = here.more i j d node held h f (subst (λ (c : ℕ). TakesPlace t names others i j d c node) (sym one) takes) w.first h_is f_there.1 on in
-        let second : ShowsBothGrew U k.sup k.free.pools cpu held d h take j f (less node.links) = subst (λ (es : List Entry). ShowsBothGrew U k.sup k.free.pools cpu held d h take j f es) counted (here_there.more i j d twin held h f (subst (λ (c : ℕ). TakesPlace u names others i j d c twin) (sym one) beside) shows_there h_is f_there.1 (as_many ∙ on)) in
-        finish held R S T U m k names is other w a b contents (both_decided m.sup m.free.pools cpu held d h take j f (less node.links) T U first (by_first held R S T U m k names is other w (λ s pools. ShowsBothGrew U s pools cpu held d h take j f (less node.links)) second))
+        let first : ShowsBothGrew T m.layout m.free.pools cpu held d h take j f (less node.links) = here.more i j d node held h f (subst (λ (c : ℕ). TakesPlace t names others i j d c node) (sym one) takes) w.first h_is f_there.1 on in
+        let second : ShowsBothGrew U k.layout k.free.pools cpu held d h take j f (less node.links) = subst (λ (es : List Entry). ShowsBothGrew U k.layout k.free.pools cpu held d h take j f es) counted (here_there.more i j d twin held h f (subst (λ (c : ℕ). TakesPlace u names others i j d c twin) (sym one) beside) shows_there h_is f_there.1 (as_many ∙ on)) in
+        finish held R S T U m k names is other w a b contents (both_decided m.layout m.free.pools cpu held d h take j f (less node.links) T U first (by_first held R S T U m k names is other w (λ l pools. ShowsBothGrew U l pools cpu held d h take j f (less node.links)) second))
     within one false off =
         let logs = a.left in
         let logs_there = b.left in
         let here = logs.within in
         let here_there = logs_there.within in
-        let first : ShowsRemoved T m.sup m.free.pools cpu held d h take j = here.last i j d node held h (subst (λ (c : ℕ). TakesPlace t names others i j d c node) (sym one) takes) w.first h_is off in
-        let second : ShowsRemoved U k.sup k.free.pools cpu held d h take j = here_there.last i j d twin held h (subst (λ (c : ℕ). TakesPlace u names others i j d c twin) (sym one) beside) shows_there h_is (as_many ∙ off) in
-        finish held R S T U m k names is other w a b contents (removed_decided m.sup m.free.pools cpu held d h take j T U first (by_first held R S T U m k names is other w (λ s pools. ShowsRemoved U s pools cpu held d h take j) second))
+        let first : ShowsRemoved T m.layout m.free.pools cpu held d h take j = here.last i j d node held h (subst (λ (c : ℕ). TakesPlace t names others i j d c node) (sym one) takes) w.first h_is off in
+        let second : ShowsRemoved U k.layout k.free.pools cpu held d h take j = here_there.last i j d twin held h (subst (λ (c : ℕ). TakesPlace u names others i j d c twin) (sym one) beside) shows_there h_is (as_many ∙ off) in
+        finish held R S T U m k names is other w a b contents (removed_decided m.layout m.free.pools cpu held d h take j T U first (by_first held R S T U m k names is other w (λ l pools. ShowsRemoved U l pools cpu held d h take j) second))
 
     pub as_taken : AreAlike T U
     as_taken = elim (cases_eq d e) [ inl one ↦ within one (has_others node) refl | inr apart ↦ over apart (has_others node) refl ]

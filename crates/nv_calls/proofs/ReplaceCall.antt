@@ -3,6 +3,7 @@ use Rattle.std.proofs.Common.{◌≡◌, ◌≢◌, ℕ, Bool, false, inl, inr, 
 use Rattle.nv_region.specs.Region.{Region}
 use Rattle.nv_super.specs.declared.superblock.Super.{Super}
 use Rattle.nv_super.specs.declared.faults.Fault.{Fault}
+use Rattle.nv_super.specs.Layout.{Layout}
 use Rattle.nv_alloc.specs.FreeValue.{FreeLists}
 use Rattle.nv_scan.specs.declared.piece.Row.{Row}
 use Rattle.nv_rows.specs.Rows.{IsInUse, place_in}
@@ -24,7 +25,7 @@ use Rattle.nv_calls.proofs.ReplacedAcross.{over_kept, over_tree}
 use Rattle.nv_calls.proofs.ReplacedSpot.{from_differs, to_differs}
 use Rattle.nv_calls.proofs.ReplacedWithin.{here_kept, here_tree}
 
-module _ {R : Region} {s : Super} {rows : List Row} {free : FreeLists} {faults : List Fault} {read_only stopped : Bool} (kept : IsKept R s rows free faults read_only stopped) (runs : stopped ≡ false) (writes : read_only ≡ false)
+module _ {R : Region} {s : Super} {l : Layout} {rows : List Row} {free : FreeLists} {faults : List Fault} {read_only stopped : Bool} (kept : IsKept R s l rows free faults read_only stopped) (runs : stopped ≡ false) (writes : read_only ≡ false)
     (place source end : ℕ) {name other : List ℕ} (spelled : IsPathName name) (spelled_other : IsPathName other) (first_old : List ℕ) (old : List (List ℕ)) (first : List ℕ) (rest : List (List ℕ)) (moved : Row) (moved_at : slice_get rows source ≡ Some moved) where
   abbrev i : ℕ
   i = moved.inode
@@ -76,29 +77,29 @@ module _ {R : Region} {s : Super} {rows : List Row} {free : FreeLists} {faults :
     )
 
     module _ {S : Region} {news : List Row} {after : FreeLists} {cpu time : ℕ} where
-      within_kept : (same : place ≡ end) → ReplacesHere R S s free after cpu rows news place (place_in rows j) i name other time → (later : Bool) → IsKept S s news after faults read_only later
+      within_kept : (same : place ≡ end) → ReplacesHere R S l free after cpu rows news place (place_in rows j) i name other time → (later : Bool) → IsKept S s l news after faults read_only later
       within_kept same step = here_kept kept runs writes (place_in rows j) moved had moved_at had_at spelled spelled_other first_old old first rest (here_spot (Some had.inode) same had_spot) had_apart step
 
-      within_tree : (same : place ≡ end) → ReplacesHere R S s free after cpu rows news place (place_in rows j) i name other time → SameTree (tree_of S news) (replaced names others time t)
+      within_tree : (same : place ≡ end) → ReplacesHere R S l free after cpu rows news place (place_in rows j) i name other time → SameTree (tree_of S news) (replaced names others time t)
       within_tree same step = here_tree kept runs writes (place_in rows j) moved had moved_at had_at spelled spelled_other first_old old first rest (here_spot (Some had.inode) same had_spot) had_apart step
 
-      across_kept : (differ : place ≢ end) → ReplacesOver R S s free after cpu rows news place end (place_in rows j) i name other time → (later : Bool) → IsKept S s news after faults read_only later
+      across_kept : (differ : place ≢ end) → ReplacesOver R S l free after cpu rows news place end (place_in rows j) i name other time → (later : Bool) → IsKept S s l news after faults read_only later
       across_kept differ step = over_kept kept runs writes (place_in rows j) moved had moved_at had_at spelled spelled_other first_old old first rest had_spot had_apart differ step
 
-      across_tree : (differ : place ≢ end) → ReplacesOver R S s free after cpu rows news place end (place_in rows j) i name other time → SameTree (tree_of S news) (replaced names others time t)
+      across_tree : (differ : place ≢ end) → ReplacesOver R S l free after cpu rows news place end (place_in rows j) i name other time → SameTree (tree_of S news) (replaced names others time t)
       across_tree differ step = over_tree kept runs writes (place_in rows j) moved had moved_at had_at spelled spelled_other first_old old first rest had_spot had_apart differ step
 
   -- What is kept.
-  pub replaced_kept : (S : Region) (news : List Row) (after : FreeLists) (cpu time : ℕ) (there : Option ℕ) → ((j : ℕ) → there ≡ Some j → IsInUse rows j) → Spot there → ReplacesAt R S s free after cpu rows news place source end there i name other time → (later : Bool) → IsKept S s news after faults read_only later
+  pub replaced_kept : (S : Region) (news : List Row) (after : FreeLists) (cpu time : ℕ) (there : Option ℕ) → ((j : ℕ) → there ≡ Some j → IsInUse rows j) → Spot there → ReplacesAt R S l free after cpu rows news place source end there i name other time → (later : Bool) → IsKept S s l news after faults read_only later
   replaced_kept S news after cpu time None used spot step later = moved_kept kept runs writes spelled spelled_other names first rest (free_spot spot) step later
   replaced_kept S news after cpu time (Some j) used spot (inl w) later =
       let all : (R, free, rows) ≡ (S, after, news) = λ k. (sym w.1.0 k, sym w.1.1 k, sym w.1.2 k) in
-      subst (λ (x : Region × FreeLists × List Row). IsKept x.0 s x.2 x.1 faults read_only later) all (record { writes = kept.writes; lists = kept.lists; own = λ on. kept.own runs; shown = λ on. kept.shown runs })
+      subst (λ (x : Region × FreeLists × List Row). IsKept x.0 s l x.2 x.1 faults read_only later) all (record { writes = kept.writes; tables = kept.tables; lists = kept.lists; own = λ on. kept.own runs; shown = λ on. kept.shown runs })
   replaced_kept S news after cpu time (Some j) used spot (inr (apart, inl w)) later = within_kept j (used j refl) spot apart w.0 w.1 later
   replaced_kept S news after cpu time (Some j) used spot (inr (apart, inr w)) later = across_kept j (used j refl) spot apart w.0 w.1 later
 
   -- The tree is what the call makes of that of before.
-  pub replaced_tree : (S : Region) (news : List Row) (after : FreeLists) (cpu time : ℕ) (there : Option ℕ) → ((j : ℕ) → there ≡ Some j → IsInUse rows j) → Spot there → ReplacesAt R S s free after cpu rows news place source end there i name other time → SameTree (tree_of S news) (replaced names others time t)
+  pub replaced_tree : (S : Region) (news : List Row) (after : FreeLists) (cpu time : ℕ) (there : Option ℕ) → ((j : ℕ) → there ≡ Some j → IsInUse rows j) → Spot there → ReplacesAt R S l free after cpu rows news place source end there i name other time → SameTree (tree_of S news) (replaced names others time t)
   replaced_tree S news after cpu time None used spot step = subst (λ (u : Tree). SameTree (tree_of S news) u) (sym (replaced_unused t names others time spot.leads)) (moved_tree kept runs writes spelled spelled_other names first rest (free_spot spot) step)
   replaced_tree S news after cpu time (Some j) used spot (inl w) =
       let way = spot.way in
@@ -110,8 +111,8 @@ module _ {R : Region} {s : Super} {rows : List Row} {free : FreeLists} {faults :
   replaced_tree S news after cpu time (Some j) used spot (inr (apart, inr w)) = across_tree j (used j refl) spot apart w.0 w.1
 
   -- The superblock and all journals but that of the CPU are as they were.
-  pub replaced_front : (S : Region) (news : List Row) (after : FreeLists) (cpu time : ℕ) (there : Option ℕ) → ReplacesAt R S s free after cpu rows news place source end there i name other time → SameFrontBut s.cpus cpu R S
+  pub replaced_front : (S : Region) (news : List Row) (after : FreeLists) (cpu time : ℕ) (there : Option ℕ) → ReplacesAt R S l free after cpu rows news place source end there i name other time → SameFrontBut l.sup.cpus cpu R S
   replaced_front S news after cpu time None step = moved_front kept runs writes step
-  replaced_front S news after cpu time (Some j) (inl w) = subst (λ (x : Region). SameFrontBut s.cpus cpu R x) (sym w.1.0) (record { len = refl; words = λ at whole low other. refl })
+  replaced_front S news after cpu time (Some j) (inl w) = subst (λ (x : Region). SameFrontBut l.sup.cpus cpu R x) (sym w.1.0) (record { len = refl; words = λ at whole low other. refl })
   replaced_front S news after cpu time (Some j) (inr (apart, inl w)) = taken_front kept runs writes w.1
   replaced_front S news after cpu time (Some j) (inr (apart, inr w)) = handed_front kept runs writes w.1

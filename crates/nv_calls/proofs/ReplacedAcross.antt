@@ -7,15 +7,16 @@ use Rattle.nv_super.specs.declared.superblock.Super.{Super}
 use Rattle.nv_super.specs.declared.faults.Fault.{Fault}
 use Rattle.nv_super.specs.declared.owners.Run.{Run}
 use Rattle.nv_super.specs.Order.{Rises}
+use Rattle.nv_super.specs.Layout.{Layout}
 use Rattle.nv_alloc.specs.FreeValue.{FreeLists}
 use Rattle.nv_radix.specs.Pages.{block_at}
 use Rattle.nv_scan.specs.declared.piece.Row.{Row}
 use Rattle.nv_rows.proofs.Places.{set_rising}
-use Rattle.nv_held.specs.nv_check.Cross.{row_key}
-use Rattle.nv_held.specs.nv_graph.Step.{IsGoodName}
-use Rattle.nv_held.specs.Held.{Held, Store}
-use Rattle.nv_held.specs.Bytes.{byte_in}
-use Rattle.nv_held.specs.Mounted.{IsMounted, ShowsSound}
+use Rattle.nv_cross_check.specs.Cross.{row_key}
+use Rattle.nv_graph.specs.Step.{IsGoodName}
+use Rattle.nv_mounted.specs.Held.{Held, Store}
+use Rattle.nv_mounted.specs.Bytes.{byte_in}
+use Rattle.nv_mounted.specs.Mounted.{IsMounted, ShowsSound}
 use Rattle.nv_tree.specs.Path.{IsPathName, last_name}
 use Rattle.nv_tree.specs.Tree.{Node, SameNode, SameTree, Tree, is_directory}
 use Rattle.nv_tree.specs.Calls.{edit, put_node, with_links, with_name, without_name}
@@ -49,7 +50,7 @@ use Rattle.nv_calls.proofs.TakenOut.{places_differ}
 use Rattle.nv_calls.proofs.TakenSpot.{spot_named, spot_taken}
 use Rattle.nv_calls.proofs.TakenTree.{handed_node}
 
-module _ {R : Region} {s : Super} {rows : List Row} {free : FreeLists} {faults : List Fault} {read_only stopped : Bool} (kept : IsKept R s rows free faults read_only stopped) (runs : stopped ≡ false) (writes : read_only ≡ false)
+module _ {R : Region} {s : Super} {l : Layout} {rows : List Row} {free : FreeLists} {faults : List Fault} {read_only stopped : Bool} (kept : IsKept R s l rows free faults read_only stopped) (runs : stopped ≡ false) (writes : read_only ≡ false)
     {place source end : ℕ} (target : ℕ) {name other : List ℕ} (moved there : Row) (moved_at : slice_get rows source ≡ Some moved) (there_at : slice_get rows target ≡ Some there) (spelled : IsPathName name) (spelled_other : IsPathName other) (first_old : List ℕ) (old : List (List ℕ)) (first : List ℕ) (rest : List (List ℕ))
     (spot : IsReplaceSpot (tree_of R rows) rows (first_old ∷ old) (first ∷ rest) place name source end other (Some there.inode)) (apart : moved.inode ≢ there.inode) (places_apart : place ≢ end) where
   abbrev i : ℕ
@@ -73,7 +74,7 @@ module _ {R : Region} {s : Super} {rows : List Row} {free : FreeLists} {faults :
   rises : Rises row_key rows
   rises = rising kept runs writes target moved there moved_at there_at first_old old first rest spot apart
 
-  good_here : (q : List ℕ) → IsPathName q → (k : ℕ) (r : Row) → slice_get rows k ≡ Some r → IsGoodName s r.inode q
+  good_here : (q : List ℕ) → IsPathName q → (k : ℕ) (r : Row) → slice_get rows k ≡ Some r → IsGoodName l.sup r.inode q
   good_here = good kept runs writes target moved there moved_at there_at first_old old first rest spot apart
 
   from_apart : (row : Row) → slice_get rows place ≡ Some row → (r : Row) → slice_get rows target ≡ Some r → row.inode ≢ r.inode
@@ -129,37 +130,37 @@ module _ {R : Region} {s : Super} {rows : List Row} {free : FreeLists} {faults :
 
     first_tree : SameTree (tree_of S (set rows place from_now)) (edit from.inode (lose time) t)
     first_tree = same_transitive (tree_of S (set rows place from_now)) (edit from.inode (lose time) (tree_of S rows)) (edit from.inode (lose time) t)
-        (row_changed S rows rises place from at from_now (lose time) lost.inode (lost_node S S fresh end_from name i time lost once.0 once.1 (spot_named R s rows target moved at to_at moved_at r_at names first rest (spot_here r r_at) (apart_here r r_at)) (λ x. refl)))
+        (row_changed S rows rises place from at from_now (lose time) lost.inode (lost_node S S fresh end_from name i time lost once.0 once.1 (spot_named R l rows target moved at to_at moved_at r_at names first rest (spot_here r r_at) (apart_here r r_at)) (λ x. refl)))
         (edit_kept (tree_of S rows) t from.inode (lose time) (lose time) (no_name_kept name time) (tree_stays R S rows bytes))
 
     both_tree : SameTree (tree_of S all) (edit to.inode (hand time) (edit from.inode (lose time) t))
     both_tree = same_transitive (tree_of S all) (edit to.inode (hand time) (tree_of S (set rows place from_now))) (edit to.inode (hand time) (edit from.inode (lose time) t))
-        (row_changed S (set rows place from_now) first_rises end to to_still to_now (hand time) has.inode (handed_node S S more end_to given other i r.inode time has (spot_taken R s rows target moved at to_at moved_at r_at names first rest (spot_here r r_at) (apart_here r r_at)) (λ x. refl)))
+        (row_changed S (set rows place from_now) first_rises end to to_still to_now (hand time) has.inode (handed_node S S more end_to given other i r.inode time has (spot_taken R l rows target moved at to_at moved_at r_at names first rest (spot_here r r_at) (apart_here r r_at)) (λ x. refl)))
         (edit_kept (tree_of S (set rows place from_now)) (edit from.inode (lose time) t) to.inode (hand time) (hand time) (hand_kept time) first_tree)
 
   -- ---- where it goes
 
-  module _ {S : Region} {news : List Row} {mid : FreeLists} {cpu time : ℕ} {from from_now to to_now gone : Row} (at : slice_get rows place ≡ Some from) (to_at : slice_get rows end ≡ Some to) (gone_at : slice_get rows target ≡ Some gone) (step : TakesAcross R S s free mid cpu from from_now to to_now i gone.inode name other time)
+  module _ {S : Region} {news : List Row} {mid : FreeLists} {cpu time : ℕ} {from from_now to to_now gone : Row} (at : slice_get rows place ≡ Some from) (to_at : slice_get rows end ≡ Some to) (gone_at : slice_get rows target ≡ Some gone) (step : TakesAcross R S l free mid cpu from from_now to to_now i gone.inode name other time)
       (put : news ≡ remove (set (set rows place from_now) end to_now) target) (goes : keeps_others gone ≡ false) where
-    gone_kept : {after : FreeLists} → GivesRow mid gone after → (later : Bool) → IsKept S s news after faults read_only later
+    gone_kept : {after : FreeLists} → GivesRow mid gone after → (later : Bool) → IsKept S s l news after faults read_only later
     gone_kept given later = gone_across.kept_then kept runs writes target moved at to_at moved_at gone_at step put names first rest (spot_here gone gone_at) (good_here name spelled source moved moved_at) (good_here other spelled_other source moved moved_at) (good_here other spelled_other target gone gone_at)
         (apart_here gone gone_at) goes (both_apart from to at to_at) (from_apart from at gone gone_at) (to_apart to to_at gone gone_at) given later
 
-    pub gone_some : (held : Store) (m : IsMounted R s held rows free.pools) → (then : Store) × (lists : List (List Run)) × IsMounted S s then news lists
+    pub gone_some : (held : Store) (m : IsMounted R l held rows free.pools) → (then : Store) × (lists : List (List Run)) × IsMounted S l then news lists
     gone_some held m =
         let w = gone_across.mounted_some kept runs writes target moved at to_at moved_at gone_at step put names first rest (spot_here gone gone_at) (good_here name spelled source moved moved_at) (good_here other spelled_other source moved moved_at) (good_here other spelled_other target gone gone_at)
         (apart_here gone gone_at) goes (both_apart from to at to_at) (from_apart from at gone gone_at) (to_apart to to_at gone gone_at) held m in
         (_, w.0, w.1)
 
-    pub gone_last : (a b d e : ℕ) (node : Node) (held : Store) (h k : Held) → TakesPlace t names others a b d e node → ShowsSound R s held → held d ≡ Some h → held e ≡ Some k
-        → ShowsBothLess S s free.pools cpu held d h (name_entries Remove a (last_name names) time) e k (handed_entries a b (last_name others) time) b
+    pub gone_last : (a b d e : ℕ) (node : Node) (held : Store) (h k : Held) → TakesPlace t names others a b d e node → ShowsSound R l held → held d ≡ Some h → held e ≡ Some k
+        → ShowsBothLess S l free.pools cpu held d h (name_entries Remove a (last_name names) time) e k (handed_entries a b (last_name others) time) b
     gone_last a b d e node held h k takes sound is other_is =
         let w = told_here from at to to_at gone gone_at a b d e node takes in
         let way = spot.way in
         let named = way.from in
         let ends = way.to in
-        by_words (λ (x y : ℕ) (q o : List ℕ) (z : ℕ). ShowsBothLess S s free.pools cpu held d h (name_entries Remove x q time) z k (handed_entries x y o time) y) w.0 w.1 named.name_is ends.name_is w.3
-        (subst (λ (z : ℕ). ShowsBothLess S s free.pools cpu held z h (name_entries Remove i name time) to.inode k (handed_entries i gone.inode other time) gone.inode) w.2
+        by_words (λ (x y : ℕ) (q o : List ℕ) (z : ℕ). ShowsBothLess S l free.pools cpu held d h (name_entries Remove x q time) z k (handed_entries x y o time) y) w.0 w.1 named.name_is ends.name_is w.3
+        (subst (λ (z : ℕ). ShowsBothLess S l free.pools cpu held z h (name_entries Remove i name time) to.inode k (handed_entries i gone.inode other time) gone.inode) w.2
         (gone_across.was_handed kept runs writes target moved at to_at moved_at gone_at step put names first rest (spot_here gone gone_at) (good_here name spelled source moved moved_at) (good_here other spelled_other source moved moved_at) (good_here other spelled_other target gone gone_at)
         (apart_here gone gone_at) goes (both_apart from to at to_at) (from_apart from at gone gone_at) (to_apart to to_at gone gone_at) held h k sound (ap held w.2 ∙ is) (ap held w.3 ∙ other_is)))
 
@@ -192,29 +193,29 @@ module _ {R : Region} {s : Super} {rows : List Row} {free : FreeLists} {faults :
 
   -- ---- where it has other names
 
-  module _ {S : Region} {news : List Row} {after : FreeLists} {cpu time : ℕ} {from from_now to to_now file file_now : Row} (at : slice_get rows place ≡ Some from) (to_at : slice_get rows end ≡ Some to) (file_at : slice_get rows target ≡ Some file) (step : LessensAcross R S s free after cpu from from_now to to_now file file_now i name other time)
+  module _ {S : Region} {news : List Row} {after : FreeLists} {cpu time : ℕ} {from from_now to to_now file file_now : Row} (at : slice_get rows place ≡ Some from) (to_at : slice_get rows end ≡ Some to) (file_at : slice_get rows target ≡ Some file) (step : LessensAcross R S l free after cpu from from_now to to_now file file_now i name other time)
       (put : news ≡ set (set (set rows place from_now) end to_now) target file_now) (has_more : keeps_others file ≡ true) where
-    less_kept : (later : Bool) → IsKept S s news after faults read_only later
+    less_kept : (later : Bool) → IsKept S s l news after faults read_only later
     less_kept later = less_across.kept_then kept runs writes target moved at to_at moved_at file_at step put names first rest (spot_here file file_at) (good_here name spelled source moved moved_at) (good_here other spelled_other source moved moved_at) (good_here other spelled_other target file file_at)
         (apart_here file file_at) has_more (both_apart from to at to_at) (from_apart from at file file_at) (to_apart to to_at file file_at) later
 
-    pub less_mounted : (held : Store) (m : IsMounted R s held rows free.pools) → (then : Store) × IsMounted S s then news after.pools
+    pub less_mounted : (held : Store) (m : IsMounted R l held rows free.pools) → (then : Store) × IsMounted S l then news after.pools
     less_mounted held m = (
       _,
       less_across.mounted_then kept runs writes target moved at to_at moved_at file_at step put names first rest (spot_here file file_at) (good_here name spelled source moved moved_at) (good_here other spelled_other source moved moved_at) (good_here other spelled_other target file file_at)
           (apart_here file file_at) has_more (both_apart from to at to_at) (from_apart from at file file_at) (to_apart to to_at file file_at) held m,
     )
 
-    pub less_more : (a b d e : ℕ) (node : Node) (held : Store) (h k f : Held) → TakesPlace t names others a b d e node → ShowsSound R s held → held d ≡ Some h → held e ≡ Some k → held b ≡ Some f
-        → ShowsThreeGrew S s free.pools cpu held d h (name_entries Remove a (last_name names) time) e k (handed_entries a b (last_name others) time) b f (links_entries (node.links - 1) time)
+    pub less_more : (a b d e : ℕ) (node : Node) (held : Store) (h k f : Held) → TakesPlace t names others a b d e node → ShowsSound R l held → held d ≡ Some h → held e ≡ Some k → held b ≡ Some f
+        → ShowsThreeGrew S l free.pools cpu held d h (name_entries Remove a (last_name names) time) e k (handed_entries a b (last_name others) time) b f (links_entries (node.links - 1) time)
     less_more a b d e node held h k f takes sound is other_is last_is =
         let w = told_here from at to to_at file file_at a b d e node takes in
         let way = spot.way in
         let named = way.from in
         let ends = way.to in
-        subst (λ (x : Node). ShowsThreeGrew S s free.pools cpu held d h (name_entries Remove a (last_name names) time) e k (handed_entries a b (last_name others) time) b f (links_entries (x.links - 1) time)) w.4
-        (by_words (λ (x y : ℕ) (q o : List ℕ) (z : ℕ). ShowsThreeGrew S s free.pools cpu held d h (name_entries Remove x q time) z k (handed_entries x y o time) y f (links_entries (file.numbers.links - 1) time)) w.0 w.1 named.name_is ends.name_is w.3
-        (subst (λ (z : ℕ). ShowsThreeGrew S s free.pools cpu held z h (name_entries Remove i name time) to.inode k (handed_entries i file.inode other time) file.inode f (links_entries (file.numbers.links - 1) time)) w.2
+        subst (λ (x : Node). ShowsThreeGrew S l free.pools cpu held d h (name_entries Remove a (last_name names) time) e k (handed_entries a b (last_name others) time) b f (links_entries (x.links - 1) time)) w.4
+        (by_words (λ (x y : ℕ) (q o : List ℕ) (z : ℕ). ShowsThreeGrew S l free.pools cpu held d h (name_entries Remove x q time) z k (handed_entries x y o time) y f (links_entries (file.numbers.links - 1) time)) w.0 w.1 named.name_is ends.name_is w.3
+        (subst (λ (z : ℕ). ShowsThreeGrew S l free.pools cpu held z h (name_entries Remove i name time) to.inode k (handed_entries i file.inode other time) file.inode f (links_entries (file.numbers.links - 1) time)) w.2
         (less_across.three_grew kept runs writes target moved at to_at moved_at file_at step put names first rest (spot_here file file_at) (good_here name spelled source moved moved_at) (good_here other spelled_other source moved moved_at) (good_here other spelled_other target file file_at)
         (apart_here file file_at) has_more (both_apart from to at to_at) (from_apart from at file file_at) (to_apart to to_at file file_at) held h k f sound (ap held w.2 ∙ is) (ap held w.3 ∙ other_is) (ap held w.1 ∙ last_is))))
 
@@ -254,17 +255,17 @@ module _ {R : Region} {s : Super} {rows : List Row} {free : FreeLists} {faults :
 
   -- ---- in both cases
 
-  module _ {S : Region} {news : List Row} {after : FreeLists} {cpu time : ℕ} (done : ReplacesOver R S s free after cpu rows news place end target i name other time) where
+  module _ {S : Region} {news : List Row} {after : FreeLists} {cpu time : ℕ} (done : ReplacesOver R S l free after cpu rows news place end target i name other time) where
     -- What is kept.
-    pub over_kept : (later : Bool) → IsKept S s news after faults read_only later
+    pub over_kept : (later : Bool) → IsKept S s l news after faults read_only later
     over_kept later = by done where
-      by : ReplacesOver R S s free after cpu rows news place end target i name other time → IsKept S s news after faults read_only later
+      by : ReplacesOver R S l free after cpu rows news place end target i name other time → IsKept S s l news after faults read_only later
       by (inl w) = let step = w.1 in less_kept step.at step.to_at step.file_at step.step step.put (w.0 step.file step.file_at) later
       by (inr w) = let step = w.1 in gone_kept step.at step.to_at step.gone_at step.step step.put (w.0 step.gone step.gone_at) step.given later
 
     -- The tree is what the call makes of that of before.
     pub over_tree : SameTree (tree_of S news) (replaced names others time t)
     over_tree = by done where
-      by : ReplacesOver R S s free after cpu rows news place end target i name other time → SameTree (tree_of S news) (replaced names others time t)
+      by : ReplacesOver R S l free after cpu rows news place end target i name other time → SameTree (tree_of S news) (replaced names others time t)
       by (inl w) = let step = w.1 in less_tree step.at step.to_at step.file_at step.step step.put (w.0 step.file step.file_at)
       by (inr w) = let step = w.1 in gone_tree step.at step.to_at step.gone_at step.step step.put (w.0 step.gone step.gone_at)

@@ -10,12 +10,13 @@ use Rattle.nv_super.specs.declared.kind.Kind.{Kind}
 use Rattle.nv_super.specs.declared.kind.Kind.TheVariants.{File, Directory}
 use Rattle.nv_super.specs.Order.{Rises}
 use Rattle.nv_super.proofs.Members.{stands}
+use Rattle.nv_super.specs.Layout.{Layout}
 use Rattle.nv_alloc.specs.FreeValue.{FreeLists}
 use Rattle.nv_names.specs.Names.{name_at}
 use Rattle.nv_scan.specs.declared.piece.Row.{Row}
-use Rattle.nv_held.specs.nv_check.Cross.{row_key}
-use Rattle.nv_held.specs.nv_graph.Read.{row_of}
-use Rattle.nv_held.specs.nv_graph.Step.{IsGoodName}
+use Rattle.nv_cross_check.specs.Cross.{row_key}
+use Rattle.nv_graph.specs.Read.{row_of}
+use Rattle.nv_graph.specs.Step.{IsGoodName}
 use Rattle.nv_tree.specs.declared.refusal.Refusal.{Refusal}
 use Rattle.nv_tree.specs.Path.{IsPathName}
 use Rattle.nv_tree.specs.Tree.{Node, Tree, is_directory}
@@ -31,7 +32,7 @@ use Rattle.nv_calls.specs.ReplaceCalls.{keeps_others}
 use Rattle.nv_calls.specs.ReplaceLogs.{TakesPlace}
 use Rattle.nv_calls.proofs.Kept.{rows_rise}
 use Rattle.nv_calls.proofs.LinkedTree.{links_told}
-use Rattle.nv_calls.proofs.RowNumbers.{row_number}
+use Rattle.nv_calls.proofs.RowNumbers.{row_named}
 
 some_number : {a b : ℕ} → Some a ≡ Some b → a ≡ b
 some_number e = cc
@@ -45,7 +46,7 @@ some_node e = cc
 no_more : (n : ℕ) → nat_lt 1 n ≡ false → n ≤ 1
 no_more n test = grind (arith, nat_tests)
 
-module _ {R : Region} {s : Super} {rows : List Row} {free : FreeLists} {faults : List Fault} {read_only stopped : Bool} (kept : IsKept R s rows free faults read_only stopped) (runs : stopped ≡ false) (writes : read_only ≡ false)
+module _ {R : Region} {s : Super} {l : Layout} {rows : List Row} {free : FreeLists} {faults : List Fault} {read_only stopped : Bool} (kept : IsKept R s l rows free faults read_only stopped) (runs : stopped ≡ false) (writes : read_only ≡ false)
     {place source end : ℕ} (target : ℕ) {name other : List ℕ} (moved there : Row) (moved_at : slice_get rows source ≡ Some moved) (there_at : slice_get rows target ≡ Some there) (first_old : List ℕ) (old : List (List ℕ)) (first : List ℕ) (rest : List (List ℕ))
     (spot : IsReplaceSpot (tree_of R rows) rows (first_old ∷ old) (first ∷ rest) place name source end other (Some there.inode)) (apart : moved.inode ≢ there.inode) where
   abbrev i : ℕ
@@ -55,10 +56,10 @@ module _ {R : Region} {s : Super} {rows : List Row} {free : FreeLists} {faults :
   t = tree_of R rows
 
   pub rising : Rises row_key rows
-  rising = rows_rise R s rows free faults read_only stopped kept runs
+  rising = rows_rise R s l rows free faults read_only stopped kept runs
 
-  pub good : (q : List ℕ) → IsPathName q → (k : ℕ) (r : Row) → slice_get rows k ≡ Some r → IsGoodName s r.inode q
-  good q is k r at = good_name s r.inode q is (row_number kept runs writes r (stands rows k r at))
+  pub good : (q : List ℕ) → IsPathName q → (k : ℕ) (r : Row) → slice_get rows k ≡ Some r → IsGoodName l.sup r.inode q
+  good q is k r at = good_name l.sup r.inode q is (row_named kept runs writes r (stands rows k r at))
 
   -- the same of each row at the place
   pub spot_at : (r : Row) → slice_get rows target ≡ Some r → IsReplaceSpot t rows (first_old ∷ old) (first ∷ rest) place name source end other (Some r.inode)

@@ -7,16 +7,17 @@ use Rattle.nv_super.specs.declared.superblock.Super.{Super}
 use Rattle.nv_super.specs.declared.faults.Fault.{Fault}
 use Rattle.nv_super.specs.declared.owners.Run.{Run}
 use Rattle.nv_super.specs.Order.{Rises}
+use Rattle.nv_super.specs.Layout.{Layout}
 use Rattle.nv_alloc.specs.FreeValue.{FreeLists}
 use Rattle.nv_names.specs.Names.{name_at}
 use Rattle.nv_radix.specs.Pages.{block_at}
 use Rattle.nv_scan.specs.declared.piece.Row.{Row}
 use Rattle.nv_rows.proofs.Places.{set_rising}
-use Rattle.nv_held.specs.nv_check.Cross.{row_key}
-use Rattle.nv_held.specs.nv_graph.Step.{IsGoodName}
-use Rattle.nv_held.specs.Held.{Held, Store}
-use Rattle.nv_held.specs.Bytes.{byte_in}
-use Rattle.nv_held.specs.Mounted.{IsMounted, ShowsSound}
+use Rattle.nv_cross_check.specs.Cross.{row_key}
+use Rattle.nv_graph.specs.Step.{IsGoodName}
+use Rattle.nv_mounted.specs.Held.{Held, Store}
+use Rattle.nv_mounted.specs.Bytes.{byte_in}
+use Rattle.nv_mounted.specs.Mounted.{IsMounted, ShowsSound}
 use Rattle.nv_tree.specs.Path.{IsPathName, last_name}
 use Rattle.nv_tree.specs.Tree.{Node, SameNode, SameTree, Tree, is_directory}
 use Rattle.nv_tree.specs.Calls.{edit, put_node, with_links, with_name, without_name}
@@ -49,7 +50,7 @@ use Rattle.nv_calls.proofs.TakenRows.{bytes_kept, kept_then, mounted_some, was_t
 use Rattle.nv_calls.proofs.TakenSpot.{spot_named, spot_taken}
 use Rattle.nv_calls.proofs.TakenTree.{taken_node}
 
-module _ {R : Region} {s : Super} {rows : List Row} {free : FreeLists} {faults : List Fault} {read_only stopped : Bool} (kept : IsKept R s rows free faults read_only stopped) (runs : stopped ≡ false) (writes : read_only ≡ false)
+module _ {R : Region} {s : Super} {l : Layout} {rows : List Row} {free : FreeLists} {faults : List Fault} {read_only stopped : Bool} (kept : IsKept R s l rows free faults read_only stopped) (runs : stopped ≡ false) (writes : read_only ≡ false)
     {place source : ℕ} (target : ℕ) {name other : List ℕ} (moved there : Row) (moved_at : slice_get rows source ≡ Some moved) (there_at : slice_get rows target ≡ Some there) (spelled : IsPathName name) (spelled_other : IsPathName other) (first_old : List ℕ) (old : List (List ℕ)) (first : List ℕ) (rest : List (List ℕ))
     (spot : IsReplaceSpot (tree_of R rows) rows (first_old ∷ old) (first ∷ rest) place name source place other (Some there.inode)) (apart : moved.inode ≢ there.inode) where
   abbrev i : ℕ
@@ -77,7 +78,7 @@ module _ {R : Region} {s : Super} {rows : List Row} {free : FreeLists} {faults :
   rises : Rises row_key rows
   rises = rising kept runs writes target moved there moved_at there_at first_old old first rest spot apart
 
-  good_here : (q : List ℕ) → IsPathName q → (k : ℕ) (r : Row) → slice_get rows k ≡ Some r → IsGoodName s r.inode q
+  good_here : (q : List ℕ) → IsPathName q → (k : ℕ) (r : Row) → slice_get rows k ≡ Some r → IsGoodName l.sup r.inode q
   good_here = good kept runs writes target moved there moved_at there_at first_old old first rest spot apart
 
   replaces_here : (row : Row) → slice_get rows place ≡ Some row → (r : Row) → slice_get rows target ≡ Some r → Replaces t names others i r.inode row.inode row.inode
@@ -87,10 +88,10 @@ module _ {R : Region} {s : Super} {rows : List Row} {free : FreeLists} {faults :
   rows_differ = from_differs kept runs writes target moved there moved_at there_at first_old old first rest spot apart
 
   named_here : (row : Row) → slice_get rows place ≡ Some row → (r : Row) → slice_get rows target ≡ Some r → option_map (λ (x : ℕ × ℕ). x.0) (name_at row.names name) ≡ Some i
-  named_here row at r r_at = spot_named R s rows target moved at at moved_at r_at names first rest (spot_here r r_at) (apart_here r r_at)
+  named_here row at r r_at = spot_named R l rows target moved at at moved_at r_at names first rest (spot_here r r_at) (apart_here r r_at)
 
   taken_here : (row : Row) → slice_get rows place ≡ Some row → (r : Row) → slice_get rows target ≡ Some r → option_map (λ (x : ℕ × ℕ). x.0) (name_at row.names other) ≡ Some r.inode
-  taken_here row at r r_at = spot_taken R s rows target moved at at moved_at r_at names first rest (spot_here r r_at) (apart_here r r_at)
+  taken_here row at r r_at = spot_taken R l rows target moved at at moved_at r_at names first rest (spot_here r r_at) (apart_here r r_at)
 
   told_here : (row : Row) → slice_get rows place ≡ Some row → (r : Row) → slice_get rows target ≡ Some r → (a b d : ℕ) (node : Node) → TakesPlace t names others a b d d node → (i ≡ a) × (r.inode ≡ b) × (row.inode ≡ d) × (row.inode ≡ d) × (node_of R r ≡ node)
   told_here row at r r_at a b d node takes = places_are kept runs writes target moved there moved_at there_at first_old old first rest spot apart row at row at r r_at a b d d node takes
@@ -115,25 +116,25 @@ module _ {R : Region} {s : Super} {rows : List Row} {free : FreeLists} {faults :
 
   -- ---- where it goes
 
-  module _ {S : Region} {news : List Row} {mid : FreeLists} {cpu time : ℕ} {row now gone : Row} (at : slice_get rows place ≡ Some row) (gone_at : slice_get rows target ≡ Some gone) (step : TakesWithin R S s free mid cpu row now i gone.inode name other time) (put : news ≡ remove (set rows place now) target) (goes : keeps_others gone ≡ false) where
-    gone_kept : {after : FreeLists} → GivesRow mid gone after → (later : Bool) → IsKept S s news after faults read_only later
+  module _ {S : Region} {news : List Row} {mid : FreeLists} {cpu time : ℕ} {row now gone : Row} (at : slice_get rows place ≡ Some row) (gone_at : slice_get rows target ≡ Some gone) (step : TakesWithin R S l free mid cpu row now i gone.inode name other time) (put : news ≡ remove (set rows place now) target) (goes : keeps_others gone ≡ false) where
+    gone_kept : {after : FreeLists} → GivesRow mid gone after → (later : Bool) → IsKept S s l news after faults read_only later
     gone_kept given later = kept_then kept runs writes target moved at moved_at gone_at step put names first rest (spot_here gone gone_at) (good_here name spelled source moved moved_at) (good_here other spelled_other source moved moved_at) (good_here other spelled_other target gone gone_at) (apart_here gone gone_at) goes given later
 
-    pub gone_some : (held : Store) (m : IsMounted R s held rows free.pools) → (then : Store) × (lists : List (List Run)) × IsMounted S s then news lists
+    pub gone_some : (held : Store) (m : IsMounted R l held rows free.pools) → (then : Store) × (lists : List (List Run)) × IsMounted S l then news lists
     gone_some held m =
         let w = mounted_some kept runs writes target moved at moved_at gone_at step put names first rest (spot_here gone gone_at) (good_here name spelled source moved moved_at) (good_here other spelled_other source moved moved_at) (good_here other spelled_other target gone gone_at) (apart_here gone gone_at) goes held m in
         (_, w.0, w.1)
 
-    gone_log : (held : Store) (g : Held) → ShowsSound R s held → held row.inode ≡ Some g → ShowsRemoved S s free.pools cpu held row.inode g (take_entries i gone.inode name other time) gone.inode
+    gone_log : (held : Store) (g : Held) → ShowsSound R l held → held row.inode ≡ Some g → ShowsRemoved S l free.pools cpu held row.inode g (take_entries i gone.inode name other time) gone.inode
     gone_log held g sound is = was_taken kept runs writes target moved at moved_at gone_at step put names first rest (spot_here gone gone_at) (good_here name spelled source moved moved_at) (good_here other spelled_other source moved moved_at) (good_here other spelled_other target gone gone_at) (apart_here gone gone_at) goes held g sound is
 
-    pub gone_last : (a b d : ℕ) (node : Node) (held : Store) (h : Held) → TakesPlace t names others a b d d node → ShowsSound R s held → held d ≡ Some h → ShowsRemoved S s free.pools cpu held d h (take_entries a b (last_name names) (last_name others) time) b
+    pub gone_last : (a b d : ℕ) (node : Node) (held : Store) (h : Held) → TakesPlace t names others a b d d node → ShowsSound R l held → held d ≡ Some h → ShowsRemoved S l free.pools cpu held d h (take_entries a b (last_name names) (last_name others) time) b
     gone_last a b d node held h takes sound is =
         let w = told_here row at gone gone_at a b d node takes in
         let way = spot.way in
         let from = way.from in
         let to = way.to in
-        by_words (λ (c e : ℕ) (q o : List ℕ) (k : ℕ). ShowsRemoved S s free.pools cpu held k h (take_entries c e q o time) e) w.0 w.1 from.name_is to.name_is w.2 (gone_log held h sound (ap held w.2 ∙ is))
+        by_words (λ (c e : ℕ) (q o : List ℕ) (k : ℕ). ShowsRemoved S l free.pools cpu held k h (take_entries c e q o time) e) w.0 w.1 from.name_is to.name_is w.2 (gone_log held h sound (ap held w.2 ∙ is))
 
     -- it had no other names
     pub gone_others : (a b d : ℕ) (node : Node) → TakesPlace t names others a b d d node → has_others node ≡ true → ⊥
@@ -162,7 +163,7 @@ module _ {R : Region} {s : Super} {rows : List Row} {free : FreeLists} {faults :
 
   -- ---- where it has other names
 
-  module _ {S : Region} {news : List Row} {after : FreeLists} {cpu time : ℕ} (step : LessensAt R S s free after cpu rows news place target i name other time) (stays : keeps_others step.file ≡ true) where
+  module _ {S : Region} {news : List Row} {after : FreeLists} {cpu time : ℕ} (step : LessensAt R S l free after cpu rows news place target i name other time) (stays : keeps_others step.file ≡ true) where
     abbrev file : Row
     file = step.file
 
@@ -178,30 +179,30 @@ module _ {R : Region} {s : Super} {rows : List Row} {free : FreeLists} {faults :
     file_at : slice_get rows target ≡ Some file
     file_at = let both = step.step in both.other_at
 
-    right : IsRight R s free rows row (take_entries i file.inode name other time) step.step.fresh step.step.first_now file (links_entries (links - 1) time) step.step.more step.step.second_now
+    right : IsRight R l free rows row (take_entries i file.inode name other time) step.step.fresh step.step.first_now file (links_entries (links - 1) time) step.step.more step.step.second_now
     right = lessen_right moved moved_at step names first rest (spot_here file file_at) (good_here name spelled source moved moved_at) (good_here other spelled_other source moved moved_at) (good_here other spelled_other target file file_at) (apart_here file file_at) stays
 
     less_differ : row.inode ≢ file.inode
     less_differ = rows_differ row at file file_at
 
-    less_kept : (later : Bool) → IsKept S s news after faults read_only later
+    less_kept : (later : Bool) → IsKept S s l news after faults read_only later
     less_kept = both_kept kept runs writes step.step less_differ right
 
-    pub less_mounted : (held : Store) (m : IsMounted R s held rows free.pools) → (then : Store) × IsMounted S s then news after.pools
+    pub less_mounted : (held : Store) (m : IsMounted R l held rows free.pools) → (then : Store) × IsMounted S l then news after.pools
     less_mounted held m = (_, both_mounted.mounted_then kept runs writes step.step less_differ right held m)
 
-    less_logs : (held : Store) (a b : Held) → ShowsSound R s held → held row.inode ≡ Some a → held file.inode ≡ Some b → ShowsBothGrew S s free.pools cpu held row.inode a (take_entries i file.inode name other time) file.inode b (links_entries (links - 1) time)
+    less_logs : (held : Store) (a b : Held) → ShowsSound R l held → held row.inode ≡ Some a → held file.inode ≡ Some b → ShowsBothGrew S l free.pools cpu held row.inode a (take_entries i file.inode name other time) file.inode b (links_entries (links - 1) time)
     less_logs = both_logs kept runs writes step.step less_differ right
 
-    pub less_more : (a b d : ℕ) (node : Node) (held : Store) (h f : Held) → TakesPlace t names others a b d d node → ShowsSound R s held → held d ≡ Some h → held b ≡ Some f
-        → ShowsBothGrew S s free.pools cpu held d h (take_entries a b (last_name names) (last_name others) time) b f (links_entries (node.links - 1) time)
+    pub less_more : (a b d : ℕ) (node : Node) (held : Store) (h f : Held) → TakesPlace t names others a b d d node → ShowsSound R l held → held d ≡ Some h → held b ≡ Some f
+        → ShowsBothGrew S l free.pools cpu held d h (take_entries a b (last_name names) (last_name others) time) b f (links_entries (node.links - 1) time)
     less_more a b d node held h f takes sound is other_is =
         let w = told_here row at file file_at a b d node takes in
         let way = spot.way in
         let from = way.from in
         let to = way.to in
-        subst (λ (m : Node). ShowsBothGrew S s free.pools cpu held d h (take_entries a b (last_name names) (last_name others) time) b f (links_entries (m.links - 1) time)) w.4
-        (by_words (λ (c e : ℕ) (q o : List ℕ) (k : ℕ). ShowsBothGrew S s free.pools cpu held k h (take_entries c e q o time) e f (links_entries (links - 1) time)) w.0 w.1 from.name_is to.name_is w.2 (less_logs held h f sound (ap held w.2 ∙ is) (ap held w.1 ∙ other_is)))
+        subst (λ (m : Node). ShowsBothGrew S l free.pools cpu held d h (take_entries a b (last_name names) (last_name others) time) b f (links_entries (m.links - 1) time)) w.4
+        (by_words (λ (c e : ℕ) (q o : List ℕ) (k : ℕ). ShowsBothGrew S l free.pools cpu held k h (take_entries c e q o time) e f (links_entries (links - 1) time)) w.0 w.1 from.name_is to.name_is w.2 (less_logs held h f sound (ap held w.2 ∙ is) (ap held w.1 ∙ other_is)))
 
     -- it has other names
     pub less_others : (a b d : ℕ) (node : Node) → TakesPlace t names others a b d d node → has_others node ≡ false → ⊥
@@ -236,20 +237,20 @@ module _ {R : Region} {s : Super} {rows : List Row} {free : FreeLists} {faults :
 
   -- ---- in both cases
 
-  module _ {S : Region} {news : List Row} {after : FreeLists} {cpu time : ℕ} (done : ReplacesHere R S s free after cpu rows news place target i name other time) where
-    at_file : (step : LessensAt R S s free after cpu rows news place target i name other time) → slice_get rows target ≡ Some step.file
+  module _ {S : Region} {news : List Row} {after : FreeLists} {cpu time : ℕ} (done : ReplacesHere R S l free after cpu rows news place target i name other time) where
+    at_file : (step : LessensAt R S l free after cpu rows news place target i name other time) → slice_get rows target ≡ Some step.file
     at_file step = let both = step.step in both.other_at
 
     -- What is kept.
-    pub here_kept : (later : Bool) → IsKept S s news after faults read_only later
+    pub here_kept : (later : Bool) → IsKept S s l news after faults read_only later
     here_kept later = by done where
-      by : ReplacesHere R S s free after cpu rows news place target i name other time → IsKept S s news after faults read_only later
+      by : ReplacesHere R S l free after cpu rows news place target i name other time → IsKept S s l news after faults read_only later
       by (inl w) = less_kept w.1 (w.0 w.1.file (at_file w.1)) later
       by (inr w) = let step = w.1 in gone_kept step.at step.gone_at step.step step.put (w.0 step.gone step.gone_at) step.given later
 
     -- The tree is what the call makes of that of before.
     pub here_tree : SameTree (tree_of S news) (replaced names others time t)
     here_tree = by done where
-      by : ReplacesHere R S s free after cpu rows news place target i name other time → SameTree (tree_of S news) (replaced names others time t)
+      by : ReplacesHere R S l free after cpu rows news place target i name other time → SameTree (tree_of S news) (replaced names others time t)
       by (inl w) = less_tree w.1 (w.0 w.1.file (at_file w.1))
       by (inr w) = let step = w.1 in gone_tree step.at step.gone_at step.step step.put (w.0 step.gone step.gone_at)

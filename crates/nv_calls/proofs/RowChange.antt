@@ -10,21 +10,21 @@ use Rattle.nv_region.specs.Region.{Region}
 use Rattle.nv_super.specs.declared.superblock.Super.{Super}
 use Rattle.nv_super.specs.declared.owners.Run.{Run}
 use Rattle.nv_super.specs.declared.faults.Fault.{Fault}
-use Rattle.nv_super.specs.Layout.{fixed_layout}
+use Rattle.nv_super.specs.Layout.{Layout}
 use Rattle.nv_super.specs.Order.{Rises}
 use Rattle.nv_alloc.specs.FreeValue.{FreeLists}
 use Rattle.nv_entry.specs.declared.entry.Entry.{Entry}
 use Rattle.nv_radix.specs.Pages.{block_at}
-use Rattle.nv_held.specs.nv_outcome.Same.{SameRow}
+use Rattle.nv_outcome.specs.Same.{SameRow}
 use Rattle.nv_scan.specs.declared.piece.Row.{Row}
-use Rattle.nv_held.specs.nv_check.Cross.{row_key}
-use Rattle.nv_held.specs.nv_graph.Read.{row_of}
+use Rattle.nv_cross_check.specs.Cross.{row_key}
+use Rattle.nv_graph.specs.Read.{row_of}
 use Rattle.nv_rows.proofs.Places.{number_at, row_of_other, set_rising}
 use Rattle.nv_tree.specs.declared.refusal.Refusal.{Refusal}
-use Rattle.nv_held.specs.Held.{Held, Store, with_inode}
-use Rattle.nv_held.specs.Bytes.{byte_in}
-use Rattle.nv_held.specs.Mounted.{IsMounted, KeepsRow, KeepsRows, ShowsSound}
-use Rattle.nv_held.proofs.RowsKept.{rows_follow}
+use Rattle.nv_mounted.specs.Held.{Held, Store, with_inode}
+use Rattle.nv_mounted.specs.Bytes.{byte_in}
+use Rattle.nv_mounted.specs.Mounted.{IsMounted, KeepsRow, KeepsRows, ShowsSound}
+use Rattle.nv_mounted.proofs.RowsKept.{rows_follow}
 use Rattle.nv_commit.specs.Extends.{extended, with_log}
 use Rattle.nv_tree.specs.Tree.{Node, SameNode, SameNodes, SameTree}
 use Rattle.nv_tree.specs.Calls.{edit}
@@ -37,9 +37,9 @@ use Rattle.nv_steps.proofs.RowOf.{row_at}
 use Rattle.nv_calls.proofs.Mounts.{bytes_stay, kept_of_mounted, mounted_of_kept}
 use Rattle.nv_super.proofs.Rising.{Contains-head, Contains-tail}
 use Rattle.nv_scan.specs.Rows.{AreNumbers}
-use Rattle.nv_held.specs.Held.{good_in}
-use Rattle.nv_held.specs.Blocks.{KeepsFree}
-use Rattle.nv_held.proofs.Owning.{same_held, other_held}
+use Rattle.nv_mounted.specs.Held.{good_in}
+use Rattle.nv_mounted.specs.Blocks.{KeepsFree}
+use Rattle.nv_mounted.proofs.Owning.{same_held, other_held}
 use Rattle.nv_calls.specs.GrownLogs.{LogGrew}
 use Rattle.nv_calls.proofs.Kept.{rows_rise}
 use Rattle.nv_calls.proofs.Mounts.{mounted_with}
@@ -78,10 +78,10 @@ each_there rows (Ok x) held = row_there rows x.now.inode x.now held
 each_there rows (Err e) held = tt
 
 -- a row that is the same is of the same
-pub keeps_same : (s : Super) (h : Held) (row new : Row) → SameRow row new → KeepsRow (fixed_layout s) h row → KeepsRow (fixed_layout s) h new
-keeps_same s h row new same told = record {
+pub keeps_same : (l : Layout) (h : Held) (row new : Row) → SameRow row new → KeepsRow l h row → KeepsRow l h new
+keeps_same l h row new same told = record {
   kind = same.kind ∙ told.kind;
-  numbers = subst (λ n. AreNumbers h.created (good_in (fixed_layout s) h) n) (sym same.numbers) told.numbers;
+  numbers = subst (λ n. AreNumbers h.created (good_in l h) n) (sym same.numbers) told.numbers;
   head = same.head ∙ told.head;
   tail = same.tail ∙ told.tail;
   pages = same.pages ∙ told.pages;
@@ -98,29 +98,29 @@ same_store held i h is = λ t j. (each j) t where
     | inr differs ↦ other_held held i j (Some h) differs
   ]
 
-module _ {R : Region} {s : Super} {rows : List Row} {free after : FreeLists} {faults : List Fault} {read_only stopped : Bool} (kept : IsKept R s rows free faults read_only stopped) (runs : stopped ≡ false) (writes : read_only ≡ false)
+module _ {R : Region} {s : Super} {l : Layout} {rows : List Row} {free after : FreeLists} {faults : List Fault} {read_only stopped : Bool} (kept : IsKept R s l rows free faults read_only stopped) (runs : stopped ≡ false) (writes : read_only ≡ false)
     (place : ℕ) (row new : Row) (at : slice_get rows place ≡ Some row) where
   -- What is held stays where nothing has changed but room.
-  pub mounted_same : SameRow row new → SamePools free after → (held : Store) → IsMounted R s held rows free.pools → IsMounted R s held (set rows place new) after.pools
+  pub mounted_same : SameRow row new → SamePools free after → (held : Store) → IsMounted R l held rows free.pools → IsMounted R l held (set rows place new) after.pools
   mounted_same same pools held m =
       let keeps = m.keeps in
       let in_rows = keeps.in_rows in
       let w = in_rows.each row (stands rows place row at) in
-      let follow = rows_follow (fixed_layout s) held row.inode w.0 rows in_rows place (slice_get_within rows place row at) new (number_at rows place row new at) same.inode (keeps_same s w.0 row new same w.2) in
+      let follow = rows_follow l held row.inode w.0 rows in_rows place (slice_get_within rows place row at) new (number_at rows place row new at) same.inode (keeps_same l w.0 row new same w.2) in
       record {
         sound = m.sound;
         keeps = record {
-          in_rows = subst (λ (st : Store). KeepsRows (fixed_layout s) st (set rows place new)) (same_store held row.inode w.0 w.1) follow;
-          in_lists = subst (λ (lists : List (List Run)). KeepsFree (fixed_layout s) held lists) (sym pools.pools) keeps.in_lists;
+          in_rows = subst (λ (st : Store). KeepsRows l st (set rows place new)) (same_store held row.inode w.0 w.1) follow;
+          in_lists = subst (λ (lists : List (List Run)). KeepsFree l held lists) (sym pools.pools) keeps.in_lists;
         };
       }
 
   -- What is kept stays too.
-  pub kept_same : SameRow row new → SamePools free after → (now : Bool) → IsKept R s (set rows place new) after faults read_only now
-  kept_same same pools now = kept_of_mounted R s (set rows place new) after faults read_only now kept.writes writes (pools.sup ∙ kept.lists) (∥∥₁_map (mounted_of_kept kept runs writes) (λ w. (w.0, mounted_same same pools w.0 w.1)))
+  pub kept_same : SameRow row new → SamePools free after → (now : Bool) → IsKept R s l (set rows place new) after faults read_only now
+  kept_same same pools now = kept_of_mounted R s l (set rows place new) after faults read_only now kept.tables kept.writes writes (pools.sup ∙ kept.lists) (∥∥₁_map (mounted_of_kept kept runs writes) (λ w. (w.0, mounted_same same pools w.0 w.1)))
 
-  module _ {S : Region} {pools : List (List Run)} {cpu : ℕ} (entries : List Entry) (follows : (held : Store) (h : Held) → ShowsRow R s held h row free → LogFollows R S s held h entries pools cpu row new after) where
-    pub mounted_after : (held : Store) → IsMounted R s held rows free.pools → (then : Store) × IsMounted S s then (set rows place new) after.pools
+  module _ {S : Region} {pools : List (List Run)} {cpu : ℕ} (entries : List Entry) (follows : (held : Store) (h : Held) → ShowsRow R l held h row free → LogFollows R S l held h entries pools cpu row new after) where
+    pub mounted_after : (held : Store) → IsMounted R l held rows free.pools → (then : Store) × IsMounted S l then (set rows place new) after.pools
     mounted_after held m =
         let keeps = m.keeps in
         let w = shows_row m kept.lists row (stands rows place row at) in
@@ -129,31 +129,31 @@ module _ {R : Region} {s : Super} {rows : List Row} {free after : FreeLists} {fa
           record {
             sound = f.sound;
             keeps = record {
-              in_rows = rows_follow (fixed_layout s) held row.inode (extended w.0 entries f.fresh) rows keeps.in_rows place (slice_get_within rows place row at) new (number_at rows place row new at) f.inode f.told;
+              in_rows = rows_follow l held row.inode (extended w.0 entries f.fresh) rows keeps.in_rows place (slice_get_within rows place row at) new (number_at rows place row new at) f.inode f.told;
               in_lists = f.lists;
             };
           },
         )
 
     -- What is kept once the log of the row has grown.
-    pub kept_after : after.sup ≡ free.sup → (now : Bool) → IsKept S s (set rows place new) after faults read_only now
-    kept_after lists now = kept_of_mounted S s (set rows place new) after faults read_only now kept.writes writes (lists ∙ kept.lists) (∥∥₁_map (mounted_of_kept kept runs writes) (λ w. mounted_after w.0 w.1))
+    pub kept_after : after.sup ≡ free.sup → (now : Bool) → IsKept S s l (set rows place new) after faults read_only now
+    kept_after lists now = kept_of_mounted S s l (set rows place new) after faults read_only now kept.tables kept.writes writes (lists ∙ kept.lists) (∥∥₁_map (mounted_of_kept kept runs writes) (λ w. mounted_after w.0 w.1))
 
     -- Each byte that a row's file had is where it was.
     pub row_bytes : (r : Row) → Contains rows r → (x : ℕ) → byte_in S (block_at r.index (x / 4096)) x ≡ byte_in R (block_at r.index (x / 4096)) x
     row_bytes = bytes_stay kept runs writes S (λ held m. (let w = shows_row m kept.lists row (stands rows place row at) in let f = follows held w.0 w.1 in f.bytes))
 
     rising : Rises row_key rows
-    rising = rows_rise R s rows free faults read_only stopped kept runs
+    rising = rows_rise R s l rows free faults read_only stopped kept runs
 
     -- The log of its inode, for whatever is held of the region.
-    pub log_grew : (held : Store) (h : Held) → ShowsSound R s held → held row.inode ≡ Some h → ∥ (LogGrew S s pools cpu held row.inode h entries) ∥₁
+    pub log_grew : (held : Store) (h : Held) → ShowsSound R l held → held row.inode ≡ Some h → ∥ (LogGrew S l pools cpu held row.inode h entries) ∥₁
     log_grew held h sound is = ∥∥₁_map (mounted_with kept runs held sound) (λ m.
         let w = shows_row m kept.lists row (stands rows place row at) in
         let shown = w.1 in
         let both : Some w.0 ≡ Some h = sym shown.holds ∙ is in
         let same : w.0 ≡ h = cc in
-        let f = follows held h (subst (λ (g : Held). ShowsRow R s held g row free) same shown) in
+        let f = follows held h (subst (λ (g : Held). ShowsRow R l held g row free) same shown) in
         record { fresh = f.fresh; rest = f.rest; taken = f.taken; free = f.blocks; count = f.count; sound = f.sound })
 
     -- The tree is as before, with the node of the row changed.
@@ -186,4 +186,4 @@ module _ {R : Region} {s : Super} {rows : List Row} {free after : FreeLists} {fa
 -- ---- a mount that is as it was
 
 pub same_mount : {P : Type 0} (m : Mount P) → SameMount m m
-same_mount m = record { memory = refl; sup = refl; rows = same_rows m.rows; free = record { sup = refl; pools = refl }; faults = refl; read_only = refl; stopped = refl }
+same_mount m = record { memory = refl; sup = refl; layout = refl; rows = same_rows m.rows; free = record { sup = refl; pools = refl }; faults = refl; read_only = refl; stopped = refl }

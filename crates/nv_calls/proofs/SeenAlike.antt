@@ -5,17 +5,16 @@ use Rattle.std.specs.Cmp.Lexicographic.{bytes_decides}
 use Rattle.std.specs.List.{find, range_with_len}
 use Rattle.std.specs.Option.{option_map, option_and_then, option_map_or}
 use Rattle.nv_region.specs.Region.{Region}
-use Rattle.nv_super.specs.declared.superblock.Super.{Super}
-use Rattle.nv_super.specs.Layout.{fixed_layout}
+use Rattle.nv_super.specs.Layout.{Layout}
 use Rattle.nv_super.specs.Order.{Lists}
 use Rattle.nv_super.proofs.Rising.{Lists-only}
 use Rattle.nv_names.specs.Names.{Names, found_in, name_at}
 use Rattle.nv_radix.specs.Pages.{block_at}
 use Rattle.nv_scan.specs.declared.piece.Row.{Row}
 use Rattle.nv_rows.specs.Unused.{numbers_in_table, unused_number}
-use Rattle.nv_held.specs.nv_outcome.Same.{SameRow, SameRows}
-use Rattle.nv_held.specs.nv_graph.Read.{row_of}
-use Rattle.nv_held.specs.Bytes.{byte_in}
+use Rattle.nv_outcome.specs.Same.{SameRow, SameRows}
+use Rattle.nv_graph.specs.Read.{row_of}
+use Rattle.nv_mounted.specs.Bytes.{byte_in}
 use Rattle.nv_tree.specs.Path.{last_name}
 use Rattle.nv_tree.specs.Tree.{Node, SameNode, Tree, walk, found, passed, as_directory, and_then, or_not_found, name_in, in_use, last_in, is_directory}
 use Rattle.nv_tree.specs.Refusals.{count_at, is_directory_at}
@@ -194,8 +193,8 @@ unused_at xs ys same i = by (row_of xs i) (row_of ys i) (rows_at xs ys same i) w
   by (Some a) None s = absurd s
   by (Some a) (Some b) s = refl
 
-pub unused_same : (s z : Super) (xs ys : List Row) → z ≡ s → SameRows xs ys → (cpu : ℕ) → unused_number (fixed_layout z) ys cpu ≡ unused_number (fixed_layout s) xs cpu
-unused_same s z xs ys sup same cpu = ap (λ (x : Super). unused_number (fixed_layout x) ys cpu) sup ∙ (λ i. find (λ x. not (nat_eq x 0) && unused_at xs ys same x i) (numbers_in_table (fixed_layout s) cpu))
+pub unused_same : (l k : Layout) (xs ys : List Row) → k ≡ l → SameRows xs ys → (cpu : ℕ) → unused_number k ys cpu ≡ unused_number l xs cpu
+unused_same l k xs ys laid same cpu = ap (λ (x : Layout). unused_number x ys cpu) laid ∙ (λ i. find (λ x. not (nat_eq x 0) && unused_at xs ys same x i) (numbers_in_table l cpu))
 
 -- ---- paths
 

@@ -4,13 +4,14 @@ use Rattle.std.proofs.lemmas.Option.{same_Some}
 use Rattle.nv_region.specs.Region.{Region}
 use Rattle.nv_super.specs.declared.superblock.Super.{Super}
 use Rattle.nv_super.specs.declared.faults.Fault.{Fault}
+use Rattle.nv_super.specs.Layout.{Layout}
 use Rattle.nv_alloc.specs.FreeValue.{FreeLists}
 use Rattle.nv_alloc.specs.Taking.{all_blocks}
 use Rattle.nv_logpage.specs.Append.{needed}
 use Rattle.nv_scan.specs.declared.piece.Row.{Row}
-use Rattle.nv_held.specs.nv_graph.Read.{row_of}
-use Rattle.nv_held.specs.Held.{Held, Store}
-use Rattle.nv_held.specs.Mounted.{ShowsSound}
+use Rattle.nv_graph.specs.Read.{row_of}
+use Rattle.nv_mounted.specs.Held.{Held, Store}
+use Rattle.nv_mounted.specs.Mounted.{ShowsSound}
 use Rattle.nv_tree.specs.declared.refusal.Refusal.{Refusal}
 use Rattle.nv_tree.specs.declared.refusal.Refusal.TheVariants.{Stopped}
 use Rattle.nv_tree.specs.Path.{IsPath, Says}
@@ -32,7 +33,7 @@ use Rattle.nv_calls.proofs.Tests.{blocks_there, enough_space, stat_allows, too_f
 use Rattle.std.specs.Option.{option_map}
 use Rattle.nv_radix.specs.Pages.{block_at}
 use Rattle.nv_names.specs.Names.{Names, name_at}
-use Rattle.nv_held.specs.Bytes.{byte_in}
+use Rattle.nv_mounted.specs.Bytes.{byte_in}
 
 -- ---- why it is refused
 
@@ -70,36 +71,37 @@ attr_changed {P} region {n} {m} same names i mode owner group time u leads is =
 
 -- The log of the inode that the path leads to has grown.
 pub attr_logged : {P : Type 0} (region : P → Region) {n m : Mount P} {cpu : ℕ} → n ≡ m → (S : Region) (names : List (List ℕ)) (row : Row) (mode owner group time i : ℕ) (node : Node) (held : Store) (h : Held)
-    → LeadsTo (tree_of (region n.memory) n.rows) names row.inode (node_of (region n.memory) row) → ((st : Store) (g : Held) → ShowsSound (region n.memory) n.sup st → st row.inode ≡ Some g → ShowsGrownLog S n.sup n.free.pools cpu st row.inode g (attributes row.numbers.size mode owner group time))
-    → LeadsTo (tree_of (region m.memory) m.rows) names i node → ShowsSound (region m.memory) m.sup held → held i ≡ Some h → ShowsGrownLog S m.sup m.free.pools cpu held i h (attributes node.size mode owner group time)
+    → LeadsTo (tree_of (region n.memory) n.rows) names row.inode (node_of (region n.memory) row) → ((st : Store) (g : Held) → ShowsSound (region n.memory) n.layout st → st row.inode ≡ Some g → ShowsGrownLog S n.layout n.free.pools cpu st row.inode g (attributes row.numbers.size mode owner group time))
+    → LeadsTo (tree_of (region m.memory) m.rows) names i node → ShowsSound (region m.memory) m.layout held → held i ≡ Some h → ShowsGrownLog S m.layout m.free.pools cpu held i h (attributes node.size mode owner group time)
 attr_logged {P} region {n} {m} {cpu} same S names row mode owner group time i node held h own grew led sound is =
-    subst (λ (k : Mount P). LeadsTo (tree_of (region k.memory) k.rows) names i node → ShowsSound (region k.memory) k.sup held → ShowsGrownLog S k.sup k.free.pools cpu held i h (attributes node.size mode owner group time)) same here led sound
+    subst (λ (k : Mount P). LeadsTo (tree_of (region k.memory) k.rows) names i node → ShowsSound (region k.memory) k.layout held → ShowsGrownLog S k.layout k.free.pools cpu held i h (attributes node.size mode owner group time)) same here led sound
   where
-    here : LeadsTo (tree_of (region n.memory) n.rows) names i node → ShowsSound (region n.memory) n.sup held → ShowsGrownLog S n.sup n.free.pools cpu held i h (attributes node.size mode owner group time)
+    here : LeadsTo (tree_of (region n.memory) n.rows) names i node → ShowsSound (region n.memory) n.layout held → ShowsGrownLog S n.layout n.free.pools cpu held i h (attributes node.size mode owner group time)
     here led sound =
         let number : row.inode ≡ i = same_Some _ _ (sym own.leads ∙ led.leads) in
         let node_is : node_of (region n.memory) row ≡ node = same_Some _ _ (sym own.shows ∙ ap (tree_of (region n.memory) n.rows) number ∙ led.shows) in
-        subst (λ (k : ℕ). ShowsGrownLog S n.sup n.free.pools cpu held k h (attributes node.size mode owner group time)) number
-        (subst (λ (nd : Node). ShowsGrownLog S n.sup n.free.pools cpu held row.inode h (attributes nd.size mode owner group time)) node_is (grew held h sound (subst (λ (k : ℕ). held k ≡ Some h) (sym number) is)))
+        subst (λ (k : ℕ). ShowsGrownLog S n.layout n.free.pools cpu held k h (attributes node.size mode owner group time)) number
+        (subst (λ (nd : Node). ShowsGrownLog S n.layout n.free.pools cpu held row.inode h (attributes nd.size mode owner group time)) node_is (grew held h sound (subst (λ (k : ℕ). held k ≡ Some h) (sym number) is)))
 
 -- ---- a step that was refused
 
 -- What is kept then.
-pub kept_or_stopped : {P : Type 0} (region : P → Region) {old now : P} {s : Super} {rows : List Row} {free after : FreeLists} {faults : List Fault} {read_only stopped : Bool} → IsKept (region old) s rows free faults read_only stopped → stopped ≡ false → read_only ≡ false
+pub kept_or_stopped : {P : Type 0} (region : P → Region) {old now : P} {s : Super} {l : Layout} {rows : List Row} {free after : FreeLists} {faults : List Fault} {read_only stopped : Bool} → IsKept (region old) s l rows free faults read_only stopped → stopped ≡ false → read_only ≡ false
     → (place : ℕ) (row new : Row) → slice_get rows place ≡ Some row → (e : Refusal) (stops : Bool) → (IsTrue stops → e ≡ Stopped) → (stops ≡ false → e ≡ Stopped → ⊥) → after.sup ≡ free.sup → ((e ≡ Stopped → ⊥) → LeavesStep old now free after row new)
-    → IsKept (region now) s (set rows place new) after faults read_only stops
-kept_or_stopped region {old} {now} {s} {rows} {free} {after} {faults} {read_only} kept runs writes place row new at e true stopped_by goes_by lists leaves = kept_when_stopped (region now) s (set rows place new) after faults read_only true kept.writes (lists ∙ kept.lists) refl
-kept_or_stopped {P} region {old} {now} {s} {rows} {free} {after} {faults} {read_only} kept runs writes place row new at e false stopped_by goes_by lists leaves =
+    → IsKept (region now) s l (set rows place new) after faults read_only stops
+kept_or_stopped region {old} {now} {s} {l} {rows} {free} {after} {faults} {read_only} kept runs writes place row new at e true stopped_by goes_by lists leaves = kept_when_stopped (region now) s l (set rows place new) after faults read_only true kept.tables kept.writes (lists ∙ kept.lists) refl
+kept_or_stopped {P} region {old} {now} {s} {l} {rows} {free} {after} {faults} {read_only} kept runs writes place row new at e false stopped_by goes_by lists leaves =
     let left = leaves (goes_by refl) in
-    subst (λ (q : P). IsKept (region q) s (set rows place new) after faults read_only false) (sym left.memory) (kept_same kept runs writes place row new at left.row left.free false)
+    subst (λ (q : P). IsKept (region q) s l (set rows place new) after faults read_only false) (sym left.memory) (kept_same kept runs writes place row new at left.row left.free false)
 
 -- And all is as before.
 pub unchanged_step : {P : Type 0} {n m : Mount P} → n ≡ m → (now : P) (after : FreeLists) (place : ℕ) (row new : Row) (stops : Bool) → slice_get n.rows place ≡ Some row → n.stopped ≡ false → stops ≡ false → LeavesStep n.memory now n.free after row new
-    → SameMount m (record { memory = now; sup = n.sup; rows = set n.rows place new; free = after; faults = n.faults; read_only = n.read_only; stopped = stops })
+    → SameMount m (record { memory = now; sup = n.sup; layout = n.layout; rows = set n.rows place new; free = after; faults = n.faults; read_only = n.read_only; stopped = stops })
 unchanged_step {P} {n} {m} same now after place row new stops at runs off left =
-    subst (λ (k : Mount P). SameMount k (record { memory = now; sup = n.sup; rows = set n.rows place new; free = after; faults = n.faults; read_only = n.read_only; stopped = stops })) same (record {
+    subst (λ (k : Mount P). SameMount k (record { memory = now; sup = n.sup; layout = n.layout; rows = set n.rows place new; free = after; faults = n.faults; read_only = n.read_only; stopped = stops })) same (record {
       memory = left.memory;
       sup = refl;
+      layout = refl;
       rows = set_same_rows n.rows place row new at left.row;
       free = left.free;
       faults = refl;

@@ -8,9 +8,9 @@ use Rattle.nv_super.specs.declared.kind.Kind.TheVariants.{File, Directory}
 use Rattle.nv_alloc.specs.Taking.{all_blocks}
 use Rattle.nv_names.specs.Names.{Names, name_at}
 use Rattle.nv_scan.specs.declared.piece.Row.{Row}
-use Rattle.nv_held.specs.nv_graph.Read.{row_of}
-use Rattle.nv_held.specs.Held.{Held, Store}
-use Rattle.nv_held.specs.Mounted.{ShowsSound}
+use Rattle.nv_graph.specs.Read.{row_of}
+use Rattle.nv_mounted.specs.Held.{Held, Store}
+use Rattle.nv_mounted.specs.Mounted.{ShowsSound}
 use Rattle.nv_tree.specs.declared.refusal.Refusal.{Refusal}
 use Rattle.nv_tree.specs.declared.refusal.Refusal.TheVariants.{IsDirectory, Stopped, TooLarge}
 use Rattle.nv_tree.specs.Path.{IsPath, Says}
@@ -140,14 +140,14 @@ resized_node R S {row} {new} size time has bytes = record {
 -- The log of the inode that the path leads to has grown.
 pub size_logged : {P : Type 0} (region : P → Region) {n m : Mount P} {cpu : ℕ} → n ≡ m → (S : Region) (names : List (List ℕ)) (row : Row) (size time i : ℕ) (node : Node) (held : Store) (h : Held)
     → LeadsTo (tree_of (region n.memory) n.rows) names row.inode (node_of (region n.memory) row)
-    → ((st : Store) (g : Held) → ShowsSound (region n.memory) n.sup st → st row.inode ≡ Some g → ShowsResizedLog S n.sup n.free.pools cpu st row.inode g (node_of (region n.memory) row) size time)
-    → LeadsTo (tree_of (region m.memory) m.rows) names i node → ShowsSound (region m.memory) m.sup held → held i ≡ Some h → ShowsResizedLog S m.sup m.free.pools cpu held i h node size time
+    → ((st : Store) (g : Held) → ShowsSound (region n.memory) n.layout st → st row.inode ≡ Some g → ShowsResizedLog S n.layout n.free.pools cpu st row.inode g (node_of (region n.memory) row) size time)
+    → LeadsTo (tree_of (region m.memory) m.rows) names i node → ShowsSound (region m.memory) m.layout held → held i ≡ Some h → ShowsResizedLog S m.layout m.free.pools cpu held i h node size time
 size_logged {P} region {n} {m} {cpu} same S names row size time i node held h own grew led sound is =
-    subst (λ (k : Mount P). LeadsTo (tree_of (region k.memory) k.rows) names i node → ShowsSound (region k.memory) k.sup held → ShowsResizedLog S k.sup k.free.pools cpu held i h node size time) same here led sound
+    subst (λ (k : Mount P). LeadsTo (tree_of (region k.memory) k.rows) names i node → ShowsSound (region k.memory) k.layout held → ShowsResizedLog S k.layout k.free.pools cpu held i h node size time) same here led sound
   where
-    here : LeadsTo (tree_of (region n.memory) n.rows) names i node → ShowsSound (region n.memory) n.sup held → ShowsResizedLog S n.sup n.free.pools cpu held i h node size time
+    here : LeadsTo (tree_of (region n.memory) n.rows) names i node → ShowsSound (region n.memory) n.layout held → ShowsResizedLog S n.layout n.free.pools cpu held i h node size time
     here led sound =
         let number : row.inode ≡ i = same_Some _ _ (sym own.leads ∙ led.leads) in
         let node_is : node_of (region n.memory) row ≡ node = same_Some _ _ (sym own.shows ∙ ap (tree_of (region n.memory) n.rows) number ∙ led.shows) in
-        subst (λ (k : ℕ). ShowsResizedLog S n.sup n.free.pools cpu held k h node size time) number
-        (subst (λ (nd : Node). ShowsResizedLog S n.sup n.free.pools cpu held row.inode h nd size time) node_is (grew held h sound (subst (λ (k : ℕ). held k ≡ Some h) (sym number) is)))
+        subst (λ (k : ℕ). ShowsResizedLog S n.layout n.free.pools cpu held k h node size time) number
+        (subst (λ (nd : Node). ShowsResizedLog S n.layout n.free.pools cpu held row.inode h nd size time) node_is (grew held h sound (subst (λ (k : ℕ). held k ≡ Some h) (sym number) is)))

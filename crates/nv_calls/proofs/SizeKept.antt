@@ -4,17 +4,17 @@ use Rattle.std.proofs.Math.Logic.{∥∥₁_elim, ∥∥₁_map}
 use Rattle.std.proofs.Math.Nat.{ℕ_set}
 use Rattle.std.proofs.Props.{props}
 use Rattle.nv_region.specs.Region.{Region}
+use Rattle.nv_super.specs.Layout.{most_size, Layout}
 use Rattle.nv_super.specs.declared.superblock.Super.{Super}
 use Rattle.nv_super.specs.declared.faults.Fault.{Fault}
 use Rattle.nv_super.specs.declared.kind.Kind.TheVariants.{File}
 use Rattle.nv_alloc.specs.FreeValue.{FreeLists}
 use Rattle.nv_entry.specs.declared.entry.AttrEntry.{AttrEntry}
-use Rattle.nv_entry.specs.Content.{most_size}
 use Rattle.nv_radix.specs.Pages.{block_at}
 use Rattle.nv_scan.specs.declared.piece.Row.{Row}
-use Rattle.nv_held.specs.Held.{Held, Store}
-use Rattle.nv_held.specs.Bytes.{byte_in}
-use Rattle.nv_held.specs.Mounted.{ShowsSound}
+use Rattle.nv_mounted.specs.Held.{Held, Store}
+use Rattle.nv_mounted.specs.Bytes.{byte_in}
+use Rattle.nv_mounted.specs.Mounted.{ShowsSound}
 use Rattle.nv_calls.specs.Mount.{IsKept}
 use Rattle.nv_paths.specs.Seen.{node_of}
 use Rattle.nv_steps.specs.Sizes.{CanResize, Resizes, SameBytes, blocks_from, sized}
@@ -30,10 +30,10 @@ pub blocks_same : (tail : ℕ) (x y : AttrEntry) (o : Option ℕ) → blocks_fro
 blocks_same tail x y None = refl
 blocks_same tail x y (Some b) = refl
 
-module _ {R : Region} {s : Super} {rows : List Row} {free : FreeLists} {faults : List Fault} {read_only stopped : Bool} (kept : IsKept R s rows free faults read_only stopped) (runs : stopped ≡ false) (writes : read_only ≡ false)
+module _ {R : Region} {s : Super} {l : Layout} {rows : List Row} {free : FreeLists} {faults : List Fault} {read_only stopped : Bool} (kept : IsKept R s l rows free faults read_only stopped) (runs : stopped ≡ false) (writes : read_only ≡ false)
     (place : ℕ) (row : Row) (at : slice_get rows place ≡ Some row) (size time : ℕ) where
   -- The file of the row can get the size.
-  pub can_resize : row.kind ≡ File → size ≤ most_size → CanResize R s free row (sized (node_of R row) size time)
+  pub can_resize : row.kind ≡ File → size ≤ most_size → CanResize R l free row (sized (node_of R row) size time)
   can_resize file most = record {
     stands = stands_right kept runs writes row (stands rows place row at);
     own = maps_own kept runs writes row (stands rows place row at);
@@ -42,7 +42,7 @@ module _ {R : Region} {s : Super} {rows : List Row} {free : FreeLists} {faults :
     most = most;
   }
 
-  module _ {S : Region} {cpu : ℕ} {new : Row} {after : FreeLists} (resized : Resizes R S s free cpu row (sized (node_of R row) size time) new after) where
+  module _ {S : Region} {cpu : ℕ} {new : Row} {after : FreeLists} (resized : Resizes R S l free cpu row (sized (node_of R row) size time) new after) where
     -- It has the bytes of before.
     pub bytes_after : SameBytes R S row new size
     bytes_after y below = ∥∥₁_elim (mounted_of_kept kept runs writes) prop (λ w. (let v = shows_row w.1 kept.lists row (stands rows place row at) in resized.bytes w.0 v.0 v.1 y below)) where
@@ -50,13 +50,13 @@ module _ {R : Region} {s : Super} {rows : List Row} {free : FreeLists} {faults :
       prop = hlevel (props, ℕ_set)
 
     -- Its log has grown by the entries for it.
-    pub log_after : (held : Store) (h : Held) → ShowsSound R s held → held row.inode ≡ Some h → ShowsResizedLog S s free.pools cpu held row.inode h (node_of R row) size time
+    pub log_after : (held : Store) (h : Held) → ShowsSound R l held → held row.inode ≡ Some h → ShowsResizedLog S l free.pools cpu held row.inode h (node_of R row) size time
     log_after held h sound is = ∥∥₁_map (mounted_with kept runs held sound) (λ m.
         let w = shows_row m kept.lists row (stands rows place row at) in
         let shown = w.1 in
         let both : Some w.0 ≡ Some h = sym shown.holds ∙ is in
         let same : w.0 ≡ h = cc in
-        let here = subst (λ (g : Held). ShowsRow R s held g row free) same shown in
+        let here = subst (λ (g : Held). ShowsRow R l held g row free) same shown in
         let told = here.told in
         let f = resized.follows held h here in
         record {

@@ -8,17 +8,17 @@ use Rattle.nv_region.proofs.Stops.{fenced_leaves}
 use Rattle.nv_super.specs.declared.superblock.Super.{Super}
 use Rattle.nv_super.specs.declared.owners.Run.{Run}
 use Rattle.nv_super.specs.declared.faults.Fault.{Fault}
-use Rattle.nv_super.specs.Layout.{fixed_layout}
+use Rattle.nv_super.specs.Layout.{Layout}
 use Rattle.nv_super.proofs.Members.{stands}
 use Rattle.nv_journal.specs.Undo.{undone}
 use Rattle.nv_alloc.specs.FreeValue.{FreeLists}
 use Rattle.nv_entry.specs.declared.entry.AttrEntry.{AttrEntry}
 use Rattle.nv_radix.specs.Pages.{block_at}
 use Rattle.nv_scan.specs.declared.piece.Row.{Row}
-use Rattle.nv_held.specs.Held.{Held, Store}
-use Rattle.nv_held.specs.Bytes.{byte_in, byte_of}
-use Rattle.nv_held.specs.Mounted.{IsMounted}
-use Rattle.nv_held.specs.nv_graph.Read.{row_of}
+use Rattle.nv_mounted.specs.Held.{Held, Store}
+use Rattle.nv_mounted.specs.Bytes.{byte_in, byte_of}
+use Rattle.nv_mounted.specs.Mounted.{IsMounted}
+use Rattle.nv_graph.specs.Read.{row_of}
 use Rattle.nv_commit.specs.Stopped.{CanRecover, LeavesEither, RollsBackTo}
 use Rattle.nv_commit.proofs.Left.{itself_recovers, left_same}
 use Rattle.nv_tree.specs.declared.refusal.Refusal.{Refusal}
@@ -38,12 +38,12 @@ use Rattle.nv_calls.proofs.RowChange.{log_grew, mounted_after, row_bytes, tree_a
 use Rattle.nv_calls.proofs.SetAttr.{attr_logged, attributed_node}
 
 -- What is recovered is what is mounted once the journals are rolled back.
-pub recovers_to : {left : Region} {s : Super} {after : Store} {rows : List Row} {free : List (List Run)} → CanRecover s left → IsMounted (undone s left) s after rows free → RecoversTo left s rows free
+pub recovers_to : {left : Region} {l : Layout} {after : Store} {rows : List Row} {free : List (List Run)} → CanRecover l.sup left → IsMounted (undone l.sup left) l after rows free → RecoversTo left l rows free
 recovers_to {rows = rows} {free = free} can m = record { sup = can.sup; shows = λ o is. left_same can m.sound o is rows free m.keeps }
 
-module _ {R : Region} {s : Super} {held : Store} {rows : List Row} {free : List (List Run)} (m : IsMounted R s held rows free) where
+module _ {R : Region} {l : Layout} {held : Store} {rows : List Row} {free : List (List Run)} (m : IsMounted R l held rows free) where
   -- each byte of a row's file is where it was
-  pub files_stay : (S : Region) → ((i : ℕ) (h : Held) → held i ≡ Some h → (x : ℕ) → byte_of S (fixed_layout s) h x ≡ byte_of R (fixed_layout s) h x)
+  pub files_stay : (S : Region) → ((i : ℕ) (h : Held) → held i ≡ Some h → (x : ℕ) → byte_of S l h x ≡ byte_of R l h x)
       → (r : Row) → Contains rows r → (x : ℕ) → byte_in S (block_at r.index (x / 4096)) x ≡ byte_in R (block_at r.index (x / 4096)) x
   files_stay S stay r c x =
       let keeps = m.keeps in
@@ -53,30 +53,30 @@ module _ {R : Region} {s : Super} {held : Store} {rows : List Row} {free : List 
       ap (λ (o : Option ℕ). byte_in S o x) (told.index (x / 4096)) ∙ stay r.inode k.0 k.1 x ∙ ap (λ (o : Option ℕ). byte_in R o x) (sym (told.index (x / 4096)))
 
   -- What is as it was is recovered so.
-  pub still_mounted : {left : Region} → RollsBackTo R (fixed_layout s) held held left → IsAsMounted R s rows free left
+  pub still_mounted : {left : Region} → RollsBackTo R l held held left → IsAsMounted R l rows free left
   still_mounted {left} w = (
     recovers_to w.can (record { sound = w.sound; keeps = m.keeps }),
-    (λ j. unchanged R (undone s left) rows (files_stay (undone s left) w.bytes) j (row_of rows j) refl),
+    (λ j. unchanged R (undone l.sup left) rows (files_stay (undone l.sup left) w.bytes) j (row_of rows j) refl),
   )
 
 -- Where nothing was pending and nothing was stored, it is what was mounted.
-pub stays_mounted : {R : Region} {s : Super} {rows : List Row} {free : FreeLists} {faults : List Fault} {read_only stopped : Bool} → IsKept R s rows free faults read_only stopped → stopped ≡ false → read_only ≡ false
-    → (choices : Choices) (made : Tree) (Logged : Region → Type 0) → NothingPending R choices → LeavesOnly R choices (StopLeaves R s rows free.pools made Logged)
-stays_mounted {R} {s} {rows} {free} kept runs writes choices made Logged settled =
-    fenced_leaves R choices (StopLeaves R s rows free.pools made Logged) settled
-    (∥∥₁_map (mounted_of_kept kept runs writes) (λ w. let m = w.1 in inl (still_mounted m (itself_recovers R s w.0 m.sound))))
+pub stays_mounted : {R : Region} {s : Super} {l : Layout} {rows : List Row} {free : FreeLists} {faults : List Fault} {read_only stopped : Bool} → IsKept R s l rows free faults read_only stopped → stopped ≡ false → read_only ≡ false
+    → (choices : Choices) (made : Tree) (Logged : Region → Type 0) → NothingPending R choices → LeavesOnly R choices (StopLeaves R l rows free.pools made Logged)
+stays_mounted {R} {s} {l} {rows} {free} kept runs writes choices made Logged settled =
+    fenced_leaves R choices (StopLeaves R l rows free.pools made Logged) settled
+    (∥∥₁_map (mounted_of_kept kept runs writes) (λ w. let m = w.1 in inl (still_mounted m (itself_recovers R l w.0 m.sound))))
 
 -- the same of a call that has stored nothing
-pub call_stays : {P : Type 0} (region : P → Region) (m : Mount P) (makes : Makes P) (logs : Logs P) (names : List (List ℕ)) → IsKept (region m.memory) m.sup m.rows m.free m.faults m.read_only m.stopped → m.stopped ≡ false → m.read_only ≡ false
+pub call_stays : {P : Type 0} (region : P → Region) (m : Mount P) (makes : Makes P) (logs : Logs P) (names : List (List ℕ)) → IsKept (region m.memory) m.sup m.layout m.rows m.free m.faults m.read_only m.stopped → m.stopped ≡ false → m.read_only ≡ false
     → (choices : Choices) → NothingPending (region m.memory) choices → LeavesOnly (region m.memory) choices (LeavesCall makes logs (region m.memory) m names)
 call_stays region m makes logs names kept runs writes choices settled = stays_mounted kept runs writes choices (makes (region m.memory) m names) (logs (region m.memory) m names) settled
 
 -- and alone this where no call is under way
-pub stays_itself : {R : Region} {s : Super} {rows : List Row} {free : FreeLists} {faults : List Fault} {read_only stopped : Bool} → IsKept R s rows free faults read_only stopped → stopped ≡ false → read_only ≡ false → (choices : Choices) → NothingPending R choices
-    → LeavesOnly R choices (λ left. ∥ (IsAsMounted R s rows free.pools left) ∥₁)
-stays_itself {R} {s} {rows} {free} kept runs writes choices settled =
-    fenced_leaves R choices (λ left. ∥ (IsAsMounted R s rows free.pools left) ∥₁) settled
-    (∥∥₁_map (mounted_of_kept kept runs writes) (λ w. let m = w.1 in still_mounted m (itself_recovers R s w.0 m.sound)))
+pub stays_itself : {R : Region} {s : Super} {l : Layout} {rows : List Row} {free : FreeLists} {faults : List Fault} {read_only stopped : Bool} → IsKept R s l rows free faults read_only stopped → stopped ≡ false → read_only ≡ false → (choices : Choices) → NothingPending R choices
+    → LeavesOnly R choices (λ left. ∥ (IsAsMounted R l rows free.pools left) ∥₁)
+stays_itself {R} {s} {l} {rows} {free} kept runs writes choices settled =
+    fenced_leaves R choices (λ left. ∥ (IsAsMounted R l rows free.pools left) ∥₁) settled
+    (∥∥₁_map (mounted_of_kept kept runs writes) (λ w. let m = w.1 in still_mounted m (itself_recovers R l w.0 m.sound)))
 
 -- Nothing is pending behind a refusal either, unless it was a stop.
 pub settled_or_stopped : {P : Type 0} (region : P → Region) (may_hold : P → Choices) {old now : P} (e : Refusal) (stops : Bool) → (stops ≡ false → e ≡ Stopped → ⊥) → ((e ≡ Stopped → ⊥) → now ≡ old) → NothingPending (region old) (may_hold old) → stops ≡ false
@@ -84,9 +84,9 @@ pub settled_or_stopped : {P : Type 0} (region : P → Region) (may_hold : P → 
 settled_or_stopped {P} region may_hold e stops not_stop same settled off = subst (λ (p : P). NothingPending (region p) (may_hold p)) (sym (same (not_stop off))) settled
 
 -- What a step leaves whose result is something else as well.
-pub left_made : {R : Region} {s : Super} {held : Store} (A B : Region → Type 0) → ((S : Region) → A S → B S) → (left : Region) → LeavesEither R (fixed_layout s) held A left → LeavesEither R (fixed_layout s) held B left
+pub left_made : {R : Region} {l : Layout} {held : Store} (A B : Region → Type 0) → ((S : Region) → A S → B S) → (left : Region) → LeavesEither R l held A left → LeavesEither R l held B left
 left_made A B f left (inl same) = inl same
-left_made {s = s} A B f left (inr w) = inr (w.0, f (undone s left) w.1)
+left_made {l = l} A B f left (inr w) = inr (w.0, f (undone l.sup left) w.1)
 
 -- ---- `set_attr`
 
@@ -96,13 +96,13 @@ attributed_by t names i mode owner group time leads u is =
     let made : attributed names mode owner group time t ≡ edit i (with_attributes mode owner group time) t = ap (λ (o : Option ℕ). on_some o (λ j. edit j (with_attributes mode owner group time) t) t) leads in
     subst (λ (v : Tree). SameTree u v) (sym made) is
 
-module _ {P : Type 0} (region : P → Region) {n m : Mount P} (same : n ≡ m) (kept : IsKept (region n.memory) n.sup n.rows n.free n.faults n.read_only n.stopped) (runs : n.stopped ≡ false) (writes : n.read_only ≡ false)
+module _ {P : Type 0} (region : P → Region) {n m : Mount P} (same : n ≡ m) (kept : IsKept (region n.memory) n.sup n.layout n.rows n.free n.faults n.read_only n.stopped) (runs : n.stopped ≡ false) (writes : n.read_only ≡ false)
     (place : ℕ) (row : Row) (at : slice_get n.rows place ≡ Some row) (cpu mode owner group time : ℕ) (names : List (List ℕ)) (leads : LeadsTo (tree_of (region n.memory) n.rows) names row.inode (node_of (region n.memory) row)) where
   abbrev R : Region
   R = region n.memory
 
-  abbrev s : Super
-  s = n.sup
+  abbrev l : Layout
+  l = n.layout
 
   abbrev rows : List Row
   rows = n.rows
@@ -113,8 +113,8 @@ module _ {P : Type 0} (region : P → Region) {n m : Mount P} (same : n ≡ m) (
   abbrev x : AttrEntry
   x = record { mode = mode % 4096; size = row.numbers.size; time = time; owner = owner; group = group }
 
-  attributes_by : (left : Region) (held : Store) (mounted : IsMounted R s held rows free.pools) → LeavesEither R (fixed_layout s) held (Attributed R s free cpu row x) left
-      → IsAsMounted R s rows free.pools left ⊎ IsAsMade s (attributed names mode owner group time (tree_of R rows)) (logs_attributes cpu mode owner group time R n names) left
+  attributes_by : (left : Region) (held : Store) (mounted : IsMounted R l held rows free.pools) → LeavesEither R l held (Attributed R l free cpu row x) left
+      → IsAsMounted R l rows free.pools left ⊎ IsAsMade l (attributed names mode owner group time (tree_of R rows)) (logs_attributes cpu mode owner group time R n names) left
   attributes_by left held mounted (inl as_before) = inl (still_mounted mounted as_before)
   attributes_by left held mounted (inr w) =
       let step = w.1 in
@@ -127,16 +127,16 @@ module _ {P : Type 0} (region : P → Region) {n m : Mount P} (same : n ≡ m) (
         rows = set rows place new;
         free = (step.0).pools;
         recovers = recovers_to w.0 then.1;
-        tree = attributed_by (tree_of R rows) names row.inode mode owner group time leads.leads (tree_of (undone s left) (set rows place new))
+        tree = attributed_by (tree_of R rows) names row.inode mode owner group time leads.leads (tree_of (undone l.sup left) (set rows place new))
             (tree_after kept runs writes place row new at entries follows (with_attributes mode owner group time) has.inode
-            (attributed_node R (undone s left) mode owner group time row.numbers.size has
+            (attributed_node R (undone l.sup left) mode owner group time row.numbers.size has
             (λ y. row_bytes kept runs writes place row new at entries follows row (stands rows place row at) y)));
-        logs = λ i node st h led sound is. attr_logged region {n = n} {m = n} refl (undone s left) names row mode owner group time i node st h leads (log_grew kept runs writes place row new at entries follows) led sound is;
+        logs = λ i node st h led sound is. attr_logged region {n = n} {m = n} refl (undone l.sup left) names row mode owner group time i node st h leads (log_grew kept runs writes place row new at entries follows) led sound is;
       })
 
   -- What a stop within the call leaves.
   pub attributes_left : (S : Region) (old new : Choices)
-      → ((held : Store) (h : Held) → ShowsRow R s held h row free → NothingPending R old → LeavesOnly S new (LeavesEither R (fixed_layout s) held (Attributed R s free cpu row x))) → NothingPending R old
+      → ((held : Store) (h : Held) → ShowsRow R l held h row free → NothingPending R old → LeavesOnly S new (LeavesEither R l held (Attributed R l free cpu row x))) → NothingPending R old
       → LeavesOnly S new (LeavesCall (makes_attributes mode owner group time) (logs_attributes cpu mode owner group time) (region m.memory) m names)
   attributes_left S old new step settled =
       subst (λ (k : Mount P). LeavesOnly S new (LeavesCall (makes_attributes mode owner group time) (logs_attributes cpu mode owner group time) (region k.memory) k names)) same

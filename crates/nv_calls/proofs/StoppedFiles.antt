@@ -1,17 +1,16 @@
 -- What recovery finds in a region that a stop within a write has left.
 use Rattle.std.proofs.Common.{◌≡◌, ◌⊎◌, ℕ, ◌<◌, false, inl, inr, List, [], ◌∷◌, length, set, slice_get, ap, sym, refl, subst, arith, Option, Some}
-use Rattle.nv_super.specs.Layout.{fixed_layout}
+use Rattle.nv_super.specs.Layout.{Layout}
 use Rattle.std.proofs.Math.Logic.{∥∥₁_map}
 use Rattle.nv_region.specs.Region.{Region}
 use Rattle.nv_region.specs.Stops.{Choices, LeavesOnly, NothingPending}
-use Rattle.nv_super.specs.declared.superblock.Super.{Super}
 use Rattle.nv_super.proofs.Members.{stands}
 use Rattle.nv_journal.specs.Undo.{undone}
 use Rattle.nv_alloc.specs.FreeValue.{FreeLists}
 use Rattle.nv_radix.specs.Pages.{block_at}
 use Rattle.nv_scan.specs.declared.piece.Row.{Row}
-use Rattle.nv_held.specs.Held.{Held, Store}
-use Rattle.nv_held.specs.Mounted.{IsMounted}
+use Rattle.nv_mounted.specs.Held.{Held, Store}
+use Rattle.nv_mounted.specs.Mounted.{IsMounted}
 use Rattle.nv_commit.specs.Stopped.{LeavesEither}
 use Rattle.nv_tree.specs.Tree.{SameTree, Tree, found}
 use Rattle.nv_tree.specs.Calls.{edit, on_some, with_bytes, written}
@@ -36,14 +35,14 @@ written_by t names i offset (b ∷ new) time some leads u is =
     let made : written names offset (b ∷ new) time t ≡ edit i (with_bytes offset (b ∷ new) time) t = ap (λ (o : Option ℕ). on_some o (λ j. edit j (with_bytes offset (b ∷ new) time) t) t) leads in
     subst (λ (v : Tree). SameTree u v) (sym made) is
 
-module _ {P : Type 0} (region : P → Region) {n m : Mount P} (same : n ≡ m) (kept : IsKept (region n.memory) n.sup n.rows n.free n.faults n.read_only n.stopped) (runs : n.stopped ≡ false) (writes : n.read_only ≡ false)
+module _ {P : Type 0} (region : P → Region) {n m : Mount P} (same : n ≡ m) (kept : IsKept (region n.memory) n.sup n.layout n.rows n.free n.faults n.read_only n.stopped) (runs : n.stopped ≡ false) (writes : n.read_only ≡ false)
     (place : ℕ) (row : Row) (at : slice_get n.rows place ≡ Some row) (cpu : ℕ) (plan : Plan) (offset : ℕ) (new : List ℕ) (time : ℕ) (planned : plan ≡ plan_of (block_at row.index) row.numbers.size offset (length new) time) (some : 0 < length new)
     (names : List (List ℕ)) (leads : LeadsTo (tree_of (region n.memory) n.rows) names row.inode (node_of (region n.memory) row)) where
   abbrev R : Region
   R = region n.memory
 
-  abbrev s : Super
-  s = n.sup
+  abbrev l : Layout
+  l = n.layout
 
   abbrev rows : List Row
   rows = n.rows
@@ -51,8 +50,8 @@ module _ {P : Type 0} (region : P → Region) {n m : Mount P} (same : n ≡ m) (
   abbrev free : FreeLists
   free = n.free
 
-  write_by : (left : Region) (held : Store) (mounted : IsMounted R s held rows free.pools) → LeavesEither R (fixed_layout s) held (Wrote R s free cpu plan offset new row) left
-      → IsAsMounted R s rows free.pools left ⊎ IsAsMade s (written names offset new time (tree_of R rows)) (LogsBytes cpu offset (length new) time R n names) left
+  write_by : (left : Region) (held : Store) (mounted : IsMounted R l held rows free.pools) → LeavesEither R l held (Wrote R l free cpu plan offset new row) left
+      → IsAsMounted R l rows free.pools left ⊎ IsAsMade l (written names offset new time (tree_of R rows)) (LogsBytes cpu offset (length new) time R n names) left
   write_by left held mounted (inl as_before) = inl (still_mounted mounted as_before)
   write_by left held mounted (inr w) =
       let step = w.1 in
@@ -64,9 +63,9 @@ module _ {P : Type 0} (region : P → Region) {n m : Mount P} (same : n ≡ m) (
         rows = set rows place now;
         free = (step.0).pools;
         recovers = recovers_to w.0 then.1;
-        tree = written_by (tree_of R rows) names row.inode offset new time some leads.leads (tree_of (undone s left) (set rows place now))
+        tree = written_by (tree_of R rows) names row.inode offset new time some leads.leads (tree_of (undone l.sup left) (set rows place now))
             (tree_after kept runs writes place row now at entries (λ st g shows. wrote.follows st g shows) (with_bytes offset new time) wrote.inode
-            (written_node R (undone s left) time wrote planned (write_bytes kept runs writes place row at wrote)));
+            (written_node R (undone l.sup left) time wrote planned (write_bytes kept runs writes place row at wrote)));
         logs = record {
           some = λ i node st h led sound is more. write_logged region {n = n} {m = n} refl names time i node st h kept runs (stands rows place row at) leads wrote planned
               (log_grew kept runs writes place row now at entries (λ first g shows. wrote.follows first g shows)) led sound is;
@@ -76,7 +75,7 @@ module _ {P : Type 0} (region : P → Region) {n m : Mount P} (same : n ≡ m) (
 
   -- What a stop within the call leaves.
   pub write_left : (S : Region) (old last : Choices)
-      → ((held : Store) (h : Held) → ShowsRow R s held h row free → NothingPending R old → LeavesOnly S last (LeavesEither R (fixed_layout s) held (Wrote R s free cpu plan offset new row))) → NothingPending R old
+      → ((held : Store) (h : Held) → ShowsRow R l held h row free → NothingPending R old → LeavesOnly S last (LeavesEither R l held (Wrote R l free cpu plan offset new row))) → NothingPending R old
       → LeavesOnly S last (LeavesCall (makes_bytes offset new time) (LogsBytes cpu offset (length new) time) (region m.memory) m names)
   write_left S old last step settled =
       subst (λ (k : Mount P). LeavesOnly S last (LeavesCall (makes_bytes offset new time) (LogsBytes cpu offset (length new) time) (region k.memory) k names)) same

@@ -1,10 +1,9 @@
 -- What recovery finds in a region that a stop within `link` has left.
 use Rattle.std.proofs.Common.{◌≡◌, ◌≢◌, ◌⊎◌, ℕ, false, inl, inr, List, set, slice_get, refl, ap, ◌∙◌, Some, None, subst}
-use Rattle.nv_super.specs.Layout.{fixed_layout}
+use Rattle.nv_super.specs.Layout.{Layout}
 use Rattle.std.proofs.Math.Logic.{∥∥₁_map}
 use Rattle.nv_region.specs.Region.{Region}
 use Rattle.nv_region.specs.Stops.{Choices, LeavesOnly, NothingPending}
-use Rattle.nv_super.specs.declared.superblock.Super.{Super}
 use Rattle.nv_super.proofs.Members.{stands}
 use Rattle.nv_journal.specs.Undo.{undone}
 use Rattle.nv_alloc.specs.FreeValue.{FreeLists}
@@ -12,9 +11,9 @@ use Rattle.nv_names.specs.Names.{name_at}
 use Rattle.nv_scan.specs.declared.piece.Row.{Row}
 use Rattle.nv_rows.specs.Rows.{place_in}
 use Rattle.nv_rows.proofs.Places.{at_place}
-use Rattle.nv_held.specs.nv_graph.Read.{row_of}
-use Rattle.nv_held.specs.Held.{Held, Store}
-use Rattle.nv_held.specs.Mounted.{IsMounted}
+use Rattle.nv_graph.specs.Read.{row_of}
+use Rattle.nv_mounted.specs.Held.{Held, Store}
+use Rattle.nv_mounted.specs.Mounted.{IsMounted}
 use Rattle.nv_commit.specs.Stopped.{LeavesEither}
 use Rattle.nv_tree.specs.Path.{IsPathName}
 use Rattle.nv_tree.specs.Calls.{linked}
@@ -34,14 +33,14 @@ use Rattle.nv_calls.proofs.OneRow.{shows_row}
 use Rattle.nv_calls.proofs.Stopped.{recovers_to, still_mounted}
 use Rattle.nv_calls.proofs.TwoRows.{lifted}
 
-module _ {P : Type 0} (region : P → Region) {n m : Mount P} (same : n ≡ m) (kept : IsKept (region n.memory) n.sup n.rows n.free n.faults n.read_only n.stopped) (runs : n.stopped ≡ false) (writes : n.read_only ≡ false)
+module _ {P : Type 0} (region : P → Region) {n m : Mount P} (same : n ≡ m) (kept : IsKept (region n.memory) n.sup n.layout n.rows n.free n.faults n.read_only n.stopped) (runs : n.stopped ≡ false) (writes : n.read_only ≡ false)
     (i j : ℕ) (file directory : Row) (at : row_of n.rows i ≡ Some file) (other_at : row_of n.rows j ≡ Some directory) (name : List ℕ) (cpu time : ℕ) (spelled : IsPathName name) (names others : List (List ℕ))
     (spot : IsLinkSpot (tree_of (region n.memory) n.rows) n.rows names others (place_in n.rows j) name (place_in n.rows i)) where
   abbrev R : Region
   R = region n.memory
 
-  abbrev s : Super
-  s = n.sup
+  abbrev l : Layout
+  l = n.layout
 
   abbrev rows : List Row
   rows = n.rows
@@ -61,8 +60,8 @@ module _ {P : Type 0} (region : P → Region) {n m : Mount P} (same : n ≡ m) (
       let in_directory = free_name.directory in
       kinds_apart rows (place_in rows i) (place_in rows j) file directory file_at directory_at (spot.file file file_at).0 (in_directory.row directory directory_at).1 (ap (place_in rows) is)
 
-  link_by : (left : Region) (held : Store) (mounted : IsMounted R s held rows free.pools) → LeavesEither R (fixed_layout s) held (Linked R s free cpu file directory name time) left
-      → IsAsMounted R s rows free.pools left ⊎ IsAsMade s (linked names others time (tree_of R rows)) (logs_link cpu time (Some others) R n names) left
+  link_by : (left : Region) (held : Store) (mounted : IsMounted R l held rows free.pools) → LeavesEither R l held (Linked R l free cpu file directory name time) left
+      → IsAsMounted R l rows free.pools left ⊎ IsAsMade l (linked names others time (tree_of R rows)) (logs_link cpu time (Some others) R n names) left
   link_by left held mounted (inl as_before) = inl (still_mounted mounted as_before)
   link_by left held mounted (inr w) =
       let after = w.1.0 in
@@ -70,7 +69,7 @@ module _ {P : Type 0} (region : P → Region) {n m : Mount P} (same : n ≡ m) (
       let two = w.1.2 in
       let both = w.1.3 in
       let news = set (set rows (place_in rows i) one) (place_in rows j) two in
-      let step : LinksAt R (undone s left) s free after cpu rows news (place_in rows i) (place_in rows j) name time = record { file = both.file; directory = both.directory; step = lifted rows news i j file directory one two apart at other_at refl both.step } in
+      let step : LinksAt R (undone l.sup left) l free after cpu rows news (place_in rows i) (place_in rows j) name time = record { file = both.file; directory = both.directory; step = lifted rows news i j file directory one two apart at other_at refl both.step } in
       inr (record {
         rows = news;
         free = after.pools;
@@ -81,7 +80,7 @@ module _ {P : Type 0} (region : P → Region) {n m : Mount P} (same : n ≡ m) (
 
   -- What a stop leaves within the call.
   pub link_left : (S : Region) (old last : Choices)
-      → ((held : Store) (f h : Held) → ShowsRow R s held f file free → ShowsRow R s held h directory free → name_at directory.names name ≡ None → NothingPending R old → LeavesOnly S last (LeavesEither R (fixed_layout s) held (Linked R s free cpu file directory name time)))
+      → ((held : Store) (f h : Held) → ShowsRow R l held f file free → ShowsRow R l held h directory free → name_at directory.names name ≡ None → NothingPending R old → LeavesOnly S last (LeavesEither R l held (Linked R l free cpu file directory name time)))
       → NothingPending R old → LeavesOnly S last (LeavesCall (makes_link time (Some others)) (logs_link cpu time (Some others)) (region m.memory) m names)
   link_left S old last step settled =
       subst (λ (k : Mount P). LeavesOnly S last (LeavesCall (makes_link time (Some others)) (logs_link cpu time (Some others)) (region k.memory) k names)) same

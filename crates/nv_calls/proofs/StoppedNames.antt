@@ -1,12 +1,11 @@
 -- What recovery finds in a region that a stop within `create` has left.
 use Rattle.std.proofs.Common.{◌≡◌, ◌≢◌, ◌⊎◌, ℕ, suc, ◌<◌, nat_eq, Bool, true, false, cond, inl, inr, List, [], ◌∷◌, set, slice_get, refl, ap, sym, ◌∙◌, subst, arith, Some, None}
-use Rattle.nv_super.specs.Layout.{fixed_layout}
+use Rattle.nv_super.specs.Layout.{Layout}
 use Rattle.std.proofs.Math.Logic.{∥∥₁_map}
 use Rattle.std.proofs.lemmas.Bool.{cases_lt}
 use Rattle.std.proofs.lemmas.Bool.Decides.{nat_tests}
 use Rattle.nv_region.specs.Region.{Region}
 use Rattle.nv_region.specs.Stops.{Choices, LeavesOnly, NothingPending}
-use Rattle.nv_super.specs.declared.superblock.Super.{Super}
 use Rattle.nv_super.specs.declared.kind.Kind.{Kind}
 use Rattle.nv_super.specs.Order.{Rises}
 use Rattle.nv_super.proofs.Members.{stands}
@@ -17,10 +16,10 @@ use Rattle.nv_names.specs.Names.{name_at}
 use Rattle.nv_scan.specs.declared.piece.Row.{Row}
 use Rattle.nv_rows.specs.Rows.{HasInserted}
 use Rattle.nv_rows.proofs.Places.{row_of_other, set_rising}
-use Rattle.nv_held.specs.nv_check.Cross.{row_key}
-use Rattle.nv_held.specs.nv_graph.Read.{row_of}
-use Rattle.nv_held.specs.Held.{Held, Store}
-use Rattle.nv_held.specs.Mounted.{IsMounted}
+use Rattle.nv_cross_check.specs.Cross.{row_key}
+use Rattle.nv_graph.specs.Read.{row_of}
+use Rattle.nv_mounted.specs.Held.{Held, Store}
+use Rattle.nv_mounted.specs.Mounted.{IsMounted}
 use Rattle.nv_commit.specs.Stopped.{LeavesEither}
 use Rattle.nv_tree.specs.Path.{IsPathName}
 use Rattle.nv_tree.specs.Calls.{created}
@@ -72,13 +71,13 @@ can_insert (x ∷ rows) row up none = elim (cases_lt row.inode x.inode) [
   ]
 ]
 
-module _ {P : Type 0} (region : P → Region) {n m : Mount P} (same : n ≡ m) (kept : IsKept (region n.memory) n.sup n.rows n.free n.faults n.read_only n.stopped) (runs : n.stopped ≡ false) (writes : n.read_only ≡ false)
-    (place : ℕ) (row : Row) (at : slice_get n.rows place ≡ Some row) (kind : Kind) (mode time j : ℕ) (name : List ℕ) (cpu : ℕ) (low : cpu < n.sup.cpus) (spelled : IsPathName name) (names : List (List ℕ)) (spot : IsSpot (tree_of (region n.memory) n.rows) n.rows (fixed_layout n.sup) cpu names place name j) where
+module _ {P : Type 0} (region : P → Region) {n m : Mount P} (same : n ≡ m) (kept : IsKept (region n.memory) n.sup n.layout n.rows n.free n.faults n.read_only n.stopped) (runs : n.stopped ≡ false) (writes : n.read_only ≡ false)
+    (place : ℕ) (row : Row) (at : slice_get n.rows place ≡ Some row) (kind : Kind) (mode time j : ℕ) (name : List ℕ) (cpu : ℕ) (low : cpu < n.layout.sup.cpus) (spelled : IsPathName name) (names : List (List ℕ)) (spot : IsSpot (tree_of (region n.memory) n.rows) n.rows n.layout cpu names place name j) where
   abbrev R : Region
   R = region n.memory
 
-  abbrev s : Super
-  s = n.sup
+  abbrev l : Layout
+  l = n.layout
 
   abbrev rows : List Row
   rows = n.rows
@@ -87,14 +86,14 @@ module _ {P : Type 0} (region : P → Region) {n m : Mount P} (same : n ≡ m) (
   free = n.free
 
   unused : row_of rows j ≡ None
-  unused = (unused_is s rows cpu j low spot.unused).0
+  unused = (unused_is l rows cpu j low spot.unused).0
 
   -- the rows with the new one
-  puts : (S : Region) (after : FreeLists) (now new : Row) → MakesNamed R S s free after cpu row now kind mode time j name new → (news : List Row) × CreatesAt R S s free after cpu rows news place kind mode time j name
+  puts : (S : Region) (after : FreeLists) (now new : Row) → MakesNamed R S l free after cpu row now kind mode time j name new → (news : List Row) × CreatesAt R S l free after cpu rows news place kind mode time j name
   puts S after now new makes =
       let dir = makes.directory in
       let own = makes.row in
-      let up = rows_rise R s rows free n.faults n.read_only n.stopped kept runs in
+      let up = rows_rise R n.sup l rows free n.faults n.read_only n.stopped kept runs in
       let differs : j ≢ row.inode = (λ is. (let clash : Some row ≡ None = sym (row_there up) ∙ ap (row_of rows) (sym is) ∙ unused in cc)) in
       let none : row_of (set rows place now) new.inode ≡ None = ap (row_of (set rows place now)) own.inode ∙ row_of_other rows place row now j at differs (λ is. differs (is ∙ dir.inode)) ∙ unused in
       let w = can_insert (set rows place now) new (set_rising rows place row now up at dir.inode) none in
@@ -103,12 +102,12 @@ module _ {P : Type 0} (region : P → Region) {n m : Mount P} (same : n ≡ m) (
       row_there : Rises row_key rows → row_of rows row.inode ≡ Some row
       row_there up = row_at rows place row up at
 
-  create_by : (left : Region) (held : Store) (mounted : IsMounted R s held rows free.pools) → LeavesEither R (fixed_layout s) held (Named R s free cpu row kind mode time j name) left
-      → IsAsMounted R s rows free.pools left ⊎ IsAsMade s (created kind (unused_number (fixed_layout s) rows cpu) names mode time (tree_of R rows)) (logs_inode kind cpu mode time R n names) left
+  create_by : (left : Region) (held : Store) (mounted : IsMounted R l held rows free.pools) → LeavesEither R l held (Named R l free cpu row kind mode time j name) left
+      → IsAsMounted R l rows free.pools left ⊎ IsAsMade l (created kind (unused_number l rows cpu) names mode time (tree_of R rows)) (logs_inode kind cpu mode time R n names) left
   create_by left held mounted (inl as_before) = inl (still_mounted mounted as_before)
   create_by left held mounted (inr w) =
       let step = w.1 in
-      let put = puts (undone s left) step.0 step.1 (step.2) step.3 in
+      let put = puts (undone l.sup left) step.0 step.1 (step.2) step.3 in
       inr (record {
         rows = put.0;
         free = (step.0).pools;
@@ -119,7 +118,7 @@ module _ {P : Type 0} (region : P → Region) {n m : Mount P} (same : n ≡ m) (
 
   -- What a stop within the call leaves.
   pub create_left : (S : Region) (old last : Choices)
-      → ((held : Store) (h : Held) → ShowsRow R s held h row free → held j ≡ None → name_at row.names name ≡ None → NothingPending R old → LeavesOnly S last (LeavesEither R (fixed_layout s) held (Named R s free cpu row kind mode time j name)))
+      → ((held : Store) (h : Held) → ShowsRow R l held h row free → held j ≡ None → name_at row.names name ≡ None → NothingPending R old → LeavesOnly S last (LeavesEither R l held (Named R l free cpu row kind mode time j name)))
       → NothingPending R old → LeavesOnly S last (LeavesCall (makes_inode kind cpu mode time) (logs_inode kind cpu mode time) (region m.memory) m names)
   create_left S old last step settled =
       subst (λ (k : Mount P). LeavesOnly S last (LeavesCall (makes_inode kind cpu mode time) (logs_inode kind cpu mode time) (region k.memory) k names)) same

@@ -1,11 +1,10 @@
 -- What recovery finds in a region that a stop within `rmdir` or `unlink` has left.
 use Rattle.std.proofs.Common.{◌≡◌, ◌≢◌, ◌⊎◌, ℕ, ◌<◌, ◌≤◌, false, inl, inr, List, remove, set, slice_get, refl, ap, sym, ◌∙◌, subst, Some}
-use Rattle.nv_super.specs.Layout.{fixed_layout}
+use Rattle.nv_super.specs.Layout.{Layout}
 use Rattle.std.proofs.Math.Logic.{∥∥₁_map}
 use Rattle.std.proofs.lemmas.Option.{same_Some}
 use Rattle.nv_region.specs.Region.{Region}
 use Rattle.nv_region.specs.Stops.{Choices, LeavesOnly, NothingPending}
-use Rattle.nv_super.specs.declared.superblock.Super.{Super}
 use Rattle.nv_super.specs.declared.kind.Kind.TheVariants.{File}
 use Rattle.nv_super.proofs.Members.{stands}
 use Rattle.nv_journal.specs.Undo.{undone}
@@ -13,9 +12,9 @@ use Rattle.nv_alloc.specs.FreeValue.{FreeLists}
 use Rattle.nv_scan.specs.declared.piece.Row.{Row}
 use Rattle.nv_rows.specs.Rows.{place_in}
 use Rattle.nv_rows.proofs.Places.{at_place}
-use Rattle.nv_held.specs.nv_graph.Read.{row_of}
-use Rattle.nv_held.specs.Held.{Held, Store}
-use Rattle.nv_held.specs.Mounted.{IsMounted}
+use Rattle.nv_graph.specs.Read.{row_of}
+use Rattle.nv_mounted.specs.Held.{Held, Store}
+use Rattle.nv_mounted.specs.Mounted.{IsMounted}
 use Rattle.nv_commit.specs.Stopped.{CanRecover, LeavesEither}
 use Rattle.nv_tree.specs.Path.{IsPathName}
 use Rattle.nv_tree.specs.Tree.{SameTree, Tree}
@@ -42,13 +41,13 @@ use Rattle.nv_calls.proofs.TwoRows.{lifted}
 use Rattle.nv_calls.proofs.UnlinkCall.{more_mounted, more_tree, unlink_last, unlink_logs}
 use Rattle.nv_calls.proofs.UnlinkedTree.{unlinked_last}
 
-module _ {P : Type 0} (region : P → Region) {n m : Mount P} (same : n ≡ m) (kept : IsKept (region n.memory) n.sup n.rows n.free n.faults n.read_only n.stopped) (runs : n.stopped ≡ false) (writes : n.read_only ≡ false)
+module _ {P : Type 0} (region : P → Region) {n m : Mount P} (same : n ≡ m) (kept : IsKept (region n.memory) n.sup n.layout n.rows n.free n.faults n.read_only n.stopped) (runs : n.stopped ≡ false) (writes : n.read_only ≡ false)
     (i j : ℕ) (row gone : Row) (at : row_of n.rows i ≡ Some row) (gone_at : row_of n.rows j ≡ Some gone) (name : List ℕ) (cpu time : ℕ) (spelled : IsPathName name) (names : List (List ℕ)) (spot : IsNamedAt (tree_of (region n.memory) n.rows) n.rows names (place_in n.rows i) name (place_in n.rows j)) where
   abbrev R : Region
   R = region n.memory
 
-  abbrev s : Super
-  s = n.sup
+  abbrev l : Layout
+  l = n.layout
 
   abbrev rows : List Row
   rows = n.rows
@@ -64,18 +63,18 @@ module _ {P : Type 0} (region : P → Region) {n m : Mount P} (same : n ≡ m) (
 
   -- where the inode goes with the name
   cut_there : (can_go : CanGo gone) (made : Tree) (Logged : Region → Type 0) → ((u : Tree) → SameTree u (removed_tree R rows row gone.inode time name) → SameTree u made)
-      → ((S : Region) (mid : FreeLists) (news : List Row) → CutsAt R S s free mid cpu rows news (place_in rows i) (place_in rows j) name time → Logged S)
-      → (left : Region) (held : Store) (mounted : IsMounted R s held rows free.pools) → CanRecover s left → Cut R s free cpu row gone.inode time name (undone s left) → IsAsMade s made Logged left
+      → ((S : Region) (mid : FreeLists) (news : List Row) → CutsAt R S l free mid cpu rows news (place_in rows i) (place_in rows j) name time → Logged S)
+      → (left : Region) (held : Store) (mounted : IsMounted R l held rows free.pools) → CanRecover l.sup left → Cut R l free cpu row gone.inode time name (undone l.sup left) → IsAsMade l made Logged left
   cut_there can_go made Logged is_made logged left held mounted can w =
       let news = remove (set rows (place_in rows i) w.1) (place_in rows j) in
-      let step : CutsAt R (undone s left) s free w.0 cpu rows news (place_in rows i) (place_in rows j) name time = record { row = row; gone = gone; now = w.1; at = row_there; gone_at = gone_there; step = w.2; put = refl } in
+      let step : CutsAt R (undone l.sup left) l free w.0 cpu rows news (place_in rows i) (place_in rows j) name time = record { row = row; gone = gone; now = w.1; at = row_there; gone_at = gone_there; step = w.2; put = refl } in
       let v = removed_mounted kept runs writes step spelled can_go names spot held mounted in
       record {
         rows = news;
         free = v.1;
         recovers = recovers_to can v.2;
-        tree = is_made (tree_of (undone s left) news) (tree_is kept runs writes step spelled can_go names spot);
-        logs = logged (undone s left) w.0 news step;
+        tree = is_made (tree_of (undone l.sup left) news) (tree_is kept runs writes step spelled can_go names spot);
+        logs = logged (undone l.sup left) w.0 news step;
       }
 
   -- `rmdir`
@@ -83,18 +82,18 @@ module _ {P : Type 0} (region : P → Region) {n m : Mount P} (same : n ≡ m) (
     is_removed : (u : Tree) → SameTree u (removed_tree R rows row gone.inode time name) → SameTree u (removed names time (tree_of R rows))
     is_removed u is = subst (λ (t : Tree). SameTree u t) (sym (removed_by names time (tree_of R rows) gone.inode row.inode name (spot.leads gone gone_there) (spot.directory row row_there).0 spot.name_is)) is
 
-    rmdir_by : (left : Region) (held : Store) (mounted : IsMounted R s held rows free.pools) → LeavesEither R (fixed_layout s) held (Cut R s free cpu row gone.inode time name) left
-        → IsAsMounted R s rows free.pools left ⊎ IsAsMade s (removed names time (tree_of R rows)) (logs_removal cpu time R n names) left
+    rmdir_by : (left : Region) (held : Store) (mounted : IsMounted R l held rows free.pools) → LeavesEither R l held (Cut R l free cpu row gone.inode time name) left
+        → IsAsMounted R l rows free.pools left ⊎ IsAsMade l (removed names time (tree_of R rows)) (logs_removal cpu time R n names) left
     rmdir_by left held mounted (inl as_before) = inl (still_mounted mounted as_before)
     rmdir_by left held mounted (inr w) = inr (cut_there can_go (removed names time (tree_of R rows)) (logs_removal cpu time R n names) is_removed
         (λ S mid news step k d node st h led ended sound is. removed_log kept runs writes step spelled (at_gone step) names spot k d node st h led ended sound is) left held mounted w.0 w.1)
       where
-        at_gone : {S : Region} {mid : FreeLists} {news : List Row} (step : CutsAt R S s free mid cpu rows news (place_in rows i) (place_in rows j) name time) → CanGo step.gone
+        at_gone : {S : Region} {mid : FreeLists} {news : List Row} (step : CutsAt R S l free mid cpu rows news (place_in rows i) (place_in rows j) name time) → CanGo step.gone
         at_gone step = subst CanGo (same_Some _ _ (sym gone_there ∙ step.gone_at)) can_go
 
     -- What a stop leaves within the call.
     pub rmdir_left : (S : Region) (old last : Choices)
-        → ((held : Store) (h : Held) → ShowsRow R s held h row free → NothingPending R old → LeavesOnly S last (LeavesEither R (fixed_layout s) held (Cut R s free cpu row gone.inode time name)))
+        → ((held : Store) (h : Held) → ShowsRow R l held h row free → NothingPending R old → LeavesOnly S last (LeavesEither R l held (Cut R l free cpu row gone.inode time name)))
         → NothingPending R old → LeavesOnly S last (LeavesCall (makes_removal time) (logs_removal cpu time) (region m.memory) m names)
     rmdir_left S old last step settled =
         subst (λ (k : Mount P). LeavesOnly S last (LeavesCall (makes_removal time) (logs_removal cpu time) (region k.memory) k names)) same
@@ -109,7 +108,7 @@ module _ {P : Type 0} (region : P → Region) {n m : Mount P} (same : n ≡ m) (
 
     is_last : gone.numbers.links ≤ 1 → (u : Tree) → SameTree u (removed_tree R rows row gone.inode time name) → SameTree u (unlinked names time (tree_of R rows))
     is_last few u is =
-        let count = links_told R rows gone (row_at rows (place_in rows j) gone (rows_rise R s rows free n.faults n.read_only n.stopped kept runs) gone_there) in
+        let count = links_told R rows gone (row_at rows (place_in rows j) gone (rows_rise R n.sup l rows free n.faults n.read_only n.stopped kept runs) gone_there) in
         subst (λ (t : Tree). SameTree u t) (sym (unlinked_last names time (tree_of R rows) gone.inode row.inode name (spot.leads gone gone_there) (spot.directory row row_there).0 spot.name_is gone.numbers.links count few)) is
 
     -- the file is the one that the step has
@@ -117,20 +116,20 @@ module _ {P : Type 0} (region : P → Region) {n m : Mount P} (same : n ≡ m) (
     files f there = subst (λ (r : Row). r.kind ≡ File) (same_Some _ _ (sym gone_there ∙ there)) is_file
 
     -- the logs, by a step at the places
-    logged : (S : Region) (news : List Row) → ReleasesAt R S s free cpu rows news (place_in rows i) (place_in rows j) name time → LogsUnlink cpu time R n names S
+    logged : (S : Region) (news : List Row) → ReleasesAt R S l free cpu rows news (place_in rows i) (place_in rows j) name time → LogsUnlink cpu time R n names S
     logged S news step = record {
       more = λ k d node st h f led ended sound is other_is some. unlink_logs kept runs writes step spelled files names spot k d node st h f led ended sound is other_is some;
       last = λ k d node st h led ended sound is few. unlink_last kept runs writes step spelled files names spot k d node st h led ended sound is few;
     }
 
-    more_there : (left : Region) (held : Store) (mounted : IsMounted R s held rows free.pools) → CanRecover s left → 1 < gone.numbers.links → Unlinked R s free cpu row gone name time (undone s left)
-        → IsAsMade s (unlinked names time (tree_of R rows)) (LogsUnlink cpu time R n names) left
+    more_there : (left : Region) (held : Store) (mounted : IsMounted R l held rows free.pools) → CanRecover l.sup left → 1 < gone.numbers.links → Unlinked R l free cpu row gone name time (undone l.sup left)
+        → IsAsMade l (unlinked names time (tree_of R rows)) (LogsUnlink cpu time R n names) left
     more_there left held mounted can some w =
         let both = w.3 in
         let pair = both.step in
         let file_is : gone ≡ both.file = same_Some _ _ pair.other_at in
         let news = set (set rows (place_in rows i) w.1) (place_in rows j) w.2 in
-        let step : UnlinksAt R (undone s left) s free w.0 cpu rows news (place_in rows i) (place_in rows j) name time = record { directory = both.directory; file = both.file; step = lifted rows news i j row gone w.1 w.2 apart at gone_at refl both.step } in
+        let step : UnlinksAt R (undone l.sup left) l free w.0 cpu rows news (place_in rows i) (place_in rows j) name time = record { directory = both.directory; file = both.file; step = lifted rows news i j row gone w.1 w.2 apart at gone_at refl both.step } in
         let of_kind : step.file.kind ≡ File = ap (λ (r : Row). r.kind) (sym file_is) ∙ is_file in
         let more : 1 < step.file.numbers.links = subst (λ (r : Row). 1 < r.numbers.links) file_is some in
         record {
@@ -138,23 +137,23 @@ module _ {P : Type 0} (region : P → Region) {n m : Mount P} (same : n ≡ m) (
           free = (w.0).pools;
           recovers = recovers_to can (more_mounted kept runs writes step spelled of_kind more names spot held mounted).1;
           tree = more_tree kept runs writes step spelled of_kind more names spot;
-          logs = logged (undone s left) news (inl (λ f there. subst (λ (r : Row). 1 < r.numbers.links) (same_Some _ _ (sym gone_there ∙ there)) some, (w.0, step)));
+          logs = logged (undone l.sup left) news (inl (λ f there. subst (λ (r : Row). 1 < r.numbers.links) (same_Some _ _ (sym gone_there ∙ there)) some, (w.0, step)));
         }
 
-    released_by : (left : Region) (held : Store) (mounted : IsMounted R s held rows free.pools) → CanRecover s left → Released R s free cpu row gone name time (undone s left)
-        → IsAsMade s (unlinked names time (tree_of R rows)) (LogsUnlink cpu time R n names) left
+    released_by : (left : Region) (held : Store) (mounted : IsMounted R l held rows free.pools) → CanRecover l.sup left → Released R l free cpu row gone name time (undone l.sup left)
+        → IsAsMade l (unlinked names time (tree_of R rows)) (LogsUnlink cpu time R n names) left
     released_by left held mounted can (inl w) = more_there left held mounted can w.0 w.1
     released_by left held mounted can (inr w) = cut_there (inr (is_file, w.0)) (unlinked names time (tree_of R rows)) (LogsUnlink cpu time R n names) (is_last w.0)
         (λ S mid news step. logged S news (inr (λ f there. subst (λ (r : Row). r.numbers.links ≤ 1) (same_Some _ _ (sym gone_there ∙ there)) w.0, (mid, step)))) left held mounted can w.1
 
-    unlink_by : (left : Region) (held : Store) (mounted : IsMounted R s held rows free.pools) → LeavesEither R (fixed_layout s) held (Released R s free cpu row gone name time) left
-        → IsAsMounted R s rows free.pools left ⊎ IsAsMade s (unlinked names time (tree_of R rows)) (LogsUnlink cpu time R n names) left
+    unlink_by : (left : Region) (held : Store) (mounted : IsMounted R l held rows free.pools) → LeavesEither R l held (Released R l free cpu row gone name time) left
+        → IsAsMounted R l rows free.pools left ⊎ IsAsMade l (unlinked names time (tree_of R rows)) (LogsUnlink cpu time R n names) left
     unlink_by left held mounted (inl as_before) = inl (still_mounted mounted as_before)
     unlink_by left held mounted (inr w) = inr (released_by left held mounted w.0 w.1)
 
     -- What a stop leaves within the call.
     pub unlink_left : (S : Region) (old last : Choices)
-        → ((held : Store) (h f : Held) → ShowsRow R s held h row free → ShowsRow R s held f gone free → NothingPending R old → LeavesOnly S last (LeavesEither R (fixed_layout s) held (Released R s free cpu row gone name time)))
+        → ((held : Store) (h f : Held) → ShowsRow R l held h row free → ShowsRow R l held f gone free → NothingPending R old → LeavesOnly S last (LeavesEither R l held (Released R l free cpu row gone name time)))
         → NothingPending R old → LeavesOnly S last (LeavesCall (makes_unlink time) (LogsUnlink cpu time) (region m.memory) m names)
     unlink_left S old last step settled =
         subst (λ (k : Mount P). LeavesOnly S last (LeavesCall (makes_unlink time) (LogsUnlink cpu time) (region k.memory) k names)) same

@@ -5,8 +5,7 @@ use Rattle.std.proofs.Math.Logic.{∥∥₁_map}
 use Rattle.std.proofs.lemmas.Option.{same_Some}
 use Rattle.nv_region.specs.Region.{Region}
 use Rattle.nv_region.specs.Stops.{Choices, LeavesOnly}
-use Rattle.nv_super.specs.declared.superblock.Super.{Super}
-use Rattle.nv_super.specs.Layout.{fixed_layout}
+use Rattle.nv_super.specs.Layout.{Layout}
 use Rattle.nv_super.specs.Order.{Rises}
 use Rattle.nv_super.proofs.Members.{stands}
 use Rattle.nv_journal.specs.Undo.{undone}
@@ -15,10 +14,10 @@ use Rattle.nv_names.specs.Names.{name_at}
 use Rattle.nv_scan.specs.declared.piece.Row.{Row}
 use Rattle.nv_rows.specs.Rows.{place_in}
 use Rattle.nv_rows.proofs.Places.{at_place, numbered}
-use Rattle.nv_held.specs.nv_check.Cross.{row_key}
-use Rattle.nv_held.specs.nv_graph.Read.{row_of}
-use Rattle.nv_held.specs.Held.{Held, Store}
-use Rattle.nv_held.specs.Mounted.{IsMounted}
+use Rattle.nv_cross_check.specs.Cross.{row_key}
+use Rattle.nv_graph.specs.Read.{row_of}
+use Rattle.nv_mounted.specs.Held.{Held, Store}
+use Rattle.nv_mounted.specs.Mounted.{IsMounted}
 use Rattle.nv_commit.specs.Stopped.{LeavesEither}
 use Rattle.nv_tree.specs.declared.refusal.Refusal.{Refusal}
 use Rattle.nv_tree.specs.Path.{IsPathName}
@@ -47,27 +46,27 @@ use Rattle.nv_calls.proofs.StoppedMoves.{rename_by}
 use Rattle.nv_calls.proofs.StoppedReplaces.{here_by, here_logged}
 
 -- what was made with these logs was made with what follows of them
-with_logs : (R : Region) {s : Super} {rows : List Row} (free : FreeLists) {made then : Tree} {A B : Region → Type 0} {left : Region} → ((S : Region) → A S → B S) → made ≡ then → IsAsMounted R s rows free.pools left ⊎ IsAsMade s made A left → IsAsMounted R s rows free.pools left ⊎ IsAsMade s then B left
+with_logs : (R : Region) {l : Layout} {rows : List Row} (free : FreeLists) {made then : Tree} {A B : Region → Type 0} {left : Region} → ((S : Region) → A S → B S) → made ≡ then → IsAsMounted R l rows free.pools left ⊎ IsAsMade l made A left → IsAsMounted R l rows free.pools left ⊎ IsAsMade l then B left
 with_logs R free follows same (inl was) = inl was
-with_logs R {s} free {left = left} follows same (inr is) = inr (record {
+with_logs R {l} free {left = left} follows same (inr is) = inr (record {
   rows = is.rows;
   free = is.free;
   recovers = is.recovers;
-  tree = subst (λ (u : Tree). SameTree (tree_of (undone s left) is.rows) u) same is.tree;
-  logs = follows (undone s left) is.logs;
+  tree = subst (λ (u : Tree). SameTree (tree_of (undone l.sup left) is.rows) u) same is.tree;
+  logs = follows (undone l.sup left) is.logs;
 })
 
 one_end : {a b : ℕ} {r : Result ℕ Refusal} → r ≡ Ok a → r ≡ Ok b → a ≡ b
 one_end {a} {b} e f = let both : Ok a ≡ Ok b = sym e ∙ f in cc
 
-module _ {P : Type 0} (region : P → Region) {n m : Mount P} (same : n ≡ m) (kept : IsKept (region n.memory) n.sup n.rows n.free n.faults n.read_only n.stopped) (runs : n.stopped ≡ false) (writes : n.read_only ≡ false)
+module _ {P : Type 0} (region : P → Region) {n m : Mount P} (same : n ≡ m) (kept : IsKept (region n.memory) n.sup n.layout n.rows n.free n.faults n.read_only n.stopped) (runs : n.stopped ≡ false) (writes : n.read_only ≡ false)
     (i j e : ℕ) (from moved to : Row) (at : row_of n.rows i ≡ Some from) (moved_at : row_of n.rows j ≡ Some moved) (to_at : row_of n.rows e ≡ Some to) (there : Option ℕ) (name other : List ℕ) (cpu time : ℕ) (spelled : IsPathName name) (spelled_other : IsPathName other)
     (first_old : List ℕ) (old : List (List ℕ)) (first : List ℕ) (rest : List (List ℕ)) (spot : IsReplaceSpot (tree_of (region n.memory) n.rows) n.rows (first_old ∷ old) (first ∷ rest) (place_in n.rows i) name (place_in n.rows j) (place_in n.rows e) other there) where
   abbrev R : Region
   R = region n.memory
 
-  abbrev s : Super
-  s = n.sup
+  abbrev l : Layout
+  l = n.layout
 
   abbrev rows : List Row
   rows = n.rows
@@ -103,10 +102,10 @@ module _ {P : Type 0} (region : P → Region) {n m : Mount P} (same : n ≡ m) (
   leads = let way = spot.way in let named = way.from in named.leads moved moved_there
 
   rises : Rises row_key rows
-  rises = rows_rise R s rows free n.faults n.read_only n.stopped kept runs
+  rises = rows_rise R n.sup l rows free n.faults n.read_only n.stopped kept runs
 
   abbrev Result_ : Region → Type 0
-  Result_ left = IsAsMounted R s rows free.pools left ⊎ IsAsMade s (replaced names others time t) (LogsReplace cpu time others R n names) left
+  Result_ left = IsAsMounted R l rows free.pools left ⊎ IsAsMade l (replaced names others time t) (LogsReplace cpu time others R n names) left
 
   -- where the new name was free
   module _ (none : there ≡ None) where
@@ -133,14 +132,14 @@ module _ {P : Type 0} (region : P → Region) {n m : Mount P} (same : n ≡ m) (
       one = λ a first_leads leads_too. absurd (let clash : None ≡ Some a = sym not_there ∙ leads_too in cc);
     }
 
-    moved_made : {S : Region} {news : List Row} {after : FreeLists} → MovesAt R S s free after cpu rows news (place_in rows i) (place_in rows j) (place_in rows e) name other time → LogsReplace cpu time others R n names S
+    moved_made : {S : Region} {news : List Row} {after : FreeLists} → MovesAt R S l free after cpu rows news (place_in rows i) (place_in rows j) (place_in rows e) name other time → LogsReplace cpu time others R n names S
     moved_made {S} step = free_logs S (record {
       across = moved_logs kept runs writes spelled spelled_other names first rest move_spot step;
       within = moved_log kept runs writes spelled spelled_other names first rest move_spot step;
     })
 
-    moved_left : (left : Region) (held : Store) (mounted : IsMounted R s held rows free.pools) → LeavesEither R (fixed_layout s) held (Renamed R s free cpu (place_in rows i) (place_in rows e) from to moved.inode name other time) left → Result_ left
-    moved_left left held mounted w = with_logs R {s = s} {rows = rows} free free_logs (sym (replaced_unused t names others time not_there))
+    moved_left : (left : Region) (held : Store) (mounted : IsMounted R l held rows free.pools) → LeavesEither R l held (Renamed R l free cpu (place_in rows i) (place_in rows e) from to moved.inode name other time) left → Result_ left
+    moved_left left held mounted w = with_logs R {l = l} {rows = rows} free free_logs (sym (replaced_unused t names others time not_there))
         (rename_by region {n = n} {m = n} refl kept runs writes i j e from moved to at moved_at to_at name other cpu time spelled spelled_other names first rest move_spot left held mounted w)
 
   -- where it stood for another
@@ -185,11 +184,11 @@ module _ {P : Type 0} (region : P → Region) {n m : Mount P} (same : n ≡ m) (
         one = not_one S;
       }
 
-      taken_made : {S : Region} {news : List Row} {after : FreeLists} → ReplacesHere R S s free after cpu rows news (place_in rows i) (place_in rows k) moved.inode name other time → LogsReplace cpu time others R n names S
+      taken_made : {S : Region} {news : List Row} {after : FreeLists} → ReplacesHere R S l free after cpu rows news (place_in rows i) (place_in rows k) moved.inode name other time → LogsReplace cpu time others R n names S
       taken_made {S} step = here_logs S (here_logged region n kept runs writes i j k from moved had at moved_at had_at differ name other cpu time spelled spelled_other first_old old first rest here_spot had_apart step)
 
-      taken_left : (left : Region) (held : Store) (mounted : IsMounted R s held rows free.pools) → LeavesEither R (fixed_layout s) held (ReplacedHere R s free cpu from had moved.inode name other time) left → Result_ left
-      taken_left left held mounted w = with_logs R {s = s} {rows = rows} free here_logs refl
+      taken_left : (left : Region) (held : Store) (mounted : IsMounted R l held rows free.pools) → LeavesEither R l held (ReplacedHere R l free cpu from had moved.inode name other time) left → Result_ left
+      taken_left left held mounted w = with_logs R {l = l} {rows = rows} free here_logs refl
           (here_by region n kept runs writes i j k from moved had at moved_at had_at differ name other cpu time spelled spelled_other first_old old first rest here_spot had_apart left held mounted w)
 
     -- from one to another
@@ -205,11 +204,11 @@ module _ {P : Type 0} (region : P → Region) {n m : Mount P} (same : n ≡ m) (
         one = not_one S;
       }
 
-      handed_made : {S : Region} {news : List Row} {after : FreeLists} → ReplacesOver R S s free after cpu rows news (place_in rows i) (place_in rows e) (place_in rows k) moved.inode name other time → LogsReplace cpu time others R n names S
+      handed_made : {S : Region} {news : List Row} {after : FreeLists} → ReplacesOver R S l free after cpu rows news (place_in rows i) (place_in rows e) (place_in rows k) moved.inode name other time → LogsReplace cpu time others R n names S
       handed_made {S} step = over_logs S (over_logged region n kept runs writes i e j k from to moved had at to_at moved_at had_at two_places name other cpu time spelled spelled_other first_old old first rest had_spot had_apart step)
 
-      handed_left : (left : Region) (held : Store) (mounted : IsMounted R s held rows free.pools) → LeavesEither R (fixed_layout s) held (ReplacedOver R s free cpu from to had moved.inode name other time) left → Result_ left
-      handed_left left held mounted w = with_logs R {s = s} {rows = rows} free over_logs refl
+      handed_left : (left : Region) (held : Store) (mounted : IsMounted R l held rows free.pools) → LeavesEither R l held (ReplacedOver R l free cpu from to had moved.inode name other time) left → Result_ left
+      handed_left left held mounted w = with_logs R {l = l} {rows = rows} free over_logs refl
           (over_by region n kept runs writes i e j k from to moved had at to_at moved_at had_at two_places name other cpu time spelled spelled_other first_old old first rest had_spot had_apart left held mounted w)
 
   -- where it is the one that moves
@@ -233,28 +232,28 @@ module _ {P : Type 0} (region : P → Region) {n m : Mount P} (same : n ≡ m) (
 
   -- ---- in all cases
 
-  made_logs : (S : Region) (news : List Row) (after : FreeLists) (o : Option ℕ) → there ≡ o → ((k : ℕ) → o ≡ Some k → (had : Row) × (row_of rows k ≡ Some had)) → ReplacesAt R S s free after cpu rows news (place_in rows i) (place_in rows j) (place_in rows e) o moved.inode name other time → LogsReplace cpu time others R n names S
+  made_logs : (S : Region) (news : List Row) (after : FreeLists) (o : Option ℕ) → there ≡ o → ((k : ℕ) → o ≡ Some k → (had : Row) × (row_of rows k ≡ Some had)) → ReplacesAt R S l free after cpu rows news (place_in rows i) (place_in rows j) (place_in rows e) o moved.inode name other time → LogsReplace cpu time others R n names S
   made_logs S news after None is known step = moved_made is step
   made_logs S news after (Some k) is known (inl w) = same_logs k is w.0 S w.1.0
   made_logs S news after (Some k) is known (inr (apart, inl w)) = let row = known k refl in taken_made k is row.0 row.1 (λ e. apart (sym (numbered rows k row.0 row.1) ∙ e)) w.0 w.1
   made_logs S news after (Some k) is known (inr (apart, inr w)) = let row = known k refl in handed_made k is row.0 row.1 (λ e. apart (sym (numbered rows k row.0 row.1) ∙ e)) w.0 w.1
 
   -- What the call leaves of the logs.
-  pub replaced_logs : (S : Region) (news : List Row) (after : FreeLists) → ((k : ℕ) → there ≡ Some k → (had : Row) × (row_of rows k ≡ Some had)) → ReplacesAt R S s free after cpu rows news (place_in rows i) (place_in rows j) (place_in rows e) there moved.inode name other time
+  pub replaced_logs : (S : Region) (news : List Row) (after : FreeLists) → ((k : ℕ) → there ≡ Some k → (had : Row) × (row_of rows k ≡ Some had)) → ReplacesAt R S l free after cpu rows news (place_in rows i) (place_in rows j) (place_in rows e) there moved.inode name other time
       → LogsReplace cpu time others (region m.memory) m names S
   replaced_logs S news after known step = subst (λ (q : Mount P). LogsReplace cpu time others (region q.memory) q names S) same (made_logs S news after there refl known step)
 
   abbrev Left_ : Store → Option Row → Region → Type 0
-  Left_ held had left = LeavesEither R (fixed_layout s) held (ReplacedAt R s free cpu (place_in rows i) (place_in rows e) from to had moved.inode name other time) left
+  Left_ held had left = LeavesEither R l held (ReplacedAt R l free cpu (place_in rows i) (place_in rows e) from to had moved.inode name other time) left
 
-  some_left : (k : ℕ) (is : there ≡ Some k) (had : Row) (had_at : row_of rows k ≡ Some had) (left : Region) (held : Store) (mounted : IsMounted R s held rows free.pools) → Left_ held (Some had) left → Result_ left
+  some_left : (k : ℕ) (is : there ≡ Some k) (had : Row) (had_at : row_of rows k ≡ Some had) (left : Region) (held : Store) (mounted : IsMounted R l held rows free.pools) → Left_ held (Some had) left → Result_ left
   some_left k is had had_at left held mounted (inl as_before) = inl (still_mounted mounted as_before)
   some_left k is had had_at left held mounted (inr w) = by w.1.1 where
-    by : ((place_in rows i ≡ place_in rows e) × ReplacedHere R s free cpu from had moved.inode name other time (undone s left)) ⊎ ((place_in rows i ≢ place_in rows e) × ReplacedOver R s free cpu from to had moved.inode name other time (undone s left)) → Result_ left
+    by : ((place_in rows i ≡ place_in rows e) × ReplacedHere R l free cpu from had moved.inode name other time (undone l.sup left)) ⊎ ((place_in rows i ≢ place_in rows e) × ReplacedOver R l free cpu from to had moved.inode name other time (undone l.sup left)) → Result_ left
     by (inl v) = taken_left k is had had_at w.1.0 v.0 left held mounted (inr (w.0, v.1))
     by (inr v) = handed_left k is had had_at w.1.0 v.0 left held mounted (inr (w.0, v.1))
 
-  replaced_left : ((k : ℕ) → there ≡ Some k → (had : Row) × (row_of rows k ≡ Some had)) → (left : Region) (held : Store) (mounted : IsMounted R s held rows free.pools) → Left_ held (option_and_then (row_of rows) there) left → Result_ left
+  replaced_left : ((k : ℕ) → there ≡ Some k → (had : Row) × (row_of rows k ≡ Some had)) → (left : Region) (held : Store) (mounted : IsMounted R l held rows free.pools) → Left_ held (option_and_then (row_of rows) there) left → Result_ left
   replaced_left known left held mounted w = by there refl where
     by : (o : Option ℕ) → there ≡ o → Result_ left
     by None none = moved_left none left held mounted (subst (λ (o : Option ℕ). Left_ held (option_and_then (row_of rows) o) left) none w)
@@ -264,8 +263,8 @@ module _ {P : Type 0} (region : P → Region) {n m : Mount P} (same : n ≡ m) (
 
   -- What a stop leaves within the call.
   pub replace_left : ((k : ℕ) → there ≡ Some k → (had : Row) × (row_of rows k ≡ Some had)) → (S : Region) (last : Choices)
-      → ((held : Store) (h g : Held) → ShowsRow R s held h from free → ShowsRow R s held g to free → (there ≡ None → name_at to.names other ≡ None)
-      → ((k : ℕ) (row : Row) → there ≡ Some k → row_of rows k ≡ Some row → (f : Held) × ShowsRow R s held f row free) → LeavesOnly S last (Left_ held (option_and_then (row_of rows) there)))
+      → ((held : Store) (h g : Held) → ShowsRow R l held h from free → ShowsRow R l held g to free → (there ≡ None → name_at to.names other ≡ None)
+      → ((k : ℕ) (row : Row) → there ≡ Some k → row_of rows k ≡ Some row → (f : Held) × ShowsRow R l held f row free) → LeavesOnly S last (Left_ held (option_and_then (row_of rows) there)))
       → LeavesOnly S last (LeavesCall (makes_replace time (Some others)) (logs_replace cpu time (Some others)) (region m.memory) m names)
   replace_left known S last step =
       subst (λ (q : Mount P). LeavesOnly S last (LeavesCall (makes_replace time (Some others)) (logs_replace cpu time (Some others)) (region q.memory) q names)) same

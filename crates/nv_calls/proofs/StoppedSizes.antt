@@ -1,16 +1,15 @@
 -- What recovery finds in a region that a stop within `set_size` has left.
 use Rattle.std.proofs.Common.{◌≡◌, ◌⊎◌, ℕ, false, inl, inr, List, set, slice_get, ap, sym, refl, subst, Option, Some}
-use Rattle.nv_super.specs.Layout.{fixed_layout}
+use Rattle.nv_super.specs.Layout.{Layout}
 use Rattle.std.proofs.Math.Logic.{∥∥₁_map}
 use Rattle.nv_region.specs.Region.{Region}
 use Rattle.nv_region.specs.Stops.{Choices, LeavesOnly, NothingPending}
-use Rattle.nv_super.specs.declared.superblock.Super.{Super}
 use Rattle.nv_super.proofs.Members.{stands}
 use Rattle.nv_journal.specs.Undo.{undone}
 use Rattle.nv_alloc.specs.FreeValue.{FreeLists}
 use Rattle.nv_scan.specs.declared.piece.Row.{Row}
-use Rattle.nv_held.specs.Held.{Held, Store}
-use Rattle.nv_held.specs.Mounted.{IsMounted}
+use Rattle.nv_mounted.specs.Held.{Held, Store}
+use Rattle.nv_mounted.specs.Mounted.{IsMounted}
 use Rattle.nv_commit.specs.Stopped.{LeavesEither}
 use Rattle.nv_tree.specs.Tree.{SameTree, Tree, found}
 use Rattle.nv_tree.specs.Calls.{edit, on_some, resized, with_size}
@@ -34,13 +33,13 @@ sized_by t names i size time leads u is =
     let made : resized names size time t ≡ edit i (with_size size time) t = ap (λ (o : Option ℕ). on_some o (λ j. edit j (with_size size time) t) t) leads in
     subst (λ (v : Tree). SameTree u v) (sym made) is
 
-module _ {P : Type 0} (region : P → Region) {n m : Mount P} (same : n ≡ m) (kept : IsKept (region n.memory) n.sup n.rows n.free n.faults n.read_only n.stopped) (runs : n.stopped ≡ false) (writes : n.read_only ≡ false)
+module _ {P : Type 0} (region : P → Region) {n m : Mount P} (same : n ≡ m) (kept : IsKept (region n.memory) n.sup n.layout n.rows n.free n.faults n.read_only n.stopped) (runs : n.stopped ≡ false) (writes : n.read_only ≡ false)
     (place : ℕ) (row : Row) (at : slice_get n.rows place ≡ Some row) (cpu size time : ℕ) (names : List (List ℕ)) (leads : LeadsTo (tree_of (region n.memory) n.rows) names row.inode (node_of (region n.memory) row)) where
   abbrev R : Region
   R = region n.memory
 
-  abbrev s : Super
-  s = n.sup
+  abbrev l : Layout
+  l = n.layout
 
   abbrev rows : List Row
   rows = n.rows
@@ -48,8 +47,8 @@ module _ {P : Type 0} (region : P → Region) {n m : Mount P} (same : n ≡ m) (
   abbrev free : FreeLists
   free = n.free
 
-  size_by : (left : Region) (held : Store) (mounted : IsMounted R s held rows free.pools) → LeavesEither R (fixed_layout s) held (Resized R s free cpu row (sized (node_of R row) size time)) left
-      → IsAsMounted R s rows free.pools left ⊎ IsAsMade s (resized names size time (tree_of R rows)) (logs_size cpu size time R n names) left
+  size_by : (left : Region) (held : Store) (mounted : IsMounted R l held rows free.pools) → LeavesEither R l held (Resized R l free cpu row (sized (node_of R row) size time)) left
+      → IsAsMounted R l rows free.pools left ⊎ IsAsMade l (resized names size time (tree_of R rows)) (logs_size cpu size time R n names) left
   size_by left held mounted (inl as_before) = inl (still_mounted mounted as_before)
   size_by left held mounted (inr w) =
       let step = w.1 in
@@ -62,15 +61,15 @@ module _ {P : Type 0} (region : P → Region) {n m : Mount P} (same : n ≡ m) (
         rows = set rows place now;
         free = (step.0).pools;
         recovers = recovers_to w.0 then.1;
-        tree = sized_by (tree_of R rows) names row.inode size time leads.leads (tree_of (undone s left) (set rows place now))
+        tree = sized_by (tree_of R rows) names row.inode size time leads.leads (tree_of (undone l.sup left) (set rows place now))
             (tree_after kept runs writes place row now at entries (λ st g shows. resizes.follows st g shows) (with_size size time) has.inode
-            (resized_node R (undone s left) size time has (bytes_after kept runs writes place row at size time resizes)));
-        logs = λ i node st h led sound is. size_logged region {n = n} {m = n} refl (undone s left) names row size time i node st h leads (log_after kept runs writes place row at size time resizes) led sound is;
+            (resized_node R (undone l.sup left) size time has (bytes_after kept runs writes place row at size time resizes)));
+        logs = λ i node st h led sound is. size_logged region {n = n} {m = n} refl (undone l.sup left) names row size time i node st h leads (log_after kept runs writes place row at size time resizes) led sound is;
       })
 
   -- What a stop leaves within the call.
   pub size_left : (S : Region) (old last : Choices)
-      → ((held : Store) (h : Held) → ShowsRow R s held h row free → NothingPending R old → LeavesOnly S last (LeavesEither R (fixed_layout s) held (Resized R s free cpu row (sized (node_of R row) size time)))) → NothingPending R old
+      → ((held : Store) (h : Held) → ShowsRow R l held h row free → NothingPending R old → LeavesOnly S last (LeavesEither R l held (Resized R l free cpu row (sized (node_of R row) size time)))) → NothingPending R old
       → LeavesOnly S last (LeavesCall (makes_size size time) (logs_size cpu size time) (region m.memory) m names)
   size_left S old last step settled =
       subst (λ (k : Mount P). LeavesOnly S last (LeavesCall (makes_size size time) (logs_size cpu size time) (region k.memory) k names)) same

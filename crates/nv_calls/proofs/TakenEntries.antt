@@ -10,9 +10,9 @@ use Rattle.nv_logpage.specs.Good.{good_entries}
 use Rattle.nv_scan.specs.State.{named}
 use Rattle.nv_scan.specs.declared.numbers.Numbers.{Numbers}
 use Rattle.nv_scan.specs.Rows.{AreNumbers}
-use Rattle.nv_held.specs.Held.{Held, good_in}
-use Rattle.nv_held.specs.Grows.{SameFile, grown}
-use Rattle.nv_held.specs.nv_graph.Step.{IsGoodName, name_entry}
+use Rattle.nv_mounted.specs.Held.{Held, good_in}
+use Rattle.nv_mounted.specs.Grows.{SameFile, grown}
+use Rattle.nv_graph.specs.Step.{IsGoodName, name_entry}
 use Rattle.nv_commit.specs.Pages.{SaysNoPage}
 use Rattle.nv_commit.proofs.BlocksOf.{same_file}
 use Rattle.nv_steps.proofs.NameEntries.{name_added, name_lost, name_numbers}

@@ -3,20 +3,19 @@
 use Rattle.std.proofs.Common.{◌≡◌, ◌≢◌, ℕ, ◌%◌, inl, inr, List, length, take, refl, ap, sym, ◌∙◌, Option, Some, None}
 use Rattle.std.specs.Option.{option_and_then, option_map}
 use Rattle.nv_region.specs.Region.{Region}
-use Rattle.nv_super.specs.declared.superblock.Super.{Super}
 use Rattle.nv_super.specs.declared.kind.Kind.TheVariants.{File, Directory}
-use Rattle.nv_super.specs.Layout.{Layout, fixed_layout}
+use Rattle.nv_super.specs.Layout.{Layout}
 use Rattle.nv_super.proofs.Options.{some_is}
 use Rattle.nv_alloc.specs.FreeValue.{FreeLists}
 use Rattle.nv_entry.specs.declared.entry.Entry.{Entry}
 use Rattle.nv_logpage.specs.Append.{end_of, needed}
 use Rattle.nv_names.specs.Names.{name_at}
 use Rattle.nv_scan.specs.declared.piece.Row.{Row}
-use Rattle.nv_held.specs.Held.{Held, Store}
-use Rattle.nv_held.specs.Blocks.{KeepsFree, OwnsNew}
-use Rattle.nv_held.specs.Graph.{graph_in, target_in}
-use Rattle.nv_held.specs.Grows.{AreFree, SameFile}
-use Rattle.nv_held.specs.Mounted.{KeepsRow, ShowsSound}
+use Rattle.nv_mounted.specs.Held.{Held, Store}
+use Rattle.nv_mounted.specs.Blocks.{KeepsFree, OwnsNew}
+use Rattle.nv_mounted.specs.Graph.{graph_in, target_in}
+use Rattle.nv_mounted.specs.Grows.{AreFree, SameFile}
+use Rattle.nv_mounted.specs.Mounted.{KeepsRow, ShowsSound}
 use Rattle.nv_commit.specs.Extends.{extended}
 use Rattle.nv_commit.specs.ReplacedNames.{CanTakeName}
 use Rattle.nv_commit.specs.ReplacedNames as held_names
@@ -32,11 +31,8 @@ use Rattle.nv_calls.proofs.GoneHeld.{fresh_free, lists_then, own_then}
 use Rattle.nv_calls.proofs.TakenSpot.{held_goes}
 use Rattle.nv_calls.proofs.TakenRow.{first_place, second_place, takes_file, third_place}
 
-module _ {R : Region} {s : Super} {held : Store} {h f : Held} {row gone : Row} {free mid : FreeLists} {cpu : ℕ} (i : ℕ) (name other : List ℕ) (time : ℕ) (path : List (List ℕ)) (fresh : List ℕ) (shows : ShowsRow R s held h row free) (shows_gone : ShowsRow R s held f gone free)
-    (directory : h.kind ≡ Directory) (can : CanTakeName (fixed_layout s) held row.inode h name path row.inode h other i gone.inode f) (can_go : CanGo gone) (lists : free.sup ≡ s) (taken : TakesEach free cpu fresh mid) (count : length fresh ≡ needed (h.tail % 4096) (take_entries i gone.inode name other time)) where
-  abbrev l : Layout
-  l = fixed_layout s
-
+module _ {R : Region} {l : Layout} {held : Store} {h f : Held} {row gone : Row} {free mid : FreeLists} {cpu : ℕ} (i : ℕ) (name other : List ℕ) (time : ℕ) (path : List (List ℕ)) (fresh : List ℕ) (shows : ShowsRow R l held h row free) (shows_gone : ShowsRow R l held f gone free)
+    (directory : h.kind ≡ Directory) (can : CanTakeName l held row.inode h name path row.inode h other i gone.inode f) (can_go : CanGo gone) (lists : free.sup ≡ l.sup) (taken : TakesEach free cpu fresh mid) (count : length fresh ≡ needed (h.tail % 4096) (take_entries i gone.inode name other time)) where
   abbrev j : ℕ
   j = gone.inode
 
@@ -69,12 +65,12 @@ module _ {R : Region} {s : Super} {held : Store} {h f : Held} {row gone : Row} {
   told = shows.told
 
   file_stays : SameFile l h (extended h entries fresh)
-  file_stays = takes_file s i j name other time fresh told (told.kind ∙ directory) can.good can.good_there can.good_other
+  file_stays = takes_file l i j name other time fresh told (told.kind ∙ directory) can.good can.good_there can.good_other
 
   pub takes_free : AreFree l held fresh
   takes_free = fresh_free entries fresh shows shows_gone takes_apart file_stays lists taken count
 
-  module _ {S : Region} (idle : ShowsIdle S s then) where
+  module _ {S : Region} (idle : ShowsIdle S l then) where
     own : OwnsNew l held row.inode (Some (extended h entries fresh))
     own = own_then entries fresh shows shows_gone takes_apart file_stays lists taken count idle
 
@@ -82,11 +78,11 @@ module _ {R : Region} {s : Super} {held : Store} {h f : Held} {row gone : Row} {
     takes_lists given = lists_then entries fresh shows shows_gone takes_apart file_stays lists taken count idle given
 
     -- The region is sound.
-    pub takes_sound : ShowsSound S s then
+    pub takes_sound : ShowsSound S l then
     takes_sound = record {
-      sup = idle.sup;
+      tables = idle.tables;
       idle = idle.idle;
       shows = idle.shows;
-      faultless = gone_within l held row.inode h name path row.inode h other i j f can (first_place s i j name other time fresh told (told.kind ∙ directory) can.good can.good_there can.good_other) time (end_of fresh 0 h.tail entries) (take (needed (h.tail % 4096) entries) fresh)
-          (second_place s i j name other time fresh told (told.kind ∙ directory) can.good can.good_there can.good_other) (third_place s i j name other time fresh told (told.kind ∙ directory) can.good can.good_there can.good_other) refl own held_go;
+      faultless = gone_within l held row.inode h name path row.inode h other i j f can (first_place l i j name other time fresh told (told.kind ∙ directory) can.good can.good_there can.good_other) time (end_of fresh 0 h.tail entries) (take (needed (h.tail % 4096) entries) fresh)
+          (second_place l i j name other time fresh told (told.kind ∙ directory) can.good can.good_there can.good_other) (third_place l i j name other time fresh told (told.kind ∙ directory) can.good can.good_there can.good_other) refl own held_go;
     }

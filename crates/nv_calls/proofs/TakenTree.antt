@@ -8,7 +8,7 @@ use Rattle.nv_names.specs.Names.{Names, name_at}
 use Rattle.nv_radix.specs.Pages.{block_at}
 use Rattle.nv_scan.specs.declared.numbers.Numbers.{Numbers}
 use Rattle.nv_scan.specs.declared.piece.Row.{Row}
-use Rattle.nv_held.specs.Bytes.{byte_in}
+use Rattle.nv_mounted.specs.Bytes.{byte_in}
 use Rattle.nv_tree.specs.Tree.{SameNode}
 use Rattle.nv_tree.specs.Calls.{with_name, without_name}
 use Rattle.nv_paths.specs.Seen.{node_of}

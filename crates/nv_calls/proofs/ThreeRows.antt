@@ -6,7 +6,7 @@ use Rattle.nv_alloc.specs.FreeValue.{FreeLists}
 use Rattle.nv_scan.specs.declared.piece.Row.{Row}
 use Rattle.nv_rows.specs.Rows.{row_of, place_in, IsInUse, IsLent}
 use Rattle.nv_rows.proofs.Places.{at_place, back_two, place_kept, place_lent, places_apart, used_back, used_lent}
-use Rattle.nv_held.specs.nv_outcome.Same.{SameRow, SameRows}
+use Rattle.nv_outcome.specs.Same.{SameRow, SameRows}
 use Rattle.nv_steps.specs.Steps.{LeavesStep}
 use Rattle.nv_steps.proofs.RowsAt.{other_set}
 use Rattle.nv_steps.proofs.SetRows.{both_same}

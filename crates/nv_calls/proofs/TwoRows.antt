@@ -2,15 +2,15 @@
 use Rattle.std.proofs.Common.{◌≡◌, ◌≢◌, ℕ, List, [], ◌∷◌, set, slice_get, ap, subst, sym, ◌∙◌, Some}
 use Rattle.std.proofs.lemmas.Option.{same_Some}
 use Rattle.nv_region.specs.Region.{Region}
-use Rattle.nv_super.specs.declared.superblock.Super.{Super}
 use Rattle.nv_alloc.specs.FreeValue.{FreeLists}
 use Rattle.nv_entry.specs.declared.entry.Entry.{Entry}
 use Rattle.nv_scan.specs.declared.piece.Row.{Row}
 use Rattle.nv_rows.specs.Rows.{row_of, place_in, IsInUse, IsLent}
 use Rattle.nv_super.specs.Order.{Rises}
-use Rattle.nv_held.specs.nv_check.Cross.{row_key}
+use Rattle.nv_super.specs.Layout.{Layout}
+use Rattle.nv_cross_check.specs.Cross.{row_key}
 use Rattle.nv_rows.proofs.Places.{at_place, in_use, others_lent, places_apart, row_in_use, set_rising, used_back, used_lent}
-use Rattle.nv_held.specs.nv_outcome.Same.{SameRow}
+use Rattle.nv_outcome.specs.Same.{SameRow}
 use Rattle.nv_steps.specs.MoreNames.{GrowsTwo}
 use Rattle.nv_calls.specs.AtPlaces.{LeavesRows}
 use Rattle.nv_steps.specs.Steps.{LeavesStep}
@@ -49,8 +49,8 @@ first_used rows mid rest one i j row other apart used other_used lent other_lent
 
 module _ (rows news : List Row) (i j : ℕ) (a b c d : Row) (apart : i ≢ j) (at : row_of rows i ≡ Some a) (other_at : row_of rows j ≡ Some b) (put : news ≡ set (set rows (place_in rows i) c) (place_in rows j) d) where
   -- what was done to the two is done at their places
-  pub lifted : {R S : Region} {s : Super} {free after : FreeLists} {cpu : ℕ} {first second : Row} {entries others : List Entry} {Becomes Other : List ℕ → Row → Type 0} → GrowsTwo R S s free after cpu (a ∷ b ∷ []) (c ∷ d ∷ []) 0 first entries 1 second others Becomes Other
-      → GrowsTwo R S s free after cpu rows news (place_in rows i) first entries (place_in rows j) second others Becomes Other
+  pub lifted : {R S : Region} {l : Layout} {free after : FreeLists} {cpu : ℕ} {first second : Row} {entries others : List Entry} {Becomes Other : List ℕ → Row → Type 0} → GrowsTwo R S l free after cpu (a ∷ b ∷ []) (c ∷ d ∷ []) 0 first entries 1 second others Becomes Other
+      → GrowsTwo R S l free after cpu rows news (place_in rows i) first entries (place_in rows j) second others Becomes Other
   lifted step =
       let first_is : c ≡ step.first_now = (let e = step.put in cc) in
       let second_is : d ≡ step.second_now = (let e = step.put in cc) in

@@ -5,9 +5,10 @@ use Rattle.std.specs.Option.{option_map_or}
 use Rattle.std.proofs.Math.Logic.{∥∥₁_map}
 use Rattle.std.proofs.lemmas.Option.{same_Some}
 use Rattle.nv_region.specs.Region.{Region}
-use Rattle.nv_super.specs.declared.superblock.Super.{Super}
-use Rattle.nv_super.specs.Layout.{fixed_layout, slot_address}
+use Rattle.nv_super.specs.Layout.{Layout}
 use Rattle.nv_super.proofs.Members.{stands}
+use Rattle.nv_super.specs.declared.superblock.Super.{Super}
+use Rattle.nv_steps.specs.Slots.{slot_in}
 use Rattle.nv_journal.specs.InOrder.{FirstIsFirst}
 use Rattle.nv_alloc.specs.FreeValue.{FreeLists}
 use Rattle.nv_entry.specs.declared.entry.Entry.{Entry}
@@ -16,8 +17,8 @@ use Rattle.nv_scan.specs.declared.piece.Row.{Row}
 use Rattle.nv_rows.specs.Rows.{IsInUse, place_in, row_of}
 use Rattle.nv_rows.specs.Unused.{unused_number}
 use Rattle.nv_rows.proofs.Places.{at_place, numbered, own_row, row_in_use}
-use Rattle.nv_held.specs.Held.{Held, Store}
-use Rattle.nv_held.specs.Mounted.{ShowsSound}
+use Rattle.nv_mounted.specs.Held.{Held, Store}
+use Rattle.nv_mounted.specs.Mounted.{ShowsSound}
 use Rattle.nv_tree.specs.Path.{last_name}
 use Rattle.nv_tree.specs.Tree.{Node, walk}
 use Rattle.nv_tree.specs.Calls.{links_at}
@@ -40,12 +41,12 @@ use Rattle.nv_calls.proofs.NewNumbers.{unused_is}
 use Rattle.nv_calls.proofs.OneRow.{shows_row}
 use Rattle.nv_calls.proofs.Stores.{row_stores, rows_store}
 
-module _ {P : Type 0} (region : P → Region) {n m : Mount P} (same : n ≡ m) (kept : IsKept (region n.memory) n.sup n.rows n.free n.faults n.read_only n.stopped) (now_runs : m.stopped ≡ false) (S : Region) (cpu : ℕ) where
+module _ {P : Type 0} (region : P → Region) {n m : Mount P} (same : n ≡ m) (kept : IsKept (region n.memory) n.sup n.layout n.rows n.free n.faults n.read_only n.stopped) (now_runs : m.stopped ≡ false) (S : Region) (cpu : ℕ) where
   abbrev R : Region
   R = region n.memory
 
-  abbrev s : Super
-  s = n.sup
+  abbrev l : Layout
+  l = n.layout
 
   abbrev rows : List Row
   rows = n.rows
@@ -85,15 +86,15 @@ module _ {P : Type 0} (region : P → Region) {n m : Mount P} (same : n ≡ m) (
     other_there : slice_get rows (place_in rows j) ≡ Some other
     other_there = at_place rows j ∙ other_at
 
-    two_store : (places : ℕ → ℕ → Places) → ((held : Store) (f g : Held) → ShowsRow R s held f one free → ShowsRow R s held g other free → StoresIn s held (places one.inode other.inode) R S)
-        → (k d : ℕ) → one.inode ≡ k → other.inode ≡ d → (held : Store) → ShowsSound R s held → StoresIn s held (places k d) R S
+    two_store : (places : ℕ → ℕ → Places) → ((held : Store) (f g : Held) → ShowsRow R l held f one free → ShowsRow R l held g other free → StoresIn l held (places one.inode other.inode) R S)
+        → (k d : ℕ) → one.inode ≡ k → other.inode ≡ d → (held : Store) → ShowsSound R l held → StoresIn l held (places k d) R S
     two_store places step k d one_is other_is held sound =
         let told : places one.inode other.inode ≡ places k d = λ t. places (one_is t) (other_is t) in
-        subst (λ (p : Places). StoresIn s held p R S) told
+        subst (λ (p : Places). StoresIn l held p R S) told
         (rows_store kept runs S one other (there i one one_at) (there j other other_at) (places one.inode other.inode) held sound (λ f g seen beside. step held f g seen beside))
 
-    two_order : (entries told : List Entry) (address : ℕ → ℕ) → ((held : Store) (f g : Held) → ShowsRow R s held f one free → ShowsRow R s held g other free → TailIsFirst R S s free.pools cpu one.inode one.tail entries (address other.inode))
-        → (k d : ℕ) → one.inode ≡ k → other.inode ≡ d → entries ≡ told → (held : Store) (h : Held) → ShowsSound R s held → held k ≡ Some h → ShowsTailFirst R S s free.pools cpu k h told (address d)
+    two_order : (entries told : List Entry) (address : ℕ → ℕ) → ((held : Store) (f g : Held) → ShowsRow R l held f one free → ShowsRow R l held g other free → TailIsFirst R S l free.pools cpu one.inode one.tail entries (address other.inode))
+        → (k d : ℕ) → one.inode ≡ k → other.inode ≡ d → entries ≡ told → (held : Store) (h : Held) → ShowsSound R l held → held k ≡ Some h → ShowsTailFirst R S l free.pools cpu k h told (address d)
     two_order entries told address step k d one_is other_is as_told held h sound is =
         first_as R h one_is as_told (ap address other_is)
         (rows_first kept runs S one other (there i one one_at) (there j other other_at) cpu entries (address other.inode) held h sound (ap held one_is ∙ is) (λ f g seen beside. step held f g seen beside))
@@ -110,22 +111,22 @@ module _ {P : Type 0} (region : P → Region) {n m : Mount P} (same : n ≡ m) (
           let walked : Ok other.inode ≡ Ok d = sym (in_directory.row other other_there).0 ∙ ended in
           cc
 
-      pub link_stored : ((file directory : Row) (held : Store) (f h : Held) → row_of rows i ≡ Some file → row_of rows j ≡ Some directory → ShowsRow R s held f file free → ShowsRow R s held h directory free → StoresIn s held (two_logs s cpu file.inode directory.inode) R S)
-          → (k d : ℕ) (node : Node) (held : Store) → LeadsTo (tree_of (region m.memory) m.rows) names k node → walk (tree_of (region m.memory) m.rows) 1 others ≡ Ok d → ShowsSound (region m.memory) m.sup held → StoresIn m.sup held (two_logs m.sup cpu k d) (region m.memory) S
+      pub link_stored : ((file directory : Row) (held : Store) (f h : Held) → row_of rows i ≡ Some file → row_of rows j ≡ Some directory → ShowsRow R l held f file free → ShowsRow R l held h directory free → StoresIn l held (two_logs l cpu file.inode directory.inode) R S)
+          → (k d : ℕ) (node : Node) (held : Store) → LeadsTo (tree_of (region m.memory) m.rows) names k node → walk (tree_of (region m.memory) m.rows) 1 others ≡ Ok d → ShowsSound (region m.memory) m.layout held → StoresIn m.layout held (two_logs m.layout cpu k d) (region m.memory) S
       link_stored step k d node held =
-          subst (λ (q : Mount P). LeadsTo (tree_of (region q.memory) q.rows) names k node → walk (tree_of (region q.memory) q.rows) 1 others ≡ Ok d → ShowsSound (region q.memory) q.sup held → StoresIn q.sup held (two_logs q.sup cpu k d) (region q.memory) S) same
-          (λ led ended sound. two_store (two_logs s cpu) (λ st f h seen beside. step one other st f h one_at other_at seen beside) k d (file_is k node led) (directory_is d ended) held sound)
+          subst (λ (q : Mount P). LeadsTo (tree_of (region q.memory) q.rows) names k node → walk (tree_of (region q.memory) q.rows) 1 others ≡ Ok d → ShowsSound (region q.memory) q.layout held → StoresIn q.layout held (two_logs q.layout cpu k d) (region q.memory) S) same
+          (λ led ended sound. two_store (two_logs l cpu) (λ st f h seen beside. step one other st f h one_at other_at seen beside) k d (file_is k node led) (directory_is d ended) held sound)
 
       -- The file's tail is stored first.
-      pub link_ordered : ((file directory : Row) (held : Store) (f h : Held) → row_of rows i ≡ Some file → row_of rows j ≡ Some directory → ShowsRow R s held f file free → ShowsRow R s held h directory free → TailIsFirst R S s free.pools cpu file.inode file.tail (links_entries (file.numbers.links + 1) time) (tail_address s directory.inode))
-          → (k d : ℕ) (node : Node) (held : Store) (f : Held) → LeadsTo (tree_of (region m.memory) m.rows) names k node → walk (tree_of (region m.memory) m.rows) 1 others ≡ Ok d → ShowsSound (region m.memory) m.sup held → held k ≡ Some f
-          → ShowsTailFirst (region m.memory) S m.sup m.free.pools cpu k f (links_entries (node.links + 1) time) (tail_address m.sup d)
+      pub link_ordered : ((file directory : Row) (held : Store) (f h : Held) → row_of rows i ≡ Some file → row_of rows j ≡ Some directory → ShowsRow R l held f file free → ShowsRow R l held h directory free → TailIsFirst R S l free.pools cpu file.inode file.tail (links_entries (file.numbers.links + 1) time) (tail_address l directory.inode))
+          → (k d : ℕ) (node : Node) (held : Store) (f : Held) → LeadsTo (tree_of (region m.memory) m.rows) names k node → walk (tree_of (region m.memory) m.rows) 1 others ≡ Ok d → ShowsSound (region m.memory) m.layout held → held k ≡ Some f
+          → ShowsTailFirst (region m.memory) S m.layout m.free.pools cpu k f (links_entries (node.links + 1) time) (tail_address m.layout d)
       link_ordered step k d node held f =
-          subst (λ (q : Mount P). LeadsTo (tree_of (region q.memory) q.rows) names k node → walk (tree_of (region q.memory) q.rows) 1 others ≡ Ok d → ShowsSound (region q.memory) q.sup held → held k ≡ Some f
-          → ShowsTailFirst (region q.memory) S q.sup q.free.pools cpu k f (links_entries (node.links + 1) time) (tail_address q.sup d)) same
+          subst (λ (q : Mount P). LeadsTo (tree_of (region q.memory) q.rows) names k node → walk (tree_of (region q.memory) q.rows) 1 others ≡ Ok d → ShowsSound (region q.memory) q.layout held → held k ≡ Some f
+          → ShowsTailFirst (region q.memory) S q.layout q.free.pools cpu k f (links_entries (node.links + 1) time) (tail_address q.layout d)) same
           (λ led ended sound is.
           let file = file_is k node led in
-          two_order (links_entries (one.numbers.links + 1) time) (links_entries (node.links + 1) time) (tail_address s) (λ st a b seen beside. step one other st a b one_at other_at seen beside) k d file (directory_is d ended)
+          two_order (links_entries (one.numbers.links + 1) time) (links_entries (node.links + 1) time) (tail_address l) (λ st a b seen beside. step one other st a b one_at other_at seen beside) k d file (directory_is d ended)
           (ap (λ (q : ℕ). links_entries (q + 1) time) (links_are i one one_at names k node led file)) held f sound is)
 
     -- `rmdir` and `unlink`: of the directory, and of the inode that loses its name, where a condition on its links holds
@@ -141,25 +142,25 @@ module _ {P : Type 0} (region : P → Region) {n m : Mount P} (same : n ≡ m) (
       links_of : (k : ℕ) (node : Node) → LeadsTo (tree_of R rows) names k node → Links node.links → Links other.numbers.links
       links_of k node led = subst Links (sym (links_are j other other_at names k node led (gone_is k node led)))
 
-      pub gone_stored : (places : Super → ℕ → ℕ → Places)
-          → ((row gone : Row) (held : Store) (h f : Held) → row_of rows i ≡ Some row → row_of rows j ≡ Some gone → ShowsRow R s held h row free → ShowsRow R s held f gone free → Links gone.numbers.links → StoresIn s held (places s row.inode gone.inode) R S)
-          → (k d : ℕ) (node : Node) (held : Store) → LeadsTo (tree_of (region m.memory) m.rows) names k node → walk (tree_of (region m.memory) m.rows) 1 names ≡ Ok d → ShowsSound (region m.memory) m.sup held → Links node.links → StoresIn m.sup held (places m.sup d k) (region m.memory) S
+      pub gone_stored : (places : Layout → ℕ → ℕ → Places)
+          → ((row gone : Row) (held : Store) (h f : Held) → row_of rows i ≡ Some row → row_of rows j ≡ Some gone → ShowsRow R l held h row free → ShowsRow R l held f gone free → Links gone.numbers.links → StoresIn l held (places l row.inode gone.inode) R S)
+          → (k d : ℕ) (node : Node) (held : Store) → LeadsTo (tree_of (region m.memory) m.rows) names k node → walk (tree_of (region m.memory) m.rows) 1 names ≡ Ok d → ShowsSound (region m.memory) m.layout held → Links node.links → StoresIn m.layout held (places m.layout d k) (region m.memory) S
       gone_stored places step k d node held =
-          subst (λ (q : Mount P). LeadsTo (tree_of (region q.memory) q.rows) names k node → walk (tree_of (region q.memory) q.rows) 1 names ≡ Ok d → ShowsSound (region q.memory) q.sup held → Links node.links → StoresIn q.sup held (places q.sup d k) (region q.memory) S) same
-          (λ led ended sound told. two_store (places s) (λ st a b seen beside. step one other st a b one_at other_at seen beside (links_of k node led told)) d k (parent_is d ended) (gone_is k node led) held sound)
+          subst (λ (q : Mount P). LeadsTo (tree_of (region q.memory) q.rows) names k node → walk (tree_of (region q.memory) q.rows) 1 names ≡ Ok d → ShowsSound (region q.memory) q.layout held → Links node.links → StoresIn q.layout held (places q.layout d k) (region q.memory) S) same
+          (λ led ended sound told. two_store (places l) (λ st a b seen beside. step one other st a b one_at other_at seen beside (links_of k node led told)) d k (parent_is d ended) (gone_is k node led) held sound)
 
       -- The directory's tail is stored before a word of the inode's slot.
-      pub gone_ordered : (word_of : Super → ℕ → ℕ)
-          → ((row gone : Row) (held : Store) (h f : Held) → row_of rows i ≡ Some row → row_of rows j ≡ Some gone → ShowsRow R s held h row free → ShowsRow R s held f gone free → Links gone.numbers.links → TailIsFirst R S s free.pools cpu row.inode row.tail (name_entries Remove gone.inode name time) (word_of s gone.inode))
-          → (k d : ℕ) (node : Node) (held : Store) (h : Held) → LeadsTo (tree_of (region m.memory) m.rows) names k node → walk (tree_of (region m.memory) m.rows) 1 names ≡ Ok d → ShowsSound (region m.memory) m.sup held → held d ≡ Some h → Links node.links
-          → ShowsTailFirst (region m.memory) S m.sup m.free.pools cpu d h (name_entries Remove k (last_name names) time) (word_of m.sup k)
+      pub gone_ordered : (word_of : Layout → ℕ → ℕ)
+          → ((row gone : Row) (held : Store) (h f : Held) → row_of rows i ≡ Some row → row_of rows j ≡ Some gone → ShowsRow R l held h row free → ShowsRow R l held f gone free → Links gone.numbers.links → TailIsFirst R S l free.pools cpu row.inode row.tail (name_entries Remove gone.inode name time) (word_of l gone.inode))
+          → (k d : ℕ) (node : Node) (held : Store) (h : Held) → LeadsTo (tree_of (region m.memory) m.rows) names k node → walk (tree_of (region m.memory) m.rows) 1 names ≡ Ok d → ShowsSound (region m.memory) m.layout held → held d ≡ Some h → Links node.links
+          → ShowsTailFirst (region m.memory) S m.layout m.free.pools cpu d h (name_entries Remove k (last_name names) time) (word_of m.layout k)
       gone_ordered word_of step k d node held h =
-          subst (λ (q : Mount P). LeadsTo (tree_of (region q.memory) q.rows) names k node → walk (tree_of (region q.memory) q.rows) 1 names ≡ Ok d → ShowsSound (region q.memory) q.sup held → held d ≡ Some h → Links node.links
-          → ShowsTailFirst (region q.memory) S q.sup q.free.pools cpu d h (name_entries Remove k (last_name names) time) (word_of q.sup k)) same
+          subst (λ (q : Mount P). LeadsTo (tree_of (region q.memory) q.rows) names k node → walk (tree_of (region q.memory) q.rows) 1 names ≡ Ok d → ShowsSound (region q.memory) q.layout held → held d ≡ Some h → Links node.links
+          → ShowsTailFirst (region q.memory) S q.layout q.free.pools cpu d h (name_entries Remove k (last_name names) time) (word_of q.layout k)) same
           (λ led ended sound is told.
           let gone = gone_is k node led in
           let entries : name_entries Remove other.inode name time ≡ name_entries Remove k (last_name names) time = λ t. name_entries Remove (gone t) (spot.name_is t) time in
-          two_order (name_entries Remove other.inode name time) (name_entries Remove k (last_name names) time) (word_of s) (λ st a b seen beside. step one other st a b one_at other_at seen beside (links_of k node led told)) d k (parent_is d ended) gone entries held h sound is)
+          two_order (name_entries Remove other.inode name time) (name_entries Remove k (last_name names) time) (word_of l) (λ st a b seen beside. step one other st a b one_at other_at seen beside (links_of k node led told)) d k (parent_is d ended) gone entries held h sound is)
 
     -- `rename`: of the old directory, and of the new one
     module _ (t : ℕ) (moved_used : IsInUse rows t) (time : ℕ) (name new : List ℕ) (names others : List (List ℕ)) (spot : IsMoveSpot (tree_of R rows) rows names others (place_in rows i) name (place_in rows t) (place_in rows j) new) where
@@ -185,44 +186,44 @@ module _ {P : Type 0} (region : P → Region) {n m : Mount P} (same : n ≡ m) (
       apart : (d e : ℕ) → one.inode ≡ d → other.inode ≡ e → d ≢ e → place_in rows i ≢ place_in rows j
       apart d e from to differ p = differ (sym from ∙ ap (λ (r : Row). r.inode) (same_Some _ _ (sym one_there ∙ ap (slice_get rows) p ∙ other_there)) ∙ to)
 
-      pub rename_stored : ((from to inode : Row) (held : Store) (h k : Held) → row_of rows i ≡ Some from → row_of rows j ≡ Some to → row_of rows t ≡ Some inode → ShowsRow R s held h from free → ShowsRow R s held k to free → place_in rows i ≢ place_in rows j → StoresIn s held (two_logs s cpu from.inode to.inode) R S)
-          → (d e : ℕ) (held : Store) → walk (tree_of (region m.memory) m.rows) 1 names ≡ Ok d → walk (tree_of (region m.memory) m.rows) 1 others ≡ Ok e → d ≢ e → ShowsSound (region m.memory) m.sup held → StoresIn m.sup held (two_logs m.sup cpu d e) (region m.memory) S
+      pub rename_stored : ((from to inode : Row) (held : Store) (h k : Held) → row_of rows i ≡ Some from → row_of rows j ≡ Some to → row_of rows t ≡ Some inode → ShowsRow R l held h from free → ShowsRow R l held k to free → place_in rows i ≢ place_in rows j → StoresIn l held (two_logs l cpu from.inode to.inode) R S)
+          → (d e : ℕ) (held : Store) → walk (tree_of (region m.memory) m.rows) 1 names ≡ Ok d → walk (tree_of (region m.memory) m.rows) 1 others ≡ Ok e → d ≢ e → ShowsSound (region m.memory) m.layout held → StoresIn m.layout held (two_logs m.layout cpu d e) (region m.memory) S
       rename_stored step d e held =
-          subst (λ (q : Mount P). walk (tree_of (region q.memory) q.rows) 1 names ≡ Ok d → walk (tree_of (region q.memory) q.rows) 1 others ≡ Ok e → d ≢ e → ShowsSound (region q.memory) q.sup held → StoresIn q.sup held (two_logs q.sup cpu d e) (region q.memory) S) same
+          subst (λ (q : Mount P). walk (tree_of (region q.memory) q.rows) 1 names ≡ Ok d → walk (tree_of (region q.memory) q.rows) 1 others ≡ Ok e → d ≢ e → ShowsSound (region q.memory) q.layout held → StoresIn q.layout held (two_logs q.layout cpu d e) (region q.memory) S) same
           (λ walked ended differ sound.
           let from = from_is d walked in
           let to = to_is e ended in
-          two_store (two_logs s cpu) (λ st a b seen beside. step one other moved st a b one_at other_at moved_at seen beside (apart d e from to differ)) d e from to held sound)
+          two_store (two_logs l cpu) (λ st a b seen beside. step one other moved st a b one_at other_at moved_at seen beside (apart d e from to differ)) d e from to held sound)
 
       -- The old directory's tail is stored first.
-      pub rename_ordered : ((from to inode : Row) (held : Store) (h k : Held) → row_of rows i ≡ Some from → row_of rows j ≡ Some to → row_of rows t ≡ Some inode → ShowsRow R s held h from free → ShowsRow R s held k to free → place_in rows i ≢ place_in rows j
-          → TailIsFirst R S s free.pools cpu from.inode from.tail (name_entries Remove inode.inode name time) (tail_address s to.inode))
-          → (k d e : ℕ) (node : Node) (held : Store) (h : Held) → LeadsTo (tree_of (region m.memory) m.rows) names k node → walk (tree_of (region m.memory) m.rows) 1 names ≡ Ok d → walk (tree_of (region m.memory) m.rows) 1 others ≡ Ok e → d ≢ e → ShowsSound (region m.memory) m.sup held → held d ≡ Some h
-          → ShowsTailFirst (region m.memory) S m.sup m.free.pools cpu d h (name_entries Remove k (last_name names) time) (tail_address m.sup e)
+      pub rename_ordered : ((from to inode : Row) (held : Store) (h k : Held) → row_of rows i ≡ Some from → row_of rows j ≡ Some to → row_of rows t ≡ Some inode → ShowsRow R l held h from free → ShowsRow R l held k to free → place_in rows i ≢ place_in rows j
+          → TailIsFirst R S l free.pools cpu from.inode from.tail (name_entries Remove inode.inode name time) (tail_address l to.inode))
+          → (k d e : ℕ) (node : Node) (held : Store) (h : Held) → LeadsTo (tree_of (region m.memory) m.rows) names k node → walk (tree_of (region m.memory) m.rows) 1 names ≡ Ok d → walk (tree_of (region m.memory) m.rows) 1 others ≡ Ok e → d ≢ e → ShowsSound (region m.memory) m.layout held → held d ≡ Some h
+          → ShowsTailFirst (region m.memory) S m.layout m.free.pools cpu d h (name_entries Remove k (last_name names) time) (tail_address m.layout e)
       rename_ordered step k d e node held h =
-          subst (λ (q : Mount P). LeadsTo (tree_of (region q.memory) q.rows) names k node → walk (tree_of (region q.memory) q.rows) 1 names ≡ Ok d → walk (tree_of (region q.memory) q.rows) 1 others ≡ Ok e → d ≢ e → ShowsSound (region q.memory) q.sup held → held d ≡ Some h
-          → ShowsTailFirst (region q.memory) S q.sup q.free.pools cpu d h (name_entries Remove k (last_name names) time) (tail_address q.sup e)) same
+          subst (λ (q : Mount P). LeadsTo (tree_of (region q.memory) q.rows) names k node → walk (tree_of (region q.memory) q.rows) 1 names ≡ Ok d → walk (tree_of (region q.memory) q.rows) 1 others ≡ Ok e → d ≢ e → ShowsSound (region q.memory) q.layout held → held d ≡ Some h
+          → ShowsTailFirst (region q.memory) S q.layout q.free.pools cpu d h (name_entries Remove k (last_name names) time) (tail_address q.layout e)) same
           (λ led walked ended differ sound is.
           let from = from_is d walked in
           let to = to_is e ended in
           let old = spot.from in
           let inode : moved.inode ≡ k = same_Some _ _ (sym (old.leads moved (at_place rows t ∙ moved_at)) ∙ led.leads) in
           let entries : name_entries Remove moved.inode name time ≡ name_entries Remove k (last_name names) time = λ p. name_entries Remove (inode p) (old.name_is p) time in
-          two_order (name_entries Remove moved.inode name time) (name_entries Remove k (last_name names) time) (tail_address s) (λ st a b seen beside. step one other moved st a b one_at other_at moved_at seen beside (apart d e from to differ)) d e from to entries held h sound is)
+          two_order (name_entries Remove moved.inode name time) (name_entries Remove k (last_name names) time) (tail_address l) (λ st a b seen beside. step one other moved st a b one_at other_at moved_at seen beside (apart d e from to differ)) d e from to entries held h sound is)
 
       -- Within one directory its log alone is stored.
-      pub within_stored : ((to : Row) (held : Store) (h : Held) → row_of rows j ≡ Some to → ShowsRow R s held h to free → i ≡ j → StoresIn s held (one_log s to.inode) R S)
-          → (d : ℕ) (held : Store) → walk (tree_of (region m.memory) m.rows) 1 names ≡ Ok d → walk (tree_of (region m.memory) m.rows) 1 others ≡ Ok d → ShowsSound (region m.memory) m.sup held → StoresIn m.sup held (one_log m.sup d) (region m.memory) S
+      pub within_stored : ((to : Row) (held : Store) (h : Held) → row_of rows j ≡ Some to → ShowsRow R l held h to free → i ≡ j → StoresIn l held (one_log l to.inode) R S)
+          → (d : ℕ) (held : Store) → walk (tree_of (region m.memory) m.rows) 1 names ≡ Ok d → walk (tree_of (region m.memory) m.rows) 1 others ≡ Ok d → ShowsSound (region m.memory) m.layout held → StoresIn m.layout held (one_log m.layout d) (region m.memory) S
       within_stored step d held =
-          subst (λ (q : Mount P). walk (tree_of (region q.memory) q.rows) 1 names ≡ Ok d → walk (tree_of (region q.memory) q.rows) 1 others ≡ Ok d → ShowsSound (region q.memory) q.sup held → StoresIn q.sup held (one_log q.sup d) (region q.memory) S) same
+          subst (λ (q : Mount P). walk (tree_of (region q.memory) q.rows) 1 names ≡ Ok d → walk (tree_of (region q.memory) q.rows) 1 others ≡ Ok d → ShowsSound (region q.memory) q.layout held → StoresIn q.layout held (one_log q.layout d) (region q.memory) S) same
           (λ walked ended sound.
           let to = to_is d ended in
           let within : i ≡ j = sym (numbered rows i one one_at) ∙ from_is d walked ∙ sym to ∙ numbered rows j other other_at in
-          subst (λ (k : ℕ). StoresIn s held (one_log s k) R S) to (row_stores kept runs S other (there j other other_at) (one_log s other.inode) held sound (λ mounted h seen. step other held h other_at seen within)))
+          subst (λ (k : ℕ). StoresIn l held (one_log l k) R S) to (row_stores kept runs S other (there j other other_at) (one_log l other.inode) held sound (λ mounted h seen. step other held h other_at seen within)))
 
   -- ---- `create` and `mkdir`: of the directory, and the number of the new inode
 
-  module _ (now_writes : m.read_only ≡ false) (i j : ℕ) (used : IsInUse rows i) (now_low : cpu < m.sup.cpus) (name : List ℕ) (names : List (List ℕ)) (spot : IsSpot (tree_of R rows) rows (fixed_layout s) cpu names (place_in rows i) name j) where
+  module _ (now_writes : m.read_only ≡ false) (i j : ℕ) (used : IsInUse rows i) (now_low : cpu < m.sup.cpus) (name : List ℕ) (names : List (List ℕ)) (spot : IsSpot (tree_of R rows) rows l cpu names (place_in rows i) name j) where
     abbrev directory : Row
     directory = (row_in_use rows i used).0
 
@@ -230,32 +231,32 @@ module _ {P : Type 0} (region : P → Region) {n m : Mount P} (same : n ≡ m) (
     directory_at = (row_in_use rows i used).1
 
     unused : row_of rows j ≡ None
-    unused = (unused_is s rows cpu j (subst (λ (q : Mount P). cpu < q.sup.cpus) (sym same) now_low) spot.unused).0
+    unused = (unused_is l rows cpu j (subst (λ (s : Super). cpu < s.cpus) (sym kept.tables) (subst (λ (q : Mount P). cpu < q.sup.cpus) (sym same) now_low)) spot.unused).0
 
     named_is : (d : ℕ) → walk (tree_of R rows) 1 names ≡ Ok d → directory.inode ≡ d
     named_is d ended =
         let walked : Ok directory.inode ≡ Ok d = sym (spot.directory directory (at_place rows i ∙ directory_at)).0 ∙ ended in
         cc
 
-    number_is : (k : ℕ) → unused_number (fixed_layout s) rows cpu ≡ Some k → j ≡ k
+    number_is : (k : ℕ) → unused_number l rows cpu ≡ Some k → j ≡ k
     number_is k number = same_Some _ _ (sym spot.unused ∙ number)
 
-    pub create_stored : ((row : Row) (held : Store) (h : Held) → row_of rows i ≡ Some row → ShowsRow R s held h row free → held j ≡ None → StoresIn s held (one_more s cpu j row.inode) R S)
-        → (d k : ℕ) (held : Store) → walk (tree_of (region m.memory) m.rows) 1 names ≡ Ok d → unused_number (fixed_layout m.sup) m.rows cpu ≡ Some k → ShowsSound (region m.memory) m.sup held → StoresIn m.sup held (one_more m.sup cpu k d) (region m.memory) S
+    pub create_stored : ((row : Row) (held : Store) (h : Held) → row_of rows i ≡ Some row → ShowsRow R l held h row free → held j ≡ None → StoresIn l held (one_more l cpu j row.inode) R S)
+        → (d k : ℕ) (held : Store) → walk (tree_of (region m.memory) m.rows) 1 names ≡ Ok d → unused_number m.layout m.rows cpu ≡ Some k → ShowsSound (region m.memory) m.layout held → StoresIn m.layout held (one_more m.layout cpu k d) (region m.memory) S
     create_stored step d k held =
-        subst (λ (q : Mount P). walk (tree_of (region q.memory) q.rows) 1 names ≡ Ok d → unused_number (fixed_layout q.sup) q.rows cpu ≡ Some k → ShowsSound (region q.memory) q.sup held → StoresIn q.sup held (one_more q.sup cpu k d) (region q.memory) S) same
+        subst (λ (q : Mount P). walk (tree_of (region q.memory) q.rows) 1 names ≡ Ok d → unused_number q.layout q.rows cpu ≡ Some k → ShowsSound (region q.memory) q.layout held → StoresIn q.layout held (one_more q.layout cpu k d) (region q.memory) S) same
         (λ ended number sound.
         let parent = named_is d ended in
         let inode = number_is k number in
-        let places : one_more s cpu j directory.inode ≡ one_more s cpu k d = λ p. one_more s cpu (inode p) (parent p) in
-        subst (λ (p : Places). StoresIn s held p R S) places
-        (row_stores kept runs S directory (there i directory directory_at) (one_more s cpu j directory.inode) held sound (λ mounted h seen. step directory held h directory_at seen (not_held mounted j unused))))
+        let places : one_more l cpu j directory.inode ≡ one_more l cpu k d = λ p. one_more l cpu (inode p) (parent p) in
+        subst (λ (p : Places). StoresIn l held p R S) places
+        (row_stores kept runs S directory (there i directory directory_at) (one_more l cpu j directory.inode) held sound (λ mounted h seen. step directory held h directory_at seen (not_held mounted j unused))))
 
     -- The new inode's valid word is stored first.
-    pub create_ordered : ((row : Row) (held : Store) (h : Held) → row_of rows i ≡ Some row → ShowsRow R s held h row free → held j ≡ None → FirstIsFirst R (slot_address s j) 1 (tail_address s row.inode) S)
-        → (d k : ℕ) → walk (tree_of (region m.memory) m.rows) 1 names ≡ Ok d → unused_number (fixed_layout m.sup) m.rows cpu ≡ Some k → ShowsValidFirst (region m.memory) S m.sup k d
+    pub create_ordered : ((row : Row) (held : Store) (h : Held) → row_of rows i ≡ Some row → ShowsRow R l held h row free → held j ≡ None → FirstIsFirst R (slot_in l j) 1 (tail_address l row.inode) S)
+        → (d k : ℕ) → walk (tree_of (region m.memory) m.rows) 1 names ≡ Ok d → unused_number m.layout m.rows cpu ≡ Some k → ShowsValidFirst (region m.memory) S m.layout k d
     create_ordered step d k =
-        subst (λ (q : Mount P). walk (tree_of (region q.memory) q.rows) 1 names ≡ Ok d → unused_number (fixed_layout q.sup) q.rows cpu ≡ Some k → ShowsValidFirst (region q.memory) S q.sup k d) same
-        (λ ended number. valid_as R S s (number_is k number) (named_is d ended) (∥∥₁_map (mounted_of_kept kept runs (ap (λ (q : Mount P). q.read_only) same ∙ now_writes)) (λ w.
+        subst (λ (q : Mount P). walk (tree_of (region q.memory) q.rows) 1 names ≡ Ok d → unused_number q.layout q.rows cpu ≡ Some k → ShowsValidFirst (region q.memory) S q.layout k d) same
+        (λ ended number. valid_as R S l (number_is k number) (named_is d ended) (∥∥₁_map (mounted_of_kept kept runs (ap (λ (q : Mount P). q.read_only) same ∙ now_writes)) (λ w.
         let v = shows_row w.1 kept.lists directory (there i directory directory_at) in
         step directory w.0 v.0 directory_at v.1 (not_held w.1 j unused))))

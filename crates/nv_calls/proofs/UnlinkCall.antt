@@ -13,12 +13,12 @@ use Rattle.nv_logpage.specs.Append.{needed}
 use Rattle.nv_names.specs.Names.{name_at}
 use Rattle.nv_radix.specs.Pages.{block_at}
 use Rattle.nv_scan.specs.declared.piece.Row.{Row}
-use Rattle.nv_held.specs.nv_check.Cross.{row_key}
-use Rattle.nv_held.specs.nv_graph.Read.{row_of}
-use Rattle.nv_held.specs.nv_graph.Step.{IsGoodName}
-use Rattle.nv_held.specs.Held.{Held, Store}
-use Rattle.nv_held.specs.Bytes.{byte_in}
-use Rattle.nv_held.specs.Mounted.{IsMounted, ShowsSound}
+use Rattle.nv_cross_check.specs.Cross.{row_key}
+use Rattle.nv_graph.specs.Read.{row_of}
+use Rattle.nv_graph.specs.Step.{IsGoodName}
+use Rattle.nv_mounted.specs.Held.{Held, Store}
+use Rattle.nv_mounted.specs.Bytes.{byte_in}
+use Rattle.nv_mounted.specs.Mounted.{IsMounted, ShowsSound}
 use Rattle.nv_tree.specs.declared.refusal.Refusal.{Refusal}
 use Rattle.nv_tree.specs.Path.{IsPath, IsPathName, Says, last_name}
 use Rattle.nv_tree.specs.Tree.{Node, SameTree, Tree, found, walk}
@@ -43,18 +43,19 @@ use Rattle.nv_calls.proofs.LinkedHeld.{kinds_differ}
 use Rattle.nv_calls.proofs.LinkedTree.{counted_node, links_told}
 use Rattle.nv_steps.proofs.NamesCounted.{as_many}
 use Rattle.nv_super.proofs.Members.{stands}
+use Rattle.nv_super.specs.Layout.{Layout}
 use Rattle.nv_calls.proofs.RemoveCall.{removal_blocks, removed_kept, removed_log, tree_is}
 use Rattle.nv_calls.proofs.RemovedTree.{lost_node}
 use Rattle.nv_paths.proofs.RemoveTests.{unlink_allows}
-use Rattle.nv_calls.proofs.RowNumbers.{row_number}
+use Rattle.nv_calls.proofs.RowNumbers.{row_named}
 use Rattle.nv_steps.proofs.RowOf.{row_at}
 use Rattle.nv_calls.proofs.UnlinkedHeld.{unlink_right}
 use Rattle.nv_calls.proofs.UnlinkedTree.{swapped, unlinked_last, unlinked_more}
 
 -- ---- where the file has other names
 
-module _ {R S : Region} {s : Super} {rows news : List Row} {free after : FreeLists} {faults : List Fault} {read_only stopped : Bool} (kept : IsKept R s rows free faults read_only stopped) (runs : stopped ≡ false) (writes : read_only ≡ false)
-    {cpu place target : ℕ} {name : List ℕ} {time : ℕ} (step : UnlinksAt R S s free after cpu rows news place target name time) (spelled : IsPathName name) (is_file : step.file.kind ≡ File) (some : 1 < step.file.numbers.links) (names : List (List ℕ)) (spot : IsNamedAt (tree_of R rows) rows names place name target) where
+module _ {R S : Region} {s : Super} {l : Layout} {rows news : List Row} {free after : FreeLists} {faults : List Fault} {read_only stopped : Bool} (kept : IsKept R s l rows free faults read_only stopped) (runs : stopped ≡ false) (writes : read_only ≡ false)
+    {cpu place target : ℕ} {name : List ℕ} {time : ℕ} (step : UnlinksAt R S l free after cpu rows news place target name time) (spelled : IsPathName name) (is_file : step.file.kind ≡ File) (some : 1 < step.file.numbers.links) (names : List (List ℕ)) (spot : IsNamedAt (tree_of R rows) rows names place name target) where
   abbrev file : Row
   file = step.file
 
@@ -67,8 +68,8 @@ module _ {R S : Region} {s : Super} {rows news : List Row} {free after : FreeLis
   file_at : slice_get rows target ≡ Some file
   file_at = let both = step.step in both.other_at
 
-  good : IsGoodName s file.inode name
-  good = good_name s file.inode name spelled (row_number kept runs writes file (stands rows target file file_at))
+  good : IsGoodName l.sup file.inode name
+  good = good_name l.sup file.inode name spelled (row_named kept runs writes file (stands rows target file file_at))
 
   is_directory : directory.kind ≡ Directory
   is_directory = (spot.directory directory at).1
@@ -80,7 +81,7 @@ module _ {R S : Region} {s : Super} {rows news : List Row} {free after : FreeLis
   named = spot.named directory file at file_at
 
   rising : Rises row_key rows
-  rising = rows_rise R s rows free faults read_only stopped kept runs
+  rising = rows_rise R s l rows free faults read_only stopped kept runs
 
   differ : directory.inode ≢ file.inode
   differ same = kinds_differ rows target place file directory rising file_at at is_file is_directory (sym same)
@@ -88,10 +89,10 @@ module _ {R S : Region} {s : Super} {rows news : List Row} {free after : FreeLis
   counted : links_at (tree_of R rows) file.inode ≡ file.numbers.links
   counted = links_told R rows file (row_at rows target file rising file_at)
 
-  pub more_mounted : (held : Store) (m : IsMounted R s held rows free.pools) → (then : Store) × IsMounted S s then news after.pools
+  pub more_mounted : (held : Store) (m : IsMounted R l held rows free.pools) → (then : Store) × IsMounted S l then news after.pools
   more_mounted held m = (_, mounted_then kept runs writes step.step differ (unlink_right step is_directory is_file some good named) held m)
 
-  more_kept : (now : Bool) → IsKept S s news after faults read_only now
+  more_kept : (now : Bool) → IsKept S s l news after faults read_only now
   more_kept = both_kept kept runs writes step.step differ (unlink_right step is_directory is_file some good named)
 
   bytes : (r : Row) → Contains rows r → (x : ℕ) → byte_in S (block_at r.index (x / 4096)) x ≡ byte_in R (block_at r.index (x / 4096)) x
@@ -109,8 +110,8 @@ module _ {R S : Region} {s : Super} {rows news : List Row} {free after : FreeLis
       subst (λ (t : Tree). SameTree (tree_of S news) t) (sym (unlinked_more names time (tree_of R rows) file.inode directory.inode name (spot.leads file file_at) walked spot.name_is file.numbers.links counted some))
       (swapped (tree_of S news) (tree_of R rows) directory.inode file.inode (without_name name time) (with_links (file.numbers.links - 1) time) differ here)
 
-  more_logs : (i d : ℕ) (node : Node) (held : Store) (h f : Held) → LeadsTo (tree_of R rows) names i node → walk (tree_of R rows) 1 names ≡ Ok d → ShowsSound R s held → held d ≡ Some h → held i ≡ Some f
-      → ShowsBothGrew S s free.pools cpu held d h (name_entries Remove i (last_name names) time) i f (links_entries (node.links - 1) time)
+  more_logs : (i d : ℕ) (node : Node) (held : Store) (h f : Held) → LeadsTo (tree_of R rows) names i node → walk (tree_of R rows) 1 names ≡ Ok d → ShowsSound R l held → held d ≡ Some h → held i ≡ Some f
+      → ShowsBothGrew S l free.pools cpu held d h (name_entries Remove i (last_name names) time) i f (links_entries (node.links - 1) time)
   more_logs i d node held h f led ended sound is other_is =
       let both : Ok directory.inode ≡ Ok d = sym walked ∙ ended in
       let same : directory.inode ≡ d = cc in
@@ -118,21 +119,21 @@ module _ {R S : Region} {s : Super} {rows news : List Row} {free after : FreeLis
       let one : file.inode ≡ i = cc in
       let links : file.numbers.links ≡ node.links = sym counted ∙ ap (λ (k : ℕ). links_at (tree_of R rows) k) one ∙ ap (λ (o : Option Node). option_map_or (λ (n : Node). n.links) o 0) led.shows in
       let grew = both_logs kept runs writes step.step differ (unlink_right step is_directory is_file some good named) held h f sound (ap held same ∙ is) (ap held one ∙ other_is) in
-      subst (λ (k : ℕ). ShowsBothGrew S s free.pools cpu held d h (name_entries Remove k (last_name names) time) k f (links_entries (node.links - 1) time)) one
-      (subst (λ (n : ℕ). ShowsBothGrew S s free.pools cpu held d h (name_entries Remove file.inode (last_name names) time) file.inode f (links_entries (n - 1) time)) links
-      (subst (λ (q : List ℕ). ShowsBothGrew S s free.pools cpu held d h (name_entries Remove file.inode q time) file.inode f (links_entries (file.numbers.links - 1) time)) spot.name_is
-      (subst (λ (k : ℕ). ShowsBothGrew S s free.pools cpu held k h (name_entries Remove file.inode name time) file.inode f (links_entries (file.numbers.links - 1) time)) same grew)))
+      subst (λ (k : ℕ). ShowsBothGrew S l free.pools cpu held d h (name_entries Remove k (last_name names) time) k f (links_entries (node.links - 1) time)) one
+      (subst (λ (n : ℕ). ShowsBothGrew S l free.pools cpu held d h (name_entries Remove file.inode (last_name names) time) file.inode f (links_entries (n - 1) time)) links
+      (subst (λ (q : List ℕ). ShowsBothGrew S l free.pools cpu held d h (name_entries Remove file.inode q time) file.inode f (links_entries (file.numbers.links - 1) time)) spot.name_is
+      (subst (λ (k : ℕ). ShowsBothGrew S l free.pools cpu held k h (name_entries Remove file.inode name time) file.inode f (links_entries (file.numbers.links - 1) time)) same grew)))
 
 -- ---- in both cases
 
 -- what a name's going leaves, without what was given back
-pub released_at : {R S : Region} {s : Super} {rows news : List Row} {free after : FreeLists} {cpu place target : ℕ} {name : List ℕ} {time : ℕ} → Releases R S s free after cpu rows news place target name time → ReleasesAt R S s free cpu rows news place target name time
+pub released_at : {R S : Region} {l : Layout} {rows news : List Row} {free after : FreeLists} {cpu place target : ℕ} {name : List ℕ} {time : ℕ} → Releases R S l free after cpu rows news place target name time → ReleasesAt R S l free cpu rows news place target name time
 released_at {after = after} (inl w) = inl (w.0, (after, w.1))
 released_at (inr w) = inr (w.0, ((w.1).mid, cut_of w.1))
 
-module _ {R S : Region} {s : Super} {rows news : List Row} {free : FreeLists} {faults : List Fault} {read_only stopped : Bool} (kept : IsKept R s rows free faults read_only stopped) (runs : stopped ≡ false) (writes : read_only ≡ false)
-    {cpu place target : ℕ} {name : List ℕ} {time : ℕ} (done : ReleasesAt R S s free cpu rows news place target name time) (spelled : IsPathName name) (files : (row : Row) → slice_get rows target ≡ Some row → row.kind ≡ File) (names : List (List ℕ)) (spot : IsNamedAt (tree_of R rows) rows names place name target) where
-  file_there : {after : FreeLists} (step : UnlinksAt R S s free after cpu rows news place target name time) → slice_get rows target ≡ Some step.file
+module _ {R S : Region} {s : Super} {l : Layout} {rows news : List Row} {free : FreeLists} {faults : List Fault} {read_only stopped : Bool} (kept : IsKept R s l rows free faults read_only stopped) (runs : stopped ≡ false) (writes : read_only ≡ false)
+    {cpu place target : ℕ} {name : List ℕ} {time : ℕ} (done : ReleasesAt R S l free cpu rows news place target name time) (spelled : IsPathName name) (files : (row : Row) → slice_get rows target ≡ Some row → row.kind ≡ File) (names : List (List ℕ)) (spot : IsNamedAt (tree_of R rows) rows names place name target) where
+  file_there : {after : FreeLists} (step : UnlinksAt R S l free after cpu rows news place target name time) → slice_get rows target ≡ Some step.file
   file_there step = let both = step.step in both.other_at
 
   -- how many links the file had
@@ -140,42 +141,42 @@ module _ {R S : Region} {s : Super} {rows news : List Row} {free : FreeLists} {f
   links_are i node row led at =
       let numbers : Some row.inode ≡ Some i = sym (spot.leads row at) ∙ led.leads in
       let one : row.inode ≡ i = cc in
-      sym (links_told R rows row (row_at rows target row (rows_rise R s rows free faults read_only stopped kept runs) at)) ∙ ap (λ (k : ℕ). links_at (tree_of R rows) k) one ∙ ap (λ (o : Option Node). option_map_or (λ (n : Node). n.links) o 0) led.shows
+      sym (links_told R rows row (row_at rows target row (rows_rise R s l rows free faults read_only stopped kept runs) at)) ∙ ap (λ (k : ℕ). links_at (tree_of R rows) k) one ∙ ap (λ (o : Option Node). option_map_or (λ (n : Node). n.links) o 0) led.shows
 
   -- Both logs, where it had others.
-  pub unlink_logs : (i d : ℕ) (node : Node) (held : Store) (h f : Held) → LeadsTo (tree_of R rows) names i node → walk (tree_of R rows) 1 names ≡ Ok d → ShowsSound R s held → held d ≡ Some h → held i ≡ Some f → 1 < node.links
-      → ShowsBothGrew S s free.pools cpu held d h (name_entries Remove i (last_name names) time) i f (links_entries (node.links - 1) time)
+  pub unlink_logs : (i d : ℕ) (node : Node) (held : Store) (h f : Held) → LeadsTo (tree_of R rows) names i node → walk (tree_of R rows) 1 names ≡ Ok d → ShowsSound R l held → held d ≡ Some h → held i ≡ Some f → 1 < node.links
+      → ShowsBothGrew S l free.pools cpu held d h (name_entries Remove i (last_name names) time) i f (links_entries (node.links - 1) time)
   unlink_logs i d node held h f led ended sound is other_is some = by done where
-    by : ReleasesAt R S s free cpu rows news place target name time → ShowsBothGrew S s free.pools cpu held d h (name_entries Remove i (last_name names) time) i f (links_entries (node.links - 1) time)
+    by : ReleasesAt R S l free cpu rows news place target name time → ShowsBothGrew S l free.pools cpu held d h (name_entries Remove i (last_name names) time) i f (links_entries (node.links - 1) time)
     by (inl w) = let step = w.1.1 in more_logs kept runs writes step spelled (files step.file (file_there step)) (w.0 step.file (file_there step)) names spot i d node held h f led ended sound is other_is
     by (inr w) = absurd (let step = w.1.1 in let few = w.0 step.gone step.gone_at in let count = links_are i node step.gone led step.gone_at in omega (arith, some, few, count))
 
   -- The directory's log, where it went.
-  pub unlink_last : (i d : ℕ) (node : Node) (held : Store) (h : Held) → LeadsTo (tree_of R rows) names i node → walk (tree_of R rows) 1 names ≡ Ok d → ShowsSound R s held → held d ≡ Some h → node.links ≤ 1 → ShowsRemoved S s free.pools cpu held d h (name_entries Remove i (last_name names) time) i
+  pub unlink_last : (i d : ℕ) (node : Node) (held : Store) (h : Held) → LeadsTo (tree_of R rows) names i node → walk (tree_of R rows) 1 names ≡ Ok d → ShowsSound R l held → held d ≡ Some h → node.links ≤ 1 → ShowsRemoved S l free.pools cpu held d h (name_entries Remove i (last_name names) time) i
   unlink_last i d node held h led ended sound is few = by done where
-    by : ReleasesAt R S s free cpu rows news place target name time → ShowsRemoved S s free.pools cpu held d h (name_entries Remove i (last_name names) time) i
+    by : ReleasesAt R S l free cpu rows news place target name time → ShowsRemoved S l free.pools cpu held d h (name_entries Remove i (last_name names) time) i
     by (inl w) = absurd (let step = w.1.1 in let some = w.0 step.file (file_there step) in let count = links_are i node step.file led (file_there step) in omega (arith, some, few, count))
     by (inr w) = let step = w.1.1 in removed_log kept runs writes step spelled (inr (files step.gone step.gone_at, w.0 step.gone step.gone_at)) names spot i d node held h led ended sound is
 
-module _ {R S : Region} {s : Super} {rows news : List Row} {free after : FreeLists} {faults : List Fault} {read_only stopped : Bool} (kept : IsKept R s rows free faults read_only stopped) (runs : stopped ≡ false) (writes : read_only ≡ false)
-    {cpu place target : ℕ} {name : List ℕ} {time : ℕ} (done : Releases R S s free after cpu rows news place target name time) (spelled : IsPathName name) (files : (row : Row) → slice_get rows target ≡ Some row → row.kind ≡ File) (names : List (List ℕ)) (spot : IsNamedAt (tree_of R rows) rows names place name target) where
+module _ {R S : Region} {s : Super} {l : Layout} {rows news : List Row} {free after : FreeLists} {faults : List Fault} {read_only stopped : Bool} (kept : IsKept R s l rows free faults read_only stopped) (runs : stopped ≡ false) (writes : read_only ≡ false)
+    {cpu place target : ℕ} {name : List ℕ} {time : ℕ} (done : Releases R S l free after cpu rows news place target name time) (spelled : IsPathName name) (files : (row : Row) → slice_get rows target ≡ Some row → row.kind ≡ File) (names : List (List ℕ)) (spot : IsNamedAt (tree_of R rows) rows names place name target) where
   rises : Rises row_key rows
-  rises = rows_rise R s rows free faults read_only stopped kept runs
+  rises = rows_rise R s l rows free faults read_only stopped kept runs
 
-  at_file : (step : UnlinksAt R S s free after cpu rows news place target name time) → slice_get rows target ≡ Some step.file
+  at_file : (step : UnlinksAt R S l free after cpu rows news place target name time) → slice_get rows target ≡ Some step.file
   at_file step = let both = step.step in both.other_at
 
   -- What is kept.
-  pub unlink_kept : (now : Bool) → IsKept S s news after faults read_only now
+  pub unlink_kept : (now : Bool) → IsKept S s l news after faults read_only now
   unlink_kept now = by done where
-    by : Releases R S s free after cpu rows news place target name time → IsKept S s news after faults read_only now
+    by : Releases R S l free after cpu rows news place target name time → IsKept S s l news after faults read_only now
     by (inl w) = more_kept kept runs writes w.1 spelled (files w.1.file (at_file w.1)) (w.0 w.1.file (at_file w.1)) names spot now
     by (inr w) = removed_kept kept runs writes (cut_of w.1) spelled (inr (files w.1.gone w.1.gone_at, w.0 w.1.gone w.1.gone_at)) names spot w.1.given now
 
   -- The tree is what the call makes of that of before.
   pub unlink_tree : SameTree (tree_of S news) (unlinked names time (tree_of R rows))
   unlink_tree = by done where
-    by : Releases R S s free after cpu rows news place target name time → SameTree (tree_of S news) (unlinked names time (tree_of R rows))
+    by : Releases R S l free after cpu rows news place target name time → SameTree (tree_of S news) (unlinked names time (tree_of R rows))
     by (inl w) = more_tree kept runs writes w.1 spelled (files w.1.file (at_file w.1)) (w.0 w.1.file (at_file w.1)) names spot
     by (inr w) =
         let step = w.1 in

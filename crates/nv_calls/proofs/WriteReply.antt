@@ -11,7 +11,7 @@ use Rattle.std.proofs.lemmas.Option.{same_Some}
 use Rattle.nv_region.specs.Region.{Region}
 use Rattle.nv_super.specs.declared.superblock.Super.{Super}
 use Rattle.nv_super.specs.declared.faults.Fault.{Fault}
-use Rattle.nv_super.specs.Layout.{fixed_layout}
+use Rattle.nv_super.specs.Layout.{Layout}
 use Rattle.nv_alloc.specs.FreeValue.{FreeLists}
 use Rattle.nv_alloc.specs.Taking.{Takes, all_blocks}
 use Rattle.nv_bytes.specs.Bytes.{byte_after, file_byte}
@@ -20,9 +20,9 @@ use Rattle.nv_radix.specs.Pages.{block_at}
 use Rattle.nv_scan.specs.State.{block_of}
 use Rattle.nv_scan.specs.declared.numbers.Numbers.{Numbers}
 use Rattle.nv_scan.specs.declared.piece.Row.{Row}
-use Rattle.nv_held.specs.nv_graph.Read.{row_of}
-use Rattle.nv_held.specs.Held.{Held, Store, good_in}
-use Rattle.nv_held.specs.Mounted.{ShowsSound}
+use Rattle.nv_graph.specs.Read.{row_of}
+use Rattle.nv_mounted.specs.Held.{Held, Store, good_in}
+use Rattle.nv_mounted.specs.Mounted.{ShowsSound}
 use Rattle.nv_tree.specs.declared.refusal.Refusal.{Refusal}
 use Rattle.nv_tree.specs.Path.{IsPath, Says}
 use Rattle.nv_tree.specs.Tree.{Node, SameNode, SameTree, Tree, found}
@@ -124,8 +124,8 @@ write_changed {P} region {n} {m} same names i offset (b ∷ new) time some u lea
     let made : written names offset (b ∷ new) time t ≡ edit i (with_bytes offset (b ∷ new) time) t = ap (λ (o : Option ℕ). on_some o (λ j. edit j (with_bytes offset (b ∷ new) time) t) t) leads in
     subst (λ (k : Mount P). SameTree u (written names offset (b ∷ new) time (tree_of (region k.memory) k.rows))) same (subst (λ (v : Tree). SameTree u v) (sym made) is)
 
-module _ {R S : Region} {s : Super} {rows : List Row} {free after : FreeLists} {faults : List Fault} {read_only stopped : Bool} (kept : IsKept R s rows free faults read_only stopped) (runs : stopped ≡ false) (writes : read_only ≡ false)
-    (place : ℕ) (row : Row) (at : slice_get rows place ≡ Some row) {cpu : ℕ} {plan : Plan} {offset : ℕ} {new : List ℕ} {now : Row} (w : WritesFile R S s free after cpu plan offset new row now) where
+module _ {R S : Region} {s : Super} {l : Layout} {rows : List Row} {free after : FreeLists} {faults : List Fault} {read_only stopped : Bool} (kept : IsKept R s l rows free faults read_only stopped) (runs : stopped ≡ false) (writes : read_only ≡ false)
+    (place : ℕ) (row : Row) (at : slice_get rows place ≡ Some row) {cpu : ℕ} {plan : Plan} {offset : ℕ} {new : List ℕ} {now : Row} (w : WritesFile R S l free after cpu plan offset new row now) where
   -- Each byte is the new one, or what it was, or zero.
   pub write_bytes : (x : ℕ) → x < plan.size → file_byte S now.index x ≡ byte_after offset new row.numbers.size (file_byte R row.index) x
   write_bytes x inside = ∥∥₁_elim (mounted_of_kept kept runs writes) prop (λ v. (let shown = shows_row v.1 kept.lists row (stands rows place row at) in w.bytes v.0 shown.0 shown.1 x inside)) where
@@ -133,11 +133,11 @@ module _ {R S : Region} {s : Super} {rows : List Row} {free after : FreeLists} {
     prop = hlevel (props, ℕ_set)
 
   -- The log of its inode, for whatever is held of the region.
-  pub write_log : (held : Store) (h : Held) → ShowsSound R s held → held row.inode ≡ Some h → ∥ (LogGrew S s w.rest cpu held row.inode h (data_entries plan w.runs)) ∥₁
+  pub write_log : (held : Store) (h : Held) → ShowsSound R l held → held row.inode ≡ Some h → ∥ (LogGrew S l w.rest cpu held row.inode h (data_entries plan w.runs)) ∥₁
   write_log held h sound is = log_grew kept runs writes place row now at (data_entries plan w.runs) (λ st g shows. w.follows st g shows) held h sound is
 
 -- The node has the new bytes.
-pub written_node : (R S : Region) {s : Super} {free after : FreeLists} {cpu : ℕ} {plan : Plan} {offset : ℕ} {new : List ℕ} {row now : Row} (time : ℕ) → WritesFile R S s free after cpu plan offset new row now
+pub written_node : (R S : Region) {l : Layout} {free after : FreeLists} {cpu : ℕ} {plan : Plan} {offset : ℕ} {new : List ℕ} {row now : Row} (time : ℕ) → WritesFile R S l free after cpu plan offset new row now
     → plan ≡ plan_of (block_at row.index) row.numbers.size offset (length new) time → ((x : ℕ) → x < plan.size → file_byte S now.index x ≡ byte_after offset new row.numbers.size (file_byte R row.index) x)
     → SameNode (node_of S now) (with_bytes offset new time (node_of R row))
 written_node R S time w planned bytes = record {
@@ -158,15 +158,15 @@ plan_same f g size offset count time same = ap (λ (o : Option ℕ). plan_of (λ
 
 -- The log of the inode that the path leads to has grown.
 pub write_logged : {P : Type 0} (region : P → Region) {n m : Mount P} → n ≡ m → {S : Region} {after : FreeLists} {cpu : ℕ} {plan : Plan} {offset : ℕ} {new : List ℕ} {row now : Row} (names : List (List ℕ)) (time i : ℕ) (node : Node) (held : Store) (h : Held)
-    → IsKept (region n.memory) n.sup n.rows n.free n.faults n.read_only n.stopped → n.stopped ≡ false → Contains n.rows row → LeadsTo (tree_of (region n.memory) n.rows) names row.inode (node_of (region n.memory) row)
-    → (w : WritesFile (region n.memory) S n.sup n.free after cpu plan offset new row now) → plan ≡ plan_of (block_at row.index) row.numbers.size offset (length new) time
-    → ((st : Store) (g : Held) → ShowsSound (region n.memory) n.sup st → st row.inode ≡ Some g → ∥ (LogGrew S n.sup w.rest cpu st row.inode g (data_entries plan w.runs)) ∥₁)
-    → LeadsTo (tree_of (region m.memory) m.rows) names i node → ShowsSound (region m.memory) m.sup held → held i ≡ Some h
-    → ShowsLogWrite S m cpu held i h (plan_of (block_of (good_in (fixed_layout m.sup) h)) node.size offset (length new) time)
+    → IsKept (region n.memory) n.sup n.layout n.rows n.free n.faults n.read_only n.stopped → n.stopped ≡ false → Contains n.rows row → LeadsTo (tree_of (region n.memory) n.rows) names row.inode (node_of (region n.memory) row)
+    → (w : WritesFile (region n.memory) S n.layout n.free after cpu plan offset new row now) → plan ≡ plan_of (block_at row.index) row.numbers.size offset (length new) time
+    → ((st : Store) (g : Held) → ShowsSound (region n.memory) n.layout st → st row.inode ≡ Some g → ∥ (LogGrew S n.layout w.rest cpu st row.inode g (data_entries plan w.runs)) ∥₁)
+    → LeadsTo (tree_of (region m.memory) m.rows) names i node → ShowsSound (region m.memory) m.layout held → held i ≡ Some h
+    → ShowsLogWrite S m cpu held i h (plan_of (block_of (good_in m.layout h)) node.size offset (length new) time)
 write_logged {P} region {n} {m} same {S} {after} {cpu} {plan} {offset} {new} {row} {now} names time i node held h kept runs there own w planned grew led sound is =
-    subst (λ (k : Mount P). LeadsTo (tree_of (region k.memory) k.rows) names i node → ShowsSound (region k.memory) k.sup held → ShowsLogWrite S k cpu held i h (plan_of (block_of (good_in (fixed_layout k.sup) h)) node.size offset (length new) time)) same here led sound
+    subst (λ (k : Mount P). LeadsTo (tree_of (region k.memory) k.rows) names i node → ShowsSound (region k.memory) k.layout held → ShowsLogWrite S k cpu held i h (plan_of (block_of (good_in k.layout h)) node.size offset (length new) time)) same here led sound
   where
-    here : LeadsTo (tree_of (region n.memory) n.rows) names i node → ShowsSound (region n.memory) n.sup held → ShowsLogWrite S n cpu held i h (plan_of (block_of (good_in (fixed_layout n.sup) h)) node.size offset (length new) time)
+    here : LeadsTo (tree_of (region n.memory) n.rows) names i node → ShowsSound (region n.memory) n.layout held → ShowsLogWrite S n cpu held i h (plan_of (block_of (good_in n.layout h)) node.size offset (length new) time)
     here led sound =
         let number : row.inode ≡ i = same_Some _ _ (sym own.leads ∙ led.leads) in
         let node_is : node_of (region n.memory) row ≡ node = same_Some _ _ (sym own.shows ∙ ap (tree_of (region n.memory) n.rows) number ∙ led.shows) in
@@ -177,14 +177,14 @@ write_logged {P} region {n} {m} same {S} {after} {cpu} {plan} {offset} {new} {ro
         let both : Some shown.0 ≡ Some h = sym v.holds ∙ ap held number ∙ is in
         let one : shown.0 ≡ h = same_Some _ _ both in
         let told = v.told in
-        let index : block_at row.index (row.numbers.size / 4096) ≡ block_of (good_in (fixed_layout n.sup) h) (row.numbers.size / 4096) = subst (λ (g : Held). block_at row.index (row.numbers.size / 4096) ≡ block_of (good_in (fixed_layout n.sup) g) (row.numbers.size / 4096)) one (told.index (row.numbers.size / 4096)) in
-        let equal : plan ≡ plan_of (block_of (good_in (fixed_layout n.sup) h)) node.size offset (length new) time =
-        planned ∙ plan_same (block_at row.index) (block_of (good_in (fixed_layout n.sup) h)) row.numbers.size offset (length new) time index ∙ ap (λ (z : ℕ). plan_of (block_of (good_in (fixed_layout n.sup) h)) z offset (length new) time) size_is in
+        let index : block_at row.index (row.numbers.size / 4096) ≡ block_of (good_in n.layout h) (row.numbers.size / 4096) = subst (λ (g : Held). block_at row.index (row.numbers.size / 4096) ≡ block_of (good_in n.layout g) (row.numbers.size / 4096)) one (told.index (row.numbers.size / 4096)) in
+        let equal : plan ≡ plan_of (block_of (good_in n.layout h)) node.size offset (length new) time =
+        planned ∙ plan_same (block_at row.index) (block_of (good_in n.layout h)) row.numbers.size offset (length new) time index ∙ ap (λ (z : ℕ). plan_of (block_of (good_in n.layout h)) z offset (length new) time) size_is in
         record {
           runs = w.runs;
           rest = w.rest;
           taken = subst (λ (q : Plan). Takes n.free.pools cpu (data_blocks q) w.runs w.rest) equal w.taken;
           zeros = subst (λ (q : Plan). ZerosFrom S q.size (data_entries q w.runs)) equal (w.zeros held shown.0 v);
-          grew = subst (λ (k : ℕ). ∥ (LogGrew S n.sup w.rest cpu held k h (data_entries (plan_of (block_of (good_in (fixed_layout n.sup) h)) node.size offset (length new) time) w.runs)) ∥₁) number
-              (subst (λ (q : Plan). ∥ (LogGrew S n.sup w.rest cpu held row.inode h (data_entries q w.runs)) ∥₁) equal (grew held h sound (ap held number ∙ is)));
+          grew = subst (λ (k : ℕ). ∥ (LogGrew S n.layout w.rest cpu held k h (data_entries (plan_of (block_of (good_in n.layout h)) node.size offset (length new) time) w.runs)) ∥₁) number
+              (subst (λ (q : Plan). ∥ (LogGrew S n.layout w.rest cpu held row.inode h (data_entries q w.runs)) ∥₁) equal (grew held h sound (ap held number ∙ is)));
         }))

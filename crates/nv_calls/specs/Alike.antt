@@ -1,16 +1,15 @@
 -- Regions that nobody can tell apart, but by words that no definition reads; and calls that leave such regions of such.
 use Rattle.std.specs.Prelude.{◌≡◌, ℕ, ◌+◌, ◌<◌, ⊤, List, Some, None}
 use Rattle.nv_region.specs.Region.{Region}
-use Rattle.nv_super.specs.declared.superblock.Super.{Super}
 use Rattle.nv_super.specs.declared.kind.Kind.{Kind}
 use Rattle.nv_super.specs.declared.owners.Run.{Run}
-use Rattle.nv_super.specs.Layout.{Layout, fixed_layout}
+use Rattle.nv_super.specs.Layout.{Layout}
 use Rattle.nv_scan.specs.State.{size_of}
 use Rattle.nv_scan.specs.declared.piece.Row.{Row}
-use Rattle.nv_held.specs.nv_outcome.Outcome.{IsOutcome}
-use Rattle.nv_held.specs.Held.{Held, Store, good_in}
-use Rattle.nv_held.specs.Bytes.{byte_of}
-use Rattle.nv_held.specs.Mounted.{ShowsSound, faultless_outcome}
+use Rattle.nv_outcome.specs.Outcome.{IsOutcome}
+use Rattle.nv_mounted.specs.Held.{Held, Store, good_in}
+use Rattle.nv_mounted.specs.Bytes.{byte_of}
+use Rattle.nv_mounted.specs.Mounted.{ShowsSound, faultless_outcome}
 use Rattle.nv_tree.specs.Tree.{SameTree}
 use Rattle.nv_tree.specs.Refusals.{Path, Tests, first_refusal, create_tests, link_tests, rename_tests, rmdir_tests, set_attr_tests, set_size_tests, unlink_tests, write_tests}
 use Rattle.nv_tree.specs.Replace.{replace_tests}
@@ -25,29 +24,29 @@ abbrev pub SameBytes : Layout → Store → Region → Region → Type 0
 SameBytes l held R S = (i x : ℕ) (h : Held) → held i ≡ Some h → x < size_of (good_in l h) → byte_of S l h x ≡ byte_of R l h x
 
 -- Both regions show this, with nothing wrong and nothing pending, and the same bytes of each file.
-pub record ShowAlike (s : Super) (held : Store) (R S : Region) : Type 0 where
-  pub first : ShowsSound R s held
-  pub second : ShowsSound S s held
-  pub bytes : SameBytes (fixed_layout s) held R S
+pub record ShowAlike (l : Layout) (held : Store) (R S : Region) : Type 0 where
+  pub first : ShowsSound R l held
+  pub second : ShowsSound S l held
+  pub bytes : SameBytes l held R S
 
 -- Two regions are alike: they have one superblock, and show the same inodes with the same logs, and the same bytes of each file.
 -- Nothing is wrong in them, and nothing is pending. They may differ in words that no definition reads: of free blocks and unused
 -- slots, behind the tails of logs, behind a file's size, in the records of journals, and in what else of a block means nothing.
 abbrev pub AreAlike : Region → Region → Type 0
-AreAlike R S = ∥ ((s : Super) × (held : Store) × ShowAlike s held R S) ∥₁
+AreAlike R S = ∥ ((l : Layout) × (held : Store) × ShowAlike l held R S) ∥₁
 
 -- ---- calls
 
 -- what is mounted is the region's outcome, which has no fault
 abbrev pub IsFaultlessMount : Region → Mount ⊤ → Type 0
-IsFaultlessMount R m = IsOutcome R (faultless_outcome m.sup m.rows m.free.pools)
+IsFaultlessMount R m = IsOutcome R (faultless_outcome m.layout m.rows m.free.pools)
 
 -- A call was done, by the names of a path: the region that it leaves has an outcome without faults, which shows the tree that the
 -- call makes, and its logs are those that the call leaves.
 pub record WasDone (makes : Makes ⊤) (logs : Logs ⊤) (R : Region) (m : Mount ⊤) (names : List (List ℕ)) (T : Region) : Type 0 where
   pub rows : List Row
   pub free : List (List Run)
-  pub shown : IsOutcome T (faultless_outcome m.sup rows free)
+  pub shown : IsOutcome T (faultless_outcome m.layout rows free)
   pub tree : SameTree (tree_of T rows) (makes R m names)
   pub left : logs R m names T
 

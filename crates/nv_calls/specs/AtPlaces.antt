@@ -3,7 +3,6 @@ use Rattle.std.specs.Prelude.{◌≡◌, ℕ, List, set, slice_get, Some, ◌⊎
 use Rattle.nv_region.specs.Region.{Region}
 use Rattle.nv_region.specs.Stops.{Choices}
 use Rattle.nv_region.specs.Fuses.{FuseState}
-use Rattle.nv_super.specs.declared.superblock.Super.{Super}
 use Rattle.nv_super.specs.declared.kind.Kind.{Kind}
 use Rattle.nv_alloc.specs.FreeValue.{FreeLists}
 use Rattle.nv_scan.specs.declared.piece.Row.{Row}
@@ -12,10 +11,11 @@ use Rattle.nv_rows.specs.RowList.{RowList}
 use Rattle.nv_tree.specs.declared.refusal.Refusal.{Refusal}
 use Rattle.nv_tree.specs.declared.refusal.Refusal.TheVariants.{Stopped}
 use Rattle.nv_steps.specs.Keeping.{SettlesStep}
-use Rattle.nv_held.specs.nv_outcome.Same.{SameRows}
+use Rattle.nv_outcome.specs.Same.{SameRows}
 use Rattle.nv_steps.specs.Taken.{SamePools}
 use Rattle.nv_steps.specs.NewNames.{MakesNamed}
 use Rattle.nv_super.specs.declared.kind.Kind.TheVariants.{File, Directory}
+use Rattle.nv_super.specs.Layout.{Layout}
 use Rattle.nv_names.specs.Names.{name_at}
 use Rattle.nv_steps.specs.LessNames.{CutsName, GivesRow}
 use Rattle.nv_entry.specs.declared.entry.Operation.TheVariants.{Remove}
@@ -24,12 +24,12 @@ use Rattle.nv_steps.specs.NameEntries.{links_entries, name_entries}
 use Rattle.nv_steps.specs.Unlinks.{UnlinksAt}
 
 -- A new inode and its name were made in the directory whose row is at this place, and the new inode's row was put in.
-pub record CreatesAt (R S : Region) (s : Super) (free after : FreeLists) (cpu : ℕ) (rows news : List Row) (place : ℕ) (kind : Kind) (mode time j : ℕ) (name : List ℕ) : Type 0 where
+pub record CreatesAt (R S : Region) (l : Layout) (free after : FreeLists) (cpu : ℕ) (rows news : List Row) (place : ℕ) (kind : Kind) (mode time j : ℕ) (name : List ℕ) : Type 0 where
   pub row : Row
   pub now : Row
   pub made : Row
   pub at : slice_get rows place ≡ Some row
-  pub step : MakesNamed R S s free after cpu row now kind mode time j name made
+  pub step : MakesNamed R S l free after cpu row now kind mode time j name made
   pub put : HasInserted (set rows place now) news made
 
 -- a step on rows that was refused has changed nothing
@@ -53,43 +53,43 @@ CanGo row = ((row.kind ≡ Directory) × ((q : List ℕ) → name_at row.names q
 
 -- A name went from the directory whose row is at one place, and with it the inode whose row was at another. That row was taken
 -- out, and its blocks were given back.
-pub record RemovesAt (R S : Region) (s : Super) (free after : FreeLists) (cpu : ℕ) (rows news : List Row) (place target : ℕ) (name : List ℕ) (time : ℕ) : Type 0 where
+pub record RemovesAt (R S : Region) (l : Layout) (free after : FreeLists) (cpu : ℕ) (rows news : List Row) (place target : ℕ) (name : List ℕ) (time : ℕ) : Type 0 where
   pub row : Row
   pub gone : Row
   pub now : Row
   pub mid : FreeLists
   pub at : slice_get rows place ≡ Some row
   pub gone_at : slice_get rows target ≡ Some gone
-  pub step : CutsName R S s free mid cpu row now gone.inode time name
+  pub step : CutsName R S l free mid cpu row now gone.inode time name
   pub given : GivesRow mid gone after
   pub put : news ≡ remove (set rows place now) target
 
 -- The same without what was given back.
-pub record CutsAt (R S : Region) (s : Super) (free mid : FreeLists) (cpu : ℕ) (rows news : List Row) (place target : ℕ) (name : List ℕ) (time : ℕ) : Type 0 where
+pub record CutsAt (R S : Region) (l : Layout) (free mid : FreeLists) (cpu : ℕ) (rows news : List Row) (place target : ℕ) (name : List ℕ) (time : ℕ) : Type 0 where
   pub row : Row
   pub gone : Row
   pub now : Row
   pub at : slice_get rows place ≡ Some row
   pub gone_at : slice_get rows target ≡ Some gone
-  pub step : CutsName R S s free mid cpu row now gone.inode time name
+  pub step : CutsName R S l free mid cpu row now gone.inode time name
   pub put : news ≡ remove (set rows place now) target
 
 -- what is left of a step when what it gave back is left out
-abbrev pub cut_of : {R S : Region} {s : Super} {free after : FreeLists} {cpu : ℕ} {rows news : List Row} {place target : ℕ} {name : List ℕ} {time : ℕ}
-    → (step : RemovesAt R S s free after cpu rows news place target name time) → CutsAt R S s free step.mid cpu rows news place target name time
+abbrev pub cut_of : {R S : Region} {l : Layout} {free after : FreeLists} {cpu : ℕ} {rows news : List Row} {place target : ℕ} {name : List ℕ} {time : ℕ}
+    → (step : RemovesAt R S l free after cpu rows news place target name time) → CutsAt R S l free step.mid cpu rows news place target name time
 cut_of step = record { row = step.row; gone = step.gone; now = step.now; at = step.at; gone_at = step.gone_at; step = step.step; put = step.put }
 
 -- where the file has other names, one name and one link of it went; else it went with the name
-abbrev pub Releases : Region → Region → Super → FreeLists → FreeLists → ℕ → List Row → List Row → ℕ → ℕ → List ℕ → ℕ → Type 0
-Releases R S s free after cpu rows news place target name time =
-    (((file : Row) → slice_get rows target ≡ Some file → 1 < file.numbers.links) × UnlinksAt R S s free after cpu rows news place target name time)
-    ⊎ (((file : Row) → slice_get rows target ≡ Some file → file.numbers.links ≤ 1) × RemovesAt R S s free after cpu rows news place target name time)
+abbrev pub Releases : Region → Region → Layout → FreeLists → FreeLists → ℕ → List Row → List Row → ℕ → ℕ → List ℕ → ℕ → Type 0
+Releases R S l free after cpu rows news place target name time =
+    (((file : Row) → slice_get rows target ≡ Some file → 1 < file.numbers.links) × UnlinksAt R S l free after cpu rows news place target name time)
+    ⊎ (((file : Row) → slice_get rows target ≡ Some file → file.numbers.links ≤ 1) × RemovesAt R S l free after cpu rows news place target name time)
 
 -- the same without what was given back
-abbrev pub ReleasesAt : Region → Region → Super → FreeLists → ℕ → List Row → List Row → ℕ → ℕ → List ℕ → ℕ → Type 0
-ReleasesAt R S s free cpu rows news place target name time =
-    (((file : Row) → slice_get rows target ≡ Some file → 1 < file.numbers.links) × ((after : FreeLists) × UnlinksAt R S s free after cpu rows news place target name time))
-    ⊎ (((file : Row) → slice_get rows target ≡ Some file → file.numbers.links ≤ 1) × ((mid : FreeLists) × CutsAt R S s free mid cpu rows news place target name time))
+abbrev pub ReleasesAt : Region → Region → Layout → FreeLists → ℕ → List Row → List Row → ℕ → ℕ → List ℕ → ℕ → Type 0
+ReleasesAt R S l free cpu rows news place target name time =
+    (((file : Row) → slice_get rows target ≡ Some file → 1 < file.numbers.links) × ((after : FreeLists) × UnlinksAt R S l free after cpu rows news place target name time))
+    ⊎ (((file : Row) → slice_get rows target ≡ Some file → file.numbers.links ≤ 1) × ((mid : FreeLists) × CutsAt R S l free mid cpu rows news place target name time))
 
 -- how many blocks it takes
 abbrev pub release_blocks : Row → Row → List ℕ → ℕ → ℕ

@@ -9,9 +9,9 @@ pub mod Listing
 pub mod Reading
 pub mod WriteCall
 pub mod UnlinkCalls
-pub use Rattle.nv_held.specs as nv_held
+pub use Rattle.nv_mounted.specs as nv_mounted
 pub use Rattle.nv_rows.specs as nv_rows
-pub use Rattle.nv_held.specs.nv_graph
+pub use Rattle.nv_mounted.specs.nv_graph
 pub mod MoveCalls
 pub mod ReplaceCalls
 pub mod ReplaceStores
@@ -31,3 +31,4 @@ pub mod Stopped
 pub mod Mounting
 pub mod InOrder
 pub mod ByNumber
+pub mod Upgrading

@@ -3,18 +3,17 @@ use Rattle.std.specs.Prelude.{◌≡◌, ℕ, ◌+◌, ◌%◌, List, ◌++◌, 
 use Rattle.std.specs.List.{Contains}
 use Rattle.std.specs.Option.{option_map_or}
 use Rattle.nv_region.specs.Region.{Region}
-use Rattle.nv_super.specs.declared.superblock.Super.{Super}
-use Rattle.nv_super.specs.Layout.{fixed_layout}
+use Rattle.nv_super.specs.Layout.{Layout}
 use Rattle.nv_super.specs.declared.owners.Run.{Run}
 use Rattle.nv_entry.specs.declared.entry.Entry.{Entry}
 use Rattle.nv_alloc.specs.Taking.{TakesSingly}
 use Rattle.nv_logpage.specs.Append.{needed}
 use Rattle.nv_scan.specs.declared.piece.Row.{Row}
-use Rattle.nv_held.specs.Held.{Held, Store}
-use Rattle.nv_held.specs.Grows.{AreFree}
-use Rattle.nv_held.specs.Mounted.{ShowsSound}
+use Rattle.nv_mounted.specs.Held.{Held, Store}
+use Rattle.nv_mounted.specs.Grows.{AreFree}
+use Rattle.nv_mounted.specs.Mounted.{ShowsSound}
 use Rattle.nv_commit.specs.Extends.{with_log}
-use Rattle.nv_held.specs.nv_graph.Read.{row_of}
+use Rattle.nv_graph.specs.Read.{row_of}
 use Rattle.nv_tree.specs.Tree.{Tree}
 use Rattle.nv_tree.specs.Refusals.{Path, target}
 use Rattle.nv_calls.specs.NameCalls.{name_blocks, row_blocks}
@@ -30,18 +29,18 @@ link_blocks rows t p q = links_blocks rows t p + name_blocks rows t q
 
 -- The region is sound, and shows what was held with these entries behind two logs, over free blocks: those that are taken one by
 -- one from these pools, by a CPU, the first log's first.
-pub record BothGrew (S : Region) (s : Super) (pools : List (List Run)) (cpu : ℕ) (held : Store) (i : ℕ) (h : Held) (entries : List Entry) (j : ℕ) (g : Held) (others : List Entry) : Type 0 where
+pub record BothGrew (S : Region) (l : Layout) (pools : List (List Run)) (cpu : ℕ) (held : Store) (i : ℕ) (h : Held) (entries : List Entry) (j : ℕ) (g : Held) (others : List Entry) : Type 0 where
   pub fresh : List ℕ
   pub more : List ℕ
   pub rest : List (List Run)
   pub taken : TakesSingly pools cpu (fresh ++ more) rest
-  pub free : AreFree (fixed_layout s) held fresh
-  pub more_free : AreFree (fixed_layout s) held more
+  pub free : AreFree l held fresh
+  pub more_free : AreFree l held more
   pub apart : (b : ℕ) → Contains fresh b → Contains more b → ⊥
   pub count : length fresh ≡ needed (h.tail % 4096) entries
   pub more_count : length more ≡ needed (g.tail % 4096) others
-  pub sound : ShowsSound S s (with_log (with_log held i h entries fresh) j g others more)
+  pub sound : ShowsSound S l (with_log (with_log held i h entries fresh) j g others more)
 
 -- there are such blocks
-abbrev pub ShowsBothGrew : Region → Super → List (List Run) → ℕ → Store → ℕ → Held → List Entry → ℕ → Held → List Entry → Type 0
-ShowsBothGrew S s pools cpu held i h entries j g others = ∥ (BothGrew S s pools cpu held i h entries j g others) ∥₁
+abbrev pub ShowsBothGrew : Region → Layout → List (List Run) → ℕ → Store → ℕ → Held → List Entry → ℕ → Held → List Entry → Type 0
+ShowsBothGrew S l pools cpu held i h entries j g others = ∥ (BothGrew S l pools cpu held i h entries j g others) ∥₁

@@ -7,7 +7,7 @@ use Rattle.nv_region.specs.Stored.{StoresOnly}
 use Rattle.nv_super.specs.declared.superblock.Super.{Super}
 use Rattle.nv_super.specs.Super.{IsSuper}
 use Rattle.nv_super.specs.declared.owners.Owner.{Owner}
-use Rattle.nv_held.specs.nv_outcome.Outcome.{IsOutcome}
+use Rattle.nv_outcome.specs.Outcome.{IsOutcome}
 use Rattle.nv_journal.specs.Undone.{AllQuiet}
 use Rattle.nv_journal.specs.Permitted.{slots_end}
 use Rattle.nv_recover.specs.Behind.{BehindSlots, RecoveryStores}
@@ -18,7 +18,7 @@ use Rattle.nv_calls.specs.Mount.{Mount, told}
 
 -- Superblock, rows, free lists and faults are those of the outcome of this region, in which some blocks may be doubled.
 abbrev pub TellsOutcome : {P : Type 0} → Region → Mount P → Type 0
-TellsOutcome R fs = ∥ ((doubled : List (ℕ × Owner)) × IsOutcome R (told fs.sup fs.rows fs.free doubled fs.faults)) ∥₁
+TellsOutcome R fs = ∥ ((doubled : List (ℕ × Owner)) × IsOutcome R (told fs.layout fs.rows fs.free doubled fs.faults)) ∥₁
 
 -- the memory that comes back: it is mounted, or stands beside the error
 abbrev pub memory_back : {P : Type 0} → Result (Mount P) (P × RecoverError) → P

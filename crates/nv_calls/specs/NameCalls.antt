@@ -3,19 +3,18 @@ use Rattle.std.specs.Prelude.{◌≡◌, ℕ, ◌+◌, ◌%◌, List, ◌∷◌,
 use Rattle.std.specs.List.{Contains}
 use Rattle.std.specs.Option.{option_map_or}
 use Rattle.nv_region.specs.Region.{Region}
-use Rattle.nv_super.specs.declared.superblock.Super.{Super}
 use Rattle.nv_super.specs.declared.kind.Kind.{Kind}
-use Rattle.nv_super.specs.Layout.{fixed_layout}
+use Rattle.nv_super.specs.Layout.{Layout}
 use Rattle.nv_super.specs.declared.owners.Run.{Run}
 use Rattle.nv_entry.specs.declared.entry.Operation.TheVariants.{Add}
 use Rattle.nv_entry.specs.declared.entry.Entry.{Entry}
 use Rattle.nv_alloc.specs.Taking.{TakesSingly}
 use Rattle.nv_logpage.specs.Append.{needed}
 use Rattle.nv_scan.specs.declared.piece.Row.{Row}
-use Rattle.nv_held.specs.Held.{Held, Store}
-use Rattle.nv_held.specs.Grows.{AreFree}
-use Rattle.nv_held.specs.Mounted.{ShowsSound}
-use Rattle.nv_held.specs.nv_graph.Read.{row_of}
+use Rattle.nv_mounted.specs.Held.{Held, Store}
+use Rattle.nv_mounted.specs.Grows.{AreFree}
+use Rattle.nv_mounted.specs.Mounted.{ShowsSound}
+use Rattle.nv_graph.specs.Read.{row_of}
 use Rattle.nv_tree.specs.declared.refusal.Refusal.{Refusal}
 use Rattle.nv_tree.specs.Path.{last_name}
 use Rattle.nv_tree.specs.Tree.{Tree, walk}
@@ -42,16 +41,16 @@ create_blocks rows t p = 1 + name_blocks rows t p
 
 -- The region is sound, and shows what was held with a new inode of this number and its name in the directory's log, over free
 -- blocks: those that are taken one by one from these pools, by a CPU, the new log's page first.
-pub record WasCreated (S : Region) (s : Super) (pools : List (List Run)) (cpu : ℕ) (held : Store) (kind : Kind) (mode time j d : ℕ) (h : Held) (name : List ℕ) : Type 0 where
+pub record WasCreated (S : Region) (l : Layout) (pools : List (List Run)) (cpu : ℕ) (held : Store) (kind : Kind) (mode time j d : ℕ) (h : Held) (name : List ℕ) : Type 0 where
   pub page : ℕ
   pub fresh : List ℕ
   pub rest : List (List Run)
   pub taken : TakesSingly pools cpu (page ∷ fresh) rest
-  pub free : AreFree (fixed_layout s) held (page ∷ fresh)
+  pub free : AreFree l held (page ∷ fresh)
   pub apart : Contains fresh page → ⊥
   pub count : length fresh ≡ needed (h.tail % 4096) (name_entries Add j name time)
-  pub sound : ShowsSound S s (with_named held kind mode time j d h name page fresh)
+  pub sound : ShowsSound S l (with_named held kind mode time j d h name page fresh)
 
 -- there are such blocks
-abbrev pub ShowsCreated : Region → Super → List (List Run) → ℕ → Store → Kind → ℕ → ℕ → ℕ → ℕ → Held → List ℕ → Type 0
-ShowsCreated S s pools cpu held kind mode time j d h name = ∥ (WasCreated S s pools cpu held kind mode time j d h name) ∥₁
+abbrev pub ShowsCreated : Region → Layout → List (List Run) → ℕ → Store → Kind → ℕ → ℕ → ℕ → ℕ → Held → List ℕ → Type 0
+ShowsCreated S l pools cpu held kind mode time j d h name = ∥ (WasCreated S l pools cpu held kind mode time j d h name) ∥₁

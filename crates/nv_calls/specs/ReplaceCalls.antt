@@ -3,7 +3,6 @@
 use Rattle.std.specs.Prelude.{◌≡◌, ◌≢◌, ◌⊎◌, ℕ, ◌+◌, ◌-◌, ◌%◌, nat_eq, nat_lt, not, Bool, true, false, ◌&&◌, if◌then◌else◌, List, remove, set, slice_get, Option, Some, None}
 use Rattle.std.specs.Option.{option_and_then, option_map_or}
 use Rattle.nv_region.specs.Region.{Region}
-use Rattle.nv_super.specs.declared.superblock.Super.{Super}
 use Rattle.nv_alloc.specs.FreeValue.{FreeLists}
 use Rattle.nv_logpage.specs.Append.{needed}
 use Rattle.nv_scan.specs.declared.piece.Row.{Row}
@@ -18,6 +17,7 @@ use Rattle.nv_steps.specs.NameEntries.{links_entries, name_entries}
 use Rattle.nv_steps.specs.Takes.{TakesWithin, TookWithin, take_entries}
 use Rattle.nv_calls.specs.MoveCalls.{MovesAt, move_blocks}
 use Rattle.nv_calls.specs.Stopped.{Renamed}
+use Rattle.nv_super.specs.Layout.{Layout}
 
 -- a file with more links than one, which stays without one of its names
 abbrev pub keeps_others : Row → Bool
@@ -29,14 +29,14 @@ keeps_others_at rows o = option_map_or keeps_others (option_and_then (row_of row
 
 -- Inode i got the name of another in the directory whose row is at one place, and that one went, whose row was at another. That row
 -- was taken out, and its blocks were given back.
-pub record TakesAt (R S : Region) (s : Super) (free after : FreeLists) (cpu : ℕ) (rows news : List Row) (place target i : ℕ) (name other : List ℕ) (time : ℕ) : Type 0 where
+pub record TakesAt (R S : Region) (l : Layout) (free after : FreeLists) (cpu : ℕ) (rows news : List Row) (place target i : ℕ) (name other : List ℕ) (time : ℕ) : Type 0 where
   pub row : Row
   pub gone : Row
   pub now : Row
   pub mid : FreeLists
   pub at : slice_get rows place ≡ Some row
   pub gone_at : slice_get rows target ≡ Some gone
-  pub step : TakesWithin R S s free mid cpu row now i gone.inode name other time
+  pub step : TakesWithin R S l free mid cpu row now i gone.inode name other time
   pub given : GivesRow mid gone after
   pub put : news ≡ remove (set rows place now) target
 
@@ -45,9 +45,9 @@ abbrev pub StaysAt : Bool → List Row → ℕ → Type 0
 StaysAt stays rows target = (there : Row) → slice_get rows target ≡ Some there → keeps_others there ≡ stays
 
 -- where the file has other names, it counts a link less; else it goes
-abbrev pub ReplacesHere : Region → Region → Super → FreeLists → FreeLists → ℕ → List Row → List Row → ℕ → ℕ → ℕ → List ℕ → List ℕ → ℕ → Type 0
-ReplacesHere R S s free after cpu rows news place target i name other time = (StaysAt true rows target × LessensAt R S s free after cpu rows news place target i name other time)
-    ⊎ (StaysAt false rows target × TakesAt R S s free after cpu rows news place target i name other time)
+abbrev pub ReplacesHere : Region → Region → Layout → FreeLists → FreeLists → ℕ → List Row → List Row → ℕ → ℕ → ℕ → List ℕ → List ℕ → ℕ → Type 0
+ReplacesHere R S l free after cpu rows news place target i name other time = (StaysAt true rows target × LessensAt R S l free after cpu rows news place target i name other time)
+    ⊎ (StaysAt false rows target × TakesAt R S l free after cpu rows news place target i name other time)
 
 -- how many blocks it takes
 abbrev pub replace_here_blocks : Row → Row → ℕ → List ℕ → List ℕ → ℕ → ℕ
@@ -55,15 +55,15 @@ replace_here_blocks row there i name other time = needed (row.tail % 4096) (take
     + (if keeps_others there then needed (there.tail % 4096) (links_entries (there.numbers.links - 1) time) else 0)
 
 -- what a stop leaves of it
-abbrev pub ReplacedHere : Region → Super → FreeLists → ℕ → Row → Row → ℕ → List ℕ → List ℕ → ℕ → Region → Type 0
-ReplacedHere R s free cpu row there i name other time S = ((keeps_others there ≡ true) × Lessened R s free cpu row there i name other time S)
-    ⊎ ((keeps_others there ≡ false) × TookWithin R s free cpu row i there.inode name other time S)
+abbrev pub ReplacedHere : Region → Layout → FreeLists → ℕ → Row → Row → ℕ → List ℕ → List ℕ → ℕ → Region → Type 0
+ReplacedHere R l free cpu row there i name other time S = ((keeps_others there ≡ true) × Lessened R l free cpu row there i name other time S)
+    ⊎ ((keeps_others there ≡ false) × TookWithin R l free cpu row i there.inode name other time S)
 
 -- ---- the two names in different directories
 
 -- Inode i lost a name in the directory whose row is at one place, and got that of another in the one at a second place. That one
 -- went, whose row was at a third.
-pub record TakesOver (R S : Region) (s : Super) (free after : FreeLists) (cpu : ℕ) (rows news : List Row) (place end target i : ℕ) (name other : List ℕ) (time : ℕ) : Type 0 where
+pub record TakesOver (R S : Region) (l : Layout) (free after : FreeLists) (cpu : ℕ) (rows news : List Row) (place end target i : ℕ) (name other : List ℕ) (time : ℕ) : Type 0 where
   pub from : Row
   pub to : Row
   pub gone : Row
@@ -73,12 +73,12 @@ pub record TakesOver (R S : Region) (s : Super) (free after : FreeLists) (cpu : 
   pub at : slice_get rows place ≡ Some from
   pub to_at : slice_get rows end ≡ Some to
   pub gone_at : slice_get rows target ≡ Some gone
-  pub step : TakesAcross R S s free mid cpu from from_now to to_now i gone.inode name other time
+  pub step : TakesAcross R S l free mid cpu from from_now to to_now i gone.inode name other time
   pub given : GivesRow mid gone after
   pub put : news ≡ remove (set (set rows place from_now) end to_now) target
 
 -- The same where the file whose row is at the third place counts a link less.
-pub record LessensOver (R S : Region) (s : Super) (free after : FreeLists) (cpu : ℕ) (rows news : List Row) (place end target i : ℕ) (name other : List ℕ) (time : ℕ) : Type 0 where
+pub record LessensOver (R S : Region) (l : Layout) (free after : FreeLists) (cpu : ℕ) (rows news : List Row) (place end target i : ℕ) (name other : List ℕ) (time : ℕ) : Type 0 where
   pub from : Row
   pub to : Row
   pub file : Row
@@ -88,22 +88,22 @@ pub record LessensOver (R S : Region) (s : Super) (free after : FreeLists) (cpu 
   pub at : slice_get rows place ≡ Some from
   pub to_at : slice_get rows end ≡ Some to
   pub file_at : slice_get rows target ≡ Some file
-  pub step : LessensAcross R S s free after cpu from from_now to to_now file file_now i name other time
+  pub step : LessensAcross R S l free after cpu from from_now to to_now file file_now i name other time
   pub put : news ≡ set (set (set rows place from_now) end to_now) target file_now
 
 -- where the file has other names, it counts a link less; else it goes
-abbrev pub ReplacesOver : Region → Region → Super → FreeLists → FreeLists → ℕ → List Row → List Row → ℕ → ℕ → ℕ → ℕ → List ℕ → List ℕ → ℕ → Type 0
-ReplacesOver R S s free after cpu rows news place end target i name other time = (StaysAt true rows target × LessensOver R S s free after cpu rows news place end target i name other time)
-    ⊎ (StaysAt false rows target × TakesOver R S s free after cpu rows news place end target i name other time)
+abbrev pub ReplacesOver : Region → Region → Layout → FreeLists → FreeLists → ℕ → List Row → List Row → ℕ → ℕ → ℕ → ℕ → List ℕ → List ℕ → ℕ → Type 0
+ReplacesOver R S l free after cpu rows news place end target i name other time = (StaysAt true rows target × LessensOver R S l free after cpu rows news place end target i name other time)
+    ⊎ (StaysAt false rows target × TakesOver R S l free after cpu rows news place end target i name other time)
 
 -- how many blocks the two directories take
 abbrev pub hand_blocks : Row → Row → ℕ → ℕ → List ℕ → List ℕ → ℕ → ℕ
 hand_blocks from to i j name other time = needed (from.tail % 4096) (name_entries Remove i name time) + needed (to.tail % 4096) (handed_entries i j other time)
 
 -- the old directory's tail is stored first, then that of the new one, and then a word
-abbrev pub HandsInOrder : Region → Region → Super → FreeLists → ℕ → Row → Row → ℕ → ℕ → List ℕ → List ℕ → ℕ → ℕ → Type 0
-HandsInOrder R S s free cpu from to i j name other time at = TailIsFirst R S s free.pools cpu from.inode from.tail (name_entries Remove i name time) (tail_address s to.inode)
-    × TailIsNext R S s free.pools cpu (needed (from.tail % 4096) (name_entries Remove i name time)) to.inode to.tail (handed_entries i j other time) at
+abbrev pub HandsInOrder : Region → Region → Layout → FreeLists → ℕ → Row → Row → ℕ → ℕ → List ℕ → List ℕ → ℕ → ℕ → Type 0
+HandsInOrder R S l free cpu from to i j name other time at = TailIsFirst R S l free.pools cpu from.inode from.tail (name_entries Remove i name time) (tail_address l to.inode)
+    × TailIsNext R S l free.pools cpu (needed (from.tail % 4096) (name_entries Remove i name time)) to.inode to.tail (handed_entries i j other time) at
 
 -- how many blocks it takes
 abbrev pub replace_over_blocks : Row → Row → Row → ℕ → List ℕ → List ℕ → ℕ → ℕ
@@ -111,19 +111,19 @@ replace_over_blocks from to there i name other time = hand_blocks from to i ther
     + (if keeps_others there then needed (there.tail % 4096) (links_entries (there.numbers.links - 1) time) else 0)
 
 -- what a stop leaves of it
-abbrev pub ReplacedOver : Region → Super → FreeLists → ℕ → Row → Row → Row → ℕ → List ℕ → List ℕ → ℕ → Region → Type 0
-ReplacedOver R s free cpu from to there i name other time S = ((keeps_others there ≡ true) × LessenedAcross R s free cpu from to there i name other time S)
-    ⊎ ((keeps_others there ≡ false) × TookAcross R s free cpu from to i there.inode name other time S)
+abbrev pub ReplacedOver : Region → Layout → FreeLists → ℕ → Row → Row → Row → ℕ → List ℕ → List ℕ → ℕ → Region → Type 0
+ReplacedOver R l free cpu from to there i name other time S = ((keeps_others there ≡ true) × LessenedAcross R l free cpu from to there i name other time S)
+    ⊎ ((keeps_others there ≡ false) × TookAcross R l free cpu from to i there.inode name other time S)
 
 -- ---- the call
 
 -- The name that inode i got stood for no inode in use, so it was moved. Or it stood for i, and nothing has changed. Or it stood for
 -- another, within one directory or not.
-abbrev pub ReplacesAt : Region → Region → Super → FreeLists → FreeLists → ℕ → List Row → List Row → ℕ → ℕ → ℕ → Option ℕ → ℕ → List ℕ → List ℕ → ℕ → Type 0
-ReplacesAt R S s free after cpu rows news place source end None i name other time = MovesAt R S s free after cpu rows news place source end name other time
-ReplacesAt R S s free after cpu rows news place source end (Some j) i name other time = ((j ≡ i) × ((S ≡ R) × (after ≡ free) × (news ≡ rows)))
-    ⊎ ((j ≢ i) × (((place ≡ end) × ReplacesHere R S s free after cpu rows news place (place_in rows j) i name other time) ⊎ ((place ≢ end)
-    × ReplacesOver R S s free after cpu rows news place end (place_in rows j) i name other time)))
+abbrev pub ReplacesAt : Region → Region → Layout → FreeLists → FreeLists → ℕ → List Row → List Row → ℕ → ℕ → ℕ → Option ℕ → ℕ → List ℕ → List ℕ → ℕ → Type 0
+ReplacesAt R S l free after cpu rows news place source end None i name other time = MovesAt R S l free after cpu rows news place source end name other time
+ReplacesAt R S l free after cpu rows news place source end (Some j) i name other time = ((j ≡ i) × ((S ≡ R) × (after ≡ free) × (news ≡ rows)))
+    ⊎ ((j ≢ i) × (((place ≡ end) × ReplacesHere R S l free after cpu rows news place (place_in rows j) i name other time) ⊎ ((place ≢ end)
+    × ReplacesOver R S l free after cpu rows news place end (place_in rows j) i name other time)))
 
 -- how many blocks it takes, by the row of the inode that has the new name
 abbrev pub replace_count : ℕ → ℕ → Row → Row → Option Row → ℕ → List ℕ → List ℕ → ℕ → ℕ
@@ -134,7 +134,7 @@ replace_count place end from to (Some had) i name other time =
     else replace_over_blocks from to had i name other time
 
 -- what a stop leaves of it
-abbrev pub ReplacedAt : Region → Super → FreeLists → ℕ → ℕ → ℕ → Row → Row → Option Row → ℕ → List ℕ → List ℕ → ℕ → Region → Type 0
-ReplacedAt R s free cpu place end from to None i name other time S = Renamed R s free cpu place end from to i name other time S
-ReplacedAt R s free cpu place end from to (Some had) i name other time S = (had.inode ≢ i) × (((place ≡ end) × ReplacedHere R s free cpu from had i name other time S) ⊎ ((place ≢ end)
-    × ReplacedOver R s free cpu from to had i name other time S))
+abbrev pub ReplacedAt : Region → Layout → FreeLists → ℕ → ℕ → ℕ → Row → Row → Option Row → ℕ → List ℕ → List ℕ → ℕ → Region → Type 0
+ReplacedAt R l free cpu place end from to None i name other time S = Renamed R l free cpu place end from to i name other time S
+ReplacedAt R l free cpu place end from to (Some had) i name other time S = (had.inode ≢ i) × (((place ≡ end) × ReplacedHere R l free cpu from had i name other time S) ⊎ ((place ≢ end)
+    × ReplacedOver R l free cpu from to had i name other time S))

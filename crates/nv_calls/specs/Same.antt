@@ -1,6 +1,6 @@
 -- What a call leaves of a mounted file system: all of it, or what no call changes.
 use Rattle.std.specs.Prelude.{◌≡◌}
-use Rattle.nv_held.specs.nv_outcome.Same.{SameRows}
+use Rattle.nv_outcome.specs.Same.{SameRows}
 use Rattle.nv_calls.specs.Mount.{Mount}
 use Rattle.nv_steps.specs.Taken.{SamePools}
 
@@ -8,6 +8,7 @@ use Rattle.nv_steps.specs.Taken.{SamePools}
 pub record SameMount {P : Type 0} (old new : Mount P) : Type 0 where
   pub memory : new.memory ≡ old.memory
   pub sup : new.sup ≡ old.sup
+  pub layout : new.layout ≡ old.layout
   pub rows : SameRows old.rows new.rows
   pub free : SamePools old.free new.free
   pub faults : new.faults ≡ old.faults
@@ -17,5 +18,6 @@ pub record SameMount {P : Type 0} (old new : Mount P) : Type 0 where
 -- What no call changes.
 pub record KeepsMount {P : Type 0} (old new : Mount P) : Type 0 where
   pub sup : new.sup ≡ old.sup
+  pub layout : new.layout ≡ old.layout
   pub faults : new.faults ≡ old.faults
   pub read_only : new.read_only ≡ old.read_only

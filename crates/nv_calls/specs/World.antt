@@ -1,5 +1,4 @@
 -- What stands beside the tree of a mounted file system.
-use Rattle.nv_super.specs.Layout.{fixed_layout}
 use Rattle.nv_alloc.specs.Taking.{all_blocks}
 use Rattle.nv_rows.specs.Unused.{unused_number}
 use Rattle.nv_tree.specs.Refusals.{World}
@@ -10,6 +9,6 @@ abbrev pub world_of : {P : Type 0} → Mount P → World
 world_of m = record {
   cpus = m.sup.cpus;
   read_only = m.read_only;
-  unused = unused_number (fixed_layout m.sup) m.rows;
+  unused = unused_number m.layout m.rows;
   free = all_blocks m.free.pools;
 }

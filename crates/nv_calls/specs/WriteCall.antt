@@ -6,8 +6,8 @@ use Rattle.nv_super.specs.declared.owners.Run.{Run}
 use Rattle.nv_alloc.specs.Taking.{Takes}
 use Rattle.nv_radix.specs.Pages.{block_at}
 use Rattle.nv_scan.specs.declared.piece.Row.{Row}
-use Rattle.nv_held.specs.nv_graph.Read.{row_of}
-use Rattle.nv_held.specs.Held.{Held, Store}
+use Rattle.nv_graph.specs.Read.{row_of}
+use Rattle.nv_mounted.specs.Held.{Held, Store}
 use Rattle.nv_tree.specs.Refusals.{Path, target}
 use Rattle.nv_calls.specs.GrownLogs.{ShowsGrownLog}
 use Rattle.nv_calls.specs.Mount.{Mount}
@@ -29,7 +29,7 @@ pub record LogsWrite {P : Type 0} (S : Region) (m : Mount P) (cpu : ℕ) (held :
   pub runs : List Run
   pub rest : List (List Run)
   pub taken : Takes m.free.pools cpu (data_blocks plan) runs rest
-  pub grew : ShowsGrownLog S m.sup rest cpu held i h (data_entries plan runs)
+  pub grew : ShowsGrownLog S m.layout rest cpu held i h (data_entries plan runs)
   pub zeros : ZerosFrom S plan.size (data_entries plan runs)
 
 -- there are such runs

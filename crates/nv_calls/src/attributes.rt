@@ -3,8 +3,8 @@
 ghost use Rattle.std.specs.Prelude.{◌≡◌, ◌<◌, ◌%◌, ℕ, List, Option, Result, IfErr, OnOk, false};
 ghost use Rattle.nv_region.specs.Region.{size};
 ghost use Rattle.nv_region.specs.Stops.{LeavesOnly};
-ghost use Rattle.nv_held.specs.Held.{Held, Store};
-ghost use Rattle.nv_held.specs.Mounted.{ShowsSound};
+ghost use Rattle.nv_mounted.specs.Held.{Held, Store};
+ghost use Rattle.nv_mounted.specs.Mounted.{ShowsSound};
 ghost use Rattle.nv_tree.specs.Path.{IsPath, Says};
 ghost use Rattle.nv_tree.specs.Tree.{Node, SameTree};
 ghost use Rattle.nv_tree.specs.Calls.{attributed};
@@ -60,13 +60,13 @@ impl<P: Pmem + Drop> Fs<P> {
             → OnOk result (SameTree (shown P.region self.new) (attributed names mode owner group time (shown P.region self.old))) }
         // The log of the inode has one entry more, and no other log has changed.
         ensures log { (names : List (List ℕ)) (i : ℕ) (node : Node) (held : Store) (h : Held) → IsPath path.now names → LeadsTo (shown P.region self.old) names i node
-            → ShowsSound (P.region self.old.memory) self.old.sup held → held i ≡ Option.Some h
-            → OnOk result (ShowsGrownLog (P.region self.new.memory) self.old.sup self.old.free.pools cpu held i h (attributes node.size mode owner group time)) }
+            → ShowsSound (P.region self.old.memory) self.old.layout held → held i ≡ Option.Some h
+            → OnOk result (ShowsGrownLog (P.region self.new.memory) self.old.layout self.old.free.pools cpu held i h (attributes node.size mode owner group time)) }
         // What every call that writes keeps.
         ensures call { SettlesCall P.region P.may_hold P.fuse (IsNoPath path.now) self.old self.new result }
         // Every word outside these places is as it was.
         ensures wrote { (names : List (List ℕ)) (i : ℕ) (node : Node) (held : Store) → IsPath path.now names → LeadsTo (shown P.region self.old) names i node
-            → ShowsSound (P.region self.old.memory) self.old.sup held → StoresIn self.old.sup held (one_log self.old.sup i) (P.region self.old.memory) (P.region self.new.memory) }
+            → ShowsSound (P.region self.old.memory) self.old.layout held → StoresIn self.old.layout held (one_log self.old.layout i) (P.region self.old.memory) (P.region self.new.memory) }
         // Whatever a stop leaves, at any exit: recovery finds what was mounted, or what the call makes, without faults.
         ensures any_stop { (names : List (List ℕ)) → IsPath path.now names → self.old.stopped ≡ false → self.old.read_only ≡ false
             → LeavesOnly (P.region self.new.memory) (P.may_hold self.new.memory) (LeavesCall (makes_attributes mode owner group time) (logs_attributes cpu mode owner group time)
@@ -85,7 +85,7 @@ impl<P: Pmem + Drop> Fs<P> {
         let changed = change_attributes(
             self.alloc,
             &mut self.memory,
-            &self.sup,
+            &self.tables,
             &mut self.free,
             cpu.0,
             &mut row,

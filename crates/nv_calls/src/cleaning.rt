@@ -2,9 +2,9 @@
 
 ghost use Rattle.std.specs.Prelude.{◌≡◌, ◌⊎◌, ◌∷◌, ℕ, List, Option, Result, IsTrue, IfOk, IfErr, OnOk, false};
 ghost use Rattle.nv_region.specs.Stops.{LeavesOnly, NothingPending};
-ghost use Rattle.nv_held.specs.Held.{Held, Store};
+ghost use Rattle.nv_mounted.specs.Held.{Held, Store};
 ghost use Rattle.nv_deadpages.specs.Dead.{IsFirstDead};
-ghost use Rattle.nv_held.specs.Mounted.{ShowsSound};
+ghost use Rattle.nv_mounted.specs.Mounted.{ShowsSound};
 ghost use Rattle.nv_tree.specs.Path.{IsPath, Says};
 ghost use Rattle.nv_tree.specs.Tree.{Node, SameTree};
 ghost use Rattle.nv_tree.specs.Refusals.{Path, Tests, clean_tests, first_refusal, IsRefusedBy};
@@ -50,14 +50,14 @@ impl<P: Pmem + Drop> Fs<P> {
         ensures same_tree { OnOk result (SameTree (shown P.region self.new) (shown P.region self.old)) }
         // Which page went, by the log of the inode.
         ensures log { (names : List (List ℕ)) (i : ℕ) (node : Node) (held : Store) (h : Held) → IsPath path.now names → LeadsTo (shown P.region self.old) names i node
-            → ShowsSound (P.region self.old.memory) self.old.sup held → held i ≡ Option.Some h
-            → IfOk result (ShowsCleaned (P.region self.old.memory) (P.region self.new.memory) self.old.sup held i h) }
+            → ShowsSound (P.region self.old.memory) self.old.layout held → held i ≡ Option.Some h
+            → IfOk result (ShowsCleaned (P.region self.old.memory) (P.region self.new.memory) self.old.layout held i h) }
         // What every call that writes keeps.
         ensures call { SettlesCall P.region P.may_hold P.fuse (IsNoPath path.now) self.old self.new result }
         // Every word outside these places is as it was.
         ensures wrote { (names : List (List ℕ)) (i : ℕ) (node : Node) (held : Store) (h : Held) (o : Option ℕ) → IsPath path.now names → LeadsTo (shown P.region self.old) names i node
-            → ShowsSound (P.region self.old.memory) self.old.sup held → held i ≡ Option.Some h → IsFirstDead self.old.sup h.kind i h.created h.entries h.pages o
-            → StoresIn self.old.sup held (one_page_less self.old.sup i h.pages o) (P.region self.old.memory) (P.region self.new.memory) }
+            → ShowsSound (P.region self.old.memory) self.old.layout held → held i ≡ Option.Some h → IsFirstDead self.old.layout.sup h.kind i h.created h.entries h.pages o
+            → StoresIn self.old.layout held (one_page_less self.old.layout i h.pages o) (P.region self.old.memory) (P.region self.new.memory) }
         // Whatever a stop leaves, at any exit: recovery finds what was mounted, or it without the page, without faults.
         ensures any_stop { (names : List (List ℕ)) → IsPath path.now names → self.old.stopped ≡ false → self.old.read_only ≡ false
             → LeavesOnly (P.region self.new.memory) (P.may_hold self.new.memory) (LeavesCall makes_no_change logs_page_less (P.region self.old.memory) self.old names) }
@@ -82,19 +82,19 @@ impl<P: Pmem + Drop> Fs<P> {
             → IfErr result (IsRefusedBy (first_refusal (clean_inode_tests (world_of self.old) (shown P.region self.old) inode))) }
         ensures same_tree { OnOk result (SameTree (shown P.region self.new) (shown P.region self.old)) }
         // Which page went, by the log of the inode.
-        ensures log { (held : Store) (h : Held) → ShowsSound (P.region self.old.memory) self.old.sup held → held inode ≡ Option.Some h
-            → IfOk result (ShowsCleaned (P.region self.old.memory) (P.region self.new.memory) self.old.sup held inode h) }
+        ensures log { (held : Store) (h : Held) → ShowsSound (P.region self.old.memory) self.old.layout held → held inode ≡ Option.Some h
+            → IfOk result (ShowsCleaned (P.region self.old.memory) (P.region self.new.memory) self.old.layout held inode h) }
         // What every call that writes keeps.
         ensures call { KeepsCall P.region P.fuse self.old self.new result }
         ensures settled { OnOk result (NothingPending (P.region self.new.memory) (P.may_hold self.new.memory)) }
         // Every word outside these places is as it was.
-        ensures wrote { (held : Store) (h : Held) (o : Option ℕ) → ShowsSound (P.region self.old.memory) self.old.sup held → held inode ≡ Option.Some h
-            → IsFirstDead self.old.sup h.kind inode h.created h.entries h.pages o
-            → StoresIn self.old.sup held (one_page_less self.old.sup inode h.pages o) (P.region self.old.memory) (P.region self.new.memory) }
+        ensures wrote { (held : Store) (h : Held) (o : Option ℕ) → ShowsSound (P.region self.old.memory) self.old.layout held → held inode ≡ Option.Some h
+            → IsFirstDead self.old.layout.sup h.kind inode h.created h.entries h.pages o
+            → StoresIn self.old.layout held (one_page_less self.old.layout inode h.pages o) (P.region self.old.memory) (P.region self.new.memory) }
         // Whatever a stop leaves, at any exit: recovery finds what was mounted, or it without the page, without faults.
         ensures any_stop { self.old.stopped ≡ false → self.old.read_only ≡ false
-            → LeavesOnly (P.region self.new.memory) (P.may_hold self.new.memory) (StopLeaves (P.region self.old.memory) self.old.sup self.old.rows self.old.free.pools (shown P.region self.old)
-            (LosesPage (P.region self.old.memory) self.old.sup inode)) }
+            → LeavesOnly (P.region self.new.memory) (P.may_hold self.new.memory) (StopLeaves (P.region self.old.memory) self.old.layout self.old.rows self.old.free.pools (shown P.region self.old)
+            (LosesPage (P.region self.old.memory) self.old.layout inode)) }
     {
         self.clean_page(inode, None)
     }
@@ -110,25 +110,25 @@ impl<P: Pmem + Drop> Fs<P> {
     /// Besides these `Memory` where a growth was refused, and `Stopped` where the fuse burns. All but `Stopped` leave
     /// everything as it was.
     pub fn clean_page(&mut self, inode: u64, known: Option<usize>) -> Result<Option<u64>, Refusal>
-        requires { IsKnown (P.region self.old.memory) self.old.sup inode known }
+        requires { IsKnown (P.region self.old.memory) self.old.layout inode known }
         ensures allowed { OnOk result (first_refusal (clean_inode_tests (world_of self.old) (shown P.region self.old) inode) ≡ Option.None) }
         ensures refused { self.old.stopped ≡ false
             → IfErr result (IsRefusedBy (first_refusal (clean_inode_tests (world_of self.old) (shown P.region self.old) inode))) }
         ensures same_tree { OnOk result (SameTree (shown P.region self.new) (shown P.region self.old)) }
         // Which page went, by the log of the inode.
-        ensures log { (held : Store) (h : Held) → ShowsSound (P.region self.old.memory) self.old.sup held → held inode ≡ Option.Some h
-            → IfOk result (ShowsCleaned (P.region self.old.memory) (P.region self.new.memory) self.old.sup held inode h) }
+        ensures log { (held : Store) (h : Held) → ShowsSound (P.region self.old.memory) self.old.layout held → held inode ≡ Option.Some h
+            → IfOk result (ShowsCleaned (P.region self.old.memory) (P.region self.new.memory) self.old.layout held inode h) }
         // What every call that writes keeps.
         ensures call { KeepsCall P.region P.fuse self.old self.new result }
         ensures settled { OnOk result (NothingPending (P.region self.new.memory) (P.may_hold self.new.memory)) }
         // Every word outside these places is as it was.
-        ensures wrote { (held : Store) (h : Held) (o : Option ℕ) → ShowsSound (P.region self.old.memory) self.old.sup held → held inode ≡ Option.Some h
-            → IsFirstDead self.old.sup h.kind inode h.created h.entries h.pages o
-            → StoresIn self.old.sup held (one_page_less self.old.sup inode h.pages o) (P.region self.old.memory) (P.region self.new.memory) }
+        ensures wrote { (held : Store) (h : Held) (o : Option ℕ) → ShowsSound (P.region self.old.memory) self.old.layout held → held inode ≡ Option.Some h
+            → IsFirstDead self.old.layout.sup h.kind inode h.created h.entries h.pages o
+            → StoresIn self.old.layout held (one_page_less self.old.layout inode h.pages o) (P.region self.old.memory) (P.region self.new.memory) }
         // Whatever a stop leaves, at any exit: recovery finds what was mounted, or it without the page, without faults.
         ensures any_stop { self.old.stopped ≡ false → self.old.read_only ≡ false
-            → LeavesOnly (P.region self.new.memory) (P.may_hold self.new.memory) (StopLeaves (P.region self.old.memory) self.old.sup self.old.rows self.old.free.pools (shown P.region self.old)
-            (LosesPage (P.region self.old.memory) self.old.sup inode)) }
+            → LeavesOnly (P.region self.new.memory) (P.may_hold self.new.memory) (StopLeaves (P.region self.old.memory) self.old.layout self.old.rows self.old.free.pools (shown P.region self.old)
+            (LosesPage (P.region self.old.memory) self.old.layout inode)) }
     {
         self.cleanable()?;
         self.in_use(inode)?;
@@ -138,7 +138,7 @@ impl<P: Pmem + Drop> Fs<P> {
         let cleaned = clean_log(
             self.alloc,
             &mut self.memory,
-            &self.sup,
+            &self.tables,
             &mut self.free,
             &mut row,
             known,
@@ -167,15 +167,15 @@ impl<P: Pmem + Drop> Fs<P> {
         ensures allowed { OnOk result (first_refusal (clean_inode_tests (world_of self.now) (shown P.region self.now) inode) ≡ Option.None) }
         ensures refused { self.now.stopped ≡ false
             → IfErr result (λ e. (e ≡ RefusalValue.Memory) ⊎ (first_refusal (clean_inode_tests (world_of self.now) (shown P.region self.now) inode) ≡ Option.Some e)) }
-        ensures dead { (held : Store) (h : Held) → ShowsSound (P.region self.now.memory) self.now.sup held → held inode ≡ Option.Some h
-            → IfOk result (AreDeadPages self.now.sup h.kind inode h.created h.entries h.pages) }
+        ensures dead { (held : Store) (h : Held) → ShowsSound (P.region self.now.memory) self.now.layout held → held inode ≡ Option.Some h
+            → IfOk result (AreDeadPages self.now.layout.sup h.kind inode h.created h.entries h.pages) }
     {
         self.cleanable()?;
         self.in_use(inode)?;
         // No byte stands behind the last block then.
         let _end = self.memory.len();
         let row = self.rows.row(inode);
-        match dead_pages_of(self.alloc, &self.memory, &self.sup, row) {
+        match dead_pages_of(self.alloc, &self.memory, &self.tables, row) {
             Ok(found) => Ok(found),
             Err(AllocError) => Err(Refusal::Memory),
         }
@@ -197,7 +197,7 @@ impl<P: Pmem + Drop> Fs<P> {
         ensures stopped { IsTrue self.now.stopped → result ≡ Result.Err RefusalValue.Stopped }
         ensures runs { OnOk result (self.now.stopped ≡ false) }
         ensures writes { OnOk result (self.now.read_only ≡ false) }
-        ensures kept { IsKept (P.region self.now.memory) self.now.sup self.now.rows self.now.free self.now.faults self.now.read_only self.now.stopped }
+        ensures kept { IsKept (P.region self.now.memory) self.now.sup self.now.layout self.now.rows self.now.free self.now.faults self.now.read_only self.now.stopped }
         ensures settled { self.now.stopped ≡ false → NothingPending (P.region self.now.memory) (P.may_hold self.now.memory) }
         ensures refused { self.now.stopped ≡ false → (tests : Tests) → IfErr result (λ e. first_refusal ((self.now.read_only, RefusalValue.ReadOnly) ∷ tests) ≡ Option.Some e) }
     {

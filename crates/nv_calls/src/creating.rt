@@ -2,16 +2,16 @@
 
 ghost use Rattle.std.specs.Prelude.{◌≡◌, ◌+◌, ◌<◌, ◌≤◌, ◌%◌, ℕ, List, Option, Result, IfErr, OnOk, false};
 ghost use Rattle.nv_region.specs.Stops.{LeavesOnly, NothingPending};
-ghost use Rattle.nv_super.specs.Layout.{fixed_layout, slot_address};
 ghost use Rattle.nv_journal.specs.InOrder.{FirstIsFirst};
 ghost use Rattle.nv_super.specs.declared.kind.Kind.TheVariants.{File, Directory};
+ghost use Rattle.nv_steps.specs.Slots.{slot_in};
 ghost use Rattle.nv_alloc.specs.Taking.{all_blocks};
 ghost use Rattle.nv_entry.specs.declared.entry.Operation.{Operation as OperationValue};
 ghost use Rattle.nv_logpage.specs.Append.{needed};
 ghost use Rattle.nv_scan.specs.declared.piece.Row.{Row as RowValue};
 ghost use Rattle.nv_rows.specs.Rows.{IsInUse, place_in, row_of};
-ghost use Rattle.nv_held.specs.Held.{Held, Store};
-ghost use Rattle.nv_held.specs.Mounted.{ShowsSound};
+ghost use Rattle.nv_mounted.specs.Held.{Held, Store};
+ghost use Rattle.nv_mounted.specs.Mounted.{ShowsSound};
 ghost use Rattle.nv_commit.specs.Stopped.{LeavesEither};
 ghost use Rattle.nv_names.specs.Names.{IsName, name_at};
 ghost use Rattle.nv_tree.specs.Path.{IsPath, Says, last_name};
@@ -40,12 +40,13 @@ use crate::arguments::{Cpu, Time};
 use crate::writing::is_stop;
 use nv_alloc::Allocators;
 use nv_entry::{Operation, name_entry};
+use nv_inode::Tables;
 use nv_logpage::pages_needed;
 use nv_paths::spot_for;
 use nv_region::Pmem;
 use nv_rows::Rows;
 use nv_steps::{NewName, make_named};
-use nv_super::{Kind, Super};
+use nv_super::Kind;
 use nv_tree::Refusal;
 use std::alloc::Global;
 
@@ -56,7 +57,7 @@ use std::alloc::Global;
 fn create_at<P: Pmem>(
     alloc: Global,
     memory: &mut P,
-    sup: &Super,
+    tables: &Tables,
     free: &mut Allocators,
     cpu: u64,
     rows: &mut Rows,
@@ -66,10 +67,10 @@ fn create_at<P: Pmem>(
     requires in_use { IsInUse rows.old.items directory }
     requires limit { IsTableNumber rows.old.sup.cpus rows.old.sizes new.now.inode }
     requires unused { row_of rows.old.items new.now.inode ≡ Option.None }
-    requires stands { (row : RowValue) → row_of rows.old.items directory ≡ Option.Some row → StandsRight (P.region memory.old) sup.now free.old row }
-    requires can { (row : RowValue) → row_of rows.old.items directory ≡ Option.Some row → CanName (P.region memory.old) sup.now cpu new.now.inode row }
+    requires stands { (row : RowValue) → row_of rows.old.items directory ≡ Option.Some row → StandsRight (P.region memory.old) tables.now.layout free.old row }
+    requires can { (row : RowValue) → row_of rows.old.items directory ≡ Option.Some row → CanName (P.region memory.old) tables.now.layout cpu new.now.inode row }
     requires name { IsName new.now.name.now }
-    ensures created { OnOk result (CreatesAt (P.region memory.old) (P.region memory.new) sup.now free.old free.new cpu rows.old.items rows.new.items
+    ensures created { OnOk result (CreatesAt (P.region memory.old) (P.region memory.new) tables.now.layout free.old free.new cpu rows.old.items rows.new.items
         (place_in rows.old.items directory) new.now.kind new.now.mode new.now.time new.now.inode new.now.name.now) }
     ensures enough { (row : RowValue) → row_of rows.old.items directory ≡ Option.Some row
         → OnOk result (1 + needed (row.tail % 4096) (name_entries OperationValue.Add new.now.inode new.now.name.now new.now.time) ≤ all_blocks free.old.pools) }
@@ -77,18 +78,18 @@ fn create_at<P: Pmem>(
     ensures refused { (row : RowValue) → row_of rows.old.items directory ≡ Option.Some row
         → IfErr result (λ e. RefusesStep e (1 + needed (row.tail % 4096) (name_entries OperationValue.Add new.now.inode new.now.name.now new.now.time)) free.old) }
     // Every word outside these places is as it was.
-    ensures wrote { (row : RowValue) (held : Store) (h : Held) → row_of rows.old.items directory ≡ Option.Some row → ShowsRow (P.region memory.old) sup.now held h row free.old
+    ensures wrote { (row : RowValue) (held : Store) (h : Held) → row_of rows.old.items directory ≡ Option.Some row → ShowsRow (P.region memory.old) tables.now.layout held h row free.old
         → held new.now.inode ≡ Option.None
-        → StoresIn sup.now held (one_more sup.now cpu new.now.inode row.inode) (P.region memory.old) (P.region memory.new) }
+        → StoresIn tables.now.layout held (one_more tables.now.layout cpu new.now.inode row.inode) (P.region memory.old) (P.region memory.new) }
     // The new inode's valid word is stored first.
-    ensures in_order { (row : RowValue) (held : Store) (h : Held) → row_of rows.old.items directory ≡ Option.Some row → ShowsRow (P.region memory.old) sup.now held h row free.old
+    ensures in_order { (row : RowValue) (held : Store) (h : Held) → row_of rows.old.items directory ≡ Option.Some row → ShowsRow (P.region memory.old) tables.now.layout held h row free.old
         → held new.now.inode ≡ Option.None
-        → FirstIsFirst (P.region memory.old) (slot_address sup.now new.now.inode) 1 (tail_address sup.now row.inode) (P.region memory.new) }
+        → FirstIsFirst (P.region memory.old) (slot_in tables.now.layout new.now.inode) 1 (tail_address tables.now.layout row.inode) (P.region memory.new) }
     // Whatever a stop leaves: recovery finds what is held, or it with the new inode and its name, without faults.
-    ensures any_stop { (row : RowValue) (held : Store) (h : Held) → row_of rows.old.items directory ≡ Option.Some row → ShowsRow (P.region memory.old) sup.now held h row free.old
+    ensures any_stop { (row : RowValue) (held : Store) (h : Held) → row_of rows.old.items directory ≡ Option.Some row → ShowsRow (P.region memory.old) tables.now.layout held h row free.old
         → held new.now.inode ≡ Option.None → name_at row.names new.now.name.now ≡ Option.None → NothingPending (P.region memory.old) (P.may_hold memory.old)
-        → LeavesOnly (P.region memory.new) (P.may_hold memory.new) (LeavesEither (P.region memory.old) (fixed_layout sup.now) held
-        (Named (P.region memory.old) sup.now free.old cpu row new.now.kind new.now.mode new.now.time new.now.inode new.now.name.now)) }
+        → LeavesOnly (P.region memory.new) (P.may_hold memory.new) (LeavesEither (P.region memory.old) tables.now.layout held
+        (Named (P.region memory.old) tables.now.layout free.old cpu row new.now.kind new.now.mode new.now.time new.now.inode new.now.name.now)) }
 {
     let entries = [name_entry(Operation::Add, new.inode, new.name, new.time)];
     if free.free_blocks() < 1 + pages_needed(rows.row(directory).tail, &entries) {
@@ -98,7 +99,7 @@ fn create_at<P: Pmem>(
         return Err(Refusal::Memory);
     }
     let mut row = rows.lend(alloc, directory);
-    let made = make_named(alloc, memory, sup, free, cpu, &mut row, new);
+    let made = make_named(alloc, memory, tables, free, cpu, &mut row, new);
     rows.give_back(row);
     rows.insert(made?);
     Ok(())
@@ -125,12 +126,12 @@ impl<P: Pmem + Drop> Fs<P> {
         ensures refused { self.old.stopped ≡ false → (p : Path) → Says path.now p
             → IfErr result (IsRefusedBy (first_refusal (create_tests (world_of self.old) (shown P.region self.old) cpu p (create_blocks self.old.rows (shown P.region self.old) p)))) }
         ensures changed { (names : List (List ℕ)) → IsPath path.now names
-            → OnOk result (SameTree (shown P.region self.new) (created File (unused_number (fixed_layout self.old.sup) self.old.rows cpu) names mode time (shown P.region self.old))) }
+            → OnOk result (SameTree (shown P.region self.new) (created File (unused_number self.old.layout self.old.rows cpu) names mode time (shown P.region self.old))) }
         // The log of the directory has one entry more, the new inode's log is one entry, and no other log has changed.
         ensures log { (names : List (List ℕ)) (d j : ℕ) (held : Store) (h : Held) → IsPath path.now names → walk (shown P.region self.old) 1 names ≡ Result.Ok d
-            → unused_number (fixed_layout self.old.sup) self.old.rows cpu ≡ Option.Some j
-            → ShowsSound (P.region self.old.memory) self.old.sup held → held d ≡ Option.Some h
-            → OnOk result (ShowsCreated (P.region self.new.memory) self.old.sup self.old.free.pools cpu held File mode time j d h (last_name names)) }
+            → unused_number self.old.layout self.old.rows cpu ≡ Option.Some j
+            → ShowsSound (P.region self.old.memory) self.old.layout held → held d ≡ Option.Some h
+            → OnOk result (ShowsCreated (P.region self.new.memory) self.old.layout self.old.free.pools cpu held File mode time j d h (last_name names)) }
         // What every call that writes keeps.
         ensures call { SettlesCall P.region P.may_hold P.fuse (IsNoPath path.now) self.old self.new result }
         // Where it stores, and in which order.
@@ -150,12 +151,12 @@ impl<P: Pmem + Drop> Fs<P> {
         ensures refused { self.old.stopped ≡ false → (p : Path) → Says path.now p
             → IfErr result (IsRefusedBy (first_refusal (create_tests (world_of self.old) (shown P.region self.old) cpu p (create_blocks self.old.rows (shown P.region self.old) p)))) }
         ensures changed { (names : List (List ℕ)) → IsPath path.now names
-            → OnOk result (SameTree (shown P.region self.new) (created Directory (unused_number (fixed_layout self.old.sup) self.old.rows cpu) names mode time (shown P.region self.old))) }
+            → OnOk result (SameTree (shown P.region self.new) (created Directory (unused_number self.old.layout self.old.rows cpu) names mode time (shown P.region self.old))) }
         // The log of the directory has one entry more, the new inode's log is one entry, and no other log has changed.
         ensures log { (names : List (List ℕ)) (d j : ℕ) (held : Store) (h : Held) → IsPath path.now names → walk (shown P.region self.old) 1 names ≡ Result.Ok d
-            → unused_number (fixed_layout self.old.sup) self.old.rows cpu ≡ Option.Some j
-            → ShowsSound (P.region self.old.memory) self.old.sup held → held d ≡ Option.Some h
-            → OnOk result (ShowsCreated (P.region self.new.memory) self.old.sup self.old.free.pools cpu held Directory mode time j d h (last_name names)) }
+            → unused_number self.old.layout self.old.rows cpu ≡ Option.Some j
+            → ShowsSound (P.region self.old.memory) self.old.layout held → held d ≡ Option.Some h
+            → OnOk result (ShowsCreated (P.region self.new.memory) self.old.layout self.old.free.pools cpu held Directory mode time j d h (last_name names)) }
         // What every call that writes keeps.
         ensures call { SettlesCall P.region P.may_hold P.fuse (IsNoPath path.now) self.old self.new result }
         // Where it stores, and in which order.
@@ -182,12 +183,12 @@ impl<P: Pmem + Drop> Fs<P> {
         ensures refused { self.old.stopped ≡ false → (p : Path) → Says path.now p
             → IfErr result (IsRefusedBy (first_refusal (create_tests (world_of self.old) (shown P.region self.old) cpu p (create_blocks self.old.rows (shown P.region self.old) p)))) }
         ensures changed { (names : List (List ℕ)) → IsPath path.now names
-            → OnOk result (SameTree (shown P.region self.new) (created kind (unused_number (fixed_layout self.old.sup) self.old.rows cpu) names mode time (shown P.region self.old))) }
+            → OnOk result (SameTree (shown P.region self.new) (created kind (unused_number self.old.layout self.old.rows cpu) names mode time (shown P.region self.old))) }
         // The log of the directory has one entry more, the new inode's log is one entry, and no other log has changed.
         ensures log { (names : List (List ℕ)) (d j : ℕ) (held : Store) (h : Held) → IsPath path.now names → walk (shown P.region self.old) 1 names ≡ Result.Ok d
-            → unused_number (fixed_layout self.old.sup) self.old.rows cpu ≡ Option.Some j
-            → ShowsSound (P.region self.old.memory) self.old.sup held → held d ≡ Option.Some h
-            → OnOk result (ShowsCreated (P.region self.new.memory) self.old.sup self.old.free.pools cpu held kind mode time j d h (last_name names)) }
+            → unused_number self.old.layout self.old.rows cpu ≡ Option.Some j
+            → ShowsSound (P.region self.old.memory) self.old.layout held → held d ≡ Option.Some h
+            → OnOk result (ShowsCreated (P.region self.new.memory) self.old.layout self.old.free.pools cpu held kind mode time j d h (last_name names)) }
         // What every call that writes keeps.
         ensures call { SettlesCall P.region P.may_hold P.fuse (IsNoPath path.now) self.old self.new result }
         // Where it stores, and in which order.
@@ -209,7 +210,7 @@ impl<P: Pmem + Drop> Fs<P> {
         match create_at(
             self.alloc,
             &mut self.memory,
-            &self.sup,
+            &self.tables,
             &mut self.free,
             cpu.0,
             &mut self.rows,

@@ -4,13 +4,13 @@ ghost use Rattle.std.specs.Prelude.{◌≡◌, ◌<◌, ℕ, List, IsTrue, IfOk,
 ghost use Rattle.std.specs.Result.{result_err};
 ghost use Rattle.std.specs.List.{Contains};
 ghost use Rattle.nv_region.specs.Stops.{LeavesOnly, NothingPending};
-ghost use Rattle.nv_super.specs.Layout.{fixed_layout};
 ghost use Rattle.nv_journal.specs.Undo.{undone};
 ghost use Rattle.nv_rows.specs.RowList.{HasNumbersOf};
+ghost use Rattle.nv_rows.specs.Unused.{unused_number};
 ghost use Rattle.nv_alloc.specs.Taking.{pool_at};
-ghost use Rattle.nv_held.specs.nv_outcome.Outcome.{IsOutcome};
-ghost use Rattle.nv_held.specs.nv_outcome.Same.{lasting_outcome};
-ghost use Rattle.nv_held.specs.nv_outcome.Answer.{outcome_of};
+ghost use Rattle.nv_outcome.specs.Outcome.{IsOutcome};
+ghost use Rattle.nv_outcome.specs.Same.{lasting_outcome};
+ghost use Rattle.nv_outcome.specs.Answer.{outcome_of};
 ghost use Rattle.nv_tree.specs.Path.{IsPath, Says};
 ghost use Rattle.nv_tree.specs.Refusals.{Path, first_refusal, stat_tests};
 ghost use Rattle.nv_tree.specs.declared.refusal.Refusal.{Refusal as RefusalValue};
@@ -20,7 +20,8 @@ ghost use Rattle.nv_calls.specs.Stopped.{LeavesMounted};
 
 use crate::arguments::Cpu;
 use nv_alloc::{Allocators, FreeRuns};
-use nv_held::Recovered;
+use nv_inode::Tables;
+use nv_mounted::Recovered;
 use nv_paths::row_at;
 use nv_region::{Fuse, MemRegion, Pmem};
 use nv_rows::Rows;
@@ -39,7 +40,7 @@ use std::marker::Model;
 pub struct Fs<P: Pmem + Drop> {
     pub(crate) alloc: Global,
     pub(crate) memory: P,
-    pub(crate) sup: Super,
+    pub(crate) tables: Tables,
     pub(crate) rows: Rows,
     pub(crate) free: Allocators,
     faults: Vec<Fault>,
@@ -50,15 +51,14 @@ pub struct Fs<P: Pmem + Drop> {
 impl<P: Pmem + Drop> Model for Fs<P> {
     ghost use Rattle.std.specs.Prelude.{◌≡◌, false};
     ghost use Rattle.nv_region.specs.Stops.{NothingPending};
-    ghost use Rattle.nv_super.specs.Layout.{fixed_layout};
     ghost use Rattle.nv_rows.specs.RowList.{HasNumbersOf};
     ghost use Rattle.nv_calls.specs.Mount.{Mount, IsKept};
 
     ghost Value = { Mount P };
 
-    ghost view = { λ a. record { memory = a.memory; sup = a.sup; rows = a.rows.items; free = a.free; faults = a.faults.items; read_only = a.read_only; stopped = a.stopped } };
+    ghost view = { λ a. record { memory = a.memory; sup = a.tables.layout.sup; layout = a.tables.layout; rows = a.rows.items; free = a.free; faults = a.faults.items; read_only = a.read_only; stopped = a.stopped } };
 
-    ghost invariant = { λ a. IsKept (P.region a.memory) a.sup a.rows.items a.free a.faults.items a.read_only a.stopped × HasNumbersOf (fixed_layout a.sup) a.rows
+    ghost invariant = { λ a. IsKept (P.region a.memory) a.tables.layout.sup a.tables.layout a.rows.items a.free a.faults.items a.read_only a.stopped × HasNumbersOf a.tables.layout a.rows
         × (a.stopped ≡ false → NothingPending (P.region a.memory) (P.may_hold a.memory)) };
 }
 
@@ -74,6 +74,7 @@ impl<P: Pmem + Drop> Fs<P> {
         requires settled { NothingPending (P.region memory) (P.may_hold memory) }
         ensures memory { result.memory ≡ memory }
         ensures sup { result.sup ≡ recovered.sup }
+        ensures layout { result.layout ≡ recovered.tables.layout }
         ensures rows { result.rows ≡ recovered.rows.items }
         ensures free { result.free ≡ recovered.free }
         ensures faults { result.faults ≡ recovered.faults.items }
@@ -81,8 +82,8 @@ impl<P: Pmem + Drop> Fs<P> {
         ensures stopped { result.stopped ≡ false }
     {
         let Recovered {
-            sup,
-            tables: _,
+            sup: _,
+            tables,
             rows,
             free,
             doubled: _,
@@ -92,7 +93,7 @@ impl<P: Pmem + Drop> Fs<P> {
         Fs {
             alloc,
             memory,
-            sup,
+            tables,
             rows,
             free,
             faults,
@@ -119,7 +120,14 @@ impl<P: Pmem + Drop> Fs<P> {
     pub fn superblock(&self) -> &Super
         ensures { result.now ≡ self.now.sup }
     {
-        &self.sup
+        self.tables.sup()
+    }
+
+    /// The tables in which the slots of the inodes stand.
+    pub fn tables(&self) -> &Tables
+        ensures { result.now.layout ≡ self.now.layout }
+    {
+        &self.tables
     }
 
     /// The rows of the inodes in use, rising by number.
@@ -127,6 +135,15 @@ impl<P: Pmem + Drop> Fs<P> {
         ensures { result.now.items ≡ self.now.rows }
     {
         &self.rows
+    }
+
+    /// The number that an inode gets in the name of a CPU: the lowest of the CPU's table that no inode in use has. It looks at one
+    /// word for 64 numbers.
+    pub fn unused_number(&self, cpu: Cpu) -> Option<u64>
+        requires { cpu < self.now.sup.cpus }
+        ensures { result ≡ unused_number self.now.layout self.now.rows cpu }
+    {
+        self.rows.lowest_unused(cpu.0)
     }
 
     /// The free blocks of each CPU's pool.
@@ -153,17 +170,17 @@ impl<P: Pmem + Drop> Fs<P> {
 
     /// What a mounted file system always keeps, for those who see only its parts. It does nothing.
     pub fn keeps(&self)
-        ensures { IsKept (P.region self.now.memory) self.now.sup self.now.rows self.now.free self.now.faults self.now.read_only self.now.stopped }
+        ensures { IsKept (P.region self.now.memory) self.now.sup self.now.layout self.now.rows self.now.free self.now.faults self.now.read_only self.now.stopped }
     {
         // Its type's promise is known where a field is used.
-        let _ = &self.sup;
+        let _ = &self.tables;
     }
 
     /// Between calls nothing is pending. It does nothing.
     pub fn nothing_is_pending(&self)
         ensures { self.now.stopped ≡ false → NothingPending (P.region self.now.memory) (P.may_hold self.now.memory) }
     {
-        let _ = &self.sup;
+        let _ = &self.tables;
     }
 
     /// Whatever a stop leaves between calls, as after one that answered `Ok`: recovery finds what is mounted, without faults.

@@ -2,14 +2,17 @@
 
 ghost use Rattle.std.specs.Prelude.{◌≡◌, ℕ, List, [], Option, ⊤};
 ghost use Rattle.nv_region.specs.Region.{Region};
-ghost use Rattle.nv_super.specs.declared.superblock.Super.{Super};
 ghost use Rattle.nv_super.specs.declared.owners.Run.{Run};
 ghost use Rattle.nv_super.specs.declared.kind.Kind.{Kind};
+ghost use Rattle.nv_super.specs.declared.superblock.Super.{Super};
+ghost use Rattle.nv_super.specs.Layout.{Layout};
+ghost use Rattle.nv_super.specs.Super.{IsSuper};
+ghost use Rattle.nv_inode.specs.Upgraded.{IsUpgraded};
 ghost use Rattle.nv_journal.specs.Undo.{undone};
 ghost use Rattle.nv_entry.specs.declared.entry.Entry.{Entry};
-ghost use Rattle.nv_held.specs.Held.{Held, Store};
-ghost use Rattle.nv_held.specs.nv_outcome.Outcome.{IsOutcome, Outcome};
-ghost use Rattle.nv_held.specs.nv_outcome.Same.{SameOutcome};
+ghost use Rattle.nv_mounted.specs.Held.{Held, Store};
+ghost use Rattle.nv_outcome.specs.Outcome.{IsOutcome, Outcome};
+ghost use Rattle.nv_outcome.specs.Same.{SameOutcome};
 ghost use Rattle.nv_paths.specs.Seen.{tree_of};
 ghost use Rattle.nv_steps.specs.declared.planning.Plan.{Plan};
 ghost use Rattle.nv_tree.specs.Tree.{Node};
@@ -35,22 +38,22 @@ ghost use Rattle.nv_calls.specs.declared.stating.Stat.{Stat};
 /// What a writing call leaves is decided by what was held, the free pools, the CPU and the arguments: two regions of which its
 /// clause on logs holds show the same. So their rows, free lists and trees are the same too.
 pub fn calls_are_decided()
-    ensures grown { (s : Super) (pools : List (List Run)) (cpu : ℕ) (held : Store) (i : ℕ) (h : Held) (entries : List Entry)
-        → IsDecided s (λ S. ShowsGrownLog S s pools cpu held i h entries) }
-    ensures both { (s : Super) (pools : List (List Run)) (cpu : ℕ) (held : Store) (i : ℕ) (h : Held) (entries : List Entry) (j : ℕ) (g : Held) (others : List Entry)
-        → IsDecided s (λ S. ShowsBothGrew S s pools cpu held i h entries j g others) }
-    ensures created { (s : Super) (pools : List (List Run)) (cpu : ℕ) (held : Store) (kind : Kind) (mode time j d : ℕ) (h : Held) (name : List ℕ)
-        → IsDecided s (λ S. ShowsCreated S s pools cpu held kind mode time j d h name) }
-    ensures less { (s : Super) (pools : List (List Run)) (cpu : ℕ) (held : Store) (i : ℕ) (h : Held) (entries : List Entry) (e : ℕ) (g : Held) (others : List Entry) (j : ℕ)
-        → IsDecided s (λ S. ShowsBothLess S s pools cpu held i h entries e g others j) }
-    ensures three { (s : Super) (pools : List (List Run)) (cpu : ℕ) (held : Store) (i : ℕ) (h : Held) (entries : List Entry) (e : ℕ) (g : Held) (others : List Entry) (j : ℕ) (f : Held)
-        (lasts : List Entry) → IsDecided s (λ S. ShowsThreeGrew S s pools cpu held i h entries e g others j f lasts) }
-    ensures removed { (s : Super) (pools : List (List Run)) (cpu : ℕ) (held : Store) (d : ℕ) (h : Held) (entries : List Entry) (i : ℕ)
-        → IsDecided s (λ S. ShowsRemoved S s pools cpu held d h entries i) }
-    ensures resized { (s : Super) (pools : List (List Run)) (cpu : ℕ) (held : Store) (i : ℕ) (h : Held) (node : Node) (size time : ℕ)
-        → IsDecided s (λ S. ShowsResizedLog S s pools cpu held i h node size time) }
+    ensures grown { (l : Layout) (pools : List (List Run)) (cpu : ℕ) (held : Store) (i : ℕ) (h : Held) (entries : List Entry)
+        → IsDecided l (λ S. ShowsGrownLog S l pools cpu held i h entries) }
+    ensures both { (l : Layout) (pools : List (List Run)) (cpu : ℕ) (held : Store) (i : ℕ) (h : Held) (entries : List Entry) (j : ℕ) (g : Held) (others : List Entry)
+        → IsDecided l (λ S. ShowsBothGrew S l pools cpu held i h entries j g others) }
+    ensures created { (l : Layout) (pools : List (List Run)) (cpu : ℕ) (held : Store) (kind : Kind) (mode time j d : ℕ) (h : Held) (name : List ℕ)
+        → IsDecided l (λ S. ShowsCreated S l pools cpu held kind mode time j d h name) }
+    ensures less { (l : Layout) (pools : List (List Run)) (cpu : ℕ) (held : Store) (i : ℕ) (h : Held) (entries : List Entry) (e : ℕ) (g : Held) (others : List Entry) (j : ℕ)
+        → IsDecided l (λ S. ShowsBothLess S l pools cpu held i h entries e g others j) }
+    ensures three { (l : Layout) (pools : List (List Run)) (cpu : ℕ) (held : Store) (i : ℕ) (h : Held) (entries : List Entry) (e : ℕ) (g : Held) (others : List Entry) (j : ℕ) (f : Held)
+        (lasts : List Entry) → IsDecided l (λ S. ShowsThreeGrew S l pools cpu held i h entries e g others j f lasts) }
+    ensures removed { (l : Layout) (pools : List (List Run)) (cpu : ℕ) (held : Store) (d : ℕ) (h : Held) (entries : List Entry) (i : ℕ)
+        → IsDecided l (λ S. ShowsRemoved S l pools cpu held d h entries i) }
+    ensures resized { (l : Layout) (pools : List (List Run)) (cpu : ℕ) (held : Store) (i : ℕ) (h : Held) (node : Node) (size time : ℕ)
+        → IsDecided l (λ S. ShowsResizedLog S l pools cpu held i h node size time) }
     ensures written { (m : Mount ⊤) (cpu : ℕ) (held : Store) (i : ℕ) (h : Held) (plan : Plan)
-        → IsDecided m.sup (λ S. ShowsLogWrite S m cpu held i h plan) }
+        → IsDecided m.layout (λ S. ShowsLogWrite S m cpu held i h plan) }
 {}
 
 /// A region without faults in which nothing is pending is alike itself. Alike regions have one outcome, and the calls that read
@@ -64,6 +67,11 @@ pub fn alike_regions()
         → IsStat (tree_of R o.rows) names stat → IsStat (tree_of S other.rows) names another → stat ≡ another }
     ensures list { (R S : Region) (o other : Outcome) (names : List (List ℕ)) (lines others : List (List ℕ × ℕ)) → AreAlike R S → IsOutcome R o → IsOutcome S other
         → ListsNamesIn (tree_of R o.rows) names lines → ListsNamesIn (tree_of S other.rows) names others → lines ≡ others }
+{}
+
+/// Alike regions that are upgraded are alike.
+pub fn upgraded_regions_are_alike()
+    ensures { (R S T U : Region) (s : Super) → AreAlike R S → IsSuper R s → s.version ≡ 1 → IsUpgraded R s.cpus T → IsUpgraded S s.cpus U → AreAlike T U }
 {}
 
 /// Of alike regions that are mounted without faults, a call that no test refuses leaves alike regions; and `clean` answers the

@@ -22,12 +22,15 @@ mod sizes;
 mod stating;
 mod stops;
 mod unlinking;
+mod upgrading;
 mod write;
 mod writing;
 
 pub use arguments::{Cpu, Time};
 pub use fs::Fs;
-pub use laws::{alike_regions, calls_are_decided, calls_keep_regions_alike};
+pub use laws::{
+    alike_regions, calls_are_decided, calls_keep_regions_alike, upgraded_regions_are_alike,
+};
 pub use nv_bytes::Data;
 pub use nv_format::{FormatRefusal, format};
 pub use nv_recover::RecoverError;

@@ -1,7 +1,6 @@
 //! `link`: one more name of a file.
 
 ghost use Rattle.std.specs.Prelude.{◌≡◌, ◌≢◌, ◌+◌, ◌%◌, ◌<◌, ◌≤◌, ℕ, List, Option, Result, IfErr, OnOk, false};
-ghost use Rattle.nv_super.specs.Layout.{fixed_layout};
 ghost use Rattle.nv_region.specs.Stops.{LeavesOnly, NothingPending};
 ghost use Rattle.nv_alloc.specs.Taking.{all_blocks};
 ghost use Rattle.nv_entry.specs.declared.entry.Operation.TheVariants.{Add};
@@ -9,8 +8,8 @@ ghost use Rattle.nv_logpage.specs.Append.{needed};
 ghost use Rattle.nv_names.specs.Names.{IsName, name_at};
 ghost use Rattle.nv_scan.specs.declared.piece.Row.{Row as RowValue};
 ghost use Rattle.nv_rows.specs.Rows.{IsInUse, place_in, row_of};
-ghost use Rattle.nv_held.specs.Held.{Held, Store};
-ghost use Rattle.nv_held.specs.Mounted.{ShowsSound};
+ghost use Rattle.nv_mounted.specs.Held.{Held, Store};
+ghost use Rattle.nv_mounted.specs.Mounted.{ShowsSound};
 ghost use Rattle.nv_commit.specs.Stopped.{LeavesEither};
 ghost use Rattle.nv_tree.specs.Path.{IsPath, Says, last_name};
 ghost use Rattle.nv_tree.specs.Tree.{Node, SameTree, walk};
@@ -38,11 +37,11 @@ use crate::Fs;
 use crate::arguments::{Cpu, Time};
 use crate::writing::is_stop;
 use nv_alloc::Allocators;
+use nv_inode::Tables;
 use nv_paths::{Named, link_for};
 use nv_region::Pmem;
 use nv_rows::Rows;
 use nv_steps::link_both;
-use nv_super::Super;
 use nv_tree::Refusal;
 use std::alloc::Global;
 
@@ -53,7 +52,7 @@ use std::alloc::Global;
 fn link_at<P: Pmem>(
     alloc: Global,
     memory: &mut P,
-    sup: &Super,
+    tables: &Tables,
     free: &mut Allocators,
     cpu: u64,
     rows: &mut Rows,
@@ -64,12 +63,12 @@ fn link_at<P: Pmem>(
     requires directory { IsInUse rows.old.items named.now.directory }
     requires apart { named.now.target ≢ named.now.directory }
     requires few { (row : RowValue) → row_of rows.old.items named.now.target ≡ Option.Some row → row.numbers.links < 1000 }
-    requires stands { (row : RowValue) → row_of rows.old.items named.now.target ≡ Option.Some row → StandsRight (P.region memory.old) sup.now free.old row
-        × CanName (P.region memory.old) sup.now cpu row.inode row }
+    requires stands { (row : RowValue) → row_of rows.old.items named.now.target ≡ Option.Some row → StandsRight (P.region memory.old) tables.now.layout free.old row
+        × CanName (P.region memory.old) tables.now.layout cpu row.inode row }
     requires directory_stands { (directory : RowValue) → row_of rows.old.items named.now.directory ≡ Option.Some directory
-        → StandsRight (P.region memory.old) sup.now free.old directory × CanName (P.region memory.old) sup.now cpu directory.inode directory }
+        → StandsRight (P.region memory.old) tables.now.layout free.old directory × CanName (P.region memory.old) tables.now.layout cpu directory.inode directory }
     requires name { IsName named.now.name.now }
-    ensures linked { OnOk result (LinksAt (P.region memory.old) (P.region memory.new) sup.now free.old free.new cpu rows.old.items rows.new.items (place_in rows.old.items named.now.target)
+    ensures linked { OnOk result (LinksAt (P.region memory.old) (P.region memory.new) tables.now.layout free.old free.new cpu rows.old.items rows.new.items (place_in rows.old.items named.now.target)
         (place_in rows.old.items named.now.directory) named.now.name.now time) }
     ensures enough { (row directory : RowValue) → row_of rows.old.items named.now.target ≡ Option.Some row → row_of rows.old.items named.now.directory ≡ Option.Some directory
         → OnOk result (needed (row.tail % 4096) (links_entries (row.numbers.links + 1) time)
@@ -80,28 +79,28 @@ fn link_at<P: Pmem>(
         free.old) }
     // Every word outside these places is as it was.
     ensures wrote { (file directory : RowValue) (held : Store) (f h : Held) → row_of rows.old.items named.now.target ≡ Option.Some file
-        → row_of rows.old.items named.now.directory ≡ Option.Some directory → ShowsRow (P.region memory.old) sup.now held f file free.old
-        → ShowsRow (P.region memory.old) sup.now held h directory free.old
-        → StoresIn sup.now held (two_logs sup.now cpu file.inode directory.inode) (P.region memory.old) (P.region memory.new) }
+        → row_of rows.old.items named.now.directory ≡ Option.Some directory → ShowsRow (P.region memory.old) tables.now.layout held f file free.old
+        → ShowsRow (P.region memory.old) tables.now.layout held h directory free.old
+        → StoresIn tables.now.layout held (two_logs tables.now.layout cpu file.inode directory.inode) (P.region memory.old) (P.region memory.new) }
     // The file's tail is stored first.
     ensures in_order { (file directory : RowValue) (held : Store) (f h : Held) → row_of rows.old.items named.now.target ≡ Option.Some file
-        → row_of rows.old.items named.now.directory ≡ Option.Some directory → ShowsRow (P.region memory.old) sup.now held f file free.old
-        → ShowsRow (P.region memory.old) sup.now held h directory free.old
-        → TailIsFirst (P.region memory.old) (P.region memory.new) sup.now free.old.pools cpu file.inode file.tail (links_entries (file.numbers.links + 1) time) (tail_address sup.now directory.inode) }
+        → row_of rows.old.items named.now.directory ≡ Option.Some directory → ShowsRow (P.region memory.old) tables.now.layout held f file free.old
+        → ShowsRow (P.region memory.old) tables.now.layout held h directory free.old
+        → TailIsFirst (P.region memory.old) (P.region memory.new) tables.now.layout free.old.pools cpu file.inode file.tail (links_entries (file.numbers.links + 1) time) (tail_address tables.now.layout directory.inode) }
     // Whatever a stop leaves: recovery finds what is held, or it with the link and the name, without faults.
     ensures any_stop { (file directory : RowValue) (held : Store) (f h : Held) → row_of rows.old.items named.now.target ≡ Option.Some file
-        → row_of rows.old.items named.now.directory ≡ Option.Some directory → ShowsRow (P.region memory.old) sup.now held f file free.old
-        → ShowsRow (P.region memory.old) sup.now held h directory free.old
+        → row_of rows.old.items named.now.directory ≡ Option.Some directory → ShowsRow (P.region memory.old) tables.now.layout held f file free.old
+        → ShowsRow (P.region memory.old) tables.now.layout held h directory free.old
         → name_at directory.names named.now.name.now ≡ Option.None → NothingPending (P.region memory.old) (P.may_hold memory.old)
-        → LeavesOnly (P.region memory.new) (P.may_hold memory.new) (LeavesEither (P.region memory.old) (fixed_layout sup.now) held
-        (Linked (P.region memory.old) sup.now free.old cpu file directory named.now.name.now time)) }
+        → LeavesOnly (P.region memory.new) (P.may_hold memory.new) (LeavesEither (P.region memory.old) tables.now.layout held
+        (Linked (P.region memory.old) tables.now.layout free.old cpu file directory named.now.name.now time)) }
 {
     let mut file = rows.lend(alloc, named.target);
     let mut directory = rows.lend(alloc, named.directory);
     let done = link_both(
         alloc,
         memory,
-        sup,
+        tables,
         free,
         cpu,
         &mut file,
@@ -141,8 +140,8 @@ impl<P: Pmem + Drop> Fs<P> {
         // The log of the file and that of the directory have one entry more, and no other log has changed.
         ensures log { (names others : List (List ℕ)) (i d : ℕ) (node : Node) (held : Store) (f h : Held) → IsPath old.now names → IsPath new.now others
             → LeadsTo (shown P.region self.old) names i node → walk (shown P.region self.old) 1 others ≡ Result.Ok d
-            → ShowsSound (P.region self.old.memory) self.old.sup held → held i ≡ Option.Some f → held d ≡ Option.Some h
-            → OnOk result (ShowsBothGrew (P.region self.new.memory) self.old.sup self.old.free.pools cpu held i f (links_entries (node.links + 1) time) d h
+            → ShowsSound (P.region self.old.memory) self.old.layout held → held i ≡ Option.Some f → held d ≡ Option.Some h
+            → OnOk result (ShowsBothGrew (P.region self.new.memory) self.old.layout self.old.free.pools cpu held i f (links_entries (node.links + 1) time) d h
             (name_entries Add i (last_name others) time)) }
         // What every call that writes keeps.
         ensures call { SettlesCall P.region P.may_hold P.fuse (AreNoPaths old.now new.now) self.old self.new result }
@@ -158,7 +157,7 @@ impl<P: Pmem + Drop> Fs<P> {
         match link_at(
             self.alloc,
             &mut self.memory,
-            &self.sup,
+            &self.tables,
             &mut self.free,
             cpu.0,
             &mut self.rows,

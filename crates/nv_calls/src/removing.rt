@@ -1,7 +1,6 @@
 //! An inode that goes with its name: all growths first, then the commit, then the rows and the free lists.
 
 ghost use Rattle.std.specs.Prelude.{◌≡◌, ◌≢◌, ◌+◌, ◌%◌, ◌<◌, ◌≤◌, length, Option, IfErr, OnOk};
-ghost use Rattle.nv_super.specs.Layout.{fixed_layout, slot_address};
 ghost use Rattle.std.specs.Int.{div_ceil};
 ghost use Rattle.nv_region.specs.Region.{size};
 ghost use Rattle.nv_region.specs.Stops.{LeavesOnly, NothingPending};
@@ -11,7 +10,7 @@ ghost use Rattle.nv_logpage.specs.Append.{needed};
 ghost use Rattle.nv_names.specs.Names.{IsName};
 ghost use Rattle.nv_scan.specs.declared.piece.Row.{Row as RowValue};
 ghost use Rattle.nv_rows.specs.Rows.{IsInUse, place_in, row_of};
-ghost use Rattle.nv_held.specs.Held.{Held, Store};
+ghost use Rattle.nv_mounted.specs.Held.{Held, Store};
 ghost use Rattle.nv_commit.specs.Stopped.{LeavesEither};
 ghost use Rattle.nv_steps.specs.Grown.{StandsRight};
 ghost use Rattle.nv_steps.specs.LessNames.{OwnsBlocks};
@@ -22,14 +21,16 @@ ghost use Rattle.nv_steps.specs.Steps.{RefusesStep, ShowsRow};
 ghost use Rattle.nv_steps.specs.InOrder.{TailIsFirst};
 ghost use Rattle.nv_steps.specs.Stopped.{Cut};
 ghost use Rattle.nv_steps.specs.Stores.{StoresIn, one_less};
+ghost use Rattle.nv_steps.specs.Slots.{slot_in};
 
 use nv_alloc::Allocators;
+use nv_inode::Tables;
 use nv_paths::Named;
 use nv_region::Pmem;
 use nv_rows::Rows;
 use nv_scan::Row;
 use nv_steps::{Gone, cut_name, give_row};
-use nv_super::{BLOCK_SIZE, Super};
+use nv_super::BLOCK_SIZE;
 use nv_tree::Refusal;
 use std::alloc::Global;
 
@@ -41,7 +42,7 @@ use std::alloc::Global;
 pub(crate) fn remove_named<P: Pmem>(
     alloc: Global,
     memory: &mut P,
-    sup: &Super,
+    tables: &Tables,
     free: &mut Allocators,
     cpu: u64,
     rows: &mut Rows,
@@ -50,12 +51,12 @@ pub(crate) fn remove_named<P: Pmem>(
 ) -> Result<(), Refusal>
     requires directory { IsInUse rows.old.items named.now.directory }
     requires target { IsInUse rows.old.items named.now.target }
-    requires stands { (row : RowValue) → row_of rows.old.items named.now.directory ≡ Option.Some row → StandsRight (P.region memory.old) sup.now free.old row }
+    requires stands { (row : RowValue) → row_of rows.old.items named.now.directory ≡ Option.Some row → StandsRight (P.region memory.old) tables.now.layout free.old row }
     requires can { (row gone : RowValue) → row_of rows.old.items named.now.directory ≡ Option.Some row → row_of rows.old.items named.now.target ≡ Option.Some gone
-        → CanName (P.region memory.old) sup.now cpu gone.inode row × (row.inode ≢ gone.inode) }
+        → CanName (P.region memory.old) tables.now.layout cpu gone.inode row × (row.inode ≢ gone.inode) }
     requires owns { (gone : RowValue) → row_of rows.old.items named.now.target ≡ Option.Some gone → OwnsBlocks free.old gone }
     requires name { IsName named.now.name.now }
-    ensures removed { OnOk result (RemovesAt (P.region memory.old) (P.region memory.new) sup.now free.old free.new cpu rows.old.items rows.new.items (place_in rows.old.items named.now.directory)
+    ensures removed { OnOk result (RemovesAt (P.region memory.old) (P.region memory.new) tables.now.layout free.old free.new cpu rows.old.items rows.new.items (place_in rows.old.items named.now.directory)
         (place_in rows.old.items named.now.target) named.now.name.now time) }
     ensures enough { (row gone : RowValue) → row_of rows.old.items named.now.directory ≡ Option.Some row → row_of rows.old.items named.now.target ≡ Option.Some gone
         → OnOk result (needed (row.tail % 4096) (name_entries OperationValue.Remove gone.inode named.now.name.now time) ≤ all_blocks free.old.pools) }
@@ -64,18 +65,18 @@ pub(crate) fn remove_named<P: Pmem>(
         → IfErr result (λ e. RefusesStep e (needed (row.tail % 4096) (name_entries OperationValue.Remove gone.inode named.now.name.now time)) free.old) }
     // Every word outside these places is as it was.
     ensures wrote { (row gone : RowValue) (held : Store) (h : Held) → row_of rows.old.items named.now.directory ≡ Option.Some row → row_of rows.old.items named.now.target ≡ Option.Some gone
-        → ShowsRow (P.region memory.old) sup.now held h row free.old
-        → StoresIn sup.now held (one_less sup.now cpu row.inode gone.inode) (P.region memory.old) (P.region memory.new) }
+        → ShowsRow (P.region memory.old) tables.now.layout held h row free.old
+        → StoresIn tables.now.layout held (one_less tables.now.layout cpu row.inode gone.inode) (P.region memory.old) (P.region memory.new) }
     // The directory's tail is stored first.
     ensures in_order { (row gone : RowValue) (held : Store) (h : Held) → row_of rows.old.items named.now.directory ≡ Option.Some row
-        → row_of rows.old.items named.now.target ≡ Option.Some gone → ShowsRow (P.region memory.old) sup.now held h row free.old
-        → TailIsFirst (P.region memory.old) (P.region memory.new) sup.now free.old.pools cpu row.inode row.tail (name_entries OperationValue.Remove gone.inode named.now.name.now time) (slot_address
-        sup.now gone.inode) }
+        → row_of rows.old.items named.now.target ≡ Option.Some gone → ShowsRow (P.region memory.old) tables.now.layout held h row free.old
+        → TailIsFirst (P.region memory.old) (P.region memory.new) tables.now.layout free.old.pools cpu row.inode row.tail (name_entries OperationValue.Remove gone.inode named.now.name.now time) (slot_in
+        tables.now.layout gone.inode) }
     // Whatever a stop leaves: recovery finds what is held, or it without the name and the inode, without faults.
     ensures any_stop { (row gone : RowValue) (held : Store) (h : Held) → row_of rows.old.items named.now.directory ≡ Option.Some row
-        → row_of rows.old.items named.now.target ≡ Option.Some gone → ShowsRow (P.region memory.old) sup.now held h row free.old → NothingPending (P.region memory.old) (P.may_hold memory.old)
-        → LeavesOnly (P.region memory.new) (P.may_hold memory.new) (LeavesEither (P.region memory.old) (fixed_layout sup.now) held
-        (Cut (P.region memory.old) sup.now free.old cpu row gone.inode time named.now.name.now)) }
+        → row_of rows.old.items named.now.target ≡ Option.Some gone → ShowsRow (P.region memory.old) tables.now.layout held h row free.old → NothingPending (P.region memory.old) (P.may_hold memory.old)
+        → LeavesOnly (P.region memory.new) (P.may_hold memory.new) (LeavesEither (P.region memory.old) tables.now.layout held
+        (Cut (P.region memory.old) tables.now.layout free.old cpu row gone.inode time named.now.name.now)) }
 {
     let gone = Gone {
         inode: named.target,
@@ -84,7 +85,7 @@ pub(crate) fn remove_named<P: Pmem>(
         time,
     };
     let mut directory = rows.lend(alloc, named.directory);
-    let cut = cut_name(alloc, memory, sup, free, cpu, &mut directory, &gone);
+    let cut = cut_name(alloc, memory, tables, free, cpu, &mut directory, &gone);
     rows.give_back(directory);
     cut?;
     give_row(free, &rows.take(named.target));

@@ -3,8 +3,8 @@
 ghost use Rattle.std.specs.Prelude.{◌≡◌, ℕ, List, Option, Result, IfErr, OnOk, false};
 ghost use Rattle.nv_region.specs.Stops.{LeavesOnly};
 ghost use Rattle.nv_entry.specs.declared.entry.Operation.TheVariants.{Remove};
-ghost use Rattle.nv_held.specs.Held.{Held, Store};
-ghost use Rattle.nv_held.specs.Mounted.{ShowsSound};
+ghost use Rattle.nv_mounted.specs.Held.{Held, Store};
+ghost use Rattle.nv_mounted.specs.Mounted.{ShowsSound};
 ghost use Rattle.nv_tree.specs.Path.{IsPath, Says, last_name};
 ghost use Rattle.nv_tree.specs.Tree.{Node, SameTree, walk};
 ghost use Rattle.nv_tree.specs.Calls.{removed};
@@ -54,8 +54,8 @@ impl<P: Pmem + Drop> Fs<P> {
         // The log of the directory in which it stood has one entry more, and no other log has changed.
         ensures log { (names : List (List ℕ)) (i d : ℕ) (node : Node) (held : Store) (h : Held) → IsPath path.now names → LeadsTo (shown P.region self.old) names i node
             → walk (shown P.region self.old) 1 names ≡ Result.Ok d
-            → ShowsSound (P.region self.old.memory) self.old.sup held → held d ≡ Option.Some h
-            → OnOk result (ShowsRemoved (P.region self.new.memory) self.old.sup self.old.free.pools cpu held d h (name_entries Remove i (last_name names) time) i) }
+            → ShowsSound (P.region self.old.memory) self.old.layout held → held d ≡ Option.Some h
+            → OnOk result (ShowsRemoved (P.region self.new.memory) self.old.layout self.old.free.pools cpu held d h (name_entries Remove i (last_name names) time) i) }
         // What every call that writes keeps.
         ensures call { SettlesCall P.region P.may_hold P.fuse (IsNoPath path.now) self.old self.new result }
         // Where it stores, and in which order.
@@ -69,7 +69,7 @@ impl<P: Pmem + Drop> Fs<P> {
         match remove_named(
             self.alloc,
             &mut self.memory,
-            &self.sup,
+            &self.tables,
             &mut self.free,
             cpu.0,
             &mut self.rows,

@@ -1,7 +1,6 @@
 //! `rename`: another name for an inode.
 
 ghost use Rattle.std.specs.Prelude.{◌≡◌, ◌≢◌, ◌+◌, ◌%◌, ◌<◌, ◌≤◌, ℕ, List, Option, Result, IfErr, OnOk, false};
-ghost use Rattle.nv_super.specs.Layout.{fixed_layout};
 ghost use Rattle.nv_region.specs.Stops.{LeavesOnly, NothingPending};
 ghost use Rattle.nv_alloc.specs.Taking.{all_blocks};
 ghost use Rattle.nv_entry.specs.declared.entry.Operation.TheVariants.{Add, Remove};
@@ -9,8 +8,8 @@ ghost use Rattle.nv_logpage.specs.Append.{needed};
 ghost use Rattle.nv_names.specs.Names.{IsName, name_at};
 ghost use Rattle.nv_scan.specs.declared.piece.Row.{Row as RowValue};
 ghost use Rattle.nv_rows.specs.Rows.{IsInUse, place_in, row_of};
-ghost use Rattle.nv_held.specs.Held.{Held, Store};
-ghost use Rattle.nv_held.specs.Mounted.{ShowsSound};
+ghost use Rattle.nv_mounted.specs.Held.{Held, Store};
+ghost use Rattle.nv_mounted.specs.Mounted.{ShowsSound};
 ghost use Rattle.nv_commit.specs.Stopped.{LeavesEither};
 ghost use Rattle.nv_tree.specs.Path.{IsPath, Says, last_name};
 ghost use Rattle.nv_tree.specs.Tree.{Node, SameTree, walk};
@@ -40,11 +39,11 @@ use crate::Fs;
 use crate::arguments::{Cpu, Time};
 use crate::writing::is_stop;
 use nv_alloc::Allocators;
+use nv_inode::Tables;
 use nv_paths::{Move, rename_for};
 use nv_region::Pmem;
 use nv_rows::Rows;
 use nv_steps::{OtherName, move_both, move_within};
-use nv_super::Super;
 use nv_tree::Refusal;
 use std::alloc::Global;
 
@@ -55,7 +54,7 @@ use std::alloc::Global;
 fn move_across<P: Pmem>(
     alloc: Global,
     memory: &mut P,
-    sup: &Super,
+    tables: &Tables,
     free: &mut Allocators,
     cpu: u64,
     rows: &mut Rows,
@@ -67,12 +66,12 @@ fn move_across<P: Pmem>(
     requires directory { IsInUse rows.old.items moved.now.directory }
     requires apart { moved.now.from.directory ≢ moved.now.directory }
     requires stands { (row : RowValue) → row_of rows.old.items moved.now.from.directory ≡ Option.Some row
-        → StandsRight (P.region memory.old) sup.now free.old row × CanName (P.region memory.old) sup.now cpu row.inode row }
+        → StandsRight (P.region memory.old) tables.now.layout free.old row × CanName (P.region memory.old) tables.now.layout cpu row.inode row }
     requires other_stands { (row : RowValue) → row_of rows.old.items moved.now.directory ≡ Option.Some row
-        → StandsRight (P.region memory.old) sup.now free.old row × CanName (P.region memory.old) sup.now cpu row.inode row }
+        → StandsRight (P.region memory.old) tables.now.layout free.old row × CanName (P.region memory.old) tables.now.layout cpu row.inode row }
     requires name { IsName moved.now.from.name.now }
     requires other { IsName moved.now.name.now }
-    ensures moved { OnOk result (MovesAcross (P.region memory.old) (P.region memory.new) sup.now free.old free.new cpu rows.old.items rows.new.items (place_in rows.old.items moved.now.from.directory)
+    ensures moved { OnOk result (MovesAcross (P.region memory.old) (P.region memory.new) tables.now.layout free.old free.new cpu rows.old.items rows.new.items (place_in rows.old.items moved.now.from.directory)
         (place_in rows.old.items moved.now.from.target) (place_in rows.old.items moved.now.directory) moved.now.from.name.now moved.now.name.now time) }
     ensures enough { (from to inode : RowValue) → row_of rows.old.items moved.now.from.directory ≡ Option.Some from → row_of rows.old.items moved.now.directory ≡ Option.Some to
         → row_of rows.old.items moved.now.from.target ≡ Option.Some inode
@@ -86,26 +85,26 @@ fn move_across<P: Pmem>(
     // Every word outside these places is as it was.
     ensures wrote { (from to inode : RowValue) (held : Store) (h k : Held) → row_of rows.old.items moved.now.from.directory ≡ Option.Some from
         → row_of rows.old.items moved.now.directory ≡ Option.Some to → row_of rows.old.items moved.now.from.target ≡ Option.Some inode
-        → ShowsRow (P.region memory.old) sup.now held h from free.old → ShowsRow (P.region memory.old) sup.now held k to free.old
-        → StoresIn sup.now held (two_logs sup.now cpu from.inode to.inode) (P.region memory.old) (P.region memory.new) }
+        → ShowsRow (P.region memory.old) tables.now.layout held h from free.old → ShowsRow (P.region memory.old) tables.now.layout held k to free.old
+        → StoresIn tables.now.layout held (two_logs tables.now.layout cpu from.inode to.inode) (P.region memory.old) (P.region memory.new) }
     // The old directory's tail is stored first.
     ensures in_order { (from to inode : RowValue) (held : Store) (h k : Held) → row_of rows.old.items moved.now.from.directory ≡ Option.Some from
         → row_of rows.old.items moved.now.directory ≡ Option.Some to → row_of rows.old.items moved.now.from.target ≡ Option.Some inode
-        → ShowsRow (P.region memory.old) sup.now held h from free.old → ShowsRow (P.region memory.old) sup.now held k to free.old
-        → TailIsFirst (P.region memory.old) (P.region memory.new) sup.now free.old.pools cpu from.inode from.tail (name_entries Remove inode.inode moved.now.from.name.now time) (tail_address sup.now
+        → ShowsRow (P.region memory.old) tables.now.layout held h from free.old → ShowsRow (P.region memory.old) tables.now.layout held k to free.old
+        → TailIsFirst (P.region memory.old) (P.region memory.new) tables.now.layout free.old.pools cpu from.inode from.tail (name_entries Remove inode.inode moved.now.from.name.now time) (tail_address tables.now.layout
         to.inode) }
     // Whatever a stop leaves: recovery finds what is held, or it with the other name, without faults.
     ensures any_stop { (from to inode : RowValue) (held : Store) (h k : Held) → row_of rows.old.items moved.now.from.directory ≡ Option.Some from
         → row_of rows.old.items moved.now.directory ≡ Option.Some to → row_of rows.old.items moved.now.from.target ≡ Option.Some inode
-        → ShowsRow (P.region memory.old) sup.now held h from free.old → ShowsRow (P.region memory.old) sup.now held k to free.old → name_at to.names moved.now.name.now ≡ Option.None
+        → ShowsRow (P.region memory.old) tables.now.layout held h from free.old → ShowsRow (P.region memory.old) tables.now.layout held k to free.old → name_at to.names moved.now.name.now ≡ Option.None
         → NothingPending (P.region memory.old) (P.may_hold memory.old)
-        → LeavesOnly (P.region memory.new) (P.may_hold memory.new) (LeavesEither (P.region memory.old) (fixed_layout sup.now) held
-        (MovedOver (P.region memory.old) sup.now free.old cpu from to inode.inode moved.now.from.name.now moved.now.name.now time)) }
+        → LeavesOnly (P.region memory.new) (P.may_hold memory.new) (LeavesEither (P.region memory.old) tables.now.layout held
+        (MovedOver (P.region memory.old) tables.now.layout free.old cpu from to inode.inode moved.now.from.name.now moved.now.name.now time)) }
 {
     let mut from = rows.lend(alloc, moved.from.directory);
     let mut to = rows.lend(alloc, moved.directory);
     let other = other_name(moved, time);
-    let done = move_both(alloc, memory, sup, free, cpu, &mut from, &mut to, &other);
+    let done = move_both(alloc, memory, tables, free, cpu, &mut from, &mut to, &other);
     rows.give_back(to);
     rows.give_back(from);
     done
@@ -133,7 +132,7 @@ pub(crate) fn other_name<'a>(moved: &Move<'a>, time: u64) -> OtherName<'a>
 pub(crate) fn move_at<P: Pmem>(
     alloc: Global,
     memory: &mut P,
-    sup: &Super,
+    tables: &Tables,
     free: &mut Allocators,
     cpu: u64,
     rows: &mut Rows,
@@ -145,12 +144,12 @@ pub(crate) fn move_at<P: Pmem>(
     requires from { IsInUse rows.old.items moved.now.from.directory }
     requires directory { IsInUse rows.old.items moved.now.directory }
     requires stands { (row : RowValue) → row_of rows.old.items moved.now.from.directory ≡ Option.Some row
-        → StandsRight (P.region memory.old) sup.now free.old row × CanName (P.region memory.old) sup.now cpu row.inode row }
+        → StandsRight (P.region memory.old) tables.now.layout free.old row × CanName (P.region memory.old) tables.now.layout cpu row.inode row }
     requires other_stands { (row : RowValue) → row_of rows.old.items moved.now.directory ≡ Option.Some row
-        → StandsRight (P.region memory.old) sup.now free.old row × CanName (P.region memory.old) sup.now cpu row.inode row }
+        → StandsRight (P.region memory.old) tables.now.layout free.old row × CanName (P.region memory.old) tables.now.layout cpu row.inode row }
     requires name { IsName moved.now.from.name.now }
     requires other { IsName moved.now.name.now }
-    ensures moved { OnOk result (MovesAt (P.region memory.old) (P.region memory.new) sup.now free.old free.new cpu rows.old.items rows.new.items (place_in rows.old.items moved.now.from.directory)
+    ensures moved { OnOk result (MovesAt (P.region memory.old) (P.region memory.new) tables.now.layout free.old free.new cpu rows.old.items rows.new.items (place_in rows.old.items moved.now.from.directory)
         (place_in rows.old.items moved.now.from.target) (place_in rows.old.items moved.now.directory) moved.now.from.name.now moved.now.name.now time) }
     ensures enough { (from to inode : RowValue) → row_of rows.old.items moved.now.from.directory ≡ Option.Some from → row_of rows.old.items moved.now.directory ≡ Option.Some to
         → row_of rows.old.items moved.now.from.target ≡ Option.Some inode
@@ -164,35 +163,35 @@ pub(crate) fn move_at<P: Pmem>(
     // Every word outside these places is as it was.
     ensures wrote { (from to inode : RowValue) (held : Store) (h k : Held) → row_of rows.old.items moved.now.from.directory ≡ Option.Some from
         → row_of rows.old.items moved.now.directory ≡ Option.Some to → row_of rows.old.items moved.now.from.target ≡ Option.Some inode
-        → ShowsRow (P.region memory.old) sup.now held h from free.old → ShowsRow (P.region memory.old) sup.now held k to free.old
+        → ShowsRow (P.region memory.old) tables.now.layout held h from free.old → ShowsRow (P.region memory.old) tables.now.layout held k to free.old
         → place_in rows.old.items moved.now.from.directory ≢ place_in rows.old.items moved.now.directory
-        → StoresIn sup.now held (two_logs sup.now cpu from.inode to.inode) (P.region memory.old) (P.region memory.new) }
+        → StoresIn tables.now.layout held (two_logs tables.now.layout cpu from.inode to.inode) (P.region memory.old) (P.region memory.new) }
     // Within one directory these are the places of its log.
     ensures within_wrote { (directory : RowValue) (held : Store) (h : Held) → row_of rows.old.items moved.now.directory ≡ Option.Some directory
-        → ShowsRow (P.region memory.old) sup.now held h directory free.old → moved.now.from.directory ≡ moved.now.directory
-        → StoresIn sup.now held (one_log sup.now directory.inode) (P.region memory.old) (P.region memory.new) }
+        → ShowsRow (P.region memory.old) tables.now.layout held h directory free.old → moved.now.from.directory ≡ moved.now.directory
+        → StoresIn tables.now.layout held (one_log tables.now.layout directory.inode) (P.region memory.old) (P.region memory.new) }
     // The old directory's tail is stored first.
     ensures in_order { (from to inode : RowValue) (held : Store) (h k : Held) → row_of rows.old.items moved.now.from.directory ≡ Option.Some from
         → row_of rows.old.items moved.now.directory ≡ Option.Some to → row_of rows.old.items moved.now.from.target ≡ Option.Some inode
-        → ShowsRow (P.region memory.old) sup.now held h from free.old → ShowsRow (P.region memory.old) sup.now held k to free.old
+        → ShowsRow (P.region memory.old) tables.now.layout held h from free.old → ShowsRow (P.region memory.old) tables.now.layout held k to free.old
         → place_in rows.old.items moved.now.from.directory ≢ place_in rows.old.items moved.now.directory
-        → TailIsFirst (P.region memory.old) (P.region memory.new) sup.now free.old.pools cpu from.inode from.tail (name_entries Remove inode.inode moved.now.from.name.now time) (tail_address sup.now
+        → TailIsFirst (P.region memory.old) (P.region memory.new) tables.now.layout free.old.pools cpu from.inode from.tail (name_entries Remove inode.inode moved.now.from.name.now time) (tail_address tables.now.layout
         to.inode) }
     // Whatever a stop leaves: recovery finds what is held, or it with the other name, without faults.
     ensures any_stop { (from to inode : RowValue) (held : Store) (h k : Held) → row_of rows.old.items moved.now.from.directory ≡ Option.Some from
         → row_of rows.old.items moved.now.directory ≡ Option.Some to → row_of rows.old.items moved.now.from.target ≡ Option.Some inode
-        → ShowsRow (P.region memory.old) sup.now held h from free.old → ShowsRow (P.region memory.old) sup.now held k to free.old → name_at to.names moved.now.name.now ≡ Option.None
+        → ShowsRow (P.region memory.old) tables.now.layout held h from free.old → ShowsRow (P.region memory.old) tables.now.layout held k to free.old → name_at to.names moved.now.name.now ≡ Option.None
         → NothingPending (P.region memory.old) (P.may_hold memory.old)
-        → LeavesOnly (P.region memory.new) (P.may_hold memory.new) (LeavesEither (P.region memory.old) (fixed_layout sup.now) held
-        (Renamed (P.region memory.old) sup.now free.old cpu (place_in rows.old.items moved.now.from.directory)
+        → LeavesOnly (P.region memory.new) (P.may_hold memory.new) (LeavesEither (P.region memory.old) tables.now.layout held
+        (Renamed (P.region memory.old) tables.now.layout free.old cpu (place_in rows.old.items moved.now.from.directory)
         (place_in rows.old.items moved.now.directory) from to inode.inode moved.now.from.name.now moved.now.name.now time)) }
 {
     if moved.from.directory != moved.directory {
-        return move_across(alloc, memory, sup, free, cpu, rows, moved, time);
+        return move_across(alloc, memory, tables, free, cpu, rows, moved, time);
     }
     let mut directory = rows.lend(alloc, moved.directory);
     let other = other_name(moved, time);
-    let done = move_within(alloc, memory, sup, free, cpu, &mut directory, &other);
+    let done = move_within(alloc, memory, tables, free, cpu, &mut directory, &other);
     rows.give_back(directory);
     done
 }
@@ -223,14 +222,14 @@ impl<P: Pmem + Drop> Fs<P> {
         // The log of each of two directories has one entry more.
         ensures log { (names others : List (List ℕ)) (i d e : ℕ) (node : Node) (held : Store) (h k : Held) → IsPath old.now names → IsPath new.now others
             → LeadsTo (shown P.region self.old) names i node → walk (shown P.region self.old) 1 names ≡ Result.Ok d → walk (shown P.region self.old) 1 others ≡ Result.Ok e → d ≢ e
-            → ShowsSound (P.region self.old.memory) self.old.sup held → held d ≡ Option.Some h → held e ≡ Option.Some k
-            → OnOk result (ShowsBothGrew (P.region self.new.memory) self.old.sup self.old.free.pools cpu held d h (name_entries Remove i (last_name names) time) e k
+            → ShowsSound (P.region self.old.memory) self.old.layout held → held d ≡ Option.Some h → held e ≡ Option.Some k
+            → OnOk result (ShowsBothGrew (P.region self.new.memory) self.old.layout self.old.free.pools cpu held d h (name_entries Remove i (last_name names) time) e k
             (name_entries Add i (last_name others) time)) }
         // The log of the only directory has both entries. In both cases no other log has changed.
         ensures within { (names others : List (List ℕ)) (i d : ℕ) (node : Node) (held : Store) (h : Held) → IsPath old.now names → IsPath new.now others
             → LeadsTo (shown P.region self.old) names i node → walk (shown P.region self.old) 1 names ≡ Result.Ok d → walk (shown P.region self.old) 1 others ≡ Result.Ok d
-            → ShowsSound (P.region self.old.memory) self.old.sup held → held d ≡ Option.Some h
-            → OnOk result (ShowsGrownLog (P.region self.new.memory) self.old.sup self.old.free.pools cpu held d h (move_entries i (last_name names) (last_name others) time)) }
+            → ShowsSound (P.region self.old.memory) self.old.layout held → held d ≡ Option.Some h
+            → OnOk result (ShowsGrownLog (P.region self.new.memory) self.old.layout self.old.free.pools cpu held d h (move_entries i (last_name names) (last_name others) time)) }
         // What every call that writes keeps.
         ensures call { SettlesCall P.region P.may_hold P.fuse (AreNoPaths old.now new.now) self.old self.new result }
         // Where it stores, and in which order.
@@ -245,7 +244,7 @@ impl<P: Pmem + Drop> Fs<P> {
         match move_at(
             self.alloc,
             &mut self.memory,
-            &self.sup,
+            &self.tables,
             &mut self.free,
             cpu.0,
             &mut self.rows,

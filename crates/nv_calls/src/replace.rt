@@ -2,13 +2,12 @@
 
 ghost use Rattle.std.specs.Prelude.{◌≡◌, ◌≢◌, ◌<◌, ℕ, List, Option, Result, IsTrue, IfErr, OnOk, false};
 ghost use Rattle.std.specs.Option.{option_and_then};
-ghost use Rattle.nv_super.specs.Layout.{fixed_layout, is_number};
 ghost use Rattle.nv_region.specs.Stops.{LeavesOnly, NothingPending};
 ghost use Rattle.nv_entry.specs.declared.entry.Operation.TheVariants.{Remove};
 ghost use Rattle.nv_names.specs.Names.{IsName, name_at};
 ghost use Rattle.nv_scan.specs.declared.piece.Row.{Row as RowValue};
 ghost use Rattle.nv_rows.specs.Rows.{IsInUse, place_in, row_of};
-ghost use Rattle.nv_held.specs.Held.{Held, Store};
+ghost use Rattle.nv_mounted.specs.Held.{Held, Store};
 ghost use Rattle.nv_commit.specs.Stopped.{LeavesEither};
 ghost use Rattle.nv_tree.specs.Path.{IsPath, Says};
 ghost use Rattle.nv_tree.specs.Tree.{SameTree, found};
@@ -34,6 +33,7 @@ ghost use Rattle.nv_calls.specs.World.{world_of};
 ghost use Rattle.nv_calls.specs.Keeping.{AreNoPaths, SettlesCall};
 ghost use Rattle.nv_calls.specs.Storing.{ReplaceStores};
 ghost use Rattle.nv_steps.specs.Keeping.{NeedsFree};
+ghost use Rattle.nv_inode.specs.Numbers.{has_slot};
 
 use crate::Fs;
 use crate::arguments::{Cpu, Time};
@@ -42,10 +42,10 @@ use crate::replacing::replace_within;
 use crate::replacing_across::replace_over;
 use crate::writing::is_stop;
 use nv_alloc::Allocators;
+use nv_inode::Tables;
 use nv_paths::{Move, replace_for};
 use nv_region::Pmem;
 use nv_rows::Rows;
-use nv_super::Super;
 use nv_tree::Refusal;
 use std::alloc::Global;
 
@@ -56,7 +56,7 @@ use std::alloc::Global;
 fn replace_at<P: Pmem>(
     alloc: Global,
     memory: &mut P,
-    sup: &Super,
+    tables: &Tables,
     free: &mut Allocators,
     cpu: u64,
     rows: &mut Rows,
@@ -71,18 +71,18 @@ fn replace_at<P: Pmem>(
     requires there { (i : ℕ) → had ≡ Option.Some i → IsInUse rows.old.items i }
     requires apart { (i : ℕ) → had ≡ Option.Some i → i ≢ moved.now.from.target → (moved.now.from.directory ≢ i) × (moved.now.directory ≢ i) }
     requires stands { (row : RowValue) → row_of rows.old.items moved.now.from.directory ≡ Option.Some row
-        → StandsRight (P.region memory.old) sup.now free.old row × CanName (P.region memory.old) sup.now cpu row.inode row }
+        → StandsRight (P.region memory.old) tables.now.layout free.old row × CanName (P.region memory.old) tables.now.layout cpu row.inode row }
     requires other_stands { (row : RowValue) → row_of rows.old.items moved.now.directory ≡ Option.Some row
-        → StandsRight (P.region memory.old) sup.now free.old row × CanName (P.region memory.old) sup.now cpu row.inode row }
+        → StandsRight (P.region memory.old) tables.now.layout free.old row × CanName (P.region memory.old) tables.now.layout cpu row.inode row }
     requires there_stands { (i : ℕ) (row : RowValue) → had ≡ Option.Some i → row_of rows.old.items i ≡ Option.Some row
-        → StandsRight (P.region memory.old) sup.now free.old row × CanName (P.region memory.old) sup.now cpu row.inode row }
-    requires can { (i : ℕ) (row : RowValue) → had ≡ Option.Some i → row_of rows.old.items moved.now.directory ≡ Option.Some row → CanName (P.region memory.old) sup.now cpu i row }
-    requires number { (i : ℕ) → had ≡ Option.Some i → IsTrue (is_number sup.now i) }
+        → StandsRight (P.region memory.old) tables.now.layout free.old row × CanName (P.region memory.old) tables.now.layout cpu row.inode row }
+    requires can { (i : ℕ) (row : RowValue) → had ≡ Option.Some i → row_of rows.old.items moved.now.directory ≡ Option.Some row → CanName (P.region memory.old) tables.now.layout cpu i row }
+    requires number { (i : ℕ) → had ≡ Option.Some i → IsTrue (has_slot tables.now.layout i) }
     requires owns { (i : ℕ) (row : RowValue) → had ≡ Option.Some i → row_of rows.old.items i ≡ Option.Some row → OwnsBlocks free.old row }
     requires settled_before { NothingPending (P.region memory.old) (P.may_hold memory.old) }
     requires name { IsName moved.now.from.name.now }
     requires other { IsName moved.now.name.now }
-    ensures replaced { OnOk result (ReplacesAt (P.region memory.old) (P.region memory.new) sup.now free.old free.new cpu rows.old.items rows.new.items
+    ensures replaced { OnOk result (ReplacesAt (P.region memory.old) (P.region memory.new) tables.now.layout free.old free.new cpu rows.old.items rows.new.items
         (place_in rows.old.items moved.now.from.directory) (place_in rows.old.items moved.now.from.target) (place_in rows.old.items moved.now.directory)
         had moved.now.from.target moved.now.from.name.now moved.now.name.now time) }
     ensures needs { (from to : RowValue) → row_of rows.old.items moved.now.from.directory ≡ Option.Some from → row_of rows.old.items moved.now.directory ≡ Option.Some to
@@ -93,48 +93,48 @@ fn replace_at<P: Pmem>(
     ensures same { had ≡ Option.Some moved.now.from.target → IfErr result (λ e. ⊥) × LeavesRows memory.old memory.new free.old free.new rows.old.items rows.new.items }
     // Every word outside these places is as it was.
     ensures wrote { (from to : RowValue) (held : Store) (h k : Held) → row_of rows.old.items moved.now.from.directory ≡ Option.Some from → row_of rows.old.items moved.now.directory ≡ Option.Some to
-        → ShowsRow (P.region memory.old) sup.now held h from free.old → ShowsRow (P.region memory.old) sup.now held k to free.old
-        → ((i : ℕ) (row : RowValue) → had ≡ Option.Some i → row_of rows.old.items i ≡ Option.Some row → (f : Held) × ShowsRow (P.region memory.old) sup.now held f row free.old)
-        → StoresIn sup.now held (replace_places sup.now cpu from.inode to.inode moved.now.from.target had (keeps_others_at rows.old.items had)) (P.region memory.old) (P.region memory.new) }
+        → ShowsRow (P.region memory.old) tables.now.layout held h from free.old → ShowsRow (P.region memory.old) tables.now.layout held k to free.old
+        → ((i : ℕ) (row : RowValue) → had ≡ Option.Some i → row_of rows.old.items i ≡ Option.Some row → (f : Held) × ShowsRow (P.region memory.old) tables.now.layout held f row free.old)
+        → StoresIn tables.now.layout held (replace_places tables.now.layout cpu from.inode to.inode moved.now.from.target had (keeps_others_at rows.old.items had)) (P.region memory.old) (P.region memory.new) }
     // Where the new name is free and in another directory, the old one's tail is stored first.
     ensures free_in_order { (from to : RowValue) (held : Store) (h k : Held) → row_of rows.old.items moved.now.from.directory ≡ Option.Some from
         → row_of rows.old.items moved.now.directory ≡ Option.Some to
-        → ShowsRow (P.region memory.old) sup.now held h from free.old → ShowsRow (P.region memory.old) sup.now held k to free.old
+        → ShowsRow (P.region memory.old) tables.now.layout held h from free.old → ShowsRow (P.region memory.old) tables.now.layout held k to free.old
         → had ≡ Option.None → moved.now.from.directory ≢ moved.now.directory
-        → TailIsFirst (P.region memory.old) (P.region memory.new) sup.now free.old.pools cpu from.inode from.tail (name_entries Remove moved.now.from.target moved.now.from.name.now time)
-        (tail_address sup.now to.inode) }
+        → TailIsFirst (P.region memory.old) (P.region memory.new) tables.now.layout free.old.pools cpu from.inode from.tail (name_entries Remove moved.now.from.target moved.now.from.name.now time)
+        (tail_address tables.now.layout to.inode) }
     // Where another inode of the directory has it, the directory's tail is stored first, and then a word of that inode.
     ensures within_in_order { (row file : RowValue) (i : ℕ) (held : Store) (h f : Held) → row_of rows.old.items moved.now.directory ≡ Option.Some row → row_of rows.old.items i ≡ Option.Some file
-        → ShowsRow (P.region memory.old) sup.now held h row free.old → ShowsRow (P.region memory.old) sup.now held f file free.old
+        → ShowsRow (P.region memory.old) tables.now.layout held h row free.old → ShowsRow (P.region memory.old) tables.now.layout held f file free.old
         → had ≡ Option.Some i → i ≢ moved.now.from.target → moved.now.from.directory ≡ moved.now.directory
-        → TailIsFirst (P.region memory.old) (P.region memory.new) sup.now free.old.pools cpu row.inode row.tail (take_entries moved.now.from.target i moved.now.from.name.now moved.now.name.now time)
-        (last_word sup.now i (keeps_others file)) }
+        → TailIsFirst (P.region memory.old) (P.region memory.new) tables.now.layout free.old.pools cpu row.inode row.tail (take_entries moved.now.from.target i moved.now.from.name.now moved.now.name.now time)
+        (last_word tables.now.layout i (keeps_others file)) }
     // Where another inode has it in another directory, both tails are stored before such a word, that of the old one first.
     ensures in_order { (from to file : RowValue) (i : ℕ) (held : Store) (h k f : Held) → row_of rows.old.items moved.now.from.directory ≡ Option.Some from
         → row_of rows.old.items moved.now.directory ≡ Option.Some to → row_of rows.old.items i ≡ Option.Some file
-        → ShowsRow (P.region memory.old) sup.now held h from free.old → ShowsRow (P.region memory.old) sup.now held k to free.old
-        → ShowsRow (P.region memory.old) sup.now held f file free.old → had ≡ Option.Some i → i ≢ moved.now.from.target → moved.now.from.directory ≢ moved.now.directory
-        → HandsInOrder (P.region memory.old) (P.region memory.new) sup.now free.old cpu from to moved.now.from.target i moved.now.from.name.now moved.now.name.now time
-        (last_word sup.now i (keeps_others file)) }
+        → ShowsRow (P.region memory.old) tables.now.layout held h from free.old → ShowsRow (P.region memory.old) tables.now.layout held k to free.old
+        → ShowsRow (P.region memory.old) tables.now.layout held f file free.old → had ≡ Option.Some i → i ≢ moved.now.from.target → moved.now.from.directory ≢ moved.now.directory
+        → HandsInOrder (P.region memory.old) (P.region memory.new) tables.now.layout free.old cpu from to moved.now.from.target i moved.now.from.name.now moved.now.name.now time
+        (last_word tables.now.layout i (keeps_others file)) }
     // Whatever a stop leaves: nothing is wrong with the journals, and recovery finds what is held, or it with the name given.
     ensures any_stop { (from to : RowValue) (held : Store) (h k : Held) → row_of rows.old.items moved.now.from.directory ≡ Option.Some from → row_of rows.old.items moved.now.directory ≡ Option.Some to
-        → ShowsRow (P.region memory.old) sup.now held h from free.old → ShowsRow (P.region memory.old) sup.now held k to free.old
+        → ShowsRow (P.region memory.old) tables.now.layout held h from free.old → ShowsRow (P.region memory.old) tables.now.layout held k to free.old
         → (had ≡ Option.None → name_at to.names moved.now.name.now ≡ Option.None)
-        → ((i : ℕ) (row : RowValue) → had ≡ Option.Some i → row_of rows.old.items i ≡ Option.Some row → (f : Held) × ShowsRow (P.region memory.old) sup.now held f row free.old)
-        → LeavesOnly (P.region memory.new) (P.may_hold memory.new) (LeavesEither (P.region memory.old) (fixed_layout sup.now) held
-        (ReplacedAt (P.region memory.old) sup.now free.old cpu (place_in rows.old.items moved.now.from.directory) (place_in rows.old.items moved.now.directory) from to (option_and_then (row_of
+        → ((i : ℕ) (row : RowValue) → had ≡ Option.Some i → row_of rows.old.items i ≡ Option.Some row → (f : Held) × ShowsRow (P.region memory.old) tables.now.layout held f row free.old)
+        → LeavesOnly (P.region memory.new) (P.may_hold memory.new) (LeavesEither (P.region memory.old) tables.now.layout held
+        (ReplacedAt (P.region memory.old) tables.now.layout free.old cpu (place_in rows.old.items moved.now.from.directory) (place_in rows.old.items moved.now.directory) from to (option_and_then (row_of
         rows.old.items) had) moved.now.from.target moved.now.from.name.now moved.now.name.now time)) }
 {
     let Some(there) = had else {
-        return move_at(alloc, memory, sup, free, cpu, rows, moved, time);
+        return move_at(alloc, memory, tables, free, cpu, rows, moved, time);
     };
     if there == moved.from.target {
         return Ok(());
     }
     if moved.from.directory != moved.directory {
-        return replace_over(alloc, memory, sup, free, cpu, rows, moved, there, time);
+        return replace_over(alloc, memory, tables, free, cpu, rows, moved, there, time);
     }
-    replace_within(alloc, memory, sup, free, cpu, rows, moved, there, time)
+    replace_within(alloc, memory, tables, free, cpu, rows, moved, there, time)
 }
 
 impl<P: Pmem + Drop> Fs<P> {
@@ -184,7 +184,7 @@ impl<P: Pmem + Drop> Fs<P> {
         match replace_at(
             self.alloc,
             &mut self.memory,
-            &self.sup,
+            &self.tables,
             &mut self.free,
             cpu.0,
             &mut self.rows,

@@ -1,14 +1,13 @@
 //! `replace` within one directory: another name for an inode, which it gets from an inode that goes or loses a link.
 
 ghost use Rattle.std.specs.Prelude.{◌≡◌, ◌≢◌, ◌+◌, ◌-◌, ◌%◌, ◌<◌, ◌≤◌, Option, IfErr, OnOk, true, false};
-ghost use Rattle.nv_super.specs.Layout.{fixed_layout, slot_address};
 ghost use Rattle.nv_region.specs.Stops.{LeavesOnly, NothingPending};
 ghost use Rattle.nv_alloc.specs.Taking.{all_blocks};
 ghost use Rattle.nv_logpage.specs.Append.{needed};
 ghost use Rattle.nv_names.specs.Names.{IsName};
 ghost use Rattle.nv_scan.specs.declared.piece.Row.{Row as RowValue};
 ghost use Rattle.nv_rows.specs.Rows.{IsInUse, place_in, row_of};
-ghost use Rattle.nv_held.specs.Held.{Held, Store};
+ghost use Rattle.nv_mounted.specs.Held.{Held, Store};
 ghost use Rattle.nv_commit.specs.Stopped.{LeavesEither};
 ghost use Rattle.nv_steps.specs.Grown.{StandsRight};
 ghost use Rattle.nv_steps.specs.LessNames.{OwnsBlocks};
@@ -21,16 +20,18 @@ ghost use Rattle.nv_steps.specs.Stores.{StoresIn, one_less, two_logs};
 ghost use Rattle.nv_steps.specs.Takes.{TookWithin, take_entries};
 ghost use Rattle.nv_calls.specs.ReplaceCalls.{ReplacedHere, ReplacesHere, TakesAt, keeps_others, replace_here_blocks};
 ghost use Rattle.nv_calls.specs.AtPlaces.{KeepsRows};
+ghost use Rattle.nv_steps.specs.Slots.{slot_in};
 
 use crate::removing::most_blocks;
 use crate::renaming::other_name;
 use nv_alloc::Allocators;
+use nv_inode::Tables;
 use nv_paths::Move;
 use nv_region::Pmem;
 use nv_rows::Rows;
 use nv_scan::Row;
 use nv_steps::{Displaced, give_row, lessen_within, take_within};
-use nv_super::{Kind, Super};
+use nv_super::Kind;
 use nv_tree::Refusal;
 use std::alloc::Global;
 
@@ -42,7 +43,7 @@ use std::alloc::Global;
 fn take_at<P: Pmem>(
     alloc: Global,
     memory: &mut P,
-    sup: &Super,
+    tables: &Tables,
     free: &mut Allocators,
     cpu: u64,
     rows: &mut Rows,
@@ -52,13 +53,13 @@ fn take_at<P: Pmem>(
 ) -> Result<(), Refusal>
     requires directory { IsInUse rows.old.items moved.now.directory }
     requires there { IsInUse rows.old.items there }
-    requires stands { (row : RowValue) → row_of rows.old.items moved.now.directory ≡ Option.Some row → StandsRight (P.region memory.old) sup.now free.old row }
+    requires stands { (row : RowValue) → row_of rows.old.items moved.now.directory ≡ Option.Some row → StandsRight (P.region memory.old) tables.now.layout free.old row }
     requires can { (row gone : RowValue) → row_of rows.old.items moved.now.directory ≡ Option.Some row → row_of rows.old.items there ≡ Option.Some gone
-        → CanName (P.region memory.old) sup.now cpu gone.inode row × (row.inode ≢ gone.inode) }
+        → CanName (P.region memory.old) tables.now.layout cpu gone.inode row × (row.inode ≢ gone.inode) }
     requires owns { (gone : RowValue) → row_of rows.old.items there ≡ Option.Some gone → OwnsBlocks free.old gone }
     requires name { IsName moved.now.from.name.now }
     requires other { IsName moved.now.name.now }
-    ensures taken { OnOk result (TakesAt (P.region memory.old) (P.region memory.new) sup.now free.old free.new cpu rows.old.items rows.new.items (place_in rows.old.items moved.now.directory)
+    ensures taken { OnOk result (TakesAt (P.region memory.old) (P.region memory.new) tables.now.layout free.old free.new cpu rows.old.items rows.new.items (place_in rows.old.items moved.now.directory)
         (place_in rows.old.items there) moved.now.from.target moved.now.from.name.now moved.now.name.now time) }
     ensures enough { (row gone : RowValue) → row_of rows.old.items moved.now.directory ≡ Option.Some row → row_of rows.old.items there ≡ Option.Some gone
         → OnOk result (needed (row.tail % 4096) (take_entries moved.now.from.target gone.inode moved.now.from.name.now moved.now.name.now time) ≤ all_blocks free.old.pools) }
@@ -67,19 +68,19 @@ fn take_at<P: Pmem>(
         → IfErr result (λ e. RefusesStep e (needed (row.tail % 4096) (take_entries moved.now.from.target gone.inode moved.now.from.name.now moved.now.name.now time)) free.old) }
     // Every word outside these places is as it was.
     ensures wrote { (row gone : RowValue) (held : Store) (h : Held) → row_of rows.old.items moved.now.directory ≡ Option.Some row → row_of rows.old.items there ≡ Option.Some gone
-        → ShowsRow (P.region memory.old) sup.now held h row free.old
-        → StoresIn sup.now held (one_less sup.now cpu row.inode gone.inode) (P.region memory.old) (P.region memory.new) }
+        → ShowsRow (P.region memory.old) tables.now.layout held h row free.old
+        → StoresIn tables.now.layout held (one_less tables.now.layout cpu row.inode gone.inode) (P.region memory.old) (P.region memory.new) }
     // The directory's tail is stored first.
     ensures in_order { (row gone : RowValue) (held : Store) (h : Held) → row_of rows.old.items moved.now.directory ≡ Option.Some row → row_of rows.old.items there ≡ Option.Some gone
-        → ShowsRow (P.region memory.old) sup.now held h row free.old
-        → TailIsFirst (P.region memory.old) (P.region memory.new) sup.now free.old.pools cpu row.inode row.tail (take_entries moved.now.from.target gone.inode moved.now.from.name.now
-        moved.now.name.now time) (slot_address sup.now gone.inode) }
+        → ShowsRow (P.region memory.old) tables.now.layout held h row free.old
+        → TailIsFirst (P.region memory.old) (P.region memory.new) tables.now.layout free.old.pools cpu row.inode row.tail (take_entries moved.now.from.target gone.inode moved.now.from.name.now
+        moved.now.name.now time) (slot_in tables.now.layout gone.inode) }
     // Whatever a stop leaves: nothing is wrong with the journals, and recovery finds what is held, or it with the name given and
     // without the inode.
     ensures any_stop { (row gone : RowValue) (held : Store) (h : Held) → row_of rows.old.items moved.now.directory ≡ Option.Some row → row_of rows.old.items there ≡ Option.Some gone
-        → ShowsRow (P.region memory.old) sup.now held h row free.old → NothingPending (P.region memory.old) (P.may_hold memory.old)
-        → LeavesOnly (P.region memory.new) (P.may_hold memory.new) (LeavesEither (P.region memory.old) (fixed_layout sup.now) held
-        (TookWithin (P.region memory.old) sup.now free.old cpu row moved.now.from.target gone.inode moved.now.from.name.now moved.now.name.now time)) }
+        → ShowsRow (P.region memory.old) tables.now.layout held h row free.old → NothingPending (P.region memory.old) (P.may_hold memory.old)
+        → LeavesOnly (P.region memory.new) (P.may_hold memory.new) (LeavesEither (P.region memory.old) tables.now.layout held
+        (TookWithin (P.region memory.old) tables.now.layout free.old cpu row moved.now.from.target gone.inode moved.now.from.name.now moved.now.name.now time)) }
 {
     let gone = Displaced {
         inode: there,
@@ -87,7 +88,16 @@ fn take_at<P: Pmem>(
     };
     let mut directory = rows.lend(alloc, moved.directory);
     let other = other_name(moved, time);
-    let taken = take_within(alloc, memory, sup, free, cpu, &mut directory, &other, gone);
+    let taken = take_within(
+        alloc,
+        memory,
+        tables,
+        free,
+        cpu,
+        &mut directory,
+        &other,
+        gone,
+    );
     rows.give_back(directory);
     taken?;
     give_row(free, &rows.take(there));
@@ -102,7 +112,7 @@ fn take_at<P: Pmem>(
 fn lessen_at<P: Pmem>(
     alloc: Global,
     memory: &mut P,
-    sup: &Super,
+    tables: &Tables,
     free: &mut Allocators,
     cpu: u64,
     rows: &mut Rows,
@@ -115,12 +125,12 @@ fn lessen_at<P: Pmem>(
     requires apart { moved.now.directory ≢ there }
     requires more { (file : RowValue) → row_of rows.old.items there ≡ Option.Some file → 1 < file.numbers.links }
     requires stands { (row : RowValue) → row_of rows.old.items moved.now.directory ≡ Option.Some row
-        → StandsRight (P.region memory.old) sup.now free.old row × CanName (P.region memory.old) sup.now cpu row.inode row }
+        → StandsRight (P.region memory.old) tables.now.layout free.old row × CanName (P.region memory.old) tables.now.layout cpu row.inode row }
     requires file_stands { (file : RowValue) → row_of rows.old.items there ≡ Option.Some file
-        → StandsRight (P.region memory.old) sup.now free.old file × CanName (P.region memory.old) sup.now cpu file.inode file }
+        → StandsRight (P.region memory.old) tables.now.layout free.old file × CanName (P.region memory.old) tables.now.layout cpu file.inode file }
     requires name { IsName moved.now.from.name.now }
     requires other { IsName moved.now.name.now }
-    ensures lessened { OnOk result (LessensAt (P.region memory.old) (P.region memory.new) sup.now free.old free.new cpu rows.old.items rows.new.items (place_in rows.old.items moved.now.directory)
+    ensures lessened { OnOk result (LessensAt (P.region memory.old) (P.region memory.new) tables.now.layout free.old free.new cpu rows.old.items rows.new.items (place_in rows.old.items moved.now.directory)
         (place_in rows.old.items there) moved.now.from.target moved.now.from.name.now moved.now.name.now time) }
     ensures enough { (row file : RowValue) → row_of rows.old.items moved.now.directory ≡ Option.Some row → row_of rows.old.items there ≡ Option.Some file
         → OnOk result (needed (row.tail % 4096) (take_entries moved.now.from.target file.inode moved.now.from.name.now moved.now.name.now time)
@@ -131,19 +141,19 @@ fn lessen_at<P: Pmem>(
         + needed (file.tail % 4096) (links_entries (file.numbers.links - 1) time)) free.old) }
     // Every word outside these places is as it was.
     ensures wrote { (row file : RowValue) (held : Store) (h f : Held) → row_of rows.old.items moved.now.directory ≡ Option.Some row → row_of rows.old.items there ≡ Option.Some file
-        → ShowsRow (P.region memory.old) sup.now held h row free.old → ShowsRow (P.region memory.old) sup.now held f file free.old
-        → StoresIn sup.now held (two_logs sup.now cpu row.inode file.inode) (P.region memory.old) (P.region memory.new) }
+        → ShowsRow (P.region memory.old) tables.now.layout held h row free.old → ShowsRow (P.region memory.old) tables.now.layout held f file free.old
+        → StoresIn tables.now.layout held (two_logs tables.now.layout cpu row.inode file.inode) (P.region memory.old) (P.region memory.new) }
     // The directory's tail is stored first.
     ensures in_order { (row file : RowValue) (held : Store) (h f : Held) → row_of rows.old.items moved.now.directory ≡ Option.Some row → row_of rows.old.items there ≡ Option.Some file
-        → ShowsRow (P.region memory.old) sup.now held h row free.old → ShowsRow (P.region memory.old) sup.now held f file free.old
-        → TailIsFirst (P.region memory.old) (P.region memory.new) sup.now free.old.pools cpu row.inode row.tail (take_entries moved.now.from.target file.inode moved.now.from.name.now
-        moved.now.name.now time) (tail_address sup.now file.inode) }
+        → ShowsRow (P.region memory.old) tables.now.layout held h row free.old → ShowsRow (P.region memory.old) tables.now.layout held f file free.old
+        → TailIsFirst (P.region memory.old) (P.region memory.new) tables.now.layout free.old.pools cpu row.inode row.tail (take_entries moved.now.from.target file.inode moved.now.from.name.now
+        moved.now.name.now time) (tail_address tables.now.layout file.inode) }
     // Whatever a stop leaves: nothing is wrong with the journals, and recovery finds what is held, or it with the name given and a
     // link less.
     ensures any_stop { (row file : RowValue) (held : Store) (h f : Held) → row_of rows.old.items moved.now.directory ≡ Option.Some row → row_of rows.old.items there ≡ Option.Some file
-        → ShowsRow (P.region memory.old) sup.now held h row free.old → ShowsRow (P.region memory.old) sup.now held f file free.old → NothingPending (P.region memory.old) (P.may_hold memory.old)
-        → LeavesOnly (P.region memory.new) (P.may_hold memory.new) (LeavesEither (P.region memory.old) (fixed_layout sup.now) held
-        (Lessened (P.region memory.old) sup.now free.old cpu row file moved.now.from.target moved.now.from.name.now moved.now.name.now time)) }
+        → ShowsRow (P.region memory.old) tables.now.layout held h row free.old → ShowsRow (P.region memory.old) tables.now.layout held f file free.old → NothingPending (P.region memory.old) (P.may_hold memory.old)
+        → LeavesOnly (P.region memory.new) (P.may_hold memory.new) (LeavesEither (P.region memory.old) tables.now.layout held
+        (Lessened (P.region memory.old) tables.now.layout free.old cpu row file moved.now.from.target moved.now.from.name.now moved.now.name.now time)) }
 {
     let mut directory = rows.lend(alloc, moved.directory);
     let mut file = rows.lend(alloc, there);
@@ -151,7 +161,7 @@ fn lessen_at<P: Pmem>(
     let done = lessen_within(
         alloc,
         memory,
-        sup,
+        tables,
         free,
         cpu,
         &mut directory,
@@ -175,7 +185,7 @@ pub(crate) fn keeps_others(row: &Row) -> bool
 pub(crate) fn replace_within<P: Pmem>(
     alloc: Global,
     memory: &mut P,
-    sup: &Super,
+    tables: &Tables,
     free: &mut Allocators,
     cpu: u64,
     rows: &mut Rows,
@@ -187,15 +197,15 @@ pub(crate) fn replace_within<P: Pmem>(
     requires there { IsInUse rows.old.items there }
     requires apart { moved.now.directory ≢ there }
     requires stands { (row : RowValue) → row_of rows.old.items moved.now.directory ≡ Option.Some row
-        → StandsRight (P.region memory.old) sup.now free.old row × CanName (P.region memory.old) sup.now cpu row.inode row }
+        → StandsRight (P.region memory.old) tables.now.layout free.old row × CanName (P.region memory.old) tables.now.layout cpu row.inode row }
     requires there_stands { (file : RowValue) → row_of rows.old.items there ≡ Option.Some file
-        → StandsRight (P.region memory.old) sup.now free.old file × CanName (P.region memory.old) sup.now cpu file.inode file }
+        → StandsRight (P.region memory.old) tables.now.layout free.old file × CanName (P.region memory.old) tables.now.layout cpu file.inode file }
     requires can { (row file : RowValue) → row_of rows.old.items moved.now.directory ≡ Option.Some row → row_of rows.old.items there ≡ Option.Some file
-        → CanName (P.region memory.old) sup.now cpu file.inode row × (row.inode ≢ file.inode) }
+        → CanName (P.region memory.old) tables.now.layout cpu file.inode row × (row.inode ≢ file.inode) }
     requires owns { (file : RowValue) → row_of rows.old.items there ≡ Option.Some file → OwnsBlocks free.old file }
     requires name { IsName moved.now.from.name.now }
     requires other { IsName moved.now.name.now }
-    ensures replaced { OnOk result (ReplacesHere (P.region memory.old) (P.region memory.new) sup.now free.old free.new cpu rows.old.items rows.new.items (place_in rows.old.items moved.now.directory)
+    ensures replaced { OnOk result (ReplacesHere (P.region memory.old) (P.region memory.new) tables.now.layout free.old free.new cpu rows.old.items rows.new.items (place_in rows.old.items moved.now.directory)
         (place_in rows.old.items there) moved.now.from.target moved.now.from.name.now moved.now.name.now time) }
     ensures enough { (row file : RowValue) → row_of rows.old.items moved.now.directory ≡ Option.Some row → row_of rows.old.items there ≡ Option.Some file
         → OnOk result (replace_here_blocks row file moved.now.from.target moved.now.from.name.now moved.now.name.now time ≤ all_blocks free.old.pools) }
@@ -204,30 +214,30 @@ pub(crate) fn replace_within<P: Pmem>(
         → IfErr result (λ e. RefusesStep e (replace_here_blocks row file moved.now.from.target moved.now.from.name.now moved.now.name.now time) free.old) }
     // Every word outside these places is as it was.
     ensures wrote { (row file : RowValue) (held : Store) (h f : Held) → row_of rows.old.items moved.now.directory ≡ Option.Some row → row_of rows.old.items there ≡ Option.Some file
-        → ShowsRow (P.region memory.old) sup.now held h row free.old → ShowsRow (P.region memory.old) sup.now held f file free.old → keeps_others file ≡ true
-        → StoresIn sup.now held (two_logs sup.now cpu row.inode file.inode) (P.region memory.old) (P.region memory.new) }
+        → ShowsRow (P.region memory.old) tables.now.layout held h row free.old → ShowsRow (P.region memory.old) tables.now.layout held f file free.old → keeps_others file ≡ true
+        → StoresIn tables.now.layout held (two_logs tables.now.layout cpu row.inode file.inode) (P.region memory.old) (P.region memory.new) }
     // The same where it goes.
     ensures last_wrote { (row file : RowValue) (held : Store) (h : Held) → row_of rows.old.items moved.now.directory ≡ Option.Some row → row_of rows.old.items there ≡ Option.Some file
-        → ShowsRow (P.region memory.old) sup.now held h row free.old → keeps_others file ≡ false
-        → StoresIn sup.now held (one_less sup.now cpu row.inode file.inode) (P.region memory.old) (P.region memory.new) }
+        → ShowsRow (P.region memory.old) tables.now.layout held h row free.old → keeps_others file ≡ false
+        → StoresIn tables.now.layout held (one_less tables.now.layout cpu row.inode file.inode) (P.region memory.old) (P.region memory.new) }
     // The directory's tail is stored first, and then the file's, or the valid word.
     ensures in_order { (row file : RowValue) (held : Store) (h f : Held) → row_of rows.old.items moved.now.directory ≡ Option.Some row → row_of rows.old.items there ≡ Option.Some file
-        → ShowsRow (P.region memory.old) sup.now held h row free.old → ShowsRow (P.region memory.old) sup.now held f file free.old → keeps_others file ≡ true
-        → TailIsFirst (P.region memory.old) (P.region memory.new) sup.now free.old.pools cpu row.inode row.tail (take_entries moved.now.from.target file.inode moved.now.from.name.now
-        moved.now.name.now time) (tail_address sup.now file.inode) }
+        → ShowsRow (P.region memory.old) tables.now.layout held h row free.old → ShowsRow (P.region memory.old) tables.now.layout held f file free.old → keeps_others file ≡ true
+        → TailIsFirst (P.region memory.old) (P.region memory.new) tables.now.layout free.old.pools cpu row.inode row.tail (take_entries moved.now.from.target file.inode moved.now.from.name.now
+        moved.now.name.now time) (tail_address tables.now.layout file.inode) }
     ensures last_in_order { (row file : RowValue) (held : Store) (h : Held) → row_of rows.old.items moved.now.directory ≡ Option.Some row → row_of rows.old.items there ≡ Option.Some file
-        → ShowsRow (P.region memory.old) sup.now held h row free.old → keeps_others file ≡ false
-        → TailIsFirst (P.region memory.old) (P.region memory.new) sup.now free.old.pools cpu row.inode row.tail (take_entries moved.now.from.target file.inode moved.now.from.name.now
-        moved.now.name.now time) (slot_address sup.now file.inode) }
+        → ShowsRow (P.region memory.old) tables.now.layout held h row free.old → keeps_others file ≡ false
+        → TailIsFirst (P.region memory.old) (P.region memory.new) tables.now.layout free.old.pools cpu row.inode row.tail (take_entries moved.now.from.target file.inode moved.now.from.name.now
+        moved.now.name.now time) (slot_in tables.now.layout file.inode) }
     // Whatever a stop leaves: nothing is wrong with the journals, and recovery finds what is held, or it with the name given.
     ensures any_stop { (row file : RowValue) (held : Store) (h f : Held) → row_of rows.old.items moved.now.directory ≡ Option.Some row → row_of rows.old.items there ≡ Option.Some file
-        → ShowsRow (P.region memory.old) sup.now held h row free.old → ShowsRow (P.region memory.old) sup.now held f file free.old → NothingPending (P.region memory.old) (P.may_hold memory.old)
-        → LeavesOnly (P.region memory.new) (P.may_hold memory.new) (LeavesEither (P.region memory.old) (fixed_layout sup.now) held
-        (ReplacedHere (P.region memory.old) sup.now free.old cpu row file moved.now.from.target moved.now.from.name.now moved.now.name.now time)) }
+        → ShowsRow (P.region memory.old) tables.now.layout held h row free.old → ShowsRow (P.region memory.old) tables.now.layout held f file free.old → NothingPending (P.region memory.old) (P.may_hold memory.old)
+        → LeavesOnly (P.region memory.new) (P.may_hold memory.new) (LeavesEither (P.region memory.old) tables.now.layout held
+        (ReplacedHere (P.region memory.old) tables.now.layout free.old cpu row file moved.now.from.target moved.now.from.name.now moved.now.name.now time)) }
 {
     if keeps_others(rows.row(there)) {
-        lessen_at(alloc, memory, sup, free, cpu, rows, moved, there, time)
+        lessen_at(alloc, memory, tables, free, cpu, rows, moved, there, time)
     } else {
-        take_at(alloc, memory, sup, free, cpu, rows, moved, there, time)
+        take_at(alloc, memory, tables, free, cpu, rows, moved, there, time)
     }
 }

@@ -1,14 +1,15 @@
 //! `replace` from one directory to another: a name of one inode that is given to another, by the logs of both.
 
 ghost use Rattle.std.specs.Prelude.{◌≡◌, ◌≢◌, ◌+◌, ◌-◌, ◌%◌, ◌<◌, ◌≤◌, Option, IsTrue, IfErr, OnOk, true, false};
-ghost use Rattle.nv_super.specs.Layout.{fixed_layout, is_number, slot_address};
+ghost use Rattle.nv_steps.specs.Slots.{slot_in};
+ghost use Rattle.nv_inode.specs.Numbers.{has_slot};
 ghost use Rattle.nv_region.specs.Stops.{LeavesOnly, NothingPending};
 ghost use Rattle.nv_alloc.specs.Taking.{all_blocks};
 ghost use Rattle.nv_logpage.specs.Append.{needed};
 ghost use Rattle.nv_names.specs.Names.{IsName};
 ghost use Rattle.nv_scan.specs.declared.piece.Row.{Row as RowValue};
 ghost use Rattle.nv_rows.specs.Rows.{IsInUse, place_in, row_of};
-ghost use Rattle.nv_held.specs.Held.{Held, Store};
+ghost use Rattle.nv_mounted.specs.Held.{Held, Store};
 ghost use Rattle.nv_commit.specs.Stopped.{LeavesEither};
 ghost use Rattle.nv_steps.specs.Across.{LessenedAcross, TookAcross};
 ghost use Rattle.nv_steps.specs.Grown.{StandsRight};
@@ -25,11 +26,11 @@ use crate::removing::most_blocks;
 use crate::renaming::other_name;
 use crate::replacing::keeps_others;
 use nv_alloc::Allocators;
+use nv_inode::Tables;
 use nv_paths::Move;
 use nv_region::Pmem;
 use nv_rows::Rows;
 use nv_steps::{Displaced, give_row, lessen_across, take_across};
-use nv_super::Super;
 use nv_tree::Refusal;
 use std::alloc::Global;
 
@@ -41,7 +42,7 @@ use std::alloc::Global;
 fn take_over<P: Pmem>(
     alloc: Global,
     memory: &mut P,
-    sup: &Super,
+    tables: &Tables,
     free: &mut Allocators,
     cpu: u64,
     rows: &mut Rows,
@@ -54,14 +55,14 @@ fn take_over<P: Pmem>(
     requires there { IsInUse rows.old.items there }
     requires apart { (moved.now.from.directory ≢ moved.now.directory) × (moved.now.from.directory ≢ there) × (moved.now.directory ≢ there) }
     requires stands { (row : RowValue) → row_of rows.old.items moved.now.from.directory ≡ Option.Some row
-        → StandsRight (P.region memory.old) sup.now free.old row × CanName (P.region memory.old) sup.now cpu row.inode row }
+        → StandsRight (P.region memory.old) tables.now.layout free.old row × CanName (P.region memory.old) tables.now.layout cpu row.inode row }
     requires to_stands { (row : RowValue) → row_of rows.old.items moved.now.directory ≡ Option.Some row
-        → StandsRight (P.region memory.old) sup.now free.old row × CanName (P.region memory.old) sup.now cpu row.inode row }
-    requires number { IsTrue (is_number sup.now there) }
+        → StandsRight (P.region memory.old) tables.now.layout free.old row × CanName (P.region memory.old) tables.now.layout cpu row.inode row }
+    requires number { IsTrue (has_slot tables.now.layout there) }
     requires owns { (gone : RowValue) → row_of rows.old.items there ≡ Option.Some gone → OwnsBlocks free.old gone }
     requires name { IsName moved.now.from.name.now }
     requires other { IsName moved.now.name.now }
-    ensures taken { OnOk result (TakesOver (P.region memory.old) (P.region memory.new) sup.now free.old free.new cpu rows.old.items rows.new.items
+    ensures taken { OnOk result (TakesOver (P.region memory.old) (P.region memory.new) tables.now.layout free.old free.new cpu rows.old.items rows.new.items
         (place_in rows.old.items moved.now.from.directory) (place_in rows.old.items moved.now.directory)
         (place_in rows.old.items there) moved.now.from.target moved.now.from.name.now moved.now.name.now time) }
     ensures enough { (from to gone : RowValue) → row_of rows.old.items moved.now.from.directory ≡ Option.Some from → row_of rows.old.items moved.now.directory ≡ Option.Some to
@@ -75,23 +76,23 @@ fn take_over<P: Pmem>(
     ensures wrote { (from to gone : RowValue) (held : Store) (h g : Held) → row_of rows.old.items moved.now.from.directory ≡ Option.Some from
         → row_of rows.old.items moved.now.directory ≡ Option.Some to
         → row_of rows.old.items there ≡ Option.Some gone
-        → ShowsRow (P.region memory.old) sup.now held h from free.old → ShowsRow (P.region memory.old) sup.now held g to free.old
-        → StoresIn sup.now held (two_less sup.now cpu from.inode to.inode gone.inode) (P.region memory.old) (P.region memory.new) }
+        → ShowsRow (P.region memory.old) tables.now.layout held h from free.old → ShowsRow (P.region memory.old) tables.now.layout held g to free.old
+        → StoresIn tables.now.layout held (two_less tables.now.layout cpu from.inode to.inode gone.inode) (P.region memory.old) (P.region memory.new) }
     // The old directory's tail is stored first, then that of the new one, and then the valid word.
     ensures in_order { (from to gone : RowValue) (held : Store) (h g : Held) → row_of rows.old.items moved.now.from.directory ≡ Option.Some from
         → row_of rows.old.items moved.now.directory ≡ Option.Some to
         → row_of rows.old.items there ≡ Option.Some gone
-        → ShowsRow (P.region memory.old) sup.now held h from free.old → ShowsRow (P.region memory.old) sup.now held g to free.old
-        → HandsInOrder (P.region memory.old) (P.region memory.new) sup.now free.old cpu from to moved.now.from.target gone.inode moved.now.from.name.now moved.now.name.now time
-        (slot_address sup.now gone.inode) }
+        → ShowsRow (P.region memory.old) tables.now.layout held h from free.old → ShowsRow (P.region memory.old) tables.now.layout held g to free.old
+        → HandsInOrder (P.region memory.old) (P.region memory.new) tables.now.layout free.old cpu from to moved.now.from.target gone.inode moved.now.from.name.now moved.now.name.now time
+        (slot_in tables.now.layout gone.inode) }
     // Whatever a stop leaves: nothing is wrong with the journals, and recovery finds what is held, or it with the name given and
     // without the inode.
     ensures any_stop { (from to gone : RowValue) (held : Store) (h g : Held) → row_of rows.old.items moved.now.from.directory ≡ Option.Some from
         → row_of rows.old.items moved.now.directory ≡ Option.Some to
         → row_of rows.old.items there ≡ Option.Some gone
-        → ShowsRow (P.region memory.old) sup.now held h from free.old → ShowsRow (P.region memory.old) sup.now held g to free.old → NothingPending (P.region memory.old) (P.may_hold memory.old)
-        → LeavesOnly (P.region memory.new) (P.may_hold memory.new) (LeavesEither (P.region memory.old) (fixed_layout sup.now) held
-        (TookAcross (P.region memory.old) sup.now free.old cpu from to moved.now.from.target gone.inode moved.now.from.name.now moved.now.name.now time)) }
+        → ShowsRow (P.region memory.old) tables.now.layout held h from free.old → ShowsRow (P.region memory.old) tables.now.layout held g to free.old → NothingPending (P.region memory.old) (P.may_hold memory.old)
+        → LeavesOnly (P.region memory.new) (P.may_hold memory.new) (LeavesEither (P.region memory.old) tables.now.layout held
+        (TookAcross (P.region memory.old) tables.now.layout free.old cpu from to moved.now.from.target gone.inode moved.now.from.name.now moved.now.name.now time)) }
 {
     let gone = Displaced {
         inode: there,
@@ -101,7 +102,7 @@ fn take_over<P: Pmem>(
     let mut to = rows.lend(alloc, moved.directory);
     let other = other_name(moved, time);
     let taken = take_across(
-        alloc, memory, sup, free, cpu, &mut from, &mut to, &other, gone,
+        alloc, memory, tables, free, cpu, &mut from, &mut to, &other, gone,
     );
     rows.give_back(to);
     rows.give_back(from);
@@ -118,7 +119,7 @@ fn take_over<P: Pmem>(
 fn lessen_over<P: Pmem>(
     alloc: Global,
     memory: &mut P,
-    sup: &Super,
+    tables: &Tables,
     free: &mut Allocators,
     cpu: u64,
     rows: &mut Rows,
@@ -131,15 +132,15 @@ fn lessen_over<P: Pmem>(
     requires there { IsInUse rows.old.items there }
     requires apart { (moved.now.from.directory ≢ moved.now.directory) × (moved.now.from.directory ≢ there) × (moved.now.directory ≢ there) }
     requires stands { (row : RowValue) → row_of rows.old.items moved.now.from.directory ≡ Option.Some row
-        → StandsRight (P.region memory.old) sup.now free.old row × CanName (P.region memory.old) sup.now cpu row.inode row }
+        → StandsRight (P.region memory.old) tables.now.layout free.old row × CanName (P.region memory.old) tables.now.layout cpu row.inode row }
     requires to_stands { (row : RowValue) → row_of rows.old.items moved.now.directory ≡ Option.Some row
-        → StandsRight (P.region memory.old) sup.now free.old row × CanName (P.region memory.old) sup.now cpu row.inode row }
+        → StandsRight (P.region memory.old) tables.now.layout free.old row × CanName (P.region memory.old) tables.now.layout cpu row.inode row }
     requires file_stands { (row : RowValue) → row_of rows.old.items there ≡ Option.Some row
-        → StandsRight (P.region memory.old) sup.now free.old row × CanName (P.region memory.old) sup.now cpu row.inode row }
+        → StandsRight (P.region memory.old) tables.now.layout free.old row × CanName (P.region memory.old) tables.now.layout cpu row.inode row }
     requires more { (file : RowValue) → row_of rows.old.items there ≡ Option.Some file → 1 < file.numbers.links }
     requires name { IsName moved.now.from.name.now }
     requires other { IsName moved.now.name.now }
-    ensures lessened { OnOk result (LessensOver (P.region memory.old) (P.region memory.new) sup.now free.old free.new cpu rows.old.items rows.new.items
+    ensures lessened { OnOk result (LessensOver (P.region memory.old) (P.region memory.new) tables.now.layout free.old free.new cpu rows.old.items rows.new.items
         (place_in rows.old.items moved.now.from.directory) (place_in rows.old.items moved.now.directory)
         (place_in rows.old.items there) moved.now.from.target moved.now.from.name.now moved.now.name.now time) }
     ensures enough { (from to file : RowValue) → row_of rows.old.items moved.now.from.directory ≡ Option.Some from → row_of rows.old.items moved.now.directory ≡ Option.Some to
@@ -155,33 +156,33 @@ fn lessen_over<P: Pmem>(
     ensures wrote { (from to file : RowValue) (held : Store) (h g f : Held) → row_of rows.old.items moved.now.from.directory ≡ Option.Some from
         → row_of rows.old.items moved.now.directory ≡ Option.Some to
         → row_of rows.old.items there ≡ Option.Some file
-        → ShowsRow (P.region memory.old) sup.now held h from free.old → ShowsRow (P.region memory.old) sup.now held g to free.old
-        → ShowsRow (P.region memory.old) sup.now held f file free.old
-        → StoresIn sup.now held (three_logs sup.now cpu from.inode to.inode file.inode) (P.region memory.old) (P.region memory.new) }
+        → ShowsRow (P.region memory.old) tables.now.layout held h from free.old → ShowsRow (P.region memory.old) tables.now.layout held g to free.old
+        → ShowsRow (P.region memory.old) tables.now.layout held f file free.old
+        → StoresIn tables.now.layout held (three_logs tables.now.layout cpu from.inode to.inode file.inode) (P.region memory.old) (P.region memory.new) }
     // The old directory's tail is stored first, then that of the new one, and then that of the file.
     ensures in_order { (from to file : RowValue) (held : Store) (h g f : Held) → row_of rows.old.items moved.now.from.directory ≡ Option.Some from
         → row_of rows.old.items moved.now.directory ≡ Option.Some to
         → row_of rows.old.items there ≡ Option.Some file
-        → ShowsRow (P.region memory.old) sup.now held h from free.old → ShowsRow (P.region memory.old) sup.now held g to free.old
-        → ShowsRow (P.region memory.old) sup.now held f file free.old
-        → HandsInOrder (P.region memory.old) (P.region memory.new) sup.now free.old cpu from to moved.now.from.target file.inode moved.now.from.name.now moved.now.name.now time
-        (tail_address sup.now file.inode) }
+        → ShowsRow (P.region memory.old) tables.now.layout held h from free.old → ShowsRow (P.region memory.old) tables.now.layout held g to free.old
+        → ShowsRow (P.region memory.old) tables.now.layout held f file free.old
+        → HandsInOrder (P.region memory.old) (P.region memory.new) tables.now.layout free.old cpu from to moved.now.from.target file.inode moved.now.from.name.now moved.now.name.now time
+        (tail_address tables.now.layout file.inode) }
     // Whatever a stop leaves: nothing is wrong with the journals, and recovery finds what is held, or it with the name given and a
     // link less.
     ensures any_stop { (from to file : RowValue) (held : Store) (h g f : Held) → row_of rows.old.items moved.now.from.directory ≡ Option.Some from
         → row_of rows.old.items moved.now.directory ≡ Option.Some to
         → row_of rows.old.items there ≡ Option.Some file
-        → ShowsRow (P.region memory.old) sup.now held h from free.old → ShowsRow (P.region memory.old) sup.now held g to free.old
-        → ShowsRow (P.region memory.old) sup.now held f file free.old → NothingPending (P.region memory.old) (P.may_hold memory.old)
-        → LeavesOnly (P.region memory.new) (P.may_hold memory.new) (LeavesEither (P.region memory.old) (fixed_layout sup.now) held
-        (LessenedAcross (P.region memory.old) sup.now free.old cpu from to file moved.now.from.target moved.now.from.name.now moved.now.name.now time)) }
+        → ShowsRow (P.region memory.old) tables.now.layout held h from free.old → ShowsRow (P.region memory.old) tables.now.layout held g to free.old
+        → ShowsRow (P.region memory.old) tables.now.layout held f file free.old → NothingPending (P.region memory.old) (P.may_hold memory.old)
+        → LeavesOnly (P.region memory.new) (P.may_hold memory.new) (LeavesEither (P.region memory.old) tables.now.layout held
+        (LessenedAcross (P.region memory.old) tables.now.layout free.old cpu from to file moved.now.from.target moved.now.from.name.now moved.now.name.now time)) }
 {
     let mut from = rows.lend(alloc, moved.from.directory);
     let mut to = rows.lend(alloc, moved.directory);
     let mut file = rows.lend(alloc, there);
     let other = other_name(moved, time);
     let done = lessen_across(
-        alloc, memory, sup, free, cpu, &mut from, &mut to, &mut file, &other,
+        alloc, memory, tables, free, cpu, &mut from, &mut to, &mut file, &other,
     );
     rows.give_back(file);
     rows.give_back(to);
@@ -194,7 +195,7 @@ fn lessen_over<P: Pmem>(
 pub(crate) fn replace_over<P: Pmem>(
     alloc: Global,
     memory: &mut P,
-    sup: &Super,
+    tables: &Tables,
     free: &mut Allocators,
     cpu: u64,
     rows: &mut Rows,
@@ -207,16 +208,16 @@ pub(crate) fn replace_over<P: Pmem>(
     requires there { IsInUse rows.old.items there }
     requires apart { (moved.now.from.directory ≢ moved.now.directory) × (moved.now.from.directory ≢ there) × (moved.now.directory ≢ there) }
     requires stands { (row : RowValue) → row_of rows.old.items moved.now.from.directory ≡ Option.Some row
-        → StandsRight (P.region memory.old) sup.now free.old row × CanName (P.region memory.old) sup.now cpu row.inode row }
+        → StandsRight (P.region memory.old) tables.now.layout free.old row × CanName (P.region memory.old) tables.now.layout cpu row.inode row }
     requires to_stands { (row : RowValue) → row_of rows.old.items moved.now.directory ≡ Option.Some row
-        → StandsRight (P.region memory.old) sup.now free.old row × CanName (P.region memory.old) sup.now cpu row.inode row }
+        → StandsRight (P.region memory.old) tables.now.layout free.old row × CanName (P.region memory.old) tables.now.layout cpu row.inode row }
     requires there_stands { (row : RowValue) → row_of rows.old.items there ≡ Option.Some row
-        → StandsRight (P.region memory.old) sup.now free.old row × CanName (P.region memory.old) sup.now cpu row.inode row }
-    requires number { IsTrue (is_number sup.now there) }
+        → StandsRight (P.region memory.old) tables.now.layout free.old row × CanName (P.region memory.old) tables.now.layout cpu row.inode row }
+    requires number { IsTrue (has_slot tables.now.layout there) }
     requires owns { (file : RowValue) → row_of rows.old.items there ≡ Option.Some file → OwnsBlocks free.old file }
     requires name { IsName moved.now.from.name.now }
     requires other { IsName moved.now.name.now }
-    ensures replaced { OnOk result (ReplacesOver (P.region memory.old) (P.region memory.new) sup.now free.old free.new cpu rows.old.items rows.new.items
+    ensures replaced { OnOk result (ReplacesOver (P.region memory.old) (P.region memory.new) tables.now.layout free.old free.new cpu rows.old.items rows.new.items
         (place_in rows.old.items moved.now.from.directory) (place_in rows.old.items moved.now.directory)
         (place_in rows.old.items there) moved.now.from.target moved.now.from.name.now moved.now.name.now time) }
     ensures enough { (from to file : RowValue) → row_of rows.old.items moved.now.from.directory ≡ Option.Some from → row_of rows.old.items moved.now.directory ≡ Option.Some to
@@ -230,41 +231,41 @@ pub(crate) fn replace_over<P: Pmem>(
     ensures wrote { (from to file : RowValue) (held : Store) (h g f : Held) → row_of rows.old.items moved.now.from.directory ≡ Option.Some from
         → row_of rows.old.items moved.now.directory ≡ Option.Some to
         → row_of rows.old.items there ≡ Option.Some file
-        → ShowsRow (P.region memory.old) sup.now held h from free.old → ShowsRow (P.region memory.old) sup.now held g to free.old
-        → ShowsRow (P.region memory.old) sup.now held f file free.old → keeps_others file ≡ true
-        → StoresIn sup.now held (three_logs sup.now cpu from.inode to.inode file.inode) (P.region memory.old) (P.region memory.new) }
+        → ShowsRow (P.region memory.old) tables.now.layout held h from free.old → ShowsRow (P.region memory.old) tables.now.layout held g to free.old
+        → ShowsRow (P.region memory.old) tables.now.layout held f file free.old → keeps_others file ≡ true
+        → StoresIn tables.now.layout held (three_logs tables.now.layout cpu from.inode to.inode file.inode) (P.region memory.old) (P.region memory.new) }
     // The same where it goes.
     ensures last_wrote { (from to file : RowValue) (held : Store) (h g : Held) → row_of rows.old.items moved.now.from.directory ≡ Option.Some from
         → row_of rows.old.items moved.now.directory ≡ Option.Some to
         → row_of rows.old.items there ≡ Option.Some file
-        → ShowsRow (P.region memory.old) sup.now held h from free.old → ShowsRow (P.region memory.old) sup.now held g to free.old → keeps_others file ≡ false
-        → StoresIn sup.now held (two_less sup.now cpu from.inode to.inode file.inode) (P.region memory.old) (P.region memory.new) }
+        → ShowsRow (P.region memory.old) tables.now.layout held h from free.old → ShowsRow (P.region memory.old) tables.now.layout held g to free.old → keeps_others file ≡ false
+        → StoresIn tables.now.layout held (two_less tables.now.layout cpu from.inode to.inode file.inode) (P.region memory.old) (P.region memory.new) }
     // The old directory's tail is stored first, then that of the new one, and then the file's tail, or the valid word.
     ensures in_order { (from to file : RowValue) (held : Store) (h g f : Held) → row_of rows.old.items moved.now.from.directory ≡ Option.Some from
         → row_of rows.old.items moved.now.directory ≡ Option.Some to
         → row_of rows.old.items there ≡ Option.Some file
-        → ShowsRow (P.region memory.old) sup.now held h from free.old → ShowsRow (P.region memory.old) sup.now held g to free.old
-        → ShowsRow (P.region memory.old) sup.now held f file free.old → keeps_others file ≡ true
-        → HandsInOrder (P.region memory.old) (P.region memory.new) sup.now free.old cpu from to moved.now.from.target file.inode moved.now.from.name.now moved.now.name.now time
-        (tail_address sup.now file.inode) }
+        → ShowsRow (P.region memory.old) tables.now.layout held h from free.old → ShowsRow (P.region memory.old) tables.now.layout held g to free.old
+        → ShowsRow (P.region memory.old) tables.now.layout held f file free.old → keeps_others file ≡ true
+        → HandsInOrder (P.region memory.old) (P.region memory.new) tables.now.layout free.old cpu from to moved.now.from.target file.inode moved.now.from.name.now moved.now.name.now time
+        (tail_address tables.now.layout file.inode) }
     ensures last_in_order { (from to file : RowValue) (held : Store) (h g : Held) → row_of rows.old.items moved.now.from.directory ≡ Option.Some from
         → row_of rows.old.items moved.now.directory ≡ Option.Some to
         → row_of rows.old.items there ≡ Option.Some file
-        → ShowsRow (P.region memory.old) sup.now held h from free.old → ShowsRow (P.region memory.old) sup.now held g to free.old → keeps_others file ≡ false
-        → HandsInOrder (P.region memory.old) (P.region memory.new) sup.now free.old cpu from to moved.now.from.target file.inode moved.now.from.name.now moved.now.name.now time
-        (slot_address sup.now file.inode) }
+        → ShowsRow (P.region memory.old) tables.now.layout held h from free.old → ShowsRow (P.region memory.old) tables.now.layout held g to free.old → keeps_others file ≡ false
+        → HandsInOrder (P.region memory.old) (P.region memory.new) tables.now.layout free.old cpu from to moved.now.from.target file.inode moved.now.from.name.now moved.now.name.now time
+        (slot_in tables.now.layout file.inode) }
     // Whatever a stop leaves: nothing is wrong with the journals, and recovery finds what is held, or it with the name given.
     ensures any_stop { (from to file : RowValue) (held : Store) (h g f : Held) → row_of rows.old.items moved.now.from.directory ≡ Option.Some from
         → row_of rows.old.items moved.now.directory ≡ Option.Some to
         → row_of rows.old.items there ≡ Option.Some file
-        → ShowsRow (P.region memory.old) sup.now held h from free.old → ShowsRow (P.region memory.old) sup.now held g to free.old
-        → ShowsRow (P.region memory.old) sup.now held f file free.old → NothingPending (P.region memory.old) (P.may_hold memory.old)
-        → LeavesOnly (P.region memory.new) (P.may_hold memory.new) (LeavesEither (P.region memory.old) (fixed_layout sup.now) held
-        (ReplacedOver (P.region memory.old) sup.now free.old cpu from to file moved.now.from.target moved.now.from.name.now moved.now.name.now time)) }
+        → ShowsRow (P.region memory.old) tables.now.layout held h from free.old → ShowsRow (P.region memory.old) tables.now.layout held g to free.old
+        → ShowsRow (P.region memory.old) tables.now.layout held f file free.old → NothingPending (P.region memory.old) (P.may_hold memory.old)
+        → LeavesOnly (P.region memory.new) (P.may_hold memory.new) (LeavesEither (P.region memory.old) tables.now.layout held
+        (ReplacedOver (P.region memory.old) tables.now.layout free.old cpu from to file moved.now.from.target moved.now.from.name.now moved.now.name.now time)) }
 {
     if keeps_others(rows.row(there)) {
-        lessen_over(alloc, memory, sup, free, cpu, rows, moved, there, time)
+        lessen_over(alloc, memory, tables, free, cpu, rows, moved, there, time)
     } else {
-        take_over(alloc, memory, sup, free, cpu, rows, moved, there, time)
+        take_over(alloc, memory, tables, free, cpu, rows, moved, there, time)
     }
 }

@@ -1,7 +1,6 @@
 //! `unlink`: a name of a file less, and with the last one the file.
 
 ghost use Rattle.std.specs.Prelude.{◌≡◌, ◌≢◌, ◌+◌, ◌-◌, ◌%◌, ◌<◌, ◌≤◌, nat_lt, ℕ, List, Option, Result, IfErr, OnOk, false};
-ghost use Rattle.nv_super.specs.Layout.{fixed_layout, slot_address};
 ghost use Rattle.nv_region.specs.Stops.{LeavesOnly, NothingPending};
 ghost use Rattle.nv_alloc.specs.Taking.{all_blocks};
 ghost use Rattle.nv_entry.specs.declared.entry.Operation.TheVariants.{Remove};
@@ -9,8 +8,8 @@ ghost use Rattle.nv_logpage.specs.Append.{needed};
 ghost use Rattle.nv_names.specs.Names.{IsName};
 ghost use Rattle.nv_scan.specs.declared.piece.Row.{Row as RowValue};
 ghost use Rattle.nv_rows.specs.Rows.{IsInUse, place_in, row_of};
-ghost use Rattle.nv_held.specs.Held.{Held, Store};
-ghost use Rattle.nv_held.specs.Mounted.{ShowsSound};
+ghost use Rattle.nv_mounted.specs.Held.{Held, Store};
+ghost use Rattle.nv_mounted.specs.Mounted.{ShowsSound};
 ghost use Rattle.nv_commit.specs.Stopped.{LeavesEither};
 ghost use Rattle.nv_tree.specs.Path.{IsPath, Says, last_name};
 ghost use Rattle.nv_tree.specs.Tree.{Node, SameTree, walk};
@@ -36,18 +35,19 @@ ghost use Rattle.nv_steps.specs.Stores.{StoresIn, one_less, two_logs};
 ghost use Rattle.nv_calls.specs.Mount.{shown};
 ghost use Rattle.nv_calls.specs.Keeping.{IsNoPath, SettlesCall};
 ghost use Rattle.nv_calls.specs.Storing.{UnlinkStores};
+ghost use Rattle.nv_steps.specs.Slots.{slot_in};
 
 use crate::Fs;
 use crate::arguments::{Cpu, Time};
 use crate::removing::remove_named;
 use crate::writing::is_stop;
 use nv_alloc::Allocators;
+use nv_inode::Tables;
 use nv_paths::{Named, unlink_for};
 use nv_region::Pmem;
 use nv_rows::Rows;
 use nv_scan::Row;
 use nv_steps::unlink_both;
-use nv_super::Super;
 use nv_tree::Refusal;
 use std::alloc::Global;
 
@@ -59,7 +59,7 @@ use std::alloc::Global;
 fn unlink_at<P: Pmem>(
     alloc: Global,
     memory: &mut P,
-    sup: &Super,
+    tables: &Tables,
     free: &mut Allocators,
     cpu: u64,
     rows: &mut Rows,
@@ -71,11 +71,11 @@ fn unlink_at<P: Pmem>(
     requires apart { named.now.directory ≢ named.now.target }
     requires more { (file : RowValue) → row_of rows.old.items named.now.target ≡ Option.Some file → 1 < file.numbers.links }
     requires stands { (row : RowValue) → row_of rows.old.items named.now.directory ≡ Option.Some row
-        → StandsRight (P.region memory.old) sup.now free.old row × CanName (P.region memory.old) sup.now cpu row.inode row }
+        → StandsRight (P.region memory.old) tables.now.layout free.old row × CanName (P.region memory.old) tables.now.layout cpu row.inode row }
     requires file_stands { (file : RowValue) → row_of rows.old.items named.now.target ≡ Option.Some file
-        → StandsRight (P.region memory.old) sup.now free.old file × CanName (P.region memory.old) sup.now cpu file.inode file }
+        → StandsRight (P.region memory.old) tables.now.layout free.old file × CanName (P.region memory.old) tables.now.layout cpu file.inode file }
     requires name { IsName named.now.name.now }
-    ensures unlinked { OnOk result (UnlinksAt (P.region memory.old) (P.region memory.new) sup.now free.old free.new cpu rows.old.items rows.new.items (place_in rows.old.items named.now.directory)
+    ensures unlinked { OnOk result (UnlinksAt (P.region memory.old) (P.region memory.new) tables.now.layout free.old free.new cpu rows.old.items rows.new.items (place_in rows.old.items named.now.directory)
         (place_in rows.old.items named.now.target) named.now.name.now time) }
     ensures enough { (row file : RowValue) → row_of rows.old.items named.now.directory ≡ Option.Some row → row_of rows.old.items named.now.target ≡ Option.Some file
         → OnOk result (needed (row.tail % 4096) (name_entries Remove file.inode named.now.name.now time)
@@ -86,26 +86,26 @@ fn unlink_at<P: Pmem>(
         free.old) }
     // Every word outside these places is as it was.
     ensures wrote { (row file : RowValue) (held : Store) (h f : Held) → row_of rows.old.items named.now.directory ≡ Option.Some row
-        → row_of rows.old.items named.now.target ≡ Option.Some file → ShowsRow (P.region memory.old) sup.now held h row free.old → ShowsRow (P.region memory.old) sup.now held f file free.old
-        → StoresIn sup.now held (two_logs sup.now cpu row.inode file.inode) (P.region memory.old) (P.region memory.new) }
+        → row_of rows.old.items named.now.target ≡ Option.Some file → ShowsRow (P.region memory.old) tables.now.layout held h row free.old → ShowsRow (P.region memory.old) tables.now.layout held f file free.old
+        → StoresIn tables.now.layout held (two_logs tables.now.layout cpu row.inode file.inode) (P.region memory.old) (P.region memory.new) }
     // The directory's tail is stored first.
     ensures in_order { (row file : RowValue) (held : Store) (h f : Held) → row_of rows.old.items named.now.directory ≡ Option.Some row
-        → row_of rows.old.items named.now.target ≡ Option.Some file → ShowsRow (P.region memory.old) sup.now held h row free.old → ShowsRow (P.region memory.old) sup.now held f file free.old
-        → TailIsFirst (P.region memory.old) (P.region memory.new) sup.now free.old.pools cpu row.inode row.tail (name_entries Remove file.inode named.now.name.now time) (tail_address sup.now
+        → row_of rows.old.items named.now.target ≡ Option.Some file → ShowsRow (P.region memory.old) tables.now.layout held h row free.old → ShowsRow (P.region memory.old) tables.now.layout held f file free.old
+        → TailIsFirst (P.region memory.old) (P.region memory.new) tables.now.layout free.old.pools cpu row.inode row.tail (name_entries Remove file.inode named.now.name.now time) (tail_address tables.now.layout
         file.inode) }
     // Whatever a stop leaves: recovery finds what is held, or it without the name and the link, without faults.
     ensures any_stop { (row file : RowValue) (held : Store) (h f : Held) → row_of rows.old.items named.now.directory ≡ Option.Some row
-        → row_of rows.old.items named.now.target ≡ Option.Some file → ShowsRow (P.region memory.old) sup.now held h row free.old
-        → ShowsRow (P.region memory.old) sup.now held f file free.old → NothingPending (P.region memory.old) (P.may_hold memory.old)
-        → LeavesOnly (P.region memory.new) (P.may_hold memory.new) (LeavesEither (P.region memory.old) (fixed_layout sup.now) held
-        (Unlinked (P.region memory.old) sup.now free.old cpu row file named.now.name.now time)) }
+        → row_of rows.old.items named.now.target ≡ Option.Some file → ShowsRow (P.region memory.old) tables.now.layout held h row free.old
+        → ShowsRow (P.region memory.old) tables.now.layout held f file free.old → NothingPending (P.region memory.old) (P.may_hold memory.old)
+        → LeavesOnly (P.region memory.new) (P.may_hold memory.new) (LeavesEither (P.region memory.old) tables.now.layout held
+        (Unlinked (P.region memory.old) tables.now.layout free.old cpu row file named.now.name.now time)) }
 {
     let mut directory = rows.lend(alloc, named.directory);
     let mut file = rows.lend(alloc, named.target);
     let done = unlink_both(
         alloc,
         memory,
-        sup,
+        tables,
         free,
         cpu,
         &mut directory,
@@ -130,7 +130,7 @@ fn has_more_links(file: &Row) -> bool
 fn release_at<P: Pmem>(
     alloc: Global,
     memory: &mut P,
-    sup: &Super,
+    tables: &Tables,
     free: &mut Allocators,
     cpu: u64,
     rows: &mut Rows,
@@ -141,14 +141,14 @@ fn release_at<P: Pmem>(
     requires target { IsInUse rows.old.items named.now.target }
     requires apart { named.now.directory ≢ named.now.target }
     requires stands { (row : RowValue) → row_of rows.old.items named.now.directory ≡ Option.Some row
-        → StandsRight (P.region memory.old) sup.now free.old row × CanName (P.region memory.old) sup.now cpu row.inode row }
+        → StandsRight (P.region memory.old) tables.now.layout free.old row × CanName (P.region memory.old) tables.now.layout cpu row.inode row }
     requires file_stands { (file : RowValue) → row_of rows.old.items named.now.target ≡ Option.Some file
-        → StandsRight (P.region memory.old) sup.now free.old file × CanName (P.region memory.old) sup.now cpu file.inode file }
+        → StandsRight (P.region memory.old) tables.now.layout free.old file × CanName (P.region memory.old) tables.now.layout cpu file.inode file }
     requires can { (row file : RowValue) → row_of rows.old.items named.now.directory ≡ Option.Some row → row_of rows.old.items named.now.target ≡ Option.Some file
-        → CanName (P.region memory.old) sup.now cpu file.inode row × (row.inode ≢ file.inode) }
+        → CanName (P.region memory.old) tables.now.layout cpu file.inode row × (row.inode ≢ file.inode) }
     requires owns { (file : RowValue) → row_of rows.old.items named.now.target ≡ Option.Some file → OwnsBlocks free.old file }
     requires name { IsName named.now.name.now }
-    ensures released { OnOk result (Releases (P.region memory.old) (P.region memory.new) sup.now free.old free.new cpu rows.old.items rows.new.items (place_in rows.old.items named.now.directory)
+    ensures released { OnOk result (Releases (P.region memory.old) (P.region memory.new) tables.now.layout free.old free.new cpu rows.old.items rows.new.items (place_in rows.old.items named.now.directory)
         (place_in rows.old.items named.now.target) named.now.name.now time) }
     ensures enough { (row file : RowValue) → row_of rows.old.items named.now.directory ≡ Option.Some row → row_of rows.old.items named.now.target ≡ Option.Some file
         → OnOk result (release_blocks row file named.now.name.now time ≤ all_blocks free.old.pools) }
@@ -157,35 +157,35 @@ fn release_at<P: Pmem>(
         → IfErr result (λ e. RefusesStep e (release_blocks row file named.now.name.now time) free.old) }
     // Every word outside these places is as it was.
     ensures wrote { (row file : RowValue) (held : Store) (h f : Held) → row_of rows.old.items named.now.directory ≡ Option.Some row
-        → row_of rows.old.items named.now.target ≡ Option.Some file → ShowsRow (P.region memory.old) sup.now held h row free.old
-        → ShowsRow (P.region memory.old) sup.now held f file free.old → 1 < file.numbers.links
-        → StoresIn sup.now held (two_logs sup.now cpu row.inode file.inode) (P.region memory.old) (P.region memory.new) }
+        → row_of rows.old.items named.now.target ≡ Option.Some file → ShowsRow (P.region memory.old) tables.now.layout held h row free.old
+        → ShowsRow (P.region memory.old) tables.now.layout held f file free.old → 1 < file.numbers.links
+        → StoresIn tables.now.layout held (two_logs tables.now.layout cpu row.inode file.inode) (P.region memory.old) (P.region memory.new) }
     ensures last_wrote { (row file : RowValue) (held : Store) (h f : Held) → row_of rows.old.items named.now.directory ≡ Option.Some row
-        → row_of rows.old.items named.now.target ≡ Option.Some file → ShowsRow (P.region memory.old) sup.now held h row free.old
-        → ShowsRow (P.region memory.old) sup.now held f file free.old → file.numbers.links ≤ 1
-        → StoresIn sup.now held (one_less sup.now cpu row.inode file.inode) (P.region memory.old) (P.region memory.new) }
+        → row_of rows.old.items named.now.target ≡ Option.Some file → ShowsRow (P.region memory.old) tables.now.layout held h row free.old
+        → ShowsRow (P.region memory.old) tables.now.layout held f file free.old → file.numbers.links ≤ 1
+        → StoresIn tables.now.layout held (one_less tables.now.layout cpu row.inode file.inode) (P.region memory.old) (P.region memory.new) }
     // The directory's tail is stored first.
     ensures in_order { (row file : RowValue) (held : Store) (h f : Held) → row_of rows.old.items named.now.directory ≡ Option.Some row
-        → row_of rows.old.items named.now.target ≡ Option.Some file → ShowsRow (P.region memory.old) sup.now held h row free.old
-        → ShowsRow (P.region memory.old) sup.now held f file free.old → 1 < file.numbers.links
-        → TailIsFirst (P.region memory.old) (P.region memory.new) sup.now free.old.pools cpu row.inode row.tail (name_entries Remove file.inode named.now.name.now time) (tail_address sup.now
+        → row_of rows.old.items named.now.target ≡ Option.Some file → ShowsRow (P.region memory.old) tables.now.layout held h row free.old
+        → ShowsRow (P.region memory.old) tables.now.layout held f file free.old → 1 < file.numbers.links
+        → TailIsFirst (P.region memory.old) (P.region memory.new) tables.now.layout free.old.pools cpu row.inode row.tail (name_entries Remove file.inode named.now.name.now time) (tail_address tables.now.layout
         file.inode) }
     ensures last_in_order { (row file : RowValue) (held : Store) (h f : Held) → row_of rows.old.items named.now.directory ≡ Option.Some row
-        → row_of rows.old.items named.now.target ≡ Option.Some file → ShowsRow (P.region memory.old) sup.now held h row free.old
-        → ShowsRow (P.region memory.old) sup.now held f file free.old → file.numbers.links ≤ 1
-        → TailIsFirst (P.region memory.old) (P.region memory.new) sup.now free.old.pools cpu row.inode row.tail (name_entries Remove file.inode named.now.name.now time) (slot_address sup.now
+        → row_of rows.old.items named.now.target ≡ Option.Some file → ShowsRow (P.region memory.old) tables.now.layout held h row free.old
+        → ShowsRow (P.region memory.old) tables.now.layout held f file free.old → file.numbers.links ≤ 1
+        → TailIsFirst (P.region memory.old) (P.region memory.new) tables.now.layout free.old.pools cpu row.inode row.tail (name_entries Remove file.inode named.now.name.now time) (slot_in tables.now.layout
         file.inode) }
     // Whatever a stop leaves: recovery finds what is held, or it without the name and the link or the file, without faults.
     ensures any_stop { (row file : RowValue) (held : Store) (h f : Held) → row_of rows.old.items named.now.directory ≡ Option.Some row
-        → row_of rows.old.items named.now.target ≡ Option.Some file → ShowsRow (P.region memory.old) sup.now held h row free.old
-        → ShowsRow (P.region memory.old) sup.now held f file free.old → NothingPending (P.region memory.old) (P.may_hold memory.old)
-        → LeavesOnly (P.region memory.new) (P.may_hold memory.new) (LeavesEither (P.region memory.old) (fixed_layout sup.now) held
-        (Released (P.region memory.old) sup.now free.old cpu row file named.now.name.now time)) }
+        → row_of rows.old.items named.now.target ≡ Option.Some file → ShowsRow (P.region memory.old) tables.now.layout held h row free.old
+        → ShowsRow (P.region memory.old) tables.now.layout held f file free.old → NothingPending (P.region memory.old) (P.may_hold memory.old)
+        → LeavesOnly (P.region memory.new) (P.may_hold memory.new) (LeavesEither (P.region memory.old) tables.now.layout held
+        (Released (P.region memory.old) tables.now.layout free.old cpu row file named.now.name.now time)) }
 {
     if has_more_links(rows.row(named.target)) {
-        unlink_at(alloc, memory, sup, free, cpu, rows, named, time)
+        unlink_at(alloc, memory, tables, free, cpu, rows, named, time)
     } else {
-        remove_named(alloc, memory, sup, free, cpu, rows, named, time)
+        remove_named(alloc, memory, tables, free, cpu, rows, named, time)
     }
 }
 
@@ -214,14 +214,14 @@ impl<P: Pmem + Drop> Fs<P> {
         // Where there are more links, the log of the directory and that of the file have one entry more.
         ensures log { (names : List (List ℕ)) (i d : ℕ) (node : Node) (held : Store) (h f : Held) → IsPath path.now names → LeadsTo (shown P.region self.old) names i node
             → walk (shown P.region self.old) 1 names ≡ Result.Ok d
-            → ShowsSound (P.region self.old.memory) self.old.sup held → held d ≡ Option.Some h → held i ≡ Option.Some f → 1 < node.links
-            → OnOk result (ShowsBothGrew (P.region self.new.memory) self.old.sup self.old.free.pools cpu held d h (name_entries Remove i (last_name names) time) i f
+            → ShowsSound (P.region self.old.memory) self.old.layout held → held d ≡ Option.Some h → held i ≡ Option.Some f → 1 < node.links
+            → OnOk result (ShowsBothGrew (P.region self.new.memory) self.old.layout self.old.free.pools cpu held d h (name_entries Remove i (last_name names) time) i f
             (links_entries (node.links - 1) time)) }
         // With its last name the file goes too. In both cases no other log has changed.
         ensures last { (names : List (List ℕ)) (i d : ℕ) (node : Node) (held : Store) (h : Held) → IsPath path.now names → LeadsTo (shown P.region self.old) names i node
             → walk (shown P.region self.old) 1 names ≡ Result.Ok d
-            → ShowsSound (P.region self.old.memory) self.old.sup held → held d ≡ Option.Some h → node.links ≤ 1
-            → OnOk result (ShowsRemoved (P.region self.new.memory) self.old.sup self.old.free.pools cpu held d h (name_entries Remove i (last_name names) time) i) }
+            → ShowsSound (P.region self.old.memory) self.old.layout held → held d ≡ Option.Some h → node.links ≤ 1
+            → OnOk result (ShowsRemoved (P.region self.new.memory) self.old.layout self.old.free.pools cpu held d h (name_entries Remove i (last_name names) time) i) }
         // What every call that writes keeps.
         ensures call { SettlesCall P.region P.may_hold P.fuse (IsNoPath path.now) self.old self.new result }
         // Where it stores, and in which order.
@@ -235,7 +235,7 @@ impl<P: Pmem + Drop> Fs<P> {
         match release_at(
             self.alloc,
             &mut self.memory,
-            &self.sup,
+            &self.tables,
             &mut self.free,
             cpu.0,
             &mut self.rows,

@@ -3,10 +3,9 @@
 ghost use Rattle.std.specs.Prelude.{◌≡◌, ◌<◌, ◌+◌, ℕ, List, Option, Result, length, IfErr, OnOk, false};
 ghost use Rattle.nv_region.specs.Region.{size};
 ghost use Rattle.nv_region.specs.Stops.{LeavesOnly, NothingPending};
-ghost use Rattle.nv_super.specs.Layout.{fixed_layout};
 ghost use Rattle.nv_scan.specs.State.{block_of};
-ghost use Rattle.nv_held.specs.Held.{Held, Store, good_in};
-ghost use Rattle.nv_held.specs.Mounted.{ShowsSound};
+ghost use Rattle.nv_mounted.specs.Held.{Held, Store, good_in};
+ghost use Rattle.nv_mounted.specs.Mounted.{ShowsSound};
 ghost use Rattle.nv_tree.specs.Path.{IsPath, Says};
 ghost use Rattle.nv_tree.specs.Tree.{Node, SameTree};
 ghost use Rattle.nv_tree.specs.Calls.{written};
@@ -70,15 +69,15 @@ impl<P: Pmem + Drop> Fs<P> {
             → OnOk result (SameTree (shown P.region self.new) (written names offset bytes.now time (shown P.region self.old))) }
         // The log of the inode has the write's entries more, and no other log has changed.
         ensures log { (names : List (List ℕ)) (i : ℕ) (node : Node) (held : Store) (h : Held) → IsPath path.now names → LeadsTo (shown P.region self.old) names i node
-            → ShowsSound (P.region self.old.memory) self.old.sup held → held i ≡ Option.Some h → 0 < length bytes.now
-            → OnOk result (ShowsLogWrite (P.region self.new.memory) self.old cpu held i h (plan_of (block_of (good_in (fixed_layout self.old.sup) h)) node.size offset (length bytes.now) time)) }
+            → ShowsSound (P.region self.old.memory) self.old.layout held → held i ≡ Option.Some h → 0 < length bytes.now
+            → OnOk result (ShowsLogWrite (P.region self.new.memory) self.old cpu held i h (plan_of (block_of (good_in self.old.layout h)) node.size offset (length bytes.now) time)) }
         ensures nothing { length bytes.now ≡ 0 → OnOk result (self.new ≡ self.old) }
         // What every call that writes keeps.
         ensures call { KeepsPathCall P.region P.fuse (IsNoPath path.now) self.old self.new result }
         ensures settled { 0 < length bytes.now → OnOk result (NothingPending (P.region self.new.memory) (P.may_hold self.new.memory)) }
         // Every word outside these places is as it was.
         ensures wrote { (names : List (List ℕ)) (i : ℕ) (node : Node) (held : Store) → IsPath path.now names → LeadsTo (shown P.region self.old) names i node
-            → ShowsSound (P.region self.old.memory) self.old.sup held → StoresIn self.old.sup held (one_log self.old.sup i) (P.region self.old.memory) (P.region self.new.memory) }
+            → ShowsSound (P.region self.old.memory) self.old.layout held → StoresIn self.old.layout held (one_log self.old.layout i) (P.region self.old.memory) (P.region self.new.memory) }
         // Whatever a stop leaves, at any exit: recovery finds what was mounted, or what the call makes, without faults.
         ensures any_stop { (names : List (List ℕ)) → IsPath path.now names → self.old.stopped ≡ false → self.old.read_only ≡ false
             → LeavesOnly (P.region self.new.memory) (P.may_hold self.new.memory) (LeavesCall (makes_bytes offset bytes.now time) (LogsBytes cpu offset (length bytes.now) time)
@@ -108,8 +107,8 @@ impl<P: Pmem + Drop> Fs<P> {
             → OnOk result (SameTree (shown P.region self.new) (written names offset (data_bytes content.entry) time (shown P.region self.old))) }
         // The log of the inode has the write's entries more, and no other log has changed.
         ensures log { (names : List (List ℕ)) (i : ℕ) (node : Node) (held : Store) (h : Held) → IsPath path.now names → LeadsTo (shown P.region self.old) names i node
-            → ShowsSound (P.region self.old.memory) self.old.sup held → held i ≡ Option.Some h → 0 < length (data_bytes content.entry)
-            → OnOk result (ShowsLogWrite (P.region self.new.memory) self.old cpu held i h (plan_of (block_of (good_in (fixed_layout self.old.sup) h)) node.size offset
+            → ShowsSound (P.region self.old.memory) self.old.layout held → held i ≡ Option.Some h → 0 < length (data_bytes content.entry)
+            → OnOk result (ShowsLogWrite (P.region self.new.memory) self.old cpu held i h (plan_of (block_of (good_in self.old.layout h)) node.size offset
             (length (data_bytes content.entry)) time)) }
         ensures nothing { length (data_bytes content.entry) ≡ 0 → OnOk result (self.new ≡ self.old) }
         // What every call that writes keeps.
@@ -117,7 +116,7 @@ impl<P: Pmem + Drop> Fs<P> {
         ensures settled { 0 < length (data_bytes content.entry) → OnOk result (NothingPending (P.region self.new.memory) (P.may_hold self.new.memory)) }
         // Every word outside these places is as it was.
         ensures wrote { (names : List (List ℕ)) (i : ℕ) (node : Node) (held : Store) → IsPath path.now names → LeadsTo (shown P.region self.old) names i node
-            → ShowsSound (P.region self.old.memory) self.old.sup held → StoresIn self.old.sup held (one_log self.old.sup i) (P.region self.old.memory) (P.region self.new.memory) }
+            → ShowsSound (P.region self.old.memory) self.old.layout held → StoresIn self.old.layout held (one_log self.old.layout i) (P.region self.old.memory) (P.region self.new.memory) }
         // Whatever a stop leaves, at any exit: recovery finds what was mounted, or what the call makes, without faults.
         ensures any_stop { (names : List (List ℕ)) → IsPath path.now names → self.old.stopped ≡ false → self.old.read_only ≡ false
             → LeavesOnly (P.region self.new.memory) (P.may_hold self.new.memory) (LeavesCall (makes_bytes offset (data_bytes content.entry) time)
@@ -140,7 +139,7 @@ impl<P: Pmem + Drop> Fs<P> {
         let changed = change_bytes(
             self.alloc,
             &mut self.memory,
-            &self.sup,
+            &self.tables,
             &mut self.free,
             cpu.0,
             &mut row,

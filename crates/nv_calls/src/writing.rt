@@ -28,14 +28,14 @@ impl<P: Pmem + Drop> Fs<P> {
         ensures cpu { OnOk result (cpu < self.now.sup.cpus) }
         ensures writes { OnOk result (self.now.read_only ≡ false) }
         ensures passed { (tests : Tests) → OnOk result (first_refusal (writing (world_of self.now) cpu tests) ≡ first_refusal tests) }
-        ensures kept { IsKept (P.region self.now.memory) self.now.sup self.now.rows self.now.free self.now.faults self.now.read_only self.now.stopped }
+        ensures kept { IsKept (P.region self.now.memory) self.now.sup self.now.layout self.now.rows self.now.free self.now.faults self.now.read_only self.now.stopped }
         ensures settled { self.now.stopped ≡ false → NothingPending (P.region self.now.memory) (P.may_hold self.now.memory) }
         ensures refused { self.now.stopped ≡ false → (tests : Tests) → IfErr result (λ e. first_refusal (writing (world_of self.now) cpu tests) ≡ Option.Some e) }
     {
         if self.stopped {
             return Err(Refusal::Stopped);
         }
-        if cpu >= self.sup.cpus {
+        if cpu >= self.tables.cpus() {
             return Err(Refusal::BadCpu);
         }
         if self.read_only {

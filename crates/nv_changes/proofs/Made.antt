@@ -1,15 +1,16 @@
 -- What the calls of a change leave of a region that was opened, and why a change is refused.
 use Rattle.std.proofs.Common.{◌≡◌, ◌≢◌, ◌∙◌, ℕ, Bool, true, false, IsTrue, List, [], refl, sym, ap, subst, inl, inr}
-use Rattle.nv_super.specs.Layout.{fixed_layout}
+use Rattle.nv_super.specs.Layout.{Layout}
 use Rattle.nv_region.specs.Region.{Region, size}
 use Rattle.nv_region.specs.RegionState.{RegionState, is_steady, steady_unburnt}
-use Rattle.nv_report.specs.nv_outcome.nv_journal.Undo.{undone}
-use Rattle.nv_report.specs.nv_outcome.Outcome.{Outcome, IsOutcome}
-use Rattle.nv_report.proofs.nv_outcome.Again.{rolled_back, stays}
+use Rattle.nv_journal.specs.Undo.{undone}
+use Rattle.nv_outcome.specs.Outcome.{Outcome, IsOutcome}
+use Rattle.nv_outcome.proofs.Again.{rolled_back, stays}
 use Rattle.nv_tree.specs.Tree.{Tree}
 use Rattle.nv_tree.proofs.Same.{same_itself}
 use Rattle.nv_tree.specs.declared.refusal.Refusal.{Refusal}
 use Rattle.nv_tree.specs.declared.refusal.Refusal.TheVariants.{Memory, Stopped}
+use Rattle.nv_mounted.specs.Mounted.{outcome_layout}
 use Rattle.nv_calls.specs.Mount.{IsKept, Mount, has_faults}
 use Rattle.nv_calls.specs.Same.{KeepsMount}
 use Rattle.nv_paths.specs.Seen.{tree_of}
@@ -20,8 +21,8 @@ use Rattle.nv_history.specs.Making.{AreMade}
 use Rattle.nv_history.specs.Halting.{HaltsAt}
 use Rattle.nv_history.specs.declared.calls.Call.{Call}
 use Rattle.nv_history.specs.declared.runs.Halted.{Halted}
-use Rattle.nv_cli.specs.Cleaning.{CanClean, IsOpenedAs}
-use Rattle.nv_cli.proofs.Cleanings.{shows_now}
+use Rattle.nv_script.specs.Cleaning.{CanClean, IsOpenedAs}
+use Rattle.nv_script.proofs.Cleanings.{shows_now}
 use Rattle.nv_changes.specs.Calls.{AreCallsOf}
 use Rattle.nv_changes.specs.Changing.{IsChanged, IsChangedAs, IsHalted, IsMade, IsRefusal, tree_shown}
 use Rattle.nv_changes.specs.declared.change.Change.{Change}
@@ -32,7 +33,7 @@ abbrev tree : Mount RegionState → Tree
 tree m = tree_of m.memory.region m.rows
 
 abbrev Keeps : Mount RegionState → Type 0
-Keeps m = IsKept m.memory.region m.sup m.rows m.free m.faults m.read_only m.stopped
+Keeps m = IsKept m.memory.region m.sup m.layout m.rows m.free m.faults m.read_only m.stopped
 
 -- what came of a change by an outcome came of it
 pub by_outcome : (R : Region) (o : Outcome) (change : Change) (cpu time : ℕ) → IsOutcome R o → (x : Changed) → IsChangedAs R o change cpu time x → IsChanged R change cpu time x
@@ -66,11 +67,11 @@ module _ (R : Region) (o : Outcome) (m n : Mount RegionState) (is : IsOpenedAs R
   as_long : size m.memory.region ≡ size R
   as_long = ap size is.region ∙ same_size R (undone o.sup R) (o.sup, is.is.sup, (rolled_back R o is.is).sup, stays R o.sup is.is.sup)
 
-  made_here : (u : Tree) → AreMade m.sup calls (tree m) u → AreMade o.sup calls (tree_shown R o) u
-  made_here u made = subst (λ s. AreMade s calls (tree_shown R o) u) is.sup (subst (λ (t : Tree). AreMade m.sup calls t u) same_tree made)
+  made_here : (u : Tree) → AreMade m.layout calls (tree m) u → AreMade (outcome_layout o) calls (tree_shown R o) u
+  made_here u made = subst (λ l. AreMade l calls (tree_shown R o) u) is.layout (subst (λ (t : Tree). AreMade m.layout calls t u) same_tree made)
 
   -- The region that is left shows what the calls make.
-  pub all_made : CanClean n → KeepsMount m n → size n.memory.region ≡ size m.memory.region → AreCallsOf (tree m) change cpu time calls → AreMade m.sup calls (tree m) (tree n) → Keeps n → IsSettled n.memory
+  pub all_made : CanClean n → KeepsMount m n → size n.memory.region ≡ size m.memory.region → AreCallsOf (tree m) change cpu time calls → AreMade m.layout calls (tree m) (tree n) → Keeps n → IsSettled n.memory
       → IsMade R o change cpu time n.memory
   all_made can keeps long are made kept settled =
       let own = shows_now n kept can in
@@ -81,10 +82,11 @@ module _ (R : Region) (o : Outcome) (m n : Mount RegionState) (is : IsOpenedAs R
         made = made_here (tree n) made;
         leaves = record {
           as_long = long ∙ as_long;
-          after = record { sup = n.sup; tables = (fixed_layout n.sup).chains; rows = n.rows; free = n.free.pools; doubled = own.0; faults = [] };
+          after = record { sup = n.layout.sup; tables = n.layout.chains; rows = n.rows; free = n.free.pools; doubled = own.0; faults = [] };
           shown = own.1;
           own = kept.own can.runs;
-          sup = keeps.sup ∙ is.sup;
+          sup = ap (λ (l : Layout). l.sup) (keeps.layout ∙ is.layout);
+          layout = keeps.layout ∙ is.layout;
           faultless = refl;
           tree = same_itself (tree n);
         };
@@ -93,7 +95,7 @@ module _ (R : Region) (o : Outcome) (m n : Mount RegionState) (is : IsOpenedAs R
 
   -- A call is refused by its tests.
   pub one_refused : (halted : Halted) → n.stopped ≡ false → n.read_only ≡ false → KeepsMount m n → AreCallsOf (tree m) change cpu time calls → Keeps n → halted.refusal ≢ Stopped
-      → HaltsAt m.sup (tree m) calls halted n.memory.region n → (refusal : Refusal) → refusal ≡ halted.refusal → halted.refusal ≢ Memory → IsHalted R o change cpu time refusal
+      → HaltsAt m.layout (tree m) calls halted n.memory.region n → (refusal : Refusal) → refusal ≡ halted.refusal → halted.refusal ≢ Memory → IsHalted R o change cpu time refusal
   one_refused halted runs writes keeps are kept no_stop halts refusal same no_memory = record {
     calls = calls;
     are = calls_here are;
@@ -102,8 +104,9 @@ module _ (R : Region) (o : Outcome) (m n : Mount RegionState) (is : IsOpenedAs R
     kept = kept;
     runs = runs;
     sup = keeps.sup ∙ is.sup;
+    layout = keeps.layout ∙ is.layout;
     writes = writes;
-    halts = subst (λ s. HaltsAt s (tree_shown R o) calls halted n.memory.region n) is.sup (subst (λ (t : Tree). HaltsAt m.sup t calls halted n.memory.region n) same_tree halts);
+    halts = subst (λ l. HaltsAt l (tree_shown R o) calls halted n.memory.region n) is.layout (subst (λ (t : Tree). HaltsAt m.layout t calls halted n.memory.region n) same_tree halts);
     is = sym same;
     no_stop = λ e. no_stop (sym same ∙ e);
     no_memory = λ e. no_memory (sym same ∙ e);

@@ -2,8 +2,8 @@
 use Rattle.std.specs.Prelude.{◌≡◌, ◌≢◌, ◌⊎◌, ℕ, Bool, true, false, List, [], Option, Some, None}
 use Rattle.nv_region.specs.Region.{Region}
 use Rattle.nv_region.specs.RegionState.{RegionState}
-use Rattle.nv_report.specs.nv_outcome.nv_journal.Undo.{undone}
-use Rattle.nv_report.specs.nv_outcome.Outcome.{Outcome, IsOutcome}
+use Rattle.nv_journal.specs.Undo.{undone}
+use Rattle.nv_outcome.specs.Outcome.{Outcome, IsOutcome}
 use Rattle.nv_tree.specs.Tree.{Tree}
 use Rattle.nv_tree.specs.Refusals.{refusal_word}
 use Rattle.nv_tree.specs.declared.refusal.Refusal.{Refusal as CallRefusal}
@@ -12,10 +12,11 @@ use Rattle.nv_text.specs.Answers.{refused_line}
 use Rattle.nv_text.specs.Refusals.{refusal_name}
 use Rattle.nv_session.specs.Calls.{LeavesTree, mounted_as}
 use Rattle.nv_session.specs.Sessions.{IsSettled}
-use Rattle.nv_session.specs.nv_calls.Mount.{IsKept, Mount, has_faults}
-use Rattle.nv_session.specs.nv_calls.Same.{KeepsMount}
-use Rattle.nv_session.specs.nv_paths.Seen.{tree_of}
-use Rattle.nv_checking.specs.Recovering.{IsSuperRefused}
+use Rattle.nv_mounted.specs.Mounted.{outcome_layout}
+use Rattle.nv_calls.specs.Mount.{IsKept, Mount, has_faults}
+use Rattle.nv_calls.specs.Same.{KeepsMount}
+use Rattle.nv_paths.specs.Seen.{tree_of}
+use Rattle.nv_image_check.specs.Recovering.{IsSuperRefused}
 use Rattle.nv_history.specs.Making.{AreMade}
 use Rattle.nv_history.specs.Halting.{HaltsAt}
 use Rattle.nv_history.specs.declared.calls.Call.{Call}
@@ -35,7 +36,7 @@ pub record IsMade (R : Region) (o : Outcome) (change : Change) (cpu time : ℕ) 
   pub calls : List Call
   pub are : AreCallsOf (tree_shown R o) change cpu time calls
   pub tree : Tree
-  pub made : AreMade o.sup calls (tree_shown R o) tree
+  pub made : AreMade (outcome_layout o) calls (tree_shown R o) tree
   pub leaves : LeavesTree R left.region (mounted_as o false) tree
   pub settled : IsSettled left
 
@@ -46,11 +47,12 @@ pub record IsHalted (R : Region) (o : Outcome) (change : Change) (cpu time : ℕ
   pub are : AreCallsOf (tree_shown R o) change cpu time calls
   pub halted : Halted
   pub left : Mount RegionState
-  pub kept : IsKept left.memory.region left.sup left.rows left.free left.faults left.read_only left.stopped
+  pub kept : IsKept left.memory.region left.sup left.layout left.rows left.free left.faults left.read_only left.stopped
   pub runs : left.stopped ≡ false
   pub sup : left.sup ≡ o.sup
+  pub layout : left.layout ≡ outcome_layout o
   pub writes : left.read_only ≡ false
-  pub halts : HaltsAt o.sup (tree_shown R o) calls halted left.memory.region left
+  pub halts : HaltsAt (outcome_layout o) (tree_shown R o) calls halted left.memory.region left
   pub is : halted.refusal ≡ refusal
   pub no_stop : refusal ≢ refusals.Stopped
   pub no_memory : refusal ≢ refusals.Memory

@@ -1,7 +1,7 @@
 //! The calls of a change: one, and for the bytes of a whole file two.
 
 ghost use Rattle.std.specs.Prelude.{◌≡◌, false, ◌↔◌, IfOk, IsTrue};
-ghost use Rattle.nv_session.specs.nv_paths.Seen.{tree_of};
+ghost use Rattle.nv_paths.specs.Seen.{tree_of};
 ghost use Rattle.nv_changes.specs.Calls.{AreCallsOf, BeginsFile, HasAttributes, IsFirstCall, IsThere, SetsMode, SetsOwner};
 
 use crate::change::Change;

@@ -5,15 +5,15 @@
 ghost use Rattle.std.specs.Prelude.{◌≡◌, false, true, IfOk, IsTrue, string_bytes};
 ghost use Rattle.nv_region.specs.Region.{Region};
 ghost use Rattle.nv_region.specs.RegionState.{is_steady};
-ghost use Rattle.nv_report.specs.nv_outcome.Outcome.{Outcome};
-ghost use Rattle.nv_session.specs.nv_calls.Mount.{has_faults};
-ghost use Rattle.nv_cli.specs.Cleaning.{IsOpenedAs};
+ghost use Rattle.nv_outcome.specs.Outcome.{Outcome};
+ghost use Rattle.nv_calls.specs.Mount.{has_faults};
+ghost use Rattle.nv_script.specs.Cleaning.{IsOpenedAs};
 ghost use Rattle.nv_changes.specs.Changing.{IsChanged, IsChangedAs, IsRefusal};
 
 use crate::calls::calls_of;
 use crate::change::Change;
-use nv_checking::{Answer, recover_alone};
 use nv_history::{Halted, make_calls};
+use nv_image_check::{Answer, recover_alone};
 use nv_region::MemRegion;
 use nv_report::refused_text;
 use nv_session::{CallRefusal, Fs, keep_all, refused_call_text};

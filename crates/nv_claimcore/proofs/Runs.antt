@@ -1,6 +1,5 @@
 -- What a claim of a run adds, block by block.
 use Rattle.std.proofs.Common.{◌≡◌, ℕ, suc, ◌+◌, ◌<◌, ◌≤◌, List, [], ◌∷◌, ◌++◌, map, sym, refl, ap, ◌∙◌, arith}
-use Rattle.std.specs.List.{All}
 use Rattle.std.proofs.lemmas.List.Elements.{All-nil, All-push}
 use mathlib.Core.List.{map-append}
 use Rattle.std.proofs.lemmas.List.{append-nil, append_assoc}
@@ -32,12 +31,6 @@ adds_one start o j v u r adds is settled = let added = adds.2 in (
     All-push Settled added.0 r added.3 settled,
   ),
 )
-
-pub settled_still : (rs : List Record) (r : Record) → All Settled rs → Settled r → All Settled (rs ++ r ∷ [])
-settled_still rs r all one = All-push Settled rs r all one
-
-pub pairs_one : (start : ℕ) (o : Owner) (j : ℕ) (old now : List (ℕ × Owner)) (p : ℕ × Owner) → now ≡ old ++ pairs start o j → p ≡ (start + j, raised o j) → now ++ p ∷ [] ≡ old ++ pairs start o (j + 1)
-pairs_one start o j old now p are is = ap (λ xs. xs ++ p ∷ []) are ∙ (append_assoc old (pairs start o j) (p ∷ []) ∙ ap (λ xs. old ++ xs) (ap (λ q. pairs start o j ++ q ∷ []) is ∙ ap (pairs start o) (let e : suc j ≡ j + 1 = omega arith in e)))
 
 pub past_both : (t : ℕ) (xs ys : List ℕ) → past t (xs ++ ys) ≡ past t xs + past t ys
 past_both t xs ys = sum_by-append (λ y. cond (leb t y) 1 0) xs ys

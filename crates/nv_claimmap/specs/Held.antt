@@ -1,7 +1,7 @@
 -- What a claim map and a seat of it show.
-use Rattle.std.specs.Prelude.{ℕ, zero, suc, List, [], ◌∷◌, ◌++◌}
+use Rattle.std.specs.Prelude.{◌≡◌, ◌<◌, ◌≤◌, ℕ, zero, suc, List, [], ◌∷◌, ◌++◌}
 use Rattle.atomic_table.specs.Seated.{TableId}
-use Rattle.nv_claimcore.specs.Claims.{nothing}
+use Rattle.nv_claimcore.specs.Claims.{above, nothing, times}
 use Rattle.nv_claimcore.specs.declared.view.Sizes.{Sizes}
 use Rattle.nv_claimcore.specs.declared.view.View.{View}
 
@@ -15,6 +15,12 @@ pub record Held : Type 0 where
   pub map : MapId
   pub number : ℕ
   pub view : View
+
+-- A ticket that a seat can still be given: it is none of the seat's numbers, which are all below it.
+pub record IsNewTicket (tickets : ℕ) (v : View) (t : ℕ) : Type 0 where
+  pub below : t < tickets
+  pub unseen : times t v.numbers ≡ 0
+  pub rises : above v.numbers ≤ t
 
 -- the map of this table, with these sizes
 abbrev pub map_id : TableId → Sizes → MapId

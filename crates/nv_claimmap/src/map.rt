@@ -6,10 +6,10 @@ ghost use Rattle.std.specs.Mem.Slots.{slots_items, slots_len, IsFull};
 ghost use Rattle.std.specs.Vec.{vec_len, vec_capacity};
 ghost use Rattle.nv_blockset.specs.BlockSet.{has, words_for};
 ghost use Rattle.nv_super.specs.Owners.{MayOwn, pairs, claims_of};
-ghost use Rattle.nv_claimcore.specs.Claims.{past, times, above, won, with_number, both_views, below};
+ghost use Rattle.nv_claimcore.specs.Claims.{past, times, won, with_number, both_views, below};
 ghost use Rattle.nv_claimcore.specs.Finished.{pair_of};
 ghost use Rattle.nv_claimcore.specs.Spans.{Adds};
-ghost use Rattle.nv_claimmap.specs.Held.{MapId, map_id, fresh};
+ghost use Rattle.nv_claimmap.specs.Held.{MapId, IsNewTicket, map_id, fresh};
 ghost use Rattle.nv_claimmap.specs.Inside.{IsMap};
 
 use crate::claimed_runs::ClaimedRuns;
@@ -90,11 +90,7 @@ impl ClaimMap {
         requires own { seat.old.map ≡ self.now }
         ensures map { seat.new.map ≡ seat.old.map }
         ensures number { seat.new.number ≡ seat.old.number }
-        ensures some { IfSome result (λ t. t < self.now.sizes.tickets) }
-        // The ticket is none of the seat's numbers.
-        ensures unseen { IfSome result (λ t. times t seat.old.view.numbers ≡ 0) }
-        // The seat's numbers are all below the ticket.
-        ensures rises { IfSome result (λ t. above seat.old.view.numbers ≤ t) }
+        ensures ticket { IfSome result (IsNewTicket self.now.sizes.tickets seat.old.view) }
         ensures joins { IfSome result (λ t. seat.new.view ≡ with_number seat.old.view t) }
         ensures none { IfNone result (0 < past self.now.sizes.tickets seat.new.view.numbers) }
         // Where there is no ticket, at most a number past the end is drawn.

@@ -15,19 +15,18 @@ use Rattle.nv_entry.specs.Content.{is_good}
 use Rattle.nv_logpage.specs.declared.found.Placed.{Placed}
 use Rattle.nv_logpage.specs.Good.{good_entries}
 use Rattle.nv_logpage.specs.Reads.{placed}
-use Rattle.nv_held.specs.nv_scan.State.{block_of, says_block}
-use Rattle.nv_held.specs.nv_scan.Fold.{word_after}
-use Rattle.nv_held.specs.nv_scan.Owners.{inode_of}
-use Rattle.nv_held.proofs.nv_scan.Blocks.{data_pages}
-use Rattle.nv_held.proofs.nv_scan.Words.{word-more}
-use Rattle.nv_held.proofs.nv_outcome.Finite.{Decided, number_is}
-use Rattle.nv_held.proofs.nv_graph.MoreEntries.{quiet_entries}
-use Rattle.nv_held.specs.Held.{Held, Store, good_in, with_inode}
-use Rattle.nv_held.specs.Blocks.{IsUnowned, NoneDoubled, OwnsIn, OwnsNew, by_log, by_page}
-use Rattle.nv_held.specs.Grows.{Maps, SameFile, grown}
-use Rattle.nv_held.proofs.Growing.{has_block, log_owned, page_owned, no_table_owned}
-use Rattle.nv_held.proofs.Kept.{page_owner}
-use Rattle.nv_held.proofs.Owning.{free_before, free_still, let_go, same_held}
+use Rattle.nv_scan.specs.State.{block_of, says_block}
+use Rattle.nv_scan.specs.Fold.{word_after}
+use Rattle.nv_scan.proofs.Blocks.{data_pages}
+use Rattle.nv_scan.proofs.Words.{word-more}
+use Rattle.nv_outcome.proofs.Finite.{Decided, number_is}
+use Rattle.nv_graph.proofs.MoreEntries.{quiet_entries}
+use Rattle.nv_mounted.specs.Held.{Held, Store, good_in, with_inode}
+use Rattle.nv_mounted.specs.Blocks.{IsOf, IsUnowned, NoneDoubled, OwnsIn, OwnsNew, by_log, by_page}
+use Rattle.nv_mounted.specs.Grows.{Maps, SameFile, grown}
+use Rattle.nv_mounted.proofs.Growing.{has_block, log_owned, page_owned}
+use Rattle.nv_mounted.proofs.Kept.{page_owner}
+use Rattle.nv_mounted.proofs.Owning.{free_before, free_still, let_go, same_held}
 use Rattle.nv_commit.specs.Pages.{MapsNothing, SaysNoPage}
 
 -- entries that say nothing of pages leave the file's blocks
@@ -70,14 +69,14 @@ module _ (l : Layout) (held : Store) (i : ℕ) (new : Held) (page : ℕ) (out : 
       let clash : None ≡ Some b = sym (none p) ∙ ap (λ (h : Held). block_of (good_in l h) p) (sym same) ∙ w.2 in
       cc
 
-  each_was : (b : ℕ) (o : Owner) → OwnsIn l after b o → inode_of o ≡ i → ((before : Owner) × OwnsIn l held b before × (inode_of before ≡ i)) ⊎ IsUnowned l held b
-  each_was b (owners.Table c k) owns mine = absurd (no_table_owned owns)
+  each_was : (b : ℕ) (o : Owner) → OwnsIn l after b o → IsOf i o → ((before : Owner) × OwnsIn l held b before × IsOf i before) ⊎ IsUnowned l held b
+  each_was b (owners.Table c k) owns mine = absurd mine
   each_was b (owners.Log j k) owns mine = inr (subst (IsUnowned l held) (sym (of_log b j k mine owns).0) free)
   each_was b (owners.Data j p) owns mine = absurd (of_page b j p mine owns)
 
-  once : (b : ℕ) (o other : Owner) → OwnsIn l after b o → OwnsIn l after b other → inode_of o ≡ i → inode_of other ≡ i → o ≡ other
-  once b (owners.Table c k) other x y mine theirs = absurd (no_table_owned x)
-  once b o (owners.Table c k) x y mine theirs = absurd (no_table_owned y)
+  once : (b : ℕ) (o other : Owner) → OwnsIn l after b o → OwnsIn l after b other → IsOf i o → IsOf i other → o ≡ other
+  once b (owners.Table c k) other x y mine theirs = absurd mine
+  once b o (owners.Table c k) x y mine theirs = absurd theirs
   once b (owners.Log j k) (owners.Log m n) x y mine theirs = λ t. owners.Log ((mine ∙ sym theirs) t) (((of_log b j k mine x).1 ∙ sym (of_log b m n theirs y).1) t)
   once b (owners.Log j k) (owners.Data m p) x y mine theirs = absurd (of_page b m p theirs y)
   once b (owners.Data j p) other x y mine theirs = absurd (of_page b j p mine x)
@@ -85,13 +84,13 @@ module _ (l : Layout) (held : Store) (i : ℕ) (new : Held) (page : ℕ) (out : 
   pub begun_owns : OwnsNew l held i (Some new)
   begun_owns = record { each = each_was; once = once }
 
-  not_before : (b : ℕ) (o : Owner) → OwnsIn l held b o → inode_of o ≡ i → ⊥
-  not_before b (owners.Table c k) owns mine = no_table_owned owns
+  not_before : (b : ℕ) (o : Owner) → OwnsIn l held b o → IsOf i o → ⊥
+  not_before b (owners.Table c k) owns mine = mine
   not_before b (owners.Log j k) owns mine = let w = log_owned owns in let clash : None ≡ Some w.0 = sym out ∙ ap held (sym mine) ∙ w.1 in cc
   not_before b (owners.Data j p) owns mine = let w = page_owned owns in let clash : None ≡ Some w.0 = sym out ∙ ap held (sym mine) ∙ w.1 in cc
 
-  not_now : (b : ℕ) → b ≢ page → (o : Owner) → OwnsIn l after b o → inode_of o ≡ i → ⊥
-  not_now b differs (owners.Table c k) owns mine = no_table_owned owns
+  not_now : (b : ℕ) → b ≢ page → (o : Owner) → OwnsIn l after b o → IsOf i o → ⊥
+  not_now b differs (owners.Table c k) owns mine = mine
   not_now b differs (owners.Log j k) owns mine = differs (of_log b j k mine owns).0
   not_now b differs (owners.Data j p) owns mine = of_page b j p mine owns
 
@@ -123,31 +122,25 @@ module _ (l : Layout) (held : Store) (i : ℕ) (f : Held) (is : held i ≡ Some 
   abbrev left : Store
   left = with_inode held i None
 
-  gone : (b : ℕ) (o : Owner) → OwnsIn l left b o → inode_of o ≡ i → ⊥
-  gone b (owners.Table c k) owns mine = no_table_owned owns
+  gone : (b : ℕ) (o : Owner) → OwnsIn l left b o → IsOf i o → ⊥
+  gone b (owners.Table c k) owns mine = mine
   gone b (owners.Log j k) owns mine = let w = log_owned owns in let clash : None ≡ Some w.0 = sym (same_held held i None) ∙ ap left (sym mine) ∙ w.1 in cc
   gone b (owners.Data j p) owns mine = let w = page_owned owns in let clash : None ≡ Some w.0 = sym (same_held held i None) ∙ ap left (sym mine) ∙ w.1 in cc
 
   owned_page : (b : ℕ) → Contains f.pages b → (k : ℕ) × OwnsIn l held b (owners.Log i k)
   owned_page b c = page_owner l held i b f is c
 
-  -- where nothing is held nothing is owned
-  nobody : (b : ℕ) (o : Owner) → OwnsIn l (λ _. None) b o → ⊥
-  nobody b (owners.Table c k) owns = no_table_owned owns
-  nobody b (owners.Log j k) owns = let w = log_owned owns in let e = w.1 in cc
-  nobody b (owners.Data j p) owns = let w = page_owned owns in let e = w.1 in cc
-
   page_free : (b : ℕ) → Contains f.pages b → IsUnowned l left b
   page_free b c = let o = owned_page b c in let d = inside b c in
-      let_go l held i None undoubled b (owners.Log i o.0) o.1 refl (record { from = d.0; below = d.1; unowned = nobody b }) (gone b)
+      let_go l held i None undoubled b (owners.Log i o.0) o.1 refl d.0 d.1 (gone b)
 
   data_free : (b : ℕ) → Maps l f b → IsUnowned l left b
   data_free b w = let d = data_pages l.sup f.kind f.entries w.0 b w.1 in
-      let_go l held i None undoubled b (owners.Data i w.0) (by_page is w.1) refl (record { from = d.1; below = d.2; unowned = nobody b }) (gone b)
+      let_go l held i None undoubled b (owners.Data i w.0) (by_page is w.1) refl d.1 d.2 (gone b)
 
   -- its own owners
-  mine_was : (b : ℕ) → (Contains f.pages b → ⊥) → (Maps l f b → ⊥) → (o : Owner) → OwnsIn l held b o → inode_of o ≡ i → ⊥
-  mine_was b no_page no_data (owners.Table c k) owns mine = no_table_owned owns
+  mine_was : (b : ℕ) → (Contains f.pages b → ⊥) → (Maps l f b → ⊥) → (o : Owner) → OwnsIn l held b o → IsOf i o → ⊥
+  mine_was b no_page no_data (owners.Table c k) owns mine = mine
   mine_was b no_page no_data (owners.Log j k) owns mine =
       let w = log_owned owns in
       let same : w.0 ≡ f = some_is w.0 f (held i) (ap held (sym mine) ∙ w.1) is in

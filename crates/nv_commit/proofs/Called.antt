@@ -17,27 +17,26 @@ use Rattle.nv_entry.specs.declared.entry.Entry.TheVariants as entries
 use Rattle.nv_logpage.specs.declared.found.Placed.{Placed}
 use Rattle.nv_logpage.specs.Reads.{placed}
 use Rattle.nv_logpage.specs.Good.{good_entries}
-use Rattle.nv_held.specs.nv_scan.State.{named}
-use Rattle.nv_held.specs.nv_scan.Owners.{inode_of}
-use Rattle.nv_held.specs.nv_scan.Fold.{clash, entry_fault, fault_with}
-use Rattle.nv_held.proofs.nv_scan.Blocks.{in_range}
-use Rattle.nv_held.proofs.nv_scan.EntryFaults.{found-none}
-use Rattle.nv_held.specs.nv_graph.Graph.{Graph, IsOfKind, NoCrossFaults, passed, walked}
-use Rattle.nv_held.specs.nv_graph.Calls.{SameGraph, linked, made, removed, renamed, unlinked, with_name, with_node}
-use Rattle.nv_held.proofs.nv_graph.Changes.{directory_removed_sound, last_removed_sound, linked_sound, made_sound, unlinked_sound}
-use Rattle.nv_held.proofs.nv_graph.Renamed.{renamed_by_path}
-use Rattle.nv_held.proofs.nv_graph.Sound.{faultless, sound}
-use Rattle.nv_held.proofs.nv_graph.Root.{name_follows, node_follows, same_faultless}
-use Rattle.nv_held.specs.nv_graph.Step.{IsGoodName, links_entry, name_entry}
-use Rattle.nv_held.proofs.nv_graph.GoodEntries.{good_links}
-use Rattle.nv_held.specs.Held.{Held, Store, good_in, with_inode}
-use Rattle.nv_held.specs.Blocks.{OwnsIn, OwnsNew, by_log, by_page}
-use Rattle.nv_held.specs.Graph.{graph_in, node_in}
-use Rattle.nv_held.specs.Grows.{FitsBehind, NoEntryFault, grown}
-use Rattle.nv_held.specs.Mounted.{AreClean, IsFaultless}
-use Rattle.nv_held.proofs.Faultless.{clean_more, still_clean}
-use Rattle.nv_held.proofs.Graphs.{attributes_came, file_went, linked_to, moved, one_name, went}
-use Rattle.nv_held.proofs.Owning.{other_held, same_held, still_undoubled}
+use Rattle.nv_scan.specs.State.{named}
+use Rattle.nv_scan.specs.Fold.{clash, entry_fault, fault_with}
+use Rattle.nv_scan.proofs.Blocks.{in_range}
+use Rattle.nv_scan.proofs.EntryFaults.{found-none}
+use Rattle.nv_graph.specs.Graph.{Graph, IsOfKind, NoCrossFaults, passed, walked}
+use Rattle.nv_graph.specs.Calls.{SameGraph, linked, made, removed, renamed, unlinked, with_name, with_node}
+use Rattle.nv_graph.proofs.Changes.{directory_removed_sound, last_removed_sound, linked_sound, made_sound, unlinked_sound}
+use Rattle.nv_graph.proofs.Renamed.{renamed_by_path}
+use Rattle.nv_graph.proofs.Sound.{faultless, sound}
+use Rattle.nv_graph.proofs.Root.{name_follows, node_follows, same_faultless}
+use Rattle.nv_graph.specs.Step.{IsGoodName, links_entry, name_entry}
+use Rattle.nv_graph.proofs.GoodEntries.{good_links}
+use Rattle.nv_mounted.specs.Held.{Held, Store, good_in, with_inode}
+use Rattle.nv_mounted.specs.Blocks.{IsOf, OwnsIn, OwnsNew, by_table, by_log, by_page}
+use Rattle.nv_mounted.specs.Graph.{graph_in, node_in}
+use Rattle.nv_mounted.specs.Grows.{FitsBehind, NoEntryFault, grown}
+use Rattle.nv_mounted.specs.Mounted.{AreClean, IsFaultless}
+use Rattle.nv_mounted.proofs.Faultless.{clean_more, still_clean}
+use Rattle.nv_mounted.proofs.Graphs.{attributes_came, file_went, linked_to, moved, one_name, went}
+use Rattle.nv_mounted.proofs.Owning.{other_held, same_held, still_undoubled}
 
 -- ---- entries that fit
 
@@ -118,7 +117,8 @@ none_owns l held i = record { each = λ b o owns mine. absurd (nothing b o owns 
   empty : (j : ℕ) (h : Held) → with_inode held i None j ≡ Some h → j ≡ i → ⊥
   empty j h e same = let clash : None ≡ Some h = sym (same_held held i None) ∙ ap (with_inode held i None) (sym same) ∙ e in cc
 
-  nothing : (b : ℕ) (o : Owner) → OwnsIn l (with_inode held i None) b o → inode_of o ≡ i → ⊥
+  nothing : (b : ℕ) (o : Owner) → OwnsIn l (with_inode held i None) b o → IsOf i o → ⊥
+  nothing b o (by_table has) mine = mine
   nothing b o (by_log {i = j} {h = h} e page) mine = empty j h e mine
   nothing b o (by_page {i = j} {h = h} e maps) mine = empty j h e mine
 

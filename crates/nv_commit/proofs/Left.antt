@@ -1,120 +1,113 @@
 -- What recovery finds in a region that a stop has left.
-use Rattle.std.proofs.Common.{◌≡◌, ◌⊎◌, ℕ, List, [], ◌∷◌, length, get_or, inl, inr, refl, ap, sym, ◌∙◌, subst, arith, Option, Some, None}
+use Rattle.std.proofs.Common.{◌≡◌, ◌⊎◌, ℕ, List, [], length, get_or, inl, inr, refl, ap, sym, ◌∙◌, subst, arith, Option, Some, None}
 use Rattle.std.specs.List.{Contains}
 use Rattle.nv_region.specs.Region.{Region}
 use Rattle.nv_region.specs.Stops.{Adds, Choices, IsMixed, LeavesOnly, NothingPending, PendingOnly}
 use Rattle.nv_region.proofs.Stops.{fenced_leaves}
-use Rattle.nv_super.proofs.Rising.{Contains-head}
+use Rattle.nv_super.proofs.Members.{none_in}
 use Rattle.nv_super.specs.declared.superblock.Super.{Super}
 use Rattle.nv_super.specs.declared.owners.Run.{Run}
 use Rattle.nv_super.specs.declared.faults.Fault.{Fault}
-use Rattle.nv_super.specs.Layout.{Layout, fixed_layout}
+use Rattle.nv_super.specs.Layout.{Layout}
 use Rattle.nv_super.specs.Super.{IsSuper}
 use Rattle.nv_inode.specs.Chains.{layout_of}
 use Rattle.nv_journal.specs.Undo.{undone}
-use Rattle.nv_held.specs.nv_scan.Faults.{IsFaultOf}
-use Rattle.nv_held.specs.nv_outcome.Outcome.{IsCrossFault, IsDoubled, IsFaulty, journal, chain, inode, cross, double, Outcome, IsOutcome}
-use Rattle.nv_held.proofs.nv_outcome.Fixed.{no_chain_fault, to_fixed}
-use Rattle.nv_held.specs.nv_outcome.Same.{SameOutcome, lasting_outcome}
-use Rattle.nv_held.specs.nv_scan.declared.piece.Row.{Row}
-use Rattle.nv_held.proofs.nv_scan.ChainBlocks.{fixed_chainless}
-use Rattle.nv_held.proofs.nv_outcome.Again.{rolled_back}
-use Rattle.nv_held.proofs.nv_outcome.OnlyOne.{same_outcome}
-use Rattle.nv_held.proofs.nv_outcome.SuperOf.{layout_of_super, one_super}
-use Rattle.nv_held.proofs.nv_graph.Bridge.{no_faults}
-use Rattle.nv_held.specs.Held.{Held, Store, Shows, log_of}
-use Rattle.nv_held.specs.Bytes.{byte_of}
-use Rattle.nv_held.specs.Loose.{Loose}
-use Rattle.nv_held.specs.Mounted.{Keeps, ShowsSound, faultless_outcome}
-use Rattle.nv_held.specs.nv_scan.Inode.{Log}
-use Rattle.nv_held.proofs.BytesKept.{loose_data}
-use Rattle.nv_held.proofs.Clear.{slots_clear}
-use Rattle.nv_held.proofs.Closes.{closing, no_inode_fault, none_doubled, outcome_faultless, outcome_kept, own_undo}
-use Rattle.nv_held.proofs.Fronts.{loose_sound}
-use Rattle.nv_held.proofs.Idle.{idle_faultless}
-use Rattle.nv_held.proofs.Shown.{in_use, is_held}
-use Rattle.nv_held.proofs.ShownGraph.{graph_shown}
+use Rattle.nv_scan.specs.Faults.{IsFaultOf}
+use Rattle.nv_outcome.specs.Outcome.{IsCrossFault, IsDoubled, IsFaulty, journal, chain, inode, cross, double, Outcome, IsOutcome}
+use Rattle.nv_outcome.specs.Same.{SameOutcome, lasting_outcome}
+use Rattle.nv_scan.specs.declared.piece.Row.{Row}
+use Rattle.nv_outcome.proofs.Again.{rolled_back}
+use Rattle.nv_outcome.proofs.OnlyOne.{same_outcome}
+use Rattle.nv_outcome.proofs.SuperOf.{one_super}
+use Rattle.nv_graph.proofs.Bridge.{no_faults}
+use Rattle.nv_mounted.specs.Held.{Held, Store, Shows, log_of}
+use Rattle.nv_mounted.specs.Bytes.{byte_of}
+use Rattle.nv_mounted.specs.Loose.{Loose}
+use Rattle.nv_mounted.specs.Mounted.{Keeps, ShowsSound, faultless_outcome}
+use Rattle.nv_scan.specs.Inode.{Log}
+use Rattle.nv_mounted.proofs.BytesKept.{loose_data}
+use Rattle.nv_mounted.proofs.Closes.{closing, no_inode_fault, none_doubled, outcome_faultless, outcome_kept, own_undo}
+use Rattle.nv_mounted.proofs.Fronts.{loose_sound, sound_clear}
+use Rattle.nv_mounted.proofs.Idle.{idle_faultless}
+use Rattle.nv_mounted.proofs.Opens.{none_listed}
+use Rattle.nv_mounted.proofs.Shown.{in_use, is_held}
+use Rattle.nv_mounted.proofs.ShownGraph.{graph_shown}
 use Rattle.nv_commit.specs.Stopped.{CanRecover, LeavesEither, RollsBackTo}
-
--- a list of which nothing can be an element
-none_listed : {A : Type 0} (xs : List A) → ((x : A) → Contains xs x → ⊥) → xs ≡ []
-none_listed [] none = refl
-none_listed (x ∷ xs) none = absurd (none x (Contains-head x xs))
 
 -- ---- the outcome
 
-module _ {left : Region} {s : Super} {after : Store} (can : CanRecover s left) (sound : ShowsSound (undone s left) s after) where
-  fixed : (P : Layout → Type 0) → P (layout_of s (undone s left)) → P (fixed_layout s)
-  fixed P h = to_fixed left s can.sup (undone s left) P h
+module _ {left : Region} {l : Layout} {after : Store} (can : CanRecover l.sup left) (sound : ShowsSound (undone l.sup left) l after) where
+  own : (P : Layout → Type 0) → P (layout_of l.sup (undone l.sup left)) → P l
+  own P h = subst P (sym sound.laid) h
 
-  no_fault_left : (f : Fault) → IsFaulty left s f → ⊥
+  no_fault_left : (f : Fault) → IsFaulty left l.sup f → ⊥
   no_fault_left f (journal h) = can.journals f h
-  no_fault_left f (chain h) = no_chain_fault left s can.sup (undone s left) f h
-  no_fault_left f (inode i h) = let right = sound.faultless in no_inode_fault sound.shows right.clean i f (fixed (λ l. IsFaultOf (undone s left) l i f) h)
-  no_fault_left f (cross h) = let right = sound.faultless in no_faults (graph_shown sound.shows) right.named f (fixed (λ l. IsCrossFault (undone s left) l f) h)
-  no_fault_left _ (double {b = b} {o = o} d) = let right = sound.faultless in none_doubled sound.shows (fixed_chainless s) right.undoubled b o (fixed (λ l. IsDoubled (undone s left) l b o) d)
+  no_fault_left f (chain h) = none_in f (subst (λ (fs : List Fault). Contains fs f) sound.ended h)
+  no_fault_left f (inode i h) = let right = sound.faultless in no_inode_fault sound.shows right.clean i f (own (λ k. IsFaultOf (undone l.sup left) k i f) h)
+  no_fault_left f (cross h) = let right = sound.faultless in no_faults (graph_shown sound.shows) right.named f (own (λ k. IsCrossFault (undone l.sup left) k f) h)
+  no_fault_left _ (double {b = b} {o = o} d) = let right = sound.faultless in none_doubled sound.shows right.undoubled b o (own (λ k. IsDoubled (undone l.sup left) k b o) d)
 
   module _ (o : Outcome) (is : IsOutcome left o) where
-    same_super : o.sup ≡ s
-    same_super = one_super left s o.sup can.sup is.sup
+    same_super : o.sup ≡ l.sup
+    same_super = one_super left l.sup o.sup can.sup is.sup
 
     -- it has no faults
     pub left_faultless : o.faults ≡ []
     left_faultless = none_listed o.faults (λ f c. no_fault_left f (subst (λ (t : Super). IsFaulty left t f) same_super (is.faults.each f c)))
 
-    rolled : IsOutcome (undone s left) (lasting_outcome o)
+    rolled : IsOutcome (undone l.sup left) (lasting_outcome o)
     rolled = subst (λ (t : Super). IsOutcome (undone t left) (lasting_outcome o)) same_super (rolled_back left o is)
 
     -- its rows and free lists are those of what is held then
-    pub left_keeps : Keeps (fixed_layout s) after o.rows o.free
+    pub left_keeps : Keeps l after o.rows o.free
     left_keeps = outcome_kept sound (lasting_outcome o) rolled
 
     -- and it is the one outcome that these rows and free lists make
-    pub left_same : (rows : List Row) (free : List (List Run)) → Keeps (fixed_layout s) after rows free → SameOutcome (faultless_outcome s rows free) o
+    pub left_same : (rows : List Row) (free : List (List Run)) → Keeps l after rows free → SameOutcome (faultless_outcome l rows free) o
     left_same rows free keeps =
-        let same = same_outcome (undone s left) (faultless_outcome s rows free) (lasting_outcome o) (closing sound rows free keeps) rolled in
+        let same = same_outcome (undone l.sup left) (faultless_outcome l rows free) (lasting_outcome o) (closing sound rows free keeps) rolled in
         record { sup = same_super; tables = same.tables; rows = same.rows; free = same.free; doubled = same.doubled; faults = left_faultless }
 
 -- ---- a region that is its own undo
 
-pub sound_can : {left : Region} {s : Super} {after : Store} → ShowsSound left s after → CanRecover s left
-sound_can {left} {s} sound = record { sup = sound.sup; journals = λ f h. idle_faultless s left f sound.idle h }
+pub sound_can : {left : Region} {l : Layout} {after : Store} → ShowsSound left l after → CanRecover l.sup left
+sound_can {left} {l} sound = record { sup = sound.sup; journals = λ f h. idle_faultless l.sup left f sound.idle h }
 
 -- one that is sound
-pub sound_recovers : (R left : Region) (s : Super) (held after : Store) → ShowsSound left s after → ((i : ℕ) (h : Held) → held i ≡ Some h → (x : ℕ) → byte_of left (fixed_layout s) h x ≡ byte_of R (fixed_layout s) h x) → RollsBackTo R (fixed_layout s) held after left
-sound_recovers R left s held after sound bytes = record {
+pub sound_recovers : (R left : Region) (l : Layout) (held after : Store) → ShowsSound left l after → ((i : ℕ) (h : Held) → held i ≡ Some h → (x : ℕ) → byte_of left l h x ≡ byte_of R l h x) → RollsBackTo R l held after left
+sound_recovers R left l held after sound bytes = record {
   can = sound_can sound;
-  sound = subst (λ (U : Region). ShowsSound U s after) (sym (own_undo sound)) sound;
-  bytes = λ i h is x. subst (λ (U : Region). byte_of U (fixed_layout s) h x ≡ byte_of R (fixed_layout s) h x) (sym (own_undo sound)) (bytes i h is x);
+  sound = subst (λ (U : Region). ShowsSound U l after) (sym (own_undo sound)) sound;
+  bytes = λ i h is x. subst (λ (U : Region). byte_of U l h x ≡ byte_of R l h x) (sym (own_undo sound)) (bytes i h is x);
 }
 
 -- What is stored in loose words changes nothing that recovery finds.
-pub loose_recovers : (R left : Region) (s : Super) (held : Store) → ShowsSound R s held → IsMixed R (Loose (fixed_layout s) held) left → RollsBackTo R (fixed_layout s) held held left
-loose_recovers R left s held m mixed =
+pub loose_recovers : (R left : Region) (l : Layout) (held : Store) → ShowsSound R l held → IsMixed R (Loose l held) left → RollsBackTo R l held held left
+loose_recovers R left l held m mixed =
     let right = m.faultless in
-    sound_recovers R left s held held (loose_sound R left s held m mixed)
-    (λ i h is x. loose_data (fixed_layout s) held R left i h (slots_clear R s held (layout_of_super R s m.sup) m.shows) right.undoubled m.shows mixed is x)
+    sound_recovers R left l held held (loose_sound R left l held m mixed)
+    (λ i h is x. loose_data l held R left i h (sound_clear m) right.undoubled m.shows mixed is x)
 
-pub itself_recovers : (R : Region) (s : Super) (held : Store) → ShowsSound R s held → RollsBackTo R (fixed_layout s) held held R
-itself_recovers R s held sound = sound_recovers R R s held held sound (λ i h is x k. byte_of R (fixed_layout s) h x)
+pub itself_recovers : (R : Region) (l : Layout) (held : Store) → ShowsSound R l held → RollsBackTo R l held held R
+itself_recovers R l held sound = sound_recovers R R l held held sound (λ i h is x k. byte_of R l h x)
 
 -- nor does a stop where nothing was pending
-pub still : (R : Region) (choices : Choices) (s : Super) (held : Store) (Made : Region → Type 0) → ShowsSound R s held → NothingPending R choices → LeavesOnly R choices (LeavesEither R (fixed_layout s) held Made)
-still R choices s held Made sound settled = fenced_leaves R choices (LeavesEither R (fixed_layout s) held Made) settled (inl (itself_recovers R s held sound))
+pub still : (R : Region) (choices : Choices) (l : Layout) (held : Store) (Made : Region → Type 0) → ShowsSound R l held → NothingPending R choices → LeavesOnly R choices (LeavesEither R l held Made)
+still R choices l held Made sound settled = fenced_leaves R choices (LeavesEither R l held Made) settled (inl (itself_recovers R l held sound))
 
 -- what a step makes that leaves its journals idle
-pub made_there : {left : Region} {s : Super} {after : Store} (Made : Region → Type 0) → ShowsSound left s after → Made left → CanRecover s left × Made (undone s left)
-made_there {left} {s} Made sound made = (sound_can sound, subst Made (sym (own_undo sound)) made)
+pub made_there : {left : Region} {l : Layout} {after : Store} (Made : Region → Type 0) → ShowsSound left l after → Made left → CanRecover l.sup left × Made (undone l.sup left)
+made_there {left} {l} Made sound made = (sound_can sound, subst Made (sym (own_undo sound)) made)
 
 -- ---- recoveries that are stopped
 
 -- What a later recovery finds whose region rolls back to the same: all but faults of pending records.
-pub later_keeps : (left : Region) {s : Super} {after : Store} → ShowsSound (undone s left) s after → (next : Region) → IsSuper next s → undone s next ≡ undone s left → (o : Outcome) → IsOutcome next o
-    → ((lasting_outcome o).faults ≡ []) × Keeps (fixed_layout s) after o.rows o.free
-later_keeps left {s} {after} sound next sup same o is =
-    let one : o.sup ≡ s = one_super next s o.sup sup is.sup in
-    let there : IsOutcome (undone s next) (lasting_outcome o) = subst (λ (t : Super). IsOutcome (undone t next) (lasting_outcome o)) one (rolled_back next o is) in
-    let here : IsOutcome (undone s left) (lasting_outcome o) = subst (λ (U : Region). IsOutcome U (lasting_outcome o)) same there in
+pub later_keeps : (left : Region) {l : Layout} {after : Store} → ShowsSound (undone l.sup left) l after → (next : Region) → IsSuper next l.sup → undone l.sup next ≡ undone l.sup left → (o : Outcome) → IsOutcome next o
+    → ((lasting_outcome o).faults ≡ []) × Keeps l after o.rows o.free
+later_keeps left {l} {after} sound next sup same o is =
+    let one : o.sup ≡ l.sup = one_super next l.sup o.sup sup is.sup in
+    let there : IsOutcome (undone l.sup next) (lasting_outcome o) = subst (λ (t : Super). IsOutcome (undone t next) (lasting_outcome o)) one (rolled_back next o is) in
+    let here : IsOutcome (undone l.sup left) (lasting_outcome o) = subst (λ (U : Region). IsOutcome U (lasting_outcome o)) same there in
     (outcome_faultless sound (lasting_outcome o) here, outcome_kept sound (lasting_outcome o) here)
 
 -- ---- a region shows one thing

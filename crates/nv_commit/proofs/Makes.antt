@@ -9,37 +9,37 @@ use Rattle.nv_region.specs.Stops.{Choices, IsMixed, LeavesOnly, NothingPending}
 use Rattle.nv_region.specs.Stored.{SameOutside, Stored, StoresOnly, Within}
 use Rattle.nv_region.proofs.Stops.{mixed_left, mixed_same}
 use Rattle.nv_region.proofs.Wordwise.{mixed_more, mixed_word, put_stored}
-use Rattle.nv_super.specs.declared.superblock.Super.{Super}
 use Rattle.nv_super.specs.declared.owners.Owner.TheVariants as owners
-use Rattle.nv_super.specs.Layout.{IsLayout, fixed_layout, is_data_address, is_page_start}
+use Rattle.nv_super.specs.Layout.{Layout, is_data_address, is_page_start}
 use Rattle.nv_super.proofs.Rising.{Contains-cons}
-use Rattle.nv_inode.specs.Permitted.{is_permitted}
+use Rattle.nv_inode.specs.Chains.{IsLaid}
+use Rattle.nv_inode.specs.Permitted.{is_permitted_by}
 use Rattle.nv_inode.specs.declared.slot.Slot.{Slot}
 use Rattle.nv_inode.specs.Slot.{is_right_log, with_slot}
 use Rattle.nv_journal.specs.Undo.{dequeue, enqueue, journal}
 use Rattle.nv_journal.specs.Pending.{BeforeOrAfter, CanUndo, IsEmpty}
 use Rattle.nv_journal.specs.Faults.{NoJournalFault}
-use Rattle.nv_inode.proofs.KeyWords.{lies_behind}
+use Rattle.nv_inode.proofs.LayoutWords.{lies_behind}
+use Rattle.nv_journal.specs.Recorded.{Two}
 use Rattle.nv_logpage.specs.Append.{AppendWords, FreshFor, appended, needed}
 use Rattle.nv_logpage.specs.Reads.{Reads, ends}
 use Rattle.nv_logpage.proofs.Local.{ReadsOn-same}
-use Rattle.nv_held.proofs.nv_outcome.SuperOf.{blocks_of_super, layout_of_super}
-use Rattle.nv_held.specs.Held.{Held, Store, Shows, with_inode}
-use Rattle.nv_held.specs.Blocks.{IsUnowned, OwnsIn}
-use Rattle.nv_held.specs.Slots.{HaveNoSlots, SlotsClear}
-use Rattle.nv_held.specs.Loose.{IsReady, Loose}
-use Rattle.nv_held.specs.Front.{SameFront}
-use Rattle.nv_held.specs.Grows.{grown}
-use Rattle.nv_held.specs.Mounted.{ShowsSound}
-use Rattle.nv_held.specs.Appended.{HasBehind}
-use Rattle.nv_held.proofs.Appending.{page_start, tail_follows}
-use Rattle.nv_held.proofs.BytesKept.{mixed_size}
-use Rattle.nv_held.proofs.Clear.{slots_clear}
-use Rattle.nv_held.proofs.Commits.{log_stays, made, stored_outside}
-use Rattle.nv_held.proofs.Fronts.{front_idle, loose_front, loose_sound, slot_front}
-use Rattle.nv_held.proofs.Kept.{page_owner, tail_there}
-use Rattle.nv_held.proofs.Owning.{other_held}
-use Rattle.nv_held.proofs.Shown.{stands_at}
+use Rattle.nv_outcome.proofs.SuperOf.{blocks_of_super}
+use Rattle.nv_mounted.specs.Held.{Held, Store, Shows, with_inode}
+use Rattle.nv_mounted.specs.Blocks.{IsUnowned, OwnsIn}
+use Rattle.nv_mounted.specs.Slots.{HaveNoSlots, SlotsClear}
+use Rattle.nv_mounted.specs.Loose.{IsReady, Loose}
+use Rattle.nv_mounted.specs.Front.{SameFront}
+use Rattle.nv_mounted.specs.Grows.{grown}
+use Rattle.nv_mounted.specs.Mounted.{ShowsSound}
+use Rattle.nv_mounted.specs.Appended.{HasBehind}
+use Rattle.nv_mounted.proofs.Appending.{page_start, tail_follows}
+use Rattle.nv_mounted.proofs.BytesKept.{mixed_size}
+use Rattle.nv_mounted.proofs.Commits.{log_stays, made, pages_clear, pages_grown, stored_outside}
+use Rattle.nv_mounted.proofs.Fronts.{front_idle, loose_front, loose_sound, slot_front, tables_laid}
+use Rattle.nv_mounted.proofs.Kept.{page_owner, tail_there}
+use Rattle.nv_mounted.proofs.Owning.{other_held}
+use Rattle.nv_mounted.proofs.Shown.{stands_at}
 use Rattle.nv_commit.specs.declared.together.Extension.{Extension}
 use Rattle.nv_commit.specs.declared.making.NewInode.{NewInode}
 use Rattle.nv_commit.specs.Extends.{CanExtend}
@@ -48,7 +48,7 @@ use Rattle.nv_commit.specs.Makes.{BeforeOrMade, CanBegin, CanMake, PrepareWords,
 use Rattle.nv_commit.proofs.BothTails.{low_words, sound_undone}
 use Rattle.nv_commit.proofs.Extends.{ends as parent_ends, front_more, loose_there, slots, stands_behind}
 use Rattle.nv_commit.proofs.Permitted.{tail_permitted, valid_permitted}
-use Rattle.nv_commit.proofs.TwoWords.{no_fault, words_idle, words_undone}
+use Rattle.nv_commit.proofs.TwoWords.{ByJournal, IsInSlot, no_fault, words_idle, words_undone}
 
 -- ---- the words of a slot
 
@@ -114,28 +114,28 @@ journal_waits {R} {S} {cpu} {n} {x} begin can mixed empty = (deq ∙ empty.0 ∙
 
 -- ---- what is loose, and what a stop leaves before the words change
 
-module _ {R : Region} {s : Super} {held : Store} {cpu j : ℕ} {n : NewInode} {i : ℕ} {h : Held} {x : Extension} (can : CanMake R s held cpu j n i h x) where
+module _ {R : Region} {l : Layout} {held : Store} {cpu j : ℕ} {n : NewInode} {i : ℕ} {h : Held} {x : Extension} (can : CanMake R l held cpu j n i h x) where
   -- what is prepared is loose
-  pub prepared_loose : (k v : ℕ) → PrepareWords n x k v → Loose (fixed_layout s) held k v
-  prepared_loose k v (inl (inl (inl w))) = let here = w.0 in let page : n.page ≡ 8 * k / 4096 = omega (arith, here) in inl (subst (IsUnowned (fixed_layout s) held) page can.page)
+  pub prepared_loose : (k v : ℕ) → PrepareWords n x k v → Loose l held k v
+  prepared_loose k v (inl (inl (inl w))) = let here = w.0 in let page : n.page ≡ 8 * k / 4096 = omega (arith, here) in inl (subst (IsUnowned l held) page can.page)
   prepared_loose k v (inl (inl (inr w))) = absurd (let none = w.1 in omega (arith, none))
   prepared_loose k v (inl (inr w)) = let from = w.0 in let below = w.1 in inr (inr (j, n.slot, can.at, can.unused, omega (arith, from), omega (arith, below)))
   prepared_loose k v (inr w) = loose_there can.parent k v w
 
-  all_loose : (left : Region) → IsMixed R (PrepareWords n x) left → IsMixed R (Loose (fixed_layout s) held) left
-  all_loose left mixed = mixed_more (Loose (fixed_layout s) held) (PrepareWords n x) R R left prepared_loose (mixed_same R (Loose (fixed_layout s) held)) mixed
+  all_loose : (left : Region) → IsMixed R (PrepareWords n x) left → IsMixed R (Loose l held) left
+  all_loose left mixed = mixed_more (Loose l held) (PrepareWords n x) R R left prepared_loose (mixed_same R (Loose l held)) mixed
 
-  pub sound_before : (left : Region) → IsMixed R (PrepareWords n x) left → ShowsSound left s held
-  sound_before left mixed = loose_sound R left s held can.parent.sound (all_loose left mixed)
+  pub sound_before : (left : Region) → IsMixed R (PrepareWords n x) left → ShowsSound left l held
+  sound_before left mixed = loose_sound R left l held can.parent.sound (all_loose left mixed)
 
-  pub left_undone : (now : Region) (old new : Choices) → StoresOnly (PrepareWords n x) R now old new → NothingPending R old → LeavesOnly now new (BeforeOrMade s held j n i h x)
+  pub left_undone : (now : Region) (old new : Choices) → StoresOnly (PrepareWords n x) R now old new → NothingPending R old → LeavesOnly now new (BeforeOrMade l held j n i h x)
   left_undone now old new wrote settled left may = inl (sound_undone (sound_before left (mixed_left R now (PrepareWords n x) old new wrote.mixed.as_long wrote.mixed.same_rest settled wrote.adds left may)))
 
   pub differ : i ≢ j
   differ same = let e : Some h ≡ None = sym can.parent.holds ∙ ap held same ∙ can.unused in cc
 
   module _ {S : Region} {new last : ℕ} (done : Prepares R S n x new last) where
-    clear : SlotsClear (fixed_layout s) held
+    clear : SlotsClear l held
     clear = slots can.parent
 
     logged_mixed : IsMixed R (PrepareWords n x) done.logged
@@ -150,7 +150,7 @@ module _ {R : Region} {s : Super} {held : Store} {cpu j : ℕ} {n : NewInode} {i
     slot_outside : SameOutside done.named n.slot 128 S
     slot_outside = mixed_outside done.named S n.slot done.slot_alone
 
-    between : CanExtend done.logged s held i h x.slot x.tail x.entries.now x.fresh.now
+    between : CanExtend done.logged l held i h x.slot x.tail x.entries.now x.fresh.now
     between = record {
       sound = sound_before done.logged logged_mixed;
       at = can.parent.at;
@@ -163,14 +163,14 @@ module _ {R : Region} {s : Super} {held : Store} {cpu j : ℕ} {n : NewInode} {i
       some = can.parent.some;
     }
 
-    named_behind : HasBehind done.named (fixed_layout s) held h last (appended x.fresh.now 0 h.tail x.entries.now) (take (needed (h.tail % 4096) x.entries.now) x.fresh.now)
+    named_behind : HasBehind done.named l held h last (appended x.fresh.now 0 h.tail x.entries.now) (take (needed (h.tail % 4096) x.entries.now) x.fresh.now)
     named_behind = stands_behind between done.named last done.last_end done.parent
 
-    behind : HasBehind S (fixed_layout s) held h last (appended x.fresh.now 0 h.tail x.entries.now) (take (needed (h.tail % 4096) x.entries.now) x.fresh.now)
+    behind : HasBehind S l held h last (appended x.fresh.now 0 h.tail x.entries.now) (take (needed (h.tail % 4096) x.entries.now) x.fresh.now)
     behind = record {
       shows = (sound_before S mixed).shows;
       right = named_behind.right;
-      reads = log_stays (fixed_layout s) held done.named S clear j n.slot can.at slot_outside named_behind.shows h.head last
+      reads = log_stays l held done.named S (pages_clear clear) j n.slot can.at slot_outside named_behind.shows h.head last
           (h.entries ++ appended x.fresh.now 0 h.tail x.entries.now) (h.pages ++ take (needed (h.tail % 4096) x.entries.now) x.fresh.now) named_behind.right named_behind.clear named_behind.reads;
       clear = named_behind.clear;
     }
@@ -178,48 +178,48 @@ module _ {R : Region} {s : Super} {held : Store} {cpu j : ℕ} {n : NewInode} {i
     same_size : size S ≡ size R
     same_size = mixed_size mixed
 
-    front : SameFront s.cpus R S
-    front = loose_front (fixed_layout s) held R S clear.stand can.parent.sound.shows (all_loose S mixed)
+    front : SameFront l R S
+    front = loose_front l held R S clear.stand can.parent.sound.faultless.undoubled can.parent.sound.shows (all_loose S mixed)
 
-    layout : IsLayout s
-    layout = layout_of_super R s can.parent.sound.sup
+    laid : IsLaid l
+    laid = tables_laid can.parent.sound.tables
 
-    pub can_undo : length R.rest < 8 → CanUndo (is_permitted s) s.cpus S cpu n.slot (x.slot + 24)
+    pub can_undo : length R.rest < 8 → CanUndo (is_permitted_by l) l.sup.cpus S cpu n.slot (x.slot + 24)
     can_undo short = record {
-      rule = lies_behind s;
-      journals = (let blocks = blocks_of_super R s can.parent.sound.sup in let long : size R ≡ 8 * length R.words + length R.rest = refl in omega (arith, layout.areas.room, blocks, long, short, mixed.as_long));
+      rule = lies_behind l laid;
+      journals = (let blocks = blocks_of_super R l.sup can.parent.sound.sup in let long : size R ≡ 8 * length R.words + length R.rest = refl in omega (arith, laid.layout.areas.room, blocks, long, short, mixed.as_long));
       inside = can.journals;
-      permits_first = valid_permitted s j n.slot layout can.at;
-      permits_second = tail_permitted s i x.slot layout can.parent.at;
-      quiet = λ c below sound. (front_idle R S s.cpus front can.parent.sound.idle c below).1;
+      permits_first = valid_permitted l j n.slot laid can.at;
+      permits_second = tail_permitted l i x.slot laid can.parent.at;
+      quiet = λ c below sound. (front_idle R S l front can.parent.sound.idle c below).1;
     }
 
-    pub faultless : NoJournalFault (is_permitted s) s.cpus S
+    pub faultless : NoJournalFault (is_permitted_by l) l.sup.cpus S
     faultless = no_fault can.parent.sound front
 
     -- ---- the new log
 
-    start : IsTrue (is_page_start s (head_of n))
-    start = page_start s n.page can.page.from can.page.below
+    start : IsTrue (is_page_start l.sup (head_of n))
+    start = page_start l.sup n.page can.page.from can.page.below
 
-    address : IsTrue (is_data_address s (head_of n))
+    address : IsTrue (is_data_address l.sup (head_of n))
     address = let begins = start in grind (arith, nat_tests)
 
-    right : is_right_log s (head_of n) new ≡ true
-    right = done.log.right s (head_of n) start address (λ k below. absurd (omega (arith, below))) (inr can.some)
+    right : is_right_log l.sup (head_of n) new ≡ true
+    right = done.log.right l.sup (head_of n) start address (λ k below. absurd (omega (arith, below))) (inr can.some)
 
-    at_head : Reads R s (head_of n) (head_of n) [] (head_of n / 4096 ∷ []) None
+    at_head : Reads R l.sup (head_of n) (head_of n) [] (head_of n / 4096 ∷ []) None
     at_head = elim (eqb_tells (head_of n) (head_of n)) [ inl w ↦ ends (rw w.0 refl) | inr w ↦ absurd (w.1 refl) ]
 
-    nothing_fresh : FreshFor s [] (head_of n / 4096 ∷ [])
+    nothing_fresh : FreshFor l.sup [] (head_of n / 4096 ∷ [])
     nothing_fresh = record { starts = λ k below. absurd (omega (arith, below)); apart = λ k below. absurd (omega (arith, below)) }
 
-    read_logged : Reads done.logged s (head_of n) new (appended [] 0 (head_of n) n.entries.now) (n.page ∷ []) None
+    read_logged : Reads done.logged l.sup (head_of n) new (appended [] 0 (head_of n) n.entries.now) (n.page ∷ []) None
     read_logged =
         let page : head_of n / 4096 ≡ n.page = omega arith in
         let none : take (needed (head_of n % 4096) n.entries.now) [] ≡ [] = take-nil (needed (head_of n % 4096) n.entries.now) in
         let all : (head_of n / 4096 ∷ []) ++ take (needed (head_of n % 4096) n.entries.now) [] ≡ n.page ∷ [] = λ k. page k ∷ none k in
-        subst (λ (ps : List ℕ). Reads done.logged s (head_of n) new (appended [] 0 (head_of n) n.entries.now) ps None) all (done.log.reads s (head_of n) [] (head_of n / 4096 ∷ []) start nothing_fresh at_head)
+        subst (λ (ps : List ℕ). Reads done.logged l.sup (head_of n) new (appended [] 0 (head_of n) n.entries.now) ps None) all (done.log.reads l.sup (head_of n) [] (head_of n / 4096 ∷ []) start nothing_fresh at_head)
 
     -- no word of the page changes with the slot or with the directory's log
     tail_page : Contains h.pages (h.tail / 4096)
@@ -229,7 +229,7 @@ module _ {R : Region} {s : Super} {held : Store} {cpu j : ℕ} {n : NewInode} {i
     fresh_there k below = (k, below, get_or_default x.fresh.now k (get_or x.fresh.now k 0) 0 below)
 
     not_tail : h.tail / 4096 ≢ n.page
-    not_tail same = let mine = page_owner (fixed_layout s) held i (h.tail / 4096) h can.parent.holds tail_page in can.page.unowned (owners.Log i mine.0) (subst (λ (b : ℕ). OwnsIn (fixed_layout s) held b (owners.Log i mine.0)) same mine.1)
+    not_tail same = let mine = page_owner l held i (h.tail / 4096) h can.parent.holds tail_page in can.page.unowned (owners.Log i mine.0) (subst (λ (b : ℕ). OwnsIn l held b (owners.Log i mine.0)) same mine.1)
 
     off_page : (a : ℕ) → a % 8 ≡ 0 → a / 4096 ≡ n.page → (v : ℕ) → AppendWords x.tail x.fresh.now (a / 8) v → ⊥
     off_page a whole page v (inl w) = let here = w.0 in not_tail (omega (arith, here, whole, page, can.parent.tail_is))
@@ -243,11 +243,11 @@ module _ {R : Region} {s : Super} {held : Store} {cpu j : ℕ} {n : NewInode} {i
     one_only : (b : ℕ) → Contains (n.page ∷ []) b → b ≡ n.page
     one_only b c = elim (Contains-cons n.page [] b c) [ inl same ↦ same | inr rest ↦ absurd (let none = rest.1 in omega (arith, none)) ]
 
-    read_there : Reads S s (head_of n) new (appended [] 0 (head_of n) n.entries.now) (n.page ∷ []) None
+    read_there : Reads S l.sup (head_of n) new (appended [] 0 (head_of n) n.entries.now) (n.page ∷ []) None
     read_there = ReadsOn-same S (λ b c a whole page. page_word a whole (page ∙ one_only b c)) (0, omega arith, refl) (omega arith) (omega arith) read_logged
 
-    no_slots : HaveNoSlots (fixed_layout s) (n.page ∷ [])
-    no_slots b c = clear.unfree b (subst (IsUnowned (fixed_layout s) held) (sym (one_only b c)) can.page)
+    no_slots : HaveNoSlots l (n.page ∷ [])
+    no_slots b c = clear.unfree b (subst (IsUnowned l held) (sym (one_only b c)) can.page)
 
     slot_word : (m : ℕ) → word S (n.slot + m) ≡ word (with_slot done.named n.slot (slot_with n new)) (n.slot + m)
     slot_word m = ap (λ (Q : Region). word Q (n.slot + m)) done.slot
@@ -266,14 +266,14 @@ module _ {R : Region} {s : Super} {held : Store} {cpu j : ℕ} {n : NewInode} {i
       inside8 : n.slot + 40 ≤ size done.named
       inside8 = omega (arith, slot_inside, named_size)
 
-      ready : IsReady S (fixed_layout s) n.slot (begun n)
+      ready : IsReady S l n.slot (begun n)
       ready = record {
         kind = slot_word 8 ∙ kind_there done.named n.slot (slot_with n new) whole8 inside8 named_short;
         head = slot_word 16 ∙ head_there done.named n.slot (slot_with n new) whole8 inside8 named_short;
         tail = slot_word 24 ∙ tail_stands done.named n.slot (slot_with n new) whole8 inside8 named_short ∙ done.first_end;
         created = slot_word 32 ∙ created_there done.named n.slot (slot_with n new) whole8 inside8 named_short;
-        right = subst (λ (t : ℕ). is_right_log s (head_of n) t ≡ true) done.first_end right;
-        reads = subst (λ (t : ℕ). Reads S s (head_of n) t (appended [] 0 (head_of n) n.entries.now) (n.page ∷ []) None) done.first_end read_there;
+        right = subst (λ (t : ℕ). is_right_log l.sup (head_of n) t ≡ true) done.first_end right;
+        reads = subst (λ (t : ℕ). Reads S l.sup (head_of n) t (appended [] 0 (head_of n) n.entries.now) (n.page ∷ []) None) done.first_end read_there;
       }
 
       abbrev there : Region
@@ -302,33 +302,40 @@ module _ {R : Region} {s : Super} {held : Store} {cpu j : ℕ} {n : NewInode} {i
       abbrev first_held : Store
       first_held = with_inode held j (Some (begun n))
 
-      first_shows : Shows there (fixed_layout s) first_held
-      first_shows = made (fixed_layout s) held S there j n.slot (begun n) clear can.at ready no_slots first_stored behind.shows
+      first_shows : Shows there l first_held
+      first_shows = made l held S there j n.slot (begun n) (pages_clear clear) can.at ready no_slots first_stored behind.shows
 
       parent_held : first_held i ≡ Some h
       parent_held = other_held held j i (Some (begun n)) differ ∙ can.parent.holds
 
-      parent_then : HasBehind there (fixed_layout s) first_held h last (appended x.fresh.now 0 h.tail x.entries.now) (take (needed (h.tail % 4096) x.entries.now) x.fresh.now)
+      parent_then : HasBehind there l first_held h last (appended x.fresh.now 0 h.tail x.entries.now) (take (needed (h.tail % 4096) x.entries.now) x.fresh.now)
       parent_then = record {
         shows = first_shows;
         right = behind.right;
-        reads = log_stays (fixed_layout s) held S there clear j n.slot can.at first_outside behind.shows h.head last
+        reads = log_stays l held S there (pages_clear clear) j n.slot can.at first_outside behind.shows h.head last
             (h.entries ++ appended x.fresh.now 0 h.tail x.entries.now) (h.pages ++ take (needed (h.tail % 4096) x.entries.now) x.fresh.now) behind.right behind.clear behind.reads;
         clear = behind.clear;
       }
 
-      both_show : Shows both (fixed_layout s) (with_made held j n i h x)
+      both_show : Shows both l (with_made held j n i h x)
       both_show =
-          subst (λ (m : ℕ). Shows both (fixed_layout s) (with_inode first_held i (Some (grown h m (appended x.fresh.now 0 h.tail x.entries.now) (take (needed (h.tail % 4096) x.entries.now) x.fresh.now))))) (parent_ends between done.named last done.last_end done.parent)
-          (tail_follows (fixed_layout s) first_held there both i x.slot last h (appended x.fresh.now 0 h.tail x.entries.now) (take (needed (h.tail % 4096) x.entries.now) x.fresh.now)
-          (slots_clear there s first_held layout first_shows) can.parent.at parent_held parent_then second_stored)
+          subst (λ (m : ℕ). Shows both l (with_inode first_held i (Some (grown h m (appended x.fresh.now 0 h.tail x.entries.now) (take (needed (h.tail % 4096) x.entries.now) x.fresh.now))))) (parent_ends between done.named last done.last_end done.parent)
+          (tail_follows l first_held there both i x.slot last h (appended x.fresh.now 0 h.tail x.entries.now) (take (needed (h.tail % 4096) x.entries.now) x.fresh.now)
+          (pages_grown l held j (begun n) (pages_clear clear) no_slots) can.parent.at parent_held parent_then second_stored)
 
-      both_front : SameFront s.cpus R both
-      both_front = front_more front (front_more (slot_front (fixed_layout s) S there j n.slot clear.stand can.at first_outside) (slot_front (fixed_layout s) there both i x.slot clear.stand can.parent.at second_outside))
+      both_front : SameFront l R both
+      both_front = front_more front (front_more (slot_front l S there j n.slot clear.stand can.at first_outside) (slot_front l there both i x.slot clear.stand can.parent.at second_outside))
 
       -- after the change of both words, and while they change
-      pub made_idle : (N : Region) → SameOutside both (journal cpu) 4096 N → IsEmpty N cpu → ShowsIdle N s (with_made held j n i h x)
-      made_idle N outside empty = words_idle can.parent.sound clear.stand can.journals front behind.shows both_front both_show N outside empty
+      abbrev these : Choices
+      these = Two n.slot 1 (x.slot + 24) last
 
-      pub made_undone : (left : Region) → BeforeOrAfter (is_permitted s) s.cpus S n.slot 1 (x.slot + 24) last left → NoJournalFault (is_permitted s) s.cpus left → BeforeOrMade s held j n i h x left
-      made_undone left either none = words_undone can.parent.sound clear.stand can.journals front behind.shows both_front both_show left either none
+      inside : (k v : ℕ) → these k v → IsInSlot l k
+      inside k v (inl w) = let number = w.0 in let whole = clear.whole j n.slot can.at in (j, n.slot, can.at, omega (arith, number, whole), omega (arith, number, whole))
+      inside k v (inr w) = let number = w.0 in let whole = clear.whole i x.slot can.parent.at in (i, x.slot, can.parent.at, omega (arith, number, whole), omega (arith, number, whole))
+
+      pub made_idle : (N : Region) → SameOutside both (journal cpu) 4096 N → IsEmpty N cpu → IsMixed S (ByJournal cpu these) N → ShowsIdle N l (with_made held j n i h x)
+      made_idle N outside empty = words_idle these inside can.parent.sound clear.stand can.journals front behind.shows both_front both_show N outside empty
+
+      pub made_undone : (left : Region) → BeforeOrAfter (is_permitted_by l) l.sup.cpus S n.slot 1 (x.slot + 24) last left → NoJournalFault (is_permitted_by l) l.sup.cpus left → IsMixed S (ByJournal cpu these) left → BeforeOrMade l held j n i h x left
+      made_undone left either none = words_undone these inside can.parent.sound clear.stand can.journals front behind.shows both_front both_show left either none

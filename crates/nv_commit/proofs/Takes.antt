@@ -6,22 +6,22 @@ use Rattle.nv_super.specs.Layout.{Layout}
 use Rattle.nv_super.proofs.Options.{some_is}
 use Rattle.nv_entry.specs.declared.entry.Operation.TheVariants.{Add, Remove}
 use Rattle.nv_logpage.specs.declared.found.Placed.{Placed}
-use Rattle.nv_held.specs.nv_graph.Graph.{Graph, Node}
-use Rattle.nv_held.specs.nv_graph.Calls.{SameGraph, is_name, replaced, with_name, with_node}
-use Rattle.nv_held.proofs.nv_graph.Changes.{directory_removed_sound, file_leaf, last_removed_sound, unlinked_sound}
-use Rattle.nv_held.proofs.nv_graph.Names.{renames, that_or}
-use Rattle.nv_held.proofs.nv_graph.Replaced.{replaced_faultless}
-use Rattle.nv_held.proofs.nv_graph.Root.{name_follows, node_follows, same_faultless}
-use Rattle.nv_held.proofs.nv_graph.Sound.{Sound, sound}
+use Rattle.nv_graph.specs.Graph.{Graph, Node}
+use Rattle.nv_graph.specs.Calls.{SameGraph, is_name, replaced, with_name, with_node}
+use Rattle.nv_graph.proofs.Changes.{directory_removed_sound, file_leaf, last_removed_sound, unlinked_sound}
+use Rattle.nv_graph.proofs.Names.{renames, that_or}
+use Rattle.nv_graph.proofs.Replaced.{replaced_faultless}
+use Rattle.nv_graph.proofs.Root.{name_follows, node_follows, same_faultless}
+use Rattle.nv_graph.proofs.Sound.{Sound, sound}
 use Rattle.std.proofs.lemmas.Option.{none-some}
-use Rattle.nv_held.specs.nv_graph.Step.{IsGoodName, links_entry, name_entry}
-use Rattle.nv_held.specs.Held.{Held, Store, with_inode}
-use Rattle.nv_held.specs.Blocks.{NoneDoubled, OwnsNew}
-use Rattle.nv_held.specs.Graph.{graph_in, node_in}
-use Rattle.nv_held.specs.Grows.{grown}
-use Rattle.nv_held.specs.Mounted.{AreClean, IsFaultless}
-use Rattle.nv_held.proofs.Graphs.{file_went, linked_to, one_name, went}
-use Rattle.nv_held.proofs.Owning.{other_held, same_held, still_undoubled}
+use Rattle.nv_graph.specs.Step.{IsGoodName, links_entry, name_entry}
+use Rattle.nv_mounted.specs.Held.{Held, Store, with_inode}
+use Rattle.nv_mounted.specs.Blocks.{NoneDoubled, OwnsNew}
+use Rattle.nv_mounted.specs.Graph.{graph_in, node_in}
+use Rattle.nv_mounted.specs.Grows.{grown}
+use Rattle.nv_mounted.specs.Mounted.{AreClean, IsFaultless}
+use Rattle.nv_mounted.proofs.Graphs.{file_went, linked_to, one_name, went}
+use Rattle.nv_mounted.proofs.Owning.{other_held, same_held, still_undoubled}
 use Rattle.nv_commit.specs.ReplacedNames.{CanGo, CanTakeName, taking_entries}
 use Rattle.nv_commit.proofs.Called.{add_fits, either_none, gone_clean, grown_clean, links_fit, none_owns, removal_fits}
 

@@ -4,17 +4,16 @@ use Rattle.std.specs.List.{Contains}
 use Rattle.nv_region.specs.Region.{Region, size}
 use Rattle.nv_region.specs.Stops.{Choices, IsMixed}
 use Rattle.nv_region.specs.Stored.{Within}
-use Rattle.nv_super.specs.declared.superblock.Super.{Super}
 use Rattle.nv_super.specs.Kind.{kind_number}
-use Rattle.nv_super.specs.Layout.{fixed_layout, slot_of}
+use Rattle.nv_super.specs.Layout.{Layout, slot_of}
 use Rattle.nv_inode.specs.declared.slot.Slot.{Slot}
 use Rattle.nv_inode.specs.Slot.{with_slot}
 use Rattle.nv_journal.specs.Undo.{journal}
 use Rattle.nv_journal.specs.Recorded.{Changes}
 use Rattle.nv_logpage.specs.Append.{AppendWords, CanAppend, appended, end_of, needed}
-use Rattle.nv_held.specs.Held.{Held, Store, with_inode}
-use Rattle.nv_held.specs.Blocks.{IsUnowned}
-use Rattle.nv_held.specs.Appended.{Appends}
+use Rattle.nv_mounted.specs.Held.{Held, Store, with_inode}
+use Rattle.nv_mounted.specs.Blocks.{IsUnowned}
+use Rattle.nv_mounted.specs.Appended.{Appends}
 use Rattle.nv_commit.specs.declared.together.Extension.{Extension}
 use Rattle.nv_commit.specs.declared.making.NewInode.{NewInode}
 use Rattle.nv_commit.specs.Extends.{CanExtend, with_log}
@@ -47,12 +46,12 @@ pub record CanBegin (R : Region) (cpu : ℕ) (n : NewInode) : Type 0 where
 
 -- A sound region shows a directory that can have these behind its log's tail. No inode has the new one's slot, which is of this
 -- number, and its page is a free block, none of the directory's, on which its entries fit. The CPU is one of the region's.
-pub record CanMake (R : Region) (s : Super) (held : Store) (cpu j : ℕ) (n : NewInode) (i : ℕ) (h : Held) (x : Extension) : Type 0 where
-  pub journals : cpu < s.cpus
-  pub parent : CanExtend R s held i h x.slot x.tail x.entries.now x.fresh.now
-  pub at : slot_of (fixed_layout s) j ≡ Some n.slot
+pub record CanMake (R : Region) (l : Layout) (held : Store) (cpu j : ℕ) (n : NewInode) (i : ℕ) (h : Held) (x : Extension) : Type 0 where
+  pub journals : cpu < l.sup.cpus
+  pub parent : CanExtend R l held i h x.slot x.tail x.entries.now x.fresh.now
+  pub at : slot_of l j ≡ Some n.slot
   pub unused : held j ≡ None
-  pub page : IsUnowned (fixed_layout s) held n.page
+  pub page : IsUnowned l held n.page
   pub apart : Contains x.fresh.now n.page → ⊥
   pub fits : needed 0 n.entries.now ≡ 0
   pub some : 0 < length n.entries.now
@@ -62,8 +61,8 @@ abbrev pub with_made : Store → ℕ → NewInode → ℕ → Held → Extension
 with_made held j n i h x = with_log (with_inode held j (Some (begun n))) i h x.entries.now x.fresh.now
 
 -- rolled back, the region shows what was held, or that with the new inode and the log grown
-abbrev pub BeforeOrMade : Super → Store → ℕ → NewInode → ℕ → Held → Extension → Region → Type 0
-BeforeOrMade s held j n i h x left = UndoneShows s held left ⊎ UndoneShows s (with_made held j n i h x) left
+abbrev pub BeforeOrMade : Layout → Store → ℕ → NewInode → ℕ → Held → Extension → Region → Type 0
+BeforeOrMade l held j n i h x left = UndoneShows l held left ⊎ UndoneShows l (with_made held j n i h x) left
 
 -- any word of the new inode's page, or of its slot behind the valid word
 abbrev pub BeginWords : NewInode → Choices

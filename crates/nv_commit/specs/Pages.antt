@@ -2,8 +2,8 @@
 use Rattle.std.specs.Prelude.{◌≡◌, ℕ, None}
 use Rattle.nv_super.specs.Layout.{Layout}
 use Rattle.nv_logpage.specs.declared.found.Placed.{Placed}
-use Rattle.nv_held.specs.nv_scan.State.{block_of, says_block}
-use Rattle.nv_held.specs.Held.{Held, good_in}
+use Rattle.nv_scan.specs.State.{block_of, says_block}
+use Rattle.nv_mounted.specs.Held.{Held, good_in}
 
 -- no page of the inode maps to a block
 abbrev pub MapsNothing : Layout → Held → Type 0

@@ -2,12 +2,11 @@
 use Rattle.std.specs.Prelude.{◌≡◌, ◌≢◌, ◌⊎◌, ℕ, ◌+◌, ◌%◌, ◌<◌, ◌≤◌, Some, None}
 use Rattle.nv_region.specs.Region.{Region, size}
 use Rattle.nv_region.specs.Stops.{Choices}
-use Rattle.nv_super.specs.declared.superblock.Super.{Super}
-use Rattle.nv_super.specs.Layout.{fixed_layout, slot_of}
+use Rattle.nv_super.specs.Layout.{Layout, slot_of}
 use Rattle.nv_journal.specs.Undo.{journal}
 use Rattle.nv_journal.specs.Recorded.{Changes}
 use Rattle.nv_logpage.specs.Append.{AppendWords, end_of}
-use Rattle.nv_held.specs.Held.{Held, Store, with_inode}
+use Rattle.nv_mounted.specs.Held.{Held, Store, with_inode}
 use Rattle.nv_commit.specs.declared.together.Extension.{Extension}
 use Rattle.nv_commit.specs.Extends.{CanExtend, with_log}
 use Rattle.nv_commit.specs.Together.{UndoneShows}
@@ -20,10 +19,10 @@ pub record CanClear (R : Region) (cpu slot : ℕ) : Type 0 where
 
 -- A sound region shows an inode that can have these behind its log's tail. Another has this slot, and the CPU is one of the
 -- region's.
-pub record CanRemove (R : Region) (s : Super) (held : Store) (cpu i : ℕ) (h : Held) (x : Extension) (j slot : ℕ) : Type 0 where
-  pub journals : cpu < s.cpus
-  pub parent : CanExtend R s held i h x.slot x.tail x.entries.now x.fresh.now
-  pub at : slot_of (fixed_layout s) j ≡ Some slot
+pub record CanRemove (R : Region) (l : Layout) (held : Store) (cpu i : ℕ) (h : Held) (x : Extension) (j slot : ℕ) : Type 0 where
+  pub journals : cpu < l.sup.cpus
+  pub parent : CanExtend R l held i h x.slot x.tail x.entries.now x.fresh.now
+  pub at : slot_of l j ≡ Some slot
   pub differ : i ≢ j
 
 -- what is held once the log has grown and the other inode is gone
@@ -31,8 +30,8 @@ abbrev pub with_removed : Store → ℕ → Held → Extension → ℕ → Store
 with_removed held i h x j = with_inode (with_log held i h x.entries.now x.fresh.now) j None
 
 -- rolled back, the region shows what was held, or that with the log grown and without the other inode
-abbrev pub BeforeOrRemoved : Super → Store → ℕ → Held → Extension → ℕ → Region → Type 0
-BeforeOrRemoved s held i h x j left = UndoneShows s held left ⊎ UndoneShows s (with_removed held i h x j) left
+abbrev pub BeforeOrRemoved : Layout → Store → ℕ → Held → Extension → ℕ → Region → Type 0
+BeforeOrRemoved l held i h x j left = UndoneShows l held left ⊎ UndoneShows l (with_removed held i h x j) left
 
 -- what an append may store, any word of the journal, the new tail in its word, and 0 in the valid word
 abbrev pub RemoveWords : ℕ → Extension → ℕ → Choices

@@ -5,11 +5,11 @@ use Rattle.nv_super.specs.declared.kind.Kind.TheVariants.{File, Directory}
 use Rattle.nv_super.specs.Layout.{Layout}
 use Rattle.nv_entry.specs.declared.entry.Operation.TheVariants.{Add, Remove}
 use Rattle.nv_logpage.specs.declared.found.Placed.{Placed}
-use Rattle.nv_held.specs.nv_graph.Graph.{IsOfKind, passed, walked}
-use Rattle.nv_held.specs.nv_graph.Step.{IsGoodName, name_entry}
-use Rattle.nv_held.specs.Held.{Held, Store}
-use Rattle.nv_held.specs.Graph.{graph_in, node_in}
-use Rattle.nv_held.specs.Mounted.{IsFaultless}
+use Rattle.nv_graph.specs.Graph.{IsOfKind, passed, walked}
+use Rattle.nv_graph.specs.Step.{IsGoodName, name_entry}
+use Rattle.nv_mounted.specs.Held.{Held, Store}
+use Rattle.nv_mounted.specs.Graph.{graph_in, node_in}
+use Rattle.nv_mounted.specs.Mounted.{IsFaultless}
 
 -- Nothing is wrong with what is held. Directory d names inode i, and the path leads to directory e, which has another name for inode
 -- j. A directory is moved only where that path doesn't pass it.

@@ -6,9 +6,9 @@ use Rattle.nv_super.specs.Layout.{Layout}
 use Rattle.nv_super.specs.Super.{IsSuper}
 use Rattle.nv_journal.specs.Undo.{undone}
 use Rattle.nv_journal.specs.Faults.{NoFault}
-use Rattle.nv_held.specs.Held.{Held, Store}
-use Rattle.nv_held.specs.Bytes.{byte_of}
-use Rattle.nv_held.specs.Mounted.{ShowsSound}
+use Rattle.nv_mounted.specs.Held.{Held, Store}
+use Rattle.nv_mounted.specs.Bytes.{byte_of}
+use Rattle.nv_mounted.specs.Mounted.{ShowsSound}
 
 -- The region has this superblock, and nothing is wrong with its journals.
 pub record CanRecover (s : Super) (left : Region) : Type 0 where
@@ -19,7 +19,7 @@ pub record CanRecover (s : Super) (left : Region) : Type 0 where
 pub record RollsBackTo (R : Region) (l : Layout) (held after : Store) (left : Region) : Type 0 where
   pub can : CanRecover l.sup left
   pub open can use *
-  pub sound : ShowsSound (undone l.sup left) l.sup after
+  pub sound : ShowsSound (undone l.sup left) l after
   pub bytes : (i : ℕ) (h : Held) → held i ≡ Some h → (x : ℕ) → byte_of (undone l.sup left) l h x ≡ byte_of R l h x
 
 -- What a stop leaves of a step: rolled back, it is what was there, or what the step makes.

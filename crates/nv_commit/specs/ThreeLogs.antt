@@ -3,20 +3,20 @@ use Rattle.std.specs.Prelude.{◌≡◌, ◌≢◌, ◌⊎◌, ℕ, [], ◌∷�
 use Rattle.std.specs.List.{Contains}
 use Rattle.nv_region.specs.Region.{Region}
 use Rattle.nv_region.specs.Stops.{Choices}
-use Rattle.nv_super.specs.declared.superblock.Super.{Super}
+use Rattle.nv_super.specs.Layout.{Layout}
 use Rattle.nv_journal.specs.Several.{ChangesAll}
 use Rattle.nv_logpage.specs.Append.{AppendWords, end_of}
-use Rattle.nv_held.specs.Held.{Held, Store}
-use Rattle.nv_held.specs.Appended.{Appends}
+use Rattle.nv_mounted.specs.Held.{Held, Store}
+use Rattle.nv_mounted.specs.Appended.{Appends}
 use Rattle.nv_commit.specs.declared.together.Extension.{Extension}
 use Rattle.nv_commit.specs.Extends.{CanExtend, with_log}
 use Rattle.nv_commit.specs.Together.{AppendsBoth, BothWords, CanExtendTwo, UndoneShows, with_logs}
 use Rattle.nv_commit.specs.Replaces.{new_tail}
 
 -- Three inodes of a sound region can have these behind their logs' tails, over pages that are not the same.
-pub record CanExtendThree (R : Region) (s : Super) (held : Store) (cpu i : ℕ) (h : Held) (x : Extension) (j : ℕ) (g : Held) (y : Extension) (k : ℕ) (f : Held) (z : Extension) : Type 0 where
-  pub two : CanExtendTwo R s held cpu i h x j g y
-  pub third : CanExtend R s held k f z.slot z.tail z.entries.now z.fresh.now
+pub record CanExtendThree (R : Region) (l : Layout) (held : Store) (cpu i : ℕ) (h : Held) (x : Extension) (j : ℕ) (g : Held) (y : Extension) (k : ℕ) (f : Held) (z : Extension) : Type 0 where
+  pub two : CanExtendTwo R l held cpu i h x j g y
+  pub third : CanExtend R l held k f z.slot z.tail z.entries.now z.fresh.now
   pub first_differs : i ≢ k
   pub second_differs : j ≢ k
   pub first_apart : (b : ℕ) → Contains x.fresh.now b → Contains z.fresh.now b → ⊥
@@ -27,8 +27,8 @@ abbrev pub with_three : Store → ℕ → Held → Extension → ℕ → Held �
 with_three held i h x j g y k f z = with_log (with_logs held i h x j g y) k f z.entries.now z.fresh.now
 
 -- rolled back, the region shows what was held, or that with all three logs grown
-abbrev pub BeforeOrThree : Super → Store → ℕ → Held → Extension → ℕ → Held → Extension → ℕ → Held → Extension → Region → Type 0
-BeforeOrThree s held i h x j g y k f z left = UndoneShows s held left ⊎ UndoneShows s (with_three held i h x j g y k f z) left
+abbrev pub BeforeOrThree : Layout → Store → ℕ → Held → Extension → ℕ → Held → Extension → ℕ → Held → Extension → Region → Type 0
+BeforeOrThree l held i h x j g y k f z left = UndoneShows l held left ⊎ UndoneShows l (with_three held i h x j g y k f z) left
 
 -- what three appends may store
 abbrev pub ThreeWords : Extension → Extension → Extension → Choices

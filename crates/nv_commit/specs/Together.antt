@@ -3,16 +3,14 @@ use Rattle.std.specs.Prelude.{◌≡◌, ◌≢◌, ◌⊎◌, ℕ, ◌+◌, ◌
 use Rattle.std.specs.List.{Contains}
 use Rattle.nv_region.specs.Region.{Region, size}
 use Rattle.nv_region.specs.Stops.{Choices}
-use Rattle.nv_super.specs.declared.superblock.Super.{Super}
-use Rattle.nv_super.specs.Layout.{fixed_layout}
-use Rattle.nv_super.specs.Super.{IsSuper}
+use Rattle.nv_super.specs.Layout.{Layout}
 use Rattle.nv_journal.specs.Undo.{journal, undone}
 use Rattle.nv_journal.specs.Recorded.{Changes}
 use Rattle.nv_journal.specs.Faults.{NoFault}
 use Rattle.nv_logpage.specs.Append.{AppendWords, CanAppend, end_of}
-use Rattle.nv_held.specs.Held.{Held, Store, Shows}
-use Rattle.nv_held.specs.Mounted.{AreIdle}
-use Rattle.nv_held.specs.Appended.{Appends}
+use Rattle.nv_mounted.specs.Held.{Held, Store, Shows}
+use Rattle.nv_mounted.specs.Mounted.{AreIdle, HasTables}
+use Rattle.nv_mounted.specs.Appended.{Appends}
 use Rattle.nv_commit.specs.declared.together.Extension.{Extension}
 use Rattle.nv_commit.specs.Extends.{CanExtend, with_log}
 
@@ -31,10 +29,10 @@ pub record CanCommit (R : Region) (cpu : ℕ) (x : Extension) : Type 0 where
 
 -- Two inodes of a sound region can have these behind their logs' tails, over pages that are not the same, and the CPU
 -- is one of the region's.
-pub record CanExtendTwo (R : Region) (s : Super) (held : Store) (cpu i : ℕ) (h : Held) (x : Extension) (j : ℕ) (g : Held) (y : Extension) : Type 0 where
-  pub journals : cpu < s.cpus
-  pub first : CanExtend R s held i h x.slot x.tail x.entries.now x.fresh.now
-  pub second : CanExtend R s held j g y.slot y.tail y.entries.now y.fresh.now
+pub record CanExtendTwo (R : Region) (l : Layout) (held : Store) (cpu i : ℕ) (h : Held) (x : Extension) (j : ℕ) (g : Held) (y : Extension) : Type 0 where
+  pub journals : cpu < l.sup.cpus
+  pub first : CanExtend R l held i h x.slot x.tail x.entries.now x.fresh.now
+  pub second : CanExtend R l held j g y.slot y.tail y.entries.now y.fresh.now
   pub differ : i ≢ j
   pub apart : (b : ℕ) → Contains x.fresh.now b → Contains y.fresh.now b → ⊥
 
@@ -42,21 +40,23 @@ pub record CanExtendTwo (R : Region) (s : Super) (held : Store) (cpu i : ℕ) (h
 abbrev pub with_logs : Store → ℕ → Held → Extension → ℕ → Held → Extension → Store
 with_logs held i h x j g y = with_log (with_log held i h x.entries.now x.fresh.now) j g y.entries.now y.fresh.now
 
--- The region has this superblock and nothing in its journals, and shows this.
-pub record ShowsIdle (R : Region) (s : Super) (held : Store) : Type 0 where
-  pub sup : IsSuper R s
-  pub idle : AreIdle s.cpus R
-  pub shows : Shows R (fixed_layout s) held
+-- The region has these tables and nothing in its journals, and shows this.
+pub record ShowsIdle (R : Region) (l : Layout) (held : Store) : Type 0 where
+  pub tables : HasTables R l
+  pub open tables use *
+  pub idle : AreIdle l.sup.cpus R
+  pub shows : Shows R l held
 
--- Nothing is wrong with the region's journals. Rolled back, it has this superblock and shows this.
-pub record UndoneShows (s : Super) (held : Store) (left : Region) : Type 0 where
-  pub sup : IsSuper (undone s left) s
-  pub shows : Shows (undone s left) (fixed_layout s) held
-  pub journals : NoFault s left
+-- Nothing is wrong with the region's journals. Rolled back, it has these tables and shows this.
+pub record UndoneShows (l : Layout) (held : Store) (left : Region) : Type 0 where
+  pub tables : HasTables (undone l.sup left) l
+  pub open tables use *
+  pub shows : Shows (undone l.sup left) l held
+  pub journals : NoFault l.sup left
 
 -- rolled back, it shows what was held, or that with both logs grown
-abbrev pub BeforeOrBoth : Super → Store → ℕ → Held → Extension → ℕ → Held → Extension → Region → Type 0
-BeforeOrBoth s held i h x j g y left = UndoneShows s held left ⊎ UndoneShows s (with_logs held i h x j g y) left
+abbrev pub BeforeOrBoth : Layout → Store → ℕ → Held → Extension → ℕ → Held → Extension → Region → Type 0
+BeforeOrBoth l held i h x j g y left = UndoneShows l held left ⊎ UndoneShows l (with_logs held i h x j g y) left
 
 -- what two appends may store
 abbrev pub BothWords : Extension → Extension → Choices

@@ -6,12 +6,11 @@ ghost use Rattle.nv_region.specs.Stops.{LeavesOnly, PendingOnly};
 ghost use Rattle.nv_region.specs.Fuses.{KeepsFuse};
 ghost use Rattle.nv_region.specs.Stored.{StoresOnly};
 ghost use Rattle.nv_region.specs.Storing.{AtAnyMoment, StoresAndFences};
-ghost use Rattle.nv_super.specs.declared.superblock.Super.{Super};
-ghost use Rattle.nv_super.specs.Layout.{fixed_layout};
+ghost use Rattle.nv_super.specs.Layout.{Layout};
 ghost use Rattle.nv_logpage.specs.Append.{AppendWords, CanAppend, EndBy, end_of};
-ghost use Rattle.nv_held.specs.Appended.{Appends};
-ghost use Rattle.nv_held.specs.Held.{Held, Store};
-ghost use Rattle.nv_held.specs.Loose.{Loose};
+ghost use Rattle.nv_mounted.specs.Appended.{Appends};
+ghost use Rattle.nv_mounted.specs.Held.{Held, Store};
+ghost use Rattle.nv_mounted.specs.Loose.{Loose};
 ghost use Rattle.nv_commit.specs.Extends.{BeforeOrExtended, CanExtend, ExtendWords, LooseOrExtended, ShowsMoved, with_log};
 
 use nv_entry::Entry;
@@ -38,17 +37,17 @@ pub fn extend_log<P: Pmem>(
     requires inside { slot + 32 ≤ size (P.region memory.old) }
     ensures end { IfOk result (λ new. new ≡ end_of fresh.now 0 tail entries.now) }
     // The region shows the inode with the grown log. Where nothing is wrong with that, nothing is wrong with the region.
-    ensures shows { (s : Super) (held : Store) (i : ℕ) (h : Held) → CanExtend (P.region memory.old) s held i h slot tail entries.now fresh.now
-        → OnOk result (ShowsMoved (P.region memory.old) s (with_log held i h entries.now fresh.now) (P.region memory.new)) }
+    ensures shows { (l : Layout) (held : Store) (i : ℕ) (h : Held) → CanExtend (P.region memory.old) l held i h slot tail entries.now fresh.now
+        → OnOk result (ShowsMoved (P.region memory.old) l (with_log held i h entries.now fresh.now) (P.region memory.new)) }
     ensures kept { StoresAndFences P.region P.may_hold P.fuse (ExtendWords slot tail entries.now fresh.now)
         (λ limit. EndBy (tail / 4096 ∷ fresh.now) limit × (slot + 32 ≤ limit)) memory.old memory.new result }
     // The region as it reads, also after a stop, and each that a stop leaves.
-    ensures moments { (s : Super) (held : Store) (i : ℕ) (h : Held) → CanExtend (P.region memory.old) s held i h slot tail entries.now fresh.now
-        → AtAnyMoment P.region P.may_hold memory.old memory.new (BeforeOrExtended (P.region memory.old) s held i h entries.now fresh.now) }
+    ensures moments { (l : Layout) (held : Store) (i : ℕ) (h : Held) → CanExtend (P.region memory.old) l held i h slot tail entries.now fresh.now
+        → AtAnyMoment P.region P.may_hold memory.old memory.new (BeforeOrExtended (P.region memory.old) l held i h entries.now fresh.now) }
     // So it is too where loose words were pending, as those of data that the entries write.
-    ensures loose_stop { (s : Super) (held : Store) (i : ℕ) (h : Held) → CanExtend (P.region memory.old) s held i h slot tail entries.now fresh.now
-        → PendingOnly (P.region memory.old) (P.may_hold memory.old) (Loose (fixed_layout s) held)
-        → LeavesOnly (P.region memory.new) (P.may_hold memory.new) (LooseOrExtended (P.region memory.old) s held i h slot tail entries.now fresh.now) }
+    ensures loose_stop { (l : Layout) (held : Store) (i : ℕ) (h : Held) → CanExtend (P.region memory.old) l held i h slot tail entries.now fresh.now
+        → PendingOnly (P.region memory.old) (P.may_hold memory.old) (Loose l held)
+        → LeavesOnly (P.region memory.new) (P.may_hold memory.new) (LooseOrExtended (P.region memory.old) l held i h slot tail entries.now fresh.now) }
 {
     // The region's length is a u64, and fewer than eight bytes stand behind the last word.
     let _length = memory.len();

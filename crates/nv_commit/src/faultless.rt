@@ -9,13 +9,13 @@ ghost use Rattle.nv_entry.specs.declared.entry.AttrEntry.{AttrEntry};
 ghost use Rattle.nv_entry.specs.declared.entry.Operation.TheVariants.{Add, Remove};
 ghost use Rattle.nv_entry.specs.declared.entry.Entry.TheVariants.{Attr};
 ghost use Rattle.nv_logpage.specs.Reads.{placed};
-ghost use Rattle.nv_held.specs.nv_graph.Graph.{IsOfKind, passed, walked};
-ghost use Rattle.nv_held.specs.nv_graph.Step.{IsGoodName, links_entry, name_entry};
-ghost use Rattle.nv_held.specs.Held.{Held, Store, with_inode};
-ghost use Rattle.nv_held.specs.Blocks.{OwnsNew};
-ghost use Rattle.nv_held.specs.Graph.{graph_in, node_in};
-ghost use Rattle.nv_held.specs.Grows.{grown};
-ghost use Rattle.nv_held.specs.Mounted.{IsFaultless};
+ghost use Rattle.nv_graph.specs.Graph.{IsOfKind, passed, walked};
+ghost use Rattle.nv_graph.specs.Step.{IsGoodName, links_entry, name_entry};
+ghost use Rattle.nv_mounted.specs.Held.{Held, Store, with_inode};
+ghost use Rattle.nv_mounted.specs.Blocks.{OwnsNew};
+ghost use Rattle.nv_mounted.specs.Graph.{graph_in, node_in};
+ghost use Rattle.nv_mounted.specs.Grows.{grown};
+ghost use Rattle.nv_mounted.specs.Mounted.{IsFaultless};
 
 /// A directory has a name more, which it didn't have, and a new inode stands for it, whose log is one attributes entry.
 pub fn created_is_faultless()

@@ -7,12 +7,12 @@ ghost use Rattle.nv_region.specs.Stops.{NothingPending};
 ghost use Rattle.nv_region.specs.Fuses.{KeepsFuse};
 ghost use Rattle.nv_region.specs.Stored.{StoresOnly, Within};
 ghost use Rattle.nv_region.specs.Storing.{AtAnyMoment, StoresAndFences};
-ghost use Rattle.nv_super.specs.declared.superblock.Super.{Super};
+ghost use Rattle.nv_super.specs.Layout.{Layout};
 ghost use Rattle.nv_inode.specs.Slot.{with_slot};
 ghost use Rattle.nv_journal.specs.Pending.{IsEmpty};
 ghost use Rattle.nv_journal.specs.InOrder.{FirstIsFirst};
 ghost use Rattle.nv_logpage.specs.Append.{CanAppend, EndBy, end_of};
-ghost use Rattle.nv_held.specs.Held.{Held, Store};
+ghost use Rattle.nv_mounted.specs.Held.{Held, Store};
 ghost use Rattle.nv_commit.specs.Together.{CanCommit, ShowsIdle};
 ghost use Rattle.nv_commit.specs.Makes.{BeforeOrMade, CanBegin, CanMake, MakeWords, PrepareWords, Prepares, head_of, tail_of, with_made};
 
@@ -54,17 +54,17 @@ pub fn make_inode<P: Pmem>(
     requires inode { CanBegin (P.region memory.old) cpu inode.now }
     requires directory { CanCommit (P.region memory.old) cpu directory.now }
     ensures ends { IfOk result (λ new. (new.0 ≡ tail_of inode.now) × (new.1 ≡ end_of directory.now.fresh.now 0 directory.now.tail directory.now.entries.now)) }
-    ensures shows { (s : Super) (held : Store) (j i : ℕ) (h : Held) → CanMake (P.region memory.old) s held cpu j inode.now i h directory.now
-        → OnOk result (ShowsIdle (P.region memory.new) s (with_made held j inode.now i h directory.now)) }
+    ensures shows { (l : Layout) (held : Store) (j i : ℕ) (h : Held) → CanMake (P.region memory.old) l held cpu j inode.now i h directory.now
+        → OnOk result (ShowsIdle (P.region memory.new) l (with_made held j inode.now i h directory.now)) }
     ensures kept { StoresAndFences P.region P.may_hold P.fuse (MakeWords cpu inode.now directory.now)
         (λ limit. EndBy (inode.now.page ∷ []) limit × EndBy (directory.now.tail / 4096 ∷ directory.now.fresh.now) limit × (inode.now.slot + 40 ≤ limit)
         × (directory.now.slot + 32 ≤ limit)) memory.old memory.new result }
     // The valid word is stored before the tail.
-    ensures in_order { (s : Super) (held : Store) (j i : ℕ) (h : Held) → CanMake (P.region memory.old) s held cpu j inode.now i h directory.now
+    ensures in_order { (l : Layout) (held : Store) (j i : ℕ) (h : Held) → CanMake (P.region memory.old) l held cpu j inode.now i h directory.now
         → FirstIsFirst (P.region memory.old) inode.now.slot 1 (directory.now.slot + 24) (P.region memory.new) }
     // The region as it reads, also after a stop, and each that a stop leaves.
-    ensures moments { (s : Super) (held : Store) (j i : ℕ) (h : Held) → CanMake (P.region memory.old) s held cpu j inode.now i h directory.now
-        → AtAnyMoment P.region P.may_hold memory.old memory.new (BeforeOrMade s held j inode.now i h directory.now) }
+    ensures moments { (l : Layout) (held : Store) (j i : ℕ) (h : Held) → CanMake (P.region memory.old) l held cpu j inode.now i h directory.now
+        → AtAnyMoment P.region P.may_hold memory.old memory.new (BeforeOrMade l held j inode.now i h directory.now) }
 {
     // The region's length is a u64, and fewer than eight bytes stand behind the last word.
     let _length = memory.len();

@@ -1,4 +1,4 @@
-//! Who owns what, and which blocks are free, once an inode came or went. What a log that grew owns is told by nv_held.
+//! Who owns what, and which blocks are free, once an inode came or went. What a log that grew owns is told by nv_mounted.
 
 ghost use Rattle.std.specs.Prelude.{◌≡◌, ◌≢◌, ◌⊎◌, ◌↔◌, ◌<◌, ◌≤◌, ℕ, List, [], ◌∷◌, Some, None};
 ghost use Rattle.std.specs.List.{All, Contains};
@@ -7,9 +7,9 @@ ghost use Rattle.nv_entry.specs.declared.entry.AttrEntry.{AttrEntry};
 ghost use Rattle.nv_entry.specs.declared.entry.Entry.TheVariants.{Attr};
 ghost use Rattle.nv_logpage.specs.declared.found.Placed.{Placed};
 ghost use Rattle.nv_logpage.specs.Reads.{placed};
-ghost use Rattle.nv_held.specs.Held.{Held, Store, with_inode};
-ghost use Rattle.nv_held.specs.Blocks.{IsUnowned, NoneDoubled, OwnsNew};
-ghost use Rattle.nv_held.specs.Grows.{Maps, SameFile, grown};
+ghost use Rattle.nv_mounted.specs.Held.{Held, Store, with_inode};
+ghost use Rattle.nv_mounted.specs.Blocks.{IsUnowned, NoneDoubled, OwnsNew};
+ghost use Rattle.nv_mounted.specs.Grows.{Maps, SameFile, grown};
 ghost use Rattle.nv_commit.specs.Pages.{MapsNothing, SaysNoPage};
 
 /// Entries that say nothing of pages leave a file's blocks. An inode whose log is one attributes entry has none.

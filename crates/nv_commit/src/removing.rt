@@ -2,11 +2,11 @@
 
 ghost use Rattle.std.specs.Prelude.{◌≡◌, ◌+◌, ◌/◌, ◌≤◌, ◌∷◌, ℕ, IfOk, OnOk};
 ghost use Rattle.nv_region.specs.Storing.{AtAnyMoment, StoresAndFences};
-ghost use Rattle.nv_super.specs.declared.superblock.Super.{Super};
+ghost use Rattle.nv_super.specs.Layout.{Layout};
 ghost use Rattle.nv_journal.specs.Pending.{IsEmpty};
 ghost use Rattle.nv_journal.specs.InOrder.{FirstIsFirst};
 ghost use Rattle.nv_logpage.specs.Append.{EndBy, end_of};
-ghost use Rattle.nv_held.specs.Held.{Held, Store};
+ghost use Rattle.nv_mounted.specs.Held.{Held, Store};
 ghost use Rattle.nv_commit.specs.Together.{CanCommit, ShowsIdle};
 ghost use Rattle.nv_commit.specs.Removes.{BeforeOrRemoved, CanClear, CanRemove, RemoveWords, with_removed};
 
@@ -31,16 +31,16 @@ pub fn remove_inode<P: Pmem>(
     requires directory { CanCommit (P.region memory.old) cpu directory.now }
     requires slot { CanClear (P.region memory.old) cpu slot }
     ensures end { IfOk result (λ new. new ≡ end_of directory.now.fresh.now 0 directory.now.tail directory.now.entries.now) }
-    ensures shows { (s : Super) (held : Store) (i j : ℕ) (h : Held) → CanRemove (P.region memory.old) s held cpu i h directory.now j slot
-        → OnOk result (ShowsIdle (P.region memory.new) s (with_removed held i h directory.now j)) }
+    ensures shows { (l : Layout) (held : Store) (i j : ℕ) (h : Held) → CanRemove (P.region memory.old) l held cpu i h directory.now j slot
+        → OnOk result (ShowsIdle (P.region memory.new) l (with_removed held i h directory.now j)) }
     ensures kept { StoresAndFences P.region P.may_hold P.fuse (RemoveWords cpu directory.now slot)
         (λ limit. EndBy (directory.now.tail / 4096 ∷ directory.now.fresh.now) limit × (directory.now.slot + 32 ≤ limit) × (slot + 8 ≤ limit)) memory.old memory.new result }
     // The tail is stored before the valid word.
-    ensures in_order { (s : Super) (held : Store) (i j : ℕ) (h : Held) → CanRemove (P.region memory.old) s held cpu i h directory.now j slot
+    ensures in_order { (l : Layout) (held : Store) (i j : ℕ) (h : Held) → CanRemove (P.region memory.old) l held cpu i h directory.now j slot
         → FirstIsFirst (P.region memory.old) (directory.now.slot + 24) (end_of directory.now.fresh.now 0 directory.now.tail directory.now.entries.now) slot (P.region memory.new) }
     // The region as it reads, also after a stop, and each that a stop leaves.
-    ensures moments { (s : Super) (held : Store) (i j : ℕ) (h : Held) → CanRemove (P.region memory.old) s held cpu i h directory.now j slot
-        → AtAnyMoment P.region P.may_hold memory.old memory.new (BeforeOrRemoved s held i h directory.now j) }
+    ensures moments { (l : Layout) (held : Store) (i j : ℕ) (h : Held) → CanRemove (P.region memory.old) l held cpu i h directory.now j slot
+        → AtAnyMoment P.region P.may_hold memory.old memory.new (BeforeOrRemoved l held i h directory.now j) }
 {
     // The region's length is a u64, and fewer than eight bytes stand behind the last word.
     let _length = memory.len();

@@ -4,12 +4,12 @@ ghost use Rattle.std.specs.Prelude.{◌≡◌, ◌≢◌, ◌<◌, ◌≤◌, �
 ghost use Rattle.nv_super.specs.declared.kind.Kind.TheVariants.{File};
 ghost use Rattle.nv_super.specs.Layout.{Layout};
 ghost use Rattle.nv_entry.specs.declared.entry.Operation.TheVariants.{Remove};
-ghost use Rattle.nv_held.specs.nv_graph.Step.{links_entry, name_entry};
-ghost use Rattle.nv_held.specs.Held.{Held, Store, with_inode};
-ghost use Rattle.nv_held.specs.Blocks.{OwnsNew};
-ghost use Rattle.nv_held.specs.Graph.{node_in};
-ghost use Rattle.nv_held.specs.Grows.{grown};
-ghost use Rattle.nv_held.specs.Mounted.{IsFaultless};
+ghost use Rattle.nv_graph.specs.Step.{links_entry, name_entry};
+ghost use Rattle.nv_mounted.specs.Held.{Held, Store, with_inode};
+ghost use Rattle.nv_mounted.specs.Blocks.{OwnsNew};
+ghost use Rattle.nv_mounted.specs.Graph.{node_in};
+ghost use Rattle.nv_mounted.specs.Grows.{grown};
+ghost use Rattle.nv_mounted.specs.Mounted.{IsFaultless};
 ghost use Rattle.nv_commit.specs.ReplacedNames.{CanGo, CanTakeName, taking_entries};
 
 /// A directory has a name less, and another has a name for its inode that stood for a second one. That one is gone, a file with its

@@ -5,11 +5,11 @@ ghost use Rattle.nv_region.specs.Stops.{NothingPending};
 ghost use Rattle.nv_region.specs.Fuses.{KeepsFuse};
 ghost use Rattle.nv_region.specs.Stored.{StoresOnly};
 ghost use Rattle.nv_region.specs.Storing.{AtAnyMoment, StoresAndFences};
-ghost use Rattle.nv_super.specs.declared.superblock.Super.{Super};
+ghost use Rattle.nv_super.specs.Layout.{Layout};
 ghost use Rattle.nv_journal.specs.Pending.{IsEmpty};
 ghost use Rattle.nv_journal.specs.InOrder.{ThreeInOrder};
 ghost use Rattle.nv_logpage.specs.Append.{CanAppend, EndBy, end_of};
-ghost use Rattle.nv_held.specs.Held.{Held, Store};
+ghost use Rattle.nv_mounted.specs.Held.{Held, Store};
 ghost use Rattle.nv_commit.specs.Together.{CanCommit, ShowsIdle};
 ghost use Rattle.nv_commit.specs.Replaces.{new_tail};
 ghost use Rattle.nv_commit.specs.ThreeLogs.{AppendsThree, BeforeOrThree, CanExtendThree, ThreeTogether, ThreeWords, with_three};
@@ -39,18 +39,18 @@ pub fn extend_three<P: Pmem>(
     ensures ends { IfOk result (λ new. (new.0 ≡ end_of first.now.fresh.now 0 first.now.tail first.now.entries.now)
         × (new.1 ≡ end_of second.now.fresh.now 0 second.now.tail second.now.entries.now)
         × (new.2 ≡ end_of third.now.fresh.now 0 third.now.tail third.now.entries.now)) }
-    ensures shows { (s : Super) (held : Store) (i j k : ℕ) (h g f : Held) → CanExtendThree (P.region memory.old) s held cpu i h first.now j g second.now k f third.now
-        → OnOk result (ShowsIdle (P.region memory.new) s (with_three held i h first.now j g second.now k f third.now)) }
+    ensures shows { (l : Layout) (held : Store) (i j k : ℕ) (h g f : Held) → CanExtendThree (P.region memory.old) l held cpu i h first.now j g second.now k f third.now
+        → OnOk result (ShowsIdle (P.region memory.new) l (with_three held i h first.now j g second.now k f third.now)) }
     ensures kept { StoresAndFences P.region P.may_hold P.fuse (ThreeTogether cpu first.now second.now third.now)
         (λ limit. EndBy (first.now.tail / 4096 ∷ first.now.fresh.now) limit × EndBy (second.now.tail / 4096 ∷ second.now.fresh.now) limit
         × EndBy (third.now.tail / 4096 ∷ third.now.fresh.now) limit × (first.now.slot + 32 ≤ limit) × (second.now.slot + 32 ≤ limit)
         × (third.now.slot + 32 ≤ limit)) memory.old memory.new result }
     // The tails are stored in their order.
-    ensures in_order { (s : Super) (held : Store) (i j k : ℕ) (h g f : Held) → CanExtendThree (P.region memory.old) s held cpu i h first.now j g second.now k f third.now
+    ensures in_order { (l : Layout) (held : Store) (i j k : ℕ) (h g f : Held) → CanExtendThree (P.region memory.old) l held cpu i h first.now j g second.now k f third.now
         → ThreeInOrder (P.region memory.old) (new_tail first.now) (new_tail second.now) (new_tail third.now) (P.region memory.new) }
     // The region as it reads, also after a stop, and each that a stop leaves.
-    ensures moments { (s : Super) (held : Store) (i j k : ℕ) (h g f : Held) → CanExtendThree (P.region memory.old) s held cpu i h first.now j g second.now k f third.now
-        → AtAnyMoment P.region P.may_hold memory.old memory.new (BeforeOrThree s held i h first.now j g second.now k f third.now) }
+    ensures moments { (l : Layout) (held : Store) (i j k : ℕ) (h g f : Held) → CanExtendThree (P.region memory.old) l held cpu i h first.now j g second.now k f third.now
+        → AtAnyMoment P.region P.may_hold memory.old memory.new (BeforeOrThree l held i h first.now j g second.now k f third.now) }
 {
     // The region's length is a u64, and fewer than eight bytes stand behind the last word.
     let _length = memory.len();

@@ -5,11 +5,11 @@ ghost use Rattle.nv_region.specs.Stops.{NothingPending};
 ghost use Rattle.nv_region.specs.Fuses.{KeepsFuse};
 ghost use Rattle.nv_region.specs.Stored.{StoresOnly};
 ghost use Rattle.nv_region.specs.Storing.{AtAnyMoment, StoresAndFences};
-ghost use Rattle.nv_super.specs.declared.superblock.Super.{Super};
+ghost use Rattle.nv_super.specs.Layout.{Layout};
 ghost use Rattle.nv_journal.specs.Pending.{IsEmpty};
 ghost use Rattle.nv_journal.specs.InOrder.{FirstIsFirst};
 ghost use Rattle.nv_logpage.specs.Append.{CanAppend, EndBy, end_of};
-ghost use Rattle.nv_held.specs.Held.{Held, Store};
+ghost use Rattle.nv_mounted.specs.Held.{Held, Store};
 ghost use Rattle.nv_commit.specs.Together.{AppendsBoth, BeforeOrBoth, BothWords, CanCommit, CanExtendTwo, ShowsIdle, TogetherWords, with_logs};
 
 use crate::extending::{TAIL, append_entries};
@@ -46,18 +46,18 @@ pub fn extend_two<P: Pmem>(
     requires first { CanCommit (P.region memory.old) cpu first.now }
     requires second { CanCommit (P.region memory.old) cpu second.now }
     ensures ends { IfOk result (λ new. (new.0 ≡ end_of first.now.fresh.now 0 first.now.tail first.now.entries.now) × (new.1 ≡ end_of second.now.fresh.now 0 second.now.tail second.now.entries.now)) }
-    ensures shows { (s : Super) (held : Store) (i j : ℕ) (h g : Held) → CanExtendTwo (P.region memory.old) s held cpu i h first.now j g second.now
-        → OnOk result (ShowsIdle (P.region memory.new) s (with_logs held i h first.now j g second.now)) }
+    ensures shows { (l : Layout) (held : Store) (i j : ℕ) (h g : Held) → CanExtendTwo (P.region memory.old) l held cpu i h first.now j g second.now
+        → OnOk result (ShowsIdle (P.region memory.new) l (with_logs held i h first.now j g second.now)) }
     ensures kept { StoresAndFences P.region P.may_hold P.fuse (TogetherWords cpu first.now second.now)
         (λ limit. EndBy (first.now.tail / 4096 ∷ first.now.fresh.now) limit × EndBy (second.now.tail / 4096 ∷ second.now.fresh.now) limit
         × (first.now.slot + 32 ≤ limit) × (second.now.slot + 32 ≤ limit)) memory.old memory.new result }
     // The first tail is stored first.
-    ensures in_order { (s : Super) (held : Store) (i j : ℕ) (h g : Held) → CanExtendTwo (P.region memory.old) s held cpu i h first.now j g second.now
+    ensures in_order { (l : Layout) (held : Store) (i j : ℕ) (h g : Held) → CanExtendTwo (P.region memory.old) l held cpu i h first.now j g second.now
         → FirstIsFirst (P.region memory.old) (first.now.slot + 24) (end_of first.now.fresh.now 0 first.now.tail first.now.entries.now) (second.now.slot + 24) (P.region memory.new) }
     // The region as it reads, also after a stop, and each that a stop leaves: rolled back, it shows what was held, or that
     // with both logs grown. Its journals have no faults.
-    ensures moments { (s : Super) (held : Store) (i j : ℕ) (h g : Held) → CanExtendTwo (P.region memory.old) s held cpu i h first.now j g second.now
-        → AtAnyMoment P.region P.may_hold memory.old memory.new (BeforeOrBoth s held i h first.now j g second.now) }
+    ensures moments { (l : Layout) (held : Store) (i j : ℕ) (h g : Held) → CanExtendTwo (P.region memory.old) l held cpu i h first.now j g second.now
+        → AtAnyMoment P.region P.may_hold memory.old memory.new (BeforeOrBoth l held i h first.now j g second.now) }
 {
     // The region's length is a u64, and fewer than eight bytes stand behind the last word.
     let _length = memory.len();

@@ -3,7 +3,7 @@ use Rattle.std.proofs.Common.{◌≡◌, ◌∙◌, ℕ, inl, inr, List, length,
 use Rattle.std.specs.Prelude.{IfOk, codes}
 use Rattle.nv_region.specs.Region.{Region, region_of}
 use Rattle.nv_region.specs.ImageState.{ImageState}
-use Rattle.nv_outcome.specs.nv_journal.Undo.{undone}
+use Rattle.nv_journal.specs.Undo.{undone}
 use Rattle.nv_outcome.specs.Answer.{outcome_of}
 use Rattle.nv_outcome.specs.Outcome.{Outcome, IsOutcome}
 use Rattle.nv_outcome.specs.declared.recovered.Recovered.{Recovered}
@@ -12,8 +12,8 @@ use Rattle.nv_paths.specs.Seen.{tree_of}
 use Rattle.nv_tree.specs.Tree.{Tree}
 use Rattle.nv_text.specs.Refusals.{refusal_name}
 use Rattle.nv_text.specs.declared.refusals.Refusal as texts
-use Rattle.nv_checking.specs.Recovering.{IsRecovered, IsSuperRefused}
-use Rattle.nv_checking.specs.declared.imaging.Image.TheVariants as images
+use Rattle.nv_image_check.specs.Recovering.{IsRecovered, IsSuperRefused}
+use Rattle.nv_image_check.specs.declared.imaging.Image.TheVariants as images
 use Rattle.nv_difference.specs.Difference.{IsDifference}
 use Rattle.nv_comparing.specs.Shown.{AreHeld}
 use Rattle.nv_comparing.specs.Comparing.{IsImagesDifference, IsNamedRefusal, IsNamedSuperRefusal, status_of}

@@ -5,7 +5,7 @@ use Rattle.nv_super.specs.declared.superblock.SuperFault.{SuperFault}
 use Rattle.nv_super.specs.Super.{IsRefused}
 use Rattle.nv_super.specs.FaultText.{super_fault_name}
 use Rattle.nv_outcome.specs.Outcome.{Outcome, IsOutcome}
-use Rattle.nv_outcome.specs.nv_journal.Undo.{undone}
+use Rattle.nv_journal.specs.Undo.{undone}
 use Rattle.nv_paths.specs.Seen.{tree_of}
 use Rattle.nv_tree.specs.Tree.{Tree}
 use Rattle.nv_text.specs.Answers.{refused_line}

@@ -6,16 +6,15 @@ ghost use Rattle.std.specs.Prelude.{◌≡◌, IfOk, string_bytes};
 ghost use Rattle.nv_region.specs.Region.{Region, region_of};
 ghost use Rattle.nv_outcome.specs.Answer.{outcome_of};
 ghost use Rattle.nv_outcome.specs.Outcome.{IsOutcome};
-ghost use Rattle.nv_outcome.specs.nv_journal.Undo.{undone};
+ghost use Rattle.nv_journal.specs.Undo.{undone};
 ghost use Rattle.nv_text.specs.Refusals.{refusal_name};
-ghost use Rattle.nv_super.specs.Layout.{HasAreas, inode_limit};
 ghost use Rattle.nv_difference.specs.Difference.{IsDifference};
-ghost use Rattle.nv_comparing.specs.Shown.{AreBelow, AreHeld};
+ghost use Rattle.nv_comparing.specs.Shown.{AreHeld};
 ghost use Rattle.nv_comparing.specs.Comparing.{IsImagesDifference, IsNamedRefusal, status_of};
 
 use crate::shown::shown;
-use nv_checking::{Image, recover_image};
 use nv_difference::{Contents, difference_text};
+use nv_image_check::{Image, recover_image};
 use nv_region::ImageRegion;
 use nv_report::{Recovered, refused_text};
 use nv_text::Refusal;
@@ -61,17 +60,15 @@ fn look_beside(
     found: &Recovered,
     b: &[u8],
 ) -> Result<Look, AllocError>
-    requires areas { HasAreas found.now.sup }
-    requires below { AreBelow found.now.rows.items (inode_limit found.now.sup) }
-    requires held { AreHeld memory.now.region found.now.rows.items }
+    requires { AreHeld memory.now.region found.now.rows.items }
     ensures { (R : Region) → IsOutcome R (outcome_of found.now) → memory.now.region ≡ undone found.now.sup R
         → IfOk result (λ look. IsImagesDifference R (region_of b.now) (string_bytes look.text) look.compared) }
 {
     let image = recover_image(alloc, b)?;
     match image {
         Image::Recovered(other, others) => {
-            let first = shown(memory, &found.rows, &found.sup);
-            let second = shown(&other, &others.rows, &others.sup);
+            let first = shown(memory, &found.rows);
+            let second = shown(&other, &others.rows);
             let faults = (found.faults.len(), others.faults.len());
             compared_look(alloc, &first, &second, faults)
         }

@@ -2,49 +2,40 @@
 
 ghost use Rattle.std.specs.Prelude.{◌≡◌};
 ghost use Rattle.nv_paths.specs.Seen.{tree_of};
-ghost use Rattle.nv_super.specs.Layout.{HasAreas, inode_limit};
-ghost use Rattle.nv_comparing.specs.Shown.{AreBelow, AreHeld};
+ghost use Rattle.nv_comparing.specs.Shown.{AreHeld};
 
+use nv_archive::inode_numbers;
 use nv_bytes::fill_bytes;
 use nv_difference::{Contents, Numbers};
 use nv_members::Inodes;
 use nv_names::Named;
 use nv_region::Pmem;
 use nv_rows::Rows;
-use nv_super::{Kind, Super};
-use std::alloc::AllocError;
+use nv_super::Kind;
+use std::alloc::{AllocError, Global};
 
 /// Rows, and the memory where the blocks of their files lie.
 #[derive(Drop)]
 pub(crate) struct HeldRows<'a, P: Pmem> {
     memory: &'a P,
     rows: &'a Rows,
-    // A number above those of all rows.
-    limit: usize,
-    ghost below: { AreBelow rows.now.items limit },
     ghost held: { AreHeld (P.region memory.now) rows.now.items },
 }
 
-/// The rows of a region with this superblock as what is compared.
-pub(crate) fn shown<'a, P: Pmem>(memory: &'a P, rows: &'a Rows, sup: &Super) -> HeldRows<'a, P>
-    requires areas { HasAreas sup.now }
-    requires below { AreBelow rows.now.items (inode_limit sup.now) }
-    requires held { AreHeld (P.region memory.now) rows.now.items }
+/// The rows of a region as what is compared.
+pub(crate) fn shown<'a, P: Pmem>(memory: &'a P, rows: &'a Rows) -> HeldRows<'a, P>
+    requires { AreHeld (P.region memory.now) rows.now.items }
     ensures memory { result.memory.now ≡ memory.entry.now }
     ensures rows { result.rows.now ≡ rows.entry.now }
 {
-    HeldRows {
-        memory,
-        rows,
-        limit: sup.inode_limit() as usize,
-    }
+    HeldRows { memory, rows }
 }
 
 impl<P: Pmem> Inodes for HeldRows<'_, P> {
     ghost tree = { λ s. tree_of (P.region s.memory.now) s.rows.now.items };
 
-    fn limit(&self) -> usize {
-        self.limit
+    fn numbers(&self, alloc: Global) -> Result<Vec<u64>, AllocError> {
+        inode_numbers(alloc, self.rows)
     }
 
     fn kind_of(&self, inode: u64) -> Option<Kind> {

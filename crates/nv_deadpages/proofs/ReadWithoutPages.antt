@@ -12,9 +12,8 @@ use Rattle.nv_logpage.specs.declared.found.Placed.{Placed}
 use Rattle.nv_logpage.specs.declared.found.Finding.{Finding}
 use Rattle.nv_logpage.specs.declared.found.Finding.TheVariants.{Entry, End}
 use Rattle.nv_logpage.specs.Reads.{Reads}
-use Rattle.nv_logpage.specs.Progress.{Progress, at_head, Leads, Continues}
+use Rattle.nv_logpage.specs.Progress.{Progress, Leads, Continues}
 use Rattle.nv_logpage.specs.Unlinked.{without_page}
-use Rattle.nv_logpage.proofs.Progress.{leads_start}
 use Rattle.nv_deadpages.specs.InTurn.{IsReadSoFarWithoutPages, IsReadWithoutPages, without_pages}
 use Rattle.nv_scan.specs.Fold.{Holds, Takes}
 use Rattle.nv_scan.specs.declared.fold.Fold.{Fold}
@@ -31,9 +30,6 @@ without_more out es x other = filter-append (λ (y : Placed). not (list_any (eqb
 
 pub without_less : (out : List ℕ) (es : List Placed) (x : Placed) → list_any (eqb (x.at / 4096)) out ≡ true → without_pages out (es ++ x ∷ []) ≡ without_pages out es
 without_less out es x same = filter-append (λ (y : Placed). not (list_any (eqb (y.at / 4096)) out)) es (x ∷ []) ∙ ap (λ (ys : List Placed). without_pages out es ++ ys) (one_more out x true same) ∙ append-nil (without_pages out es)
-
-pub pages_none : (R : Region) (s : Super) (row : Row) (created : ℕ) (out : List ℕ) (fold : Fold) → Holds s row.kind row.inode created [] fold → IsReadSoFarWithoutPages R row created out (at_head s row.head row.tail) fold
-pages_none R s row created out fold h = record { entries = []; leads = leads_start R s row.head row.tail; holds = h }
 
 module _ (R : Region) (row : Row) (created : ℕ) (out : List ℕ) (s : Super) (r r' : Progress) where
   -- after an entry that stands in another page, which is taken

@@ -48,9 +48,6 @@ moved m n xs same are = record {
 pub extents_differ : (m n : Pages) (xs ys : List Extent) → AreExtents m xs → AreExtents n ys → ((p : ℕ) → block_at m p ≡ block_at n p) → xs ≡ ys
 extents_differ m n xs ys first second same = AreExtents-only n xs ys (moved m n xs same first) second
 
-pub extent_is : (x y : Extent) → x.page ≡ y.page → x.count ≡ y.count → x.block ≡ y.block → x ≡ y
-extent_is x y page count block t = record { page = page t; count = count t; block = block t }
-
 -- ---- name indexes
 
 -- the second index has the name of this line of a listing of the first, with the same inode and place

@@ -25,10 +25,6 @@ use Rattle.nv_scan.proofs.Words.{word-more}
 
 -- ---- one entry
 
--- an entry that isn't good changes nothing
-pub stamps_bad : (s : Super) (kind : Kind) (x : Placed) (stamps : Runs) → is_good s kind x.entry ≡ false → Stamps s kind x stamps stamps
-stamps_bad s kind x stamps bad p v last here before = ap (λ (t : Bool). word_after t (page_saying p x) last) bad ∙ before here
-
 by_said : (run cut test good : Bool) (page v b : ℕ) (Old : Type 0) (last : Option ℕ) → cut ≡ test → good ≡ true → MatchBool (run || cut) (v / 262144 ≡ page) Old → (Old → last ≡ Some (v / 262144))
     → word_after good (option_map (λ (o : Option ℕ). Some page) (cond run (Some (Some b)) (cond test (Some None) None))) last ≡ Some (v / 262144)
 by_said true cut test good page v b Old last same is h before = rw is (ap Some (sym h))
@@ -50,13 +46,6 @@ stamps_cut s kind at page past e old new here good tests h p v last is before =
     by_said false (nat_le past p) (nat_le e.size (p * 4096)) (is_good s kind (entries.Attr e)) (at / 4096) v 0 (block_by old p ≡ Some v) last (tests p) good
     (subst (λ (t : Bool). MatchBool (t || nat_le past p) (v / 262144 ≡ at / 4096) (block_by old p ≡ Some v)) (no_run p)
     (subst (λ (n : ℕ). MatchBool (in_run 0 0 p || nat_le past p) (v / 262144 ≡ n) (block_by old p ≡ Some v)) (sym here) (h p v is))) before
-
--- an entry that says nothing of pages
-pub stamps_other : (s : Super) (kind : Kind) (x : Placed) (stamps : Runs) → ((p : ℕ) → page_saying p x ≡ None) → Stamps s kind x stamps stamps
-stamps_other s kind x stamps none p v last here before = ap (λ (o : Option (Option ℕ)). word_after (is_good s kind x.entry) o last) (none p) ∙ either (is_good s kind x.entry) ∙ before here where
-  either : (t : Bool) → word_after t None last ≡ last
-  either true = refl
-  either false = refl
 
 -- ---- the log
 

@@ -1,6 +1,7 @@
 -- The pages of a log without whose entries a page of the file would map elsewhere.
 use Rattle.std.specs.Prelude.{◌≡◌, ◌⊎◌, ◌/◌, ℕ, List, Option, Some}
 use Rattle.std.specs.List.{Contains}
+use Rattle.nv_radix.specs.declared.TheConstants.{MAX_FILE_PAGES}
 use Rattle.nv_region.specs.Region.{Region}
 use Rattle.nv_super.specs.declared.superblock.Super.{Super}
 use Rattle.nv_super.specs.declared.kind.Kind.{Kind}
@@ -24,7 +25,7 @@ pub record HasChange (now : Runs) (stamps index : Pages) (page : ℕ) : Type 0 w
   pub at : ℕ
   pub stamp : ℕ
   pub stamped : block_at stamps at ≡ Some stamp
-  pub by : stamp / 262144 ≡ page
+  pub by : stamp / MAX_FILE_PAGES ≡ page
   pub other : block_by now at ≡ block_at index at → ⊥
 
 -- A page of the file has the stamp of this log page. If that is the last to say something of it, the page of the file maps
@@ -33,7 +34,7 @@ pub record Changes (s : Super) (kind : Kind) (es : List Placed) (stamps index : 
   pub at : ℕ
   pub stamp : ℕ
   pub stamped : block_at stamps at ≡ Some stamp
-  pub by : stamp / 262144 ≡ page
+  pub by : stamp / MAX_FILE_PAGES ≡ page
   pub other : said_last_in s kind es at ≡ Some page → block_of (good_entries s kind (without_page page es)) at ≡ block_at index at → ⊥
 
 -- Each of these pages changes a page of the file by the entries of the whole log.
@@ -48,7 +49,7 @@ pub record ChangesSoFar (s : Super) (kind : Kind) (es : List Placed) (stamps ind
   pub at : ℕ
   pub stamp : ℕ
   pub stamped : block_at stamps at ≡ Some stamp
-  pub by : stamp / 262144 ≡ page
+  pub by : stamp / MAX_FILE_PAGES ≡ page
   pub read : Contains reader.pages page
   pub other : (page ≡ reader.place / 4096) ⊎ (said_last_in s kind es at ≡ Some page) → block_of (good_entries s kind (without_page page es)) at ≡ block_at index at → ⊥
 

@@ -1,6 +1,7 @@
 -- The page of a log that was the last to say something of a file's page.
 use Rattle.std.specs.Prelude.{◌≡◌, ◌/◌, ◌||◌, ℕ, nat_le, List, Option, Some, None, MatchBool}
 use Rattle.std.specs.Option.{option_map}
+use Rattle.nv_radix.specs.declared.TheConstants.{MAX_FILE_PAGES}
 use Rattle.nv_region.specs.Region.{Region}
 use Rattle.nv_super.specs.declared.superblock.Super.{Super}
 use Rattle.nv_super.specs.declared.kind.Kind.{Kind}
@@ -28,16 +29,16 @@ said_last_in s kind es p = last_word (page_saying p) None (good_entries s kind e
 -- A stamp of a file's page is a number that tells the log page that said something of it last. Pages without one may be told
 -- of too.
 abbrev pub AreStamps : Super → Kind → List Placed → Runs → Type 0
-AreStamps s kind es stamps = (p v : ℕ) → block_by stamps p ≡ Some v → said_last_in s kind es p ≡ Some (v / 262144)
+AreStamps s kind es stamps = (p v : ℕ) → block_by stamps p ≡ Some v → said_last_in s kind es p ≡ Some (v / MAX_FILE_PAGES)
 
 -- a run of pages and those from one on have stamps of one log page, or none; the others keep theirs
 abbrev pub Stamped : ℕ → ℕ → ℕ → ℕ → Runs → Runs → Type 0
-Stamped page past offset count old new = (p v : ℕ) → block_by new p ≡ Some v → MatchBool (in_run offset count p || nat_le past p) (v / 262144 ≡ page) (block_by old p ≡ Some v)
+Stamped page past offset count old new = (p v : ℕ) → block_by new p ≡ Some v → MatchBool (in_run offset count p || nat_le past p) (v / MAX_FILE_PAGES ≡ page) (block_by old p ≡ Some v)
 
 -- what one entry makes of stamps: those that told of the entries before it tell of it too
 abbrev pub Stamps : Super → Kind → Placed → Runs → Runs → Type 0
-Stamps s kind x old new = (p v : ℕ) (last : Option ℕ) → block_by new p ≡ Some v → (block_by old p ≡ Some v → last ≡ Some (v / 262144))
-    → word_after (is_good s kind x.entry) (page_saying p x) last ≡ Some (v / 262144)
+Stamps s kind x old new = (p v : ℕ) (last : Option ℕ) → block_by new p ≡ Some v → (block_by old p ≡ Some v → last ≡ Some (v / MAX_FILE_PAGES))
+    → word_after (is_good s kind x.entry) (page_saying p x) last ≡ Some (v / MAX_FILE_PAGES)
 
 -- The stamps tell of the entries of the whole log.
 pub record AreStampsOf (R : Region) (s : Super) (row : Row) (stamps : Runs) (pages : List ℕ) (fault : Option LogEnd) : Type 0 where

@@ -6,6 +6,7 @@
 
 ghost use Rattle.std.specs.Prelude.{◌≡◌, ◌⊎◌, ◌≤◌, ◌/◌, ℕ, length, [], true, IfOk, OnOk, IsTrue, Some};
 ghost use Rattle.std.specs.List.{Contains};
+ghost use Rattle.nv_radix.specs.declared.TheConstants.{MAX_FILE_PAGES};
 ghost use Rattle.nv_region.specs.Region.{HasBlocks};
 ghost use Rattle.nv_super.specs.Layout.{HasAreas};
 ghost use Rattle.nv_inode.specs.Slot.{is_right_log};
@@ -213,7 +214,7 @@ fn has_change_in(
 
 /// Whether a page of the file has the stamp of a page of the log.
 fn is_stamped(stamps: &FileIndex, page: u64, at: u64) -> bool
-    ensures { IsTrue result → (v : ℕ) × (block_at stamps.now at ≡ Some v) × (v / 262144 ≡ page) }
+    ensures { IsTrue result → (v : ℕ) × (block_at stamps.now at ≡ Some v) × (v / MAX_FILE_PAGES ≡ page) }
 {
     match stamps.get(at) {
         Some(stamp) => stamp / MAX_FILE_PAGES == page,

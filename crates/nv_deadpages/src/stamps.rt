@@ -2,6 +2,7 @@
 //! of pages with other stamps is said again behind it.
 
 ghost use Rattle.std.specs.Prelude.{◌≡◌, ◌+◌, ◌/◌, ◌^◌, ◌<◌, ◌≤◌, ℕ, None, IfOk, OnOk};
+ghost use Rattle.nv_radix.specs.declared.TheConstants.{MAX_FILE_PAGES};
 ghost use Rattle.nv_region.specs.Region.{HasBlocks};
 ghost use Rattle.nv_super.specs.Layout.{HasAreas};
 ghost use Rattle.nv_logpage.specs.Light.{placed_in};
@@ -60,8 +61,8 @@ fn stamp_entry<P: Pmem>(
     requires areas { HasAreas sup.now }
     requires page { placed.now.at / 4096 ≡ page }
     requires inside { page < sup.now.blocks }
-    requires end { end.old ≤ 262144 }
-    ensures end { end.new ≤ 262144 }
+    requires end { end.old ≤ MAX_FILE_PAGES }
+    ensures end { end.new ≤ MAX_FILE_PAGES }
     ensures stamps { OnOk result (Stamps sup.now kind (placed_in (P.region _memory.now) placed.now) stamps.old stamps.new) }
 {
     match &placed.entry {
@@ -84,8 +85,8 @@ fn stamp_write(
     requires areas { HasAreas sup.now }
     requires page { _at / 4096 ≡ page }
     requires inside { page < sup.now.blocks }
-    requires end { end.old ≤ 262144 }
-    ensures end { end.new ≤ 262144 }
+    requires end { end.old ≤ MAX_FILE_PAGES }
+    ensures end { end.new ≤ MAX_FILE_PAGES }
     ensures stamps { OnOk result (Stamps sup.now kind (placed _at (Entry.Write e.now)) stamps.old stamps.new) }
 {
     match check_write(sup, kind, e) {
@@ -114,8 +115,8 @@ fn stamp_cut(
     requires areas { HasAreas sup.now }
     requires page { _at / 4096 ≡ page }
     requires inside { page < sup.now.blocks }
-    requires end { end.old ≤ 262144 }
-    ensures end { end.new ≤ 262144 }
+    requires end { end.old ≤ MAX_FILE_PAGES }
+    ensures end { end.new ≤ MAX_FILE_PAGES }
     ensures stamps { OnOk result (Stamps sup.now kind (placed _at (Entry.Attr e.now)) stamps.old stamps.new) }
 {
     match check_bare(sup, kind, &LightEntry::Attr(*e)) {
@@ -134,9 +135,9 @@ fn stamp(
     end: &mut u64,
 ) -> Result<(), AllocError>
     requires page { page < 2 ^ 32 }
-    requires run { offset + count ≤ 262144 }
-    requires end { end.old ≤ 262144 }
-    ensures end { end.new ≤ 262144 }
+    requires run { offset + count ≤ MAX_FILE_PAGES }
+    requires end { end.old ≤ MAX_FILE_PAGES }
+    ensures end { end.new ≤ MAX_FILE_PAGES }
     ensures stamps { OnOk result (Stamped page past offset count stamps.old stamps.new) }
 {
     let first = page * MAX_FILE_PAGES;

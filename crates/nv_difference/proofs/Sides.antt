@@ -4,7 +4,7 @@ use Rattle.std.specs.Option.{option_map, option_and_then}
 use Rattle.nv_super.specs.declared.kind.Kind.{Kind}
 use Rattle.nv_super.specs.declared.kind.Kind.TheVariants.{File, Directory}
 use Rattle.nv_tree.specs.Tree.{Node, Tree}
-use Rattle.nv_difference.specs.Bytes.{AreSameBelow, IsFileOf, PartBelow}
+use Rattle.nv_difference.specs.Bytes.{AreSameBelow, PartBelow}
 use Rattle.nv_difference.specs.Inodes.{IsBytesText, IsContentText, IsInodeText, IsShown, IsSide, numbers_of}
 use Rattle.nv_difference.specs.Lines.{bytes_line, kinds_line, numbers_text, only_a_line, only_b_line}
 use Rattle.nv_difference.specs.Texts.{Adds}
@@ -12,11 +12,6 @@ use Rattle.nv_difference.specs.declared.contents.Numbers.{Numbers}
 use Rattle.nv_difference.specs.declared.inodes.Side.{Side}
 
 -- ---- numbers
-
--- no numbers, no inode
-pub none_shown : (o : Option Node) → option_map numbers_of o ≡ None → o ≡ None
-none_shown None is = refl
-none_shown (Some node) is = absurd (cc)
 
 -- the inode of some numbers
 pub node_shown : (o : Option Node) (numbers : Numbers) → option_map numbers_of o ≡ Some numbers → (node : Node) × (o ≡ Some node) × (numbers_of node ≡ numbers)
@@ -26,12 +21,6 @@ node_shown (Some node) numbers is = (node, refl, (let same : Some (numbers_of no
 -- the numbers of a node that is shown
 pub its_numbers : (t : Tree) (side : Side) (node : Node) → IsShown t side → t side.inode ≡ Some node → numbers_of node ≡ side.numbers
 its_numbers t side node is there = (let same : Some (numbers_of node) ≡ Some side.numbers = ap (option_map numbers_of) (sym there) ∙ is in cc)
-
--- a file has so many bytes
-pub file_of : (t : Tree) (side : Side) → IsShown t side → side.numbers.kind ≡ File → (end : ℕ) → end ≤ side.numbers.size → IsFileOf t side.inode end
-file_of t side is kind end within =
-    let found = node_shown (t side.inode) side.numbers is in
-    (found.0, found.1, ap (λ (n : Numbers). n.kind) found.2 ∙ kind, subst (λ (n : Numbers). end ≤ n.size) (sym found.2) within)
 
 -- ---- two inodes, or one
 

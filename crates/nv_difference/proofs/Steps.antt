@@ -1,5 +1,5 @@
 -- One step of the way through two trees.
-use Rattle.std.proofs.Common.{◌≡◌, ◌≢◌, ◌∙◌, ◌<◌, ℕ, Bool, true, false, List, [], ◌∷◌, ◌++◌, map, reverse, flat_map, ◌&&◌, Option, Some, None, length, replicate, set, refl, sym, ap, subst, append-nil, append_assoc, true≢false, inl, inr}
+use Rattle.std.proofs.Common.{◌≡◌, ◌≢◌, ◌∙◌, ℕ, Bool, true, false, List, [], ◌∷◌, ◌++◌, map, reverse, flat_map, ◌&&◌, Option, Some, None, length, refl, sym, ap, subst, append-nil, append_assoc, true≢false, inl, inr}
 use Rattle.std.specs.Prelude.{nat_le}
 use Rattle.std.specs.List.{Contains}
 use Rattle.std.proofs.lemmas.List.{map-append, reverse-append, reverse-reverse}
@@ -8,14 +8,12 @@ use Rattle.nv_super.proofs.Members.{none_in}
 use Rattle.nv_super.proofs.Rising.{Contains-cons, Contains-head, Contains-tail}
 use Rattle.nv_tree.specs.Tree.{Tree, name_in}
 use Rattle.nv_tree.specs.Refusals.{is_directory_at}
-use Rattle.nv_members.specs.Members.{IsUsed}
 use Rattle.nv_folders.specs.Folders.{path_in}
-use Rattle.nv_folders.proofs.Steps.{in_use}
 use Rattle.nv_difference.specs.Pairs.{AreVisited, none, again, passed, compared, ArePairsBelow, Both, are_new, both_of, pair_at, pairs_of, partner_of}
-use Rattle.nv_difference.specs.Walk.{AreDirectories, AreTables, IsReady, LeadsOn, IsVisitable, AreVisitable, compared_in, seen_in, visit_of, waiting}
+use Rattle.nv_difference.specs.Walk.{AreDirectories, AreTables, IsReady, Known, LeadsOn, IsVisitable, AreVisitable, compared_in, seen_in, visit_of, waiting}
 use Rattle.nv_difference.specs.declared.pair.Pair.{Pair}
 use Rattle.nv_difference.specs.declared.pair.Visit.{Visit}
-use Rattle.nv_difference.proofs.Tables.{none_compared, with_both}
+use Rattle.nv_difference.proofs.Tables.{none_compared}
 
 -- ---- what waits
 
@@ -89,43 +87,36 @@ module _ (t u : Tree) where
 
   -- ---- what is left is ready
 
-  module _ (visits : List Visit) (pending : List Pair) (next : Pair) (partners owners : List (Option ℕ)) (r : IsReady t u visits (pending ++ next ∷ []) partners owners) where
+  module _ (visits : List Visit) (pending : List Pair) (next : Pair) (partners owners : Known) (r : IsReady t u visits (pending ++ next ∷ []) partners owners) where
     left_are : AreDirectories t u (waiting pending)
     left_are x c = r.directories x (subst (λ (w : List Both). Contains w x) (sym (on_top pending next)) (Contains-tail (both_of next) (waiting pending) x c))
 
     pub top_is : (is_directory_at t next.a ≡ true) × (is_directory_at u next.b ≡ true)
     top_is = r.directories (both_of next) (subst (λ (w : List Both). Contains w (both_of next)) (sym (on_top pending next)) (Contains-head (both_of next) (waiting pending)))
 
-    pub first_within : next.a < length partners
-    first_within = r.tables.first next.a (in_use t next.a top_is.0)
-
-    pub second_within : next.b < length owners
-    second_within = r.tables.second next.b (in_use u next.b top_is.1)
-
     pub less_ready : IsReady t u visits pending partners owners
     less_ready = record { tables = r.tables; directories = left_are }
 
     pub passed_ready : IsReady t u (visits ++ record { pair = next; compared = false } ∷ []) pending partners owners
     passed_ready = record {
-      tables = subst (λ (seen : List Both). AreTables t u seen partners owners) (sym (seen_passed visits next)) r.tables;
+      tables = subst (λ (seen : List Both). AreTables seen partners owners) (sym (seen_passed visits next)) r.tables;
       directories = left_are;
     }
 
-    pub compared_ready : (below : List Pair) → ArePairsBelow t u (both_of next) (map both_of below)
-        → IsReady t u (visits ++ record { pair = next; compared = true } ∷ []) (pending ++ reverse below) (set partners next.a (Some next.b)) (set owners next.b (Some next.a))
-    compared_ready below are = record {
-      tables = subst (λ (seen : List Both). AreTables t u seen (set partners next.a (Some next.b)) (set owners next.b (Some next.a))) (sym (seen_compared visits next))
-          (with_both t u (seen_in visits) (both_of next) partners owners r.tables first_within second_within);
+    pub compared_ready : (below : List Pair) (more others : Known) → ArePairsBelow t u (both_of next) (map both_of below) → AreTables (both_of next ∷ seen_in visits) more others
+        → IsReady t u (visits ++ record { pair = next; compared = true } ∷ []) (pending ++ reverse below) more others
+    compared_ready below more others are tables = record {
+      tables = subst (λ (seen : List Both). AreTables seen more others) (sym (seen_compared visits next)) tables;
       directories = λ x c. elim (Contains-append_cases (map both_of below) (waiting pending) x (subst (λ (w : List Both). Contains w x) (in_front pending below) c)) [
         | inl here ↦ below_are (both_of next) (map both_of below) are x here
         | inr there ↦ left_are x there
       ];
     }
 
-  pub start_ready : (visits : List Visit) (pending : List Pair) (n m : ℕ) → visits ≡ [] → ((i : ℕ) → IsUsed t i → i < n) → ((j : ℕ) → IsUsed u j → j < m) → AreDirectories t u (waiting pending)
-      → IsReady t u visits pending (replicate n None) (replicate m None)
-  start_ready visits pending n m none_yet first second are = record {
-    tables = subst (λ (l : List Visit). AreTables t u (seen_in l) (replicate n None) (replicate m None)) (sym none_yet) (none_compared t u n m first second);
+  pub start_ready : (visits : List Visit) (pending : List Pair) (partners owners : Known) → visits ≡ [] → ((i : ℕ) → partners i ≡ None) → ((j : ℕ) → owners j ≡ None) → AreDirectories t u (waiting pending)
+      → IsReady t u visits pending partners owners
+  start_ready visits pending partners owners none_yet first second are = record {
+    tables = subst (λ (l : List Visit). AreTables (seen_in l) partners owners) (sym none_yet) (none_compared partners owners first second);
     directories = are;
   }
 

@@ -1,9 +1,8 @@
 -- What is known on the way through two trees. No public clause cites this module.
-use Rattle.std.specs.Prelude.{◌≡◌, ℕ, ◌<◌, Bool, true, if◌then◌else◌, List, [], ◌∷◌, ◌++◌, length, map, reverse, Option, None, slice_index_or}
+use Rattle.std.specs.Prelude.{◌≡◌, ℕ, Bool, true, if◌then◌else◌, List, [], ◌∷◌, ◌++◌, map, reverse, Option}
 use Rattle.std.specs.List.{Contains}
 use Rattle.nv_tree.specs.Tree.{Tree}
 use Rattle.nv_tree.specs.Refusals.{is_directory_at}
-use Rattle.nv_members.specs.Members.{IsUsed}
 use Rattle.nv_difference.specs.Pairs.{AreVisited, Both, both_of, owner_of, partner_of}
 use Rattle.nv_difference.specs.declared.pair.Pair.{Pair}
 use Rattle.nv_difference.specs.declared.pair.Visit.{Visit}
@@ -25,20 +24,22 @@ compared_in (v ∷ visits) = if v.1 then v.0 ∷ compared_in visits else compare
 abbrev pub seen_in : List Visit → List Both
 seen_in visits = compared_in (reverse (map visit_of visits))
 
--- The tables tell of each directory what it was compared with, and the numbers of all inodes in use stand in them.
-pub record AreTables (t u : Tree) (seen : List Both) (partners owners : List (Option ℕ)) : Type 0 where
-  pub partner : (i : ℕ) → slice_index_or partners i None ≡ partner_of seen i
-  pub owner : (j : ℕ) → slice_index_or owners j None ≡ owner_of seen j
-  pub first : (i : ℕ) → IsUsed t i → i < length partners
-  pub second : (j : ℕ) → IsUsed u j → j < length owners
+-- what a directory of one tree was compared with, by its number
+abbrev pub Known : Type 0
+Known = ℕ → Option ℕ
+
+-- The tables tell of each directory what it was compared with.
+pub record AreTables (seen : List Both) (partners owners : Known) : Type 0 where
+  pub partner : (i : ℕ) → partners i ≡ partner_of seen i
+  pub owner : (j : ℕ) → owners j ≡ owner_of seen j
 
 -- all that waits are directories
 abbrev pub AreDirectories : Tree → Tree → List Both → Type 0
 AreDirectories t u pending = (x : Both) → Contains pending x → (is_directory_at t x.1 ≡ true) × (is_directory_at u x.2 ≡ true)
 
 -- The tables are right, and all that waits are directories.
-pub record IsReady (t u : Tree) (visits : List Visit) (pending : List Pair) (partners owners : List (Option ℕ)) : Type 0 where
-  pub tables : AreTables t u (seen_in visits) partners owners
+pub record IsReady (t u : Tree) (visits : List Visit) (pending : List Pair) (partners owners : Known) : Type 0 where
+  pub tables : AreTables (seen_in visits) partners owners
   pub directories : AreDirectories t u (waiting pending)
 
 -- From one state to a later one some pairs were visited, and what the later one leads to stands behind them.

@@ -1,7 +1,9 @@
 //! The way through the pairs of directories of two trees, with what waits to be looked at on a stack: what a pair leads to comes
 //! before what waited before it.
 
-ghost use Rattle.std.specs.Prelude.{◌≡◌, ◌↔◌, ◌&&◌, ◌++◌, ◌∷◌, [], IsTrue, IfOk, OnOk, Some, None, is_none, true, map, replicate, slice_index_or};
+ghost use Rattle.std.specs.Prelude.{◌≡◌, ◌↔◌, ◌&&◌, ◌++◌, ◌∷◌, [], ℕ, IsTrue, IfOk, OnOk, Some, None, is_none, true, map};
+ghost use Rattle.std.specs.BTreeMap.{get};
+ghost use Rattle.std.specs.Ordering.{nat_cmp};
 ghost use Rattle.nv_difference.specs.Pairs.{AreVisited, are_new, both_of};
 ghost use Rattle.nv_difference.specs.Walk.{AreDirectories, IsReady, LeadsOn, seen_in, visit_of, waiting};
 
@@ -9,35 +11,31 @@ use crate::below::pairs_below;
 use crate::contents::Contents;
 use crate::pair::{Pair, Visit};
 use std::alloc::{AllocError, Global};
+use std::collections::BTreeMap;
 
 // The pairs so far, those that wait, and of each directory of either tree what it was compared with.
 #[derive(Drop)]
 struct Walk {
     visits: Vec<Visit>,
     pending: Vec<Pair>,
-    partners: Vec<Option<u64>>,
-    owners: Vec<Option<u64>>,
+    partners: BTreeMap<u64, u64>,
+    owners: BTreeMap<u64, u64>,
 }
 
 impl Walk {
-    // Some pairs wait, and no directory was compared. There are so many numbers in either tree.
-    fn new(
-        alloc: Global,
-        pending: Vec<Pair>,
-        first: usize,
-        second: usize,
-    ) -> Result<Walk, AllocError>
-        ensures visits { IfOk result (λ walk. walk.visits.items ≡ []) }
-        ensures pending { IfOk result (λ walk. walk.pending.items ≡ pending.items) }
-        ensures partners { IfOk result (λ walk. walk.partners.items ≡ replicate first None) }
-        ensures owners { IfOk result (λ walk. walk.owners.items ≡ replicate second None) }
+    // Some pairs wait, and no directory was compared.
+    fn new(alloc: Global, pending: Vec<Pair>) -> Walk
+        ensures visits { result.visits.items ≡ [] }
+        ensures pending { result.pending.items ≡ pending.items }
+        ensures partners { (i : ℕ) → get nat_cmp result.partners i ≡ None }
+        ensures owners { (i : ℕ) → get nat_cmp result.owners i ≡ None }
     {
-        Ok(Walk {
+        Walk {
             visits: Vec::new(alloc),
             pending,
-            partners: vec![in alloc; None; first]?,
-            owners: vec![in alloc; None; second]?,
-        })
+            partners: BTreeMap::new(alloc),
+            owners: BTreeMap::new(alloc),
+        }
     }
 
     // Looks at what waited on top. If neither directory was compared yet, what the two lead to waits then.
@@ -48,8 +46,8 @@ impl Walk {
         second: &T,
         next: Pair,
     ) -> Result<(), AllocError>
-        requires { IsReady (S.tree first.now) (T.tree second.now) self.old.visits.items (self.old.pending.items ++ next ∷ []) self.old.partners.items self.old.owners.items }
-        ensures ready { OnOk result (IsReady (S.tree first.now) (T.tree second.now) self.new.visits.items self.new.pending.items self.new.partners.items self.new.owners.items) }
+        requires { IsReady (S.tree first.now) (T.tree second.now) self.old.visits.items (self.old.pending.items ++ next ∷ []) (get nat_cmp self.old.partners) (get nat_cmp self.old.owners) }
+        ensures ready { OnOk result (IsReady (S.tree first.now) (T.tree second.now) self.new.visits.items self.new.pending.items (get nat_cmp self.new.partners) (get nat_cmp self.new.owners)) }
         ensures leads { OnOk result (LeadsOn (S.tree first.now) (T.tree second.now) self.old.visits.items self.new.visits.items (self.old.pending.items ++ next ∷ []) self.new.pending.items) }
     {
         let partner = number_at(&self.partners, next.a);
@@ -75,16 +73,16 @@ impl Walk {
         second: &T,
         next: Pair,
     ) -> Result<(), AllocError>
-        requires ready { IsReady (S.tree first.now) (T.tree second.now) self.old.visits.items (self.old.pending.items ++ next ∷ []) self.old.partners.items self.old.owners.items }
+        requires ready { IsReady (S.tree first.now) (T.tree second.now) self.old.visits.items (self.old.pending.items ++ next ∷ []) (get nat_cmp self.old.partners) (get nat_cmp self.old.owners) }
         requires new { are_new (seen_in self.old.visits.items) (both_of next) ≡ true }
-        ensures ready { OnOk result (IsReady (S.tree first.now) (T.tree second.now) self.new.visits.items self.new.pending.items self.new.partners.items self.new.owners.items) }
+        ensures ready { OnOk result (IsReady (S.tree first.now) (T.tree second.now) self.new.visits.items self.new.pending.items (get nat_cmp self.new.partners) (get nat_cmp self.new.owners)) }
         ensures leads { OnOk result (LeadsOn (S.tree first.now) (T.tree second.now) self.old.visits.items self.new.visits.items (self.old.pending.items ++ next ∷ []) self.new.pending.items) }
     {
         let mut below = pairs_below(alloc, first, second, &next)?;
         below.reverse();
         self.pending.append(&mut below)?;
-        self.partners[next.a as usize] = Some(next.b);
-        self.owners[next.b as usize] = Some(next.a);
+        self.partners.insert(next.a, next.b)?;
+        self.owners.insert(next.b, next.a)?;
         self.visits.push(Visit {
             pair: next,
             compared: true,
@@ -99,7 +97,7 @@ impl Walk {
         first: &S,
         second: &T,
     ) -> Result<(), AllocError>
-        requires { IsReady (S.tree first.now) (T.tree second.now) self.old.visits.items self.old.pending.items self.old.partners.items self.old.owners.items }
+        requires { IsReady (S.tree first.now) (T.tree second.now) self.old.visits.items self.old.pending.items (get nat_cmp self.old.partners) (get nat_cmp self.old.owners) }
         ensures leads { OnOk result (LeadsOn (S.tree first.now) (T.tree second.now) self.old.visits.items self.new.visits.items self.old.pending.items self.new.pending.items) }
         ensures done { OnOk result (self.new.pending.items ≡ []) }
     {
@@ -113,12 +111,12 @@ impl Walk {
     }
 }
 
-// What stands in a table by a number; nothing where it has no such place.
-fn number_at(table: &[Option<u64>], number: u64) -> Option<u64>
-    ensures { result ≡ slice_index_or table.now number None }
+// What stands in a table by a number, if anything does.
+fn number_at(table: &BTreeMap<u64, u64>, number: u64) -> Option<u64>
+    ensures { result ≡ get nat_cmp table.now number }
 {
-    match table.get(number as usize) {
-        Some(known) => *known,
+    match table.get(&number) {
+        Some(known) => Some(*known),
         None => None,
     }
 }
@@ -151,7 +149,7 @@ pub(crate) fn visits_from<S: Contents, T: Contents>(
     requires { AreDirectories (S.tree first.now) (T.tree second.now) (waiting pending.items) }
     ensures { IfOk result (λ visits. AreVisited (S.tree first.now) (T.tree second.now) [] (waiting pending.items) (map visit_of visits.items)) }
 {
-    let mut walk = Walk::new(alloc, pending, first.limit(), second.limit())?;
+    let mut walk = Walk::new(alloc, pending);
     walk.finish(alloc, first, second)?;
     Ok(walk.visits)
 }

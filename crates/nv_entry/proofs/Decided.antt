@@ -1,7 +1,7 @@
 -- At each place an entry is spelled, or none is.
 use Rattle.std.proofs.Common.{◌≡◌, ◌⊎◌, inl, inr, ℕ, zero, suc, ◌+◌, ◌-◌, ◌*◌, ◌/◌, ◌%◌, ◌<◌, ◌≤◌, List, [], ◌++◌, length, min, get_or, refl, sym, ◌∙◌, ap, arith, length-append}
 use Rattle.std.proofs.lemmas.Bool.{cases_eq, cases_lt}
-use Rattle.nv_super.specs.nv_region.Region.{Region, word}
+use Rattle.nv_region.specs.Region.{Region, word}
 use Rattle.nv_entry.specs.Digits.{low_bytes, high_part}
 use Rattle.nv_entry.specs.Name.{IsName}
 use Rattle.nv_entry.specs.Spelling.{first_word, operation_code, words_for, IsTextAt, IsWriteAt, IsAttrAt, IsNameAt, IsLinksAt, Stands}

@@ -1,6 +1,6 @@
 -- Each entry has one spelling.
 use Rattle.std.proofs.Common.{◌≡◌, ℕ, zero, suc, ◌+◌, ◌*◌, ◌%◌, ◌<◌, List, ◌++◌, length, take, refl, ap, sym, ◌∙◌, arith}
-use Rattle.nv_super.specs.nv_region.Region.{Region, word, region_of}
+use Rattle.nv_region.specs.Region.{Region, word, region_of}
 use Rattle.nv_entry.specs.Spelling.{words_for, IsWriteAt, IsAttrAt, IsNameAt, IsLinksAt, Stands, entry_length, Spells}
 use Rattle.std.proofs.Math.Seq.{take-append_seam}
 use Rattle.nv_entry.proofs.Bytes.{bytes_by_words, front_word}

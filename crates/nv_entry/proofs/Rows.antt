@@ -1,11 +1,11 @@
 -- What words that were stored in a row leave.
 use Rattle.std.proofs.Common.{◌≡◌, ℕ, ◌+◌, ◌*◌, ◌/◌, ◌%◌, ◌<◌, ◌≤◌, List, length, get_or, ap, ◌∙◌, arith}
-use Rattle.nv_super.specs.nv_region.Region.{Region, size}
-use Rattle.nv_super.specs.nv_region.Stops.{IsMixed}
-use Rattle.nv_super.specs.nv_region.Stored.{SameOutside, Within}
-use Rattle.nv_super.specs.nv_region.Lines.{put_words}
-use Rattle.nv_super.proofs.nv_region.Lines.{words_here}
-use Rattle.nv_super.proofs.nv_region.Wordwise.{mixed_word}
+use Rattle.nv_region.specs.Region.{Region, size}
+use Rattle.nv_region.specs.Stops.{IsMixed}
+use Rattle.nv_region.specs.Stored.{SameOutside, Within}
+use Rattle.nv_region.specs.Lines.{put_words}
+use Rattle.nv_region.proofs.Lines.{words_here}
+use Rattle.nv_region.proofs.Wordwise.{mixed_word}
 use Rattle.nv_entry.specs.Written.{HoldsWords}
 
 -- the words stand there

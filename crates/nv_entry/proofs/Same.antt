@@ -1,7 +1,7 @@
 -- Entries are the same where their words are.
 use Rattle.std.proofs.Common.{◌≡◌, ℕ, zero, suc, ◌+◌, ◌*◌, ◌%◌, ◌<◌, ◌≤◌, List, [], ◌∷◌, ◌++◌, length, take, drop, get_or, refl, ap, sym, ◌∙◌, arith, length-drop, length-take}
 use Rattle.std.proofs.lemmas.List.{take-append-drop, drop-drop}
-use Rattle.nv_super.specs.nv_region.Region.{Region, word}
+use Rattle.nv_region.specs.Region.{Region, word}
 use Rattle.nv_entry.specs.Text.{number_of, text_word}
 use Rattle.nv_entry.specs.Spelling.{operation_code, words_for, IsNameAt, Stands, entry_length}
 use Rattle.nv_entry.proofs.Words.{fits_take, fits_drop}

@@ -1,6 +1,6 @@
 -- Words that were stored in a row spell an entry.
 use Rattle.std.proofs.Common.{◌≡◌, ℕ, ◌+◌, ◌*◌, ◌<◌, ◌^◌, [], ◌∷◌, ap, ◌∙◌, arith}
-use Rattle.nv_super.specs.nv_region.Region.{Region, word}
+use Rattle.nv_region.specs.Region.{Region, word}
 use Rattle.nv_entry.specs.Spelling.{IsWriteAt, IsAttrAt, IsLinksAt, first_word}
 use Rattle.nv_entry.specs.Written.{HoldsWords}
 use Rattle.nv_entry.specs.declared.entry.WriteEntry.{WriteEntry}

@@ -5,7 +5,7 @@ use Rattle.std.proofs.Math.Seq.{take-append-add}
 use Rattle.std.proofs.lemmas.List.{take_all}
 use Rattle.std.proofs.lemmas.Grind.{flat_map-append}
 use Rattle.nv_super.proofs.Ranges.{one_more}
-use Rattle.nv_super.specs.nv_region.Region.{Region, word}
+use Rattle.nv_region.specs.Region.{Region, word}
 use Rattle.nv_entry.specs.Digits.{low_bytes, high_part}
 use Rattle.nv_entry.specs.Name.{IsName}
 use Rattle.nv_entry.specs.Spelling.{words_for, IsTextAt}

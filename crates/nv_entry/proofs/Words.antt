@@ -8,16 +8,10 @@ use Rattle.std.proofs.lemmas.Slice.{between_is}
 use Rattle.byteorder.specs.Endian.{little_number}
 use Rattle.byteorder.specs.Numbers.{little_from-cons, little_from-take}
 use Rattle.nv_entry.specs.Digits.{low_bytes, high_part}
-use Rattle.nv_super.specs.nv_region.Region.{Region, word}
+use Rattle.nv_region.specs.Region.{Region, word}
 use Rattle.nv_entry.specs.Text.{number_of, text_word}
 use Rattle.nv_entry.specs.Spelling.{IsTextAt}
 use Rattle.nv_entry.specs.Name.{IsName}
-
-pub number_of-append : (xs ys : List ℕ) → number_of (xs ++ ys) ≡ number_of xs + 256 ^ length xs * number_of ys
-number_of-append [] ys = omega arith
-number_of-append (x ∷ xs) ys =
-    let e = pow-succ' 256 (length xs) in
-    rw (e, number_of-append xs ys) (omega arith)
 
 -- bytes below 256 make a number below a power of 256
 pub number_of_below : (xs : List ℕ) → ((i : ℕ) → get_or xs i 0 < 256) → number_of xs < 256 ^ length xs

@@ -2,7 +2,7 @@
 use Rattle.std.specs.Prelude.{ℕ, ◌+◌, ◌-◌, ◌*◌, Bool, true, false, not, nat_le, nat_lt, ◌&&◌, ◌||◌, ◌==◌, if◌then◌else◌, Option, Some, None, List, [], ◌∷◌}
 use Rattle.std.specs.List.{list_any}
 use Rattle.nv_super.specs.declared.superblock.Super.{Super}
-use Rattle.nv_super.specs.Layout.{system_blocks, is_name_number}
+use Rattle.nv_super.specs.Layout.{system_blocks, is_name_number, most_pages, most_size}
 use Rattle.nv_super.specs.declared.kind.Kind.{Kind}
 use Rattle.nv_super.specs.declared.kind.Kind.TheVariants.{File, Directory}
 use Rattle.nv_entry.specs.declared.content.ContentFault.{ContentFault}
@@ -13,14 +13,6 @@ use Rattle.nv_entry.specs.declared.entry.NameEntry.{NameEntry}
 use Rattle.nv_entry.specs.declared.entry.LinksEntry.{LinksEntry}
 use Rattle.nv_entry.specs.declared.entry.Entry.{Entry}
 use Rattle.nv_entry.specs.declared.entry.Entry.TheVariants.{NextPage, Write, Attr, Name, Links}
-
--- the most pages that a file can have
-abbrev pub most_pages : ℕ
-most_pages = 262144
-
--- the most bytes that a file can have
-abbrev pub most_size : ℕ
-most_size = 1073741824
 
 -- No page, pages past the last that a file can have, a block before or behind the data blocks, too great a size, or a
 -- last page that begins at or past the size.

@@ -1,7 +1,7 @@
 -- Light entries, whose names stand in the region: what each says there.
 use Rattle.std.specs.Prelude.{◌≡◌, ℕ, ◌+◌, ◌*◌, ◌%◌, ◌<◌, ◌≤◌, List, take}
 use Rattle.std.specs.List.{flat_map, range_with_len}
-use Rattle.nv_super.specs.nv_region.Region.{Region, size, word}
+use Rattle.nv_region.specs.Region.{Region, size, word}
 use Rattle.nv_entry.specs.Digits.{low_bytes}
 use Rattle.nv_entry.specs.Spelling.{words_for}
 use Rattle.nv_entry.specs.declared.entry.NameEntry.{NameEntry}

@@ -1,6 +1,6 @@
 -- The table of entries: what words spell an entry.
 use Rattle.std.specs.Prelude.{◌≡◌, ℕ, ◌+◌, ◌*◌, ◌/◌, ◌<◌, ◌^◌, List, length, slice_index}
-use Rattle.nv_super.specs.nv_region.Region.{Region, word, region_of}
+use Rattle.nv_region.specs.Region.{Region, word, region_of}
 use Rattle.nv_entry.specs.Text.{text_word}
 use Rattle.nv_entry.specs.Name.{IsName}
 use Rattle.nv_entry.specs.declared.entry.Operation.{Operation}

@@ -1,7 +1,7 @@
 //! Laws of the spellings.
 
 ghost use Rattle.std.specs.Prelude.{◌≡◌, ◌⊎◌, List, ◌++◌, ℕ};
-ghost use Rattle.nv_super.specs.nv_region.Region.{Region};
+ghost use Rattle.nv_region.specs.Region.{Region};
 ghost use Rattle.nv_entry.specs.Spelling.{Spells, Stands};
 ghost use Rattle.nv_entry.specs.declared.entry.Entry.{Entry as EntryValue};
 

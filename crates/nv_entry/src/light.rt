@@ -5,7 +5,7 @@
 
 ghost use Rattle.std.specs.Prelude.{◌≡◌, ◌+◌, ◌*◌, ◌^◌, ◌<◌, ◌≤◌, ◌%◌, ◌++◌, []};
 ghost use Rattle.arrayvec.specs.ArrayVec.{array_vec_len};
-ghost use Rattle.nv_super.specs.nv_region.Region.{Region, size};
+ghost use Rattle.nv_region.specs.Region.{Region, size};
 ghost use Rattle.nv_entry.specs.Spelling.{entry_length, words_for};
 ghost use Rattle.nv_entry.specs.Digits.{low_bytes};
 ghost use Rattle.nv_entry.specs.Name.{IsName};

@@ -5,7 +5,7 @@
 //! a word that should be zero, or an end past the room.
 
 ghost use Rattle.std.specs.Prelude.{◌≡◌, ◌+◌, ◌*◌, ◌/◌, ◌%◌, ◌^◌, ◌<◌, ◌≤◌, List, ℕ, length, OnErr, IfOk, IfSome, IfNone, IsTrue, false};
-ghost use Rattle.nv_super.specs.nv_region.Region.{size, word};
+ghost use Rattle.nv_region.specs.Region.{size, word};
 ghost use Rattle.nv_entry.specs.Name.{IsName};
 ghost use Rattle.nv_entry.specs.Spelling.{Stands, entry_length, first_word, words_for, IsTextAt, IsWriteAt, IsAttrAt, IsNameAt, IsLinksAt};
 ghost use Rattle.nv_entry.specs.declared.entry.Entry.{Entry as EntryValue};

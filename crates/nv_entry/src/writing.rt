@@ -1,9 +1,9 @@
 //! Writing an entry: its words, stored in one row.
 
 ghost use Rattle.std.specs.Prelude.{◌≡◌, ◌+◌, ◌*◌, ◌/◌, ◌%◌, ◌<◌, ◌≤◌, ℕ, length, get_or, OnOk, is_err};
-ghost use Rattle.nv_super.specs.nv_region.Region.{size};
-ghost use Rattle.nv_super.specs.nv_region.Fuses.{KeepsFuse};
-ghost use Rattle.nv_super.specs.nv_region.Stored.{SameOutside, StoresOnly, Within};
+ghost use Rattle.nv_region.specs.Region.{size};
+ghost use Rattle.nv_region.specs.Fuses.{KeepsFuse};
+ghost use Rattle.nv_region.specs.Stored.{SameOutside, StoresOnly, Within};
 ghost use Rattle.nv_entry.specs.Text.{text_word};
 ghost use Rattle.nv_entry.specs.Spelling.{Stands, entry_length, operation_code, words_for, IsNameAt, first_word};
 ghost use Rattle.nv_entry.specs.Written.{HoldsWords};

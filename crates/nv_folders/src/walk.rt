@@ -3,23 +3,25 @@
 
 ghost use Rattle.std.specs.Prelude.{◌≡◌, ◌++◌, ◌∷◌, [], ℕ, IfOk, OnOk, Some, map};
 ghost use Rattle.std.specs.Option.{option_map};
+ghost use Rattle.std.specs.BTreeSet.{contains};
+ghost use Rattle.std.specs.Ordering.{nat_cmp};
 ghost use Rattle.nv_members.specs.Members.{kind_of};
 ghost use Rattle.nv_folders.specs.Folders.{AreAllFolders, spot_of};
 ghost use Rattle.nv_folders.specs.Walk.{IsReady, LeadsOn};
 
 use crate::below::folders_in;
 use crate::folder::Folder;
-use nv_blockset::BlockList;
 use nv_members::Inodes;
 use nv_super::Kind;
 use std::alloc::{AllocError, Global};
+use std::collections::BTreeSet;
 
 // The directories so far, those that wait, and the numbers of the first.
 #[derive(Drop)]
 struct Walk {
     folders: Vec<Folder>,
     pending: Vec<Folder>,
-    seen: BlockList,
+    seen: BTreeSet<u64>,
 }
 
 impl Walk {
@@ -30,26 +32,25 @@ impl Walk {
         source: &S,
         next: Folder,
     ) -> Result<(), AllocError>
-        requires { IsReady (S.tree source.now) (self.old.pending.items ++ next ∷ []) self.old.seen }
-        ensures ready { OnOk result (IsReady (S.tree source.now) self.new.pending.items self.new.seen) }
-        ensures leads { OnOk result (LeadsOn (S.tree source.now) self.old.folders.items self.new.folders.items
-            (self.old.pending.items ++ next ∷ []) self.new.pending.items self.old.seen self.new.seen) }
+        requires { IsReady (S.tree source.now) self.old.folders.items (self.old.pending.items ++ next ∷ []) (contains nat_cmp self.old.seen) }
+        ensures ready { OnOk result (IsReady (S.tree source.now) self.new.folders.items self.new.pending.items (contains nat_cmp self.new.seen)) }
+        ensures leads { OnOk result (LeadsOn (S.tree source.now) self.old.folders.items self.new.folders.items (self.old.pending.items ++ next ∷ []) self.new.pending.items) }
     {
-        if self.seen.contains(next.inode) {
+        if self.seen.contains(&next.inode) {
             return Ok(());
         }
         let mut below = folders_in(alloc, source, &next)?;
         below.reverse();
         self.pending.append(&mut below)?;
-        self.seen.push(next.inode)?;
+        self.seen.insert(next.inode)?;
         self.folders.push(next)?;
         Ok(())
     }
 
     // Looks at all that waits. No turn is the last that can be counted.
     fn finish<S: Inodes>(&mut self, alloc: Global, source: &S) -> Result<(), AllocError>
-        requires { IsReady (S.tree source.now) self.old.pending.items self.old.seen }
-        ensures leads { OnOk result (LeadsOn (S.tree source.now) self.old.folders.items self.new.folders.items self.old.pending.items self.new.pending.items self.old.seen self.new.seen) }
+        requires { IsReady (S.tree source.now) self.old.folders.items self.old.pending.items (contains nat_cmp self.old.seen) }
+        ensures leads { OnOk result (LeadsOn (S.tree source.now) self.old.folders.items self.new.folders.items self.old.pending.items self.new.pending.items) }
         ensures done { OnOk result (self.new.pending.items ≡ []) }
     {
         'turns: for _ in 0..u64::MAX {
@@ -80,7 +81,7 @@ pub fn folders_of<S: Inodes>(
     let mut walk = Walk {
         folders: Vec::new(alloc),
         pending,
-        seen: BlockList::new(alloc, source.limit() as u64)?,
+        seen: BTreeSet::new(alloc),
     };
     walk.finish(alloc, source)?;
     Ok(walk.folders)

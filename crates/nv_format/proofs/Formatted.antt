@@ -39,7 +39,7 @@ accepted s R layout one blocks first numbers = record {
       | inr other ↦ elim other [ inl few ↦ omega (arith, e, few, from) | inr many ↦ omega (arith, e, many, to) ]
     ]
     sound Magic applies = applies first
-    sound Version applies = applies (numbers.version ∙ one)
+    sound Version applies = applies.0 (numbers.version ∙ one)
     sound Cpus applies = let cpus = numbers.cpus in let from = layout.cpus_from in let to = layout.areas.cpus_to in elim applies [ inl few ↦ omega (arith, few, cpus, from) | inr many ↦ omega (arith, many, cpus, to) ]
     sound Blocks applies = let e = long in let count = numbers.blocks in applies (omega (arith, e, count))
     sound Tables applies = let tables = numbers.table_blocks in let from = layout.tables_from in let to = layout.areas.tables_to in elim applies [

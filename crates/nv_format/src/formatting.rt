@@ -14,7 +14,7 @@ ghost use Rattle.nv_format.specs.Format.{FormatLeaves};
 ghost use Rattle.nv_format.specs.Sentences.{refusal_sentence};
 
 use crate::clearing::clear_system;
-use nv_inode::{Slot, put_slot, set_word, slot_start};
+use nv_inode::{Slot, set_word, store_slot};
 use nv_region::{Pmem, Stopped, commit_word};
 use nv_super::{
     BLOCK_SIZE, Kind, LEAST_BLOCKS, MAGIC, MOST_BLOCKS, MOST_CPUS, MOST_TABLE_BLOCKS, Super,
@@ -214,8 +214,9 @@ fn write_root<P: Pmem>(memory: &mut P, sup: &Super, time: u64) -> Result<(), Sto
         created: time,
     };
     write_root_entry(memory, page, time)?;
-    set_word(memory, slot_start(sup, ROOT), slot.valid)?;
-    put_slot(memory, sup, ROOT, &slot)
+    let at = sup.slot_address(ROOT);
+    set_word(memory, at, slot.valid)?;
+    store_slot(memory, at, &slot)
 }
 
 /// Stores the attributes entry of an empty directory: mode 493, size 0, the time, owner 0 and group 0.

@@ -11,8 +11,8 @@ use Rattle.nv_super.specs.Layout.{Layout}
 use Rattle.nv_super.proofs.Options.{some_is}
 use Rattle.nv_entry.specs.declared.entry.Operation.{Operation}
 use Rattle.nv_entry.specs.declared.entry.Operation.TheVariants.{Add, Remove}
-use Rattle.nv_outcome.specs.nv_scan.State.{links_of}
-use Rattle.nv_outcome.specs.nv_scan.Inode.{IsInUse, good_of}
+use Rattle.nv_scan.specs.State.{links_of}
+use Rattle.nv_scan.specs.Inode.{IsInUse, good_of}
 use Rattle.nv_graph.specs.Graph.{Node, Graph, IsOfKind}
 use Rattle.nv_graph.specs.Calls.{with_node, with_name, made, linked, unlinked, removed, renamed}
 use Rattle.nv_graph.proofs.Names.{node_here, node_other}

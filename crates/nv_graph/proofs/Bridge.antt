@@ -10,8 +10,8 @@ use Rattle.nv_super.specs.declared.faults.Fault.{Fault}
 use Rattle.nv_super.specs.declared.faults.Fault.TheVariants as faults
 use Rattle.nv_super.proofs.Options.{some_is}
 use Rattle.nv_super.proofs.Rising.{Lists-same}
-use Rattle.nv_outcome.specs.nv_scan.State.{links_of}
-use Rattle.nv_outcome.specs.nv_scan.Inode.{Log, IsInode, good_of}
+use Rattle.nv_scan.specs.State.{links_of}
+use Rattle.nv_scan.specs.Inode.{Log, IsInode, good_of}
 use Rattle.nv_outcome.specs.Outcome as reg
 use Rattle.nv_outcome.specs.Outcome.{HasName, AreNamesOf, IsCrossFault}
 use Rattle.nv_graph.specs.Graph.{Node, Graph, IsOfKind, pair_key, AreNames, NoCrossFaults}

@@ -15,10 +15,10 @@ use Rattle.nv_entry.specs.declared.entry.Entry.TheVariants as entries
 use Rattle.nv_entry.specs.declared.entry.NameEntry.{NameEntry}
 use Rattle.nv_entry.specs.declared.entry.Operation.{Operation}
 use Rattle.nv_entry.specs.declared.entry.Operation.TheVariants.{Add, Remove}
-use Rattle.nv_outcome.specs.nv_logpage.declared.found.Placed.{Placed}
-use Rattle.nv_outcome.specs.nv_logpage.Good.{good_entries}
-use Rattle.nv_outcome.specs.nv_scan.State.{named_by, name_in, links_in, links_of, says_name, says_links}
-use Rattle.nv_outcome.proofs.nv_scan.Blocks.{last_word-all, good_is_good, in_range}
+use Rattle.nv_logpage.specs.declared.found.Placed.{Placed}
+use Rattle.nv_logpage.specs.Good.{good_entries}
+use Rattle.nv_scan.specs.State.{named_by, name_in, links_in, links_of, says_name, says_links}
+use Rattle.nv_scan.proofs.Blocks.{last_word-all, good_is_good, in_range}
 use Rattle.nv_outcome.specs.Outcome.{HasName}
 use Rattle.nv_graph.specs.Step.{name_entry, links_entry, IsGoodName}
 

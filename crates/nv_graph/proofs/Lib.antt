@@ -13,7 +13,7 @@ pub mod MoreEntries
 pub mod SameWords
 pub mod AfterCalls
 pub use Rattle.nv_outcome.proofs as nv_outcome
-pub use Rattle.nv_outcome.proofs.nv_check
+pub use Rattle.nv_outcome.proofs.nv_cross_check
 pub use Rattle.nv_outcome.proofs.nv_scan
 pub use Rattle.nv_outcome.proofs.nv_journal
 pub use Rattle.nv_outcome.proofs.nv_rows

@@ -16,13 +16,13 @@ use Rattle.nv_entry.specs.declared.entry.AttrEntry.{AttrEntry}
 use Rattle.nv_entry.specs.declared.entry.Entry.TheVariants as entries
 use Rattle.nv_entry.specs.declared.entry.Operation.{Operation}
 use Rattle.nv_entry.specs.declared.entry.Operation.TheVariants.{Add, Remove}
-use Rattle.nv_outcome.specs.nv_logpage.declared.found.Placed.{Placed}
-use Rattle.nv_outcome.specs.nv_logpage.Good.{good_entries}
-use Rattle.nv_outcome.specs.nv_scan.LastWord.{last_word}
-use Rattle.nv_outcome.specs.nv_scan.Fold.{word_after}
-use Rattle.nv_outcome.specs.nv_scan.State.{named, named_by, links_of, says_name, says_links}
-use Rattle.nv_outcome.specs.nv_scan.Inode.{Log, IsInode, good_of}
-use Rattle.nv_outcome.proofs.nv_scan.Words.{word-more}
+use Rattle.nv_logpage.specs.declared.found.Placed.{Placed}
+use Rattle.nv_logpage.specs.Good.{good_entries}
+use Rattle.nv_scan.specs.LastWord.{last_word}
+use Rattle.nv_scan.specs.Fold.{word_after}
+use Rattle.nv_scan.specs.State.{named, named_by, links_of, says_name, says_links}
+use Rattle.nv_scan.specs.Inode.{Log, IsInode, good_of}
+use Rattle.nv_scan.proofs.Words.{word-more}
 use Rattle.nv_graph.specs.Graph.{Node}
 use Rattle.nv_graph.specs.Step.{name_entry, links_entry, IsGoodName, Grows, IsQuiet}
 use Rattle.nv_graph.proofs.Shown.{ShowsAt, node_of, inode_of, names_by, shows_by, log_shows, names_are}

@@ -9,11 +9,11 @@ use Rattle.std.proofs.lemmas.List.Sums.{fails_before_first, passes_at_first}
 use Rattle.nv_region.specs.Region.{Region}
 use Rattle.nv_super.specs.Layout.{Layout}
 use Rattle.nv_names.specs.Names.{name_at}
-use Rattle.nv_outcome.specs.nv_scan.State.{named}
-use Rattle.nv_outcome.specs.nv_scan.Inode.{Log, IsInode, good_of}
-use Rattle.nv_outcome.specs.nv_scan.Rows.{IsRow}
-use Rattle.nv_outcome.specs.nv_scan.declared.piece.Row.{Row}
-use Rattle.nv_outcome.proofs.nv_scan.Only.{IsInode-only}
+use Rattle.nv_scan.specs.State.{named}
+use Rattle.nv_scan.specs.Inode.{Log, IsInode, good_of}
+use Rattle.nv_scan.specs.Rows.{IsRow}
+use Rattle.nv_scan.specs.declared.piece.Row.{Row}
+use Rattle.nv_scan.proofs.Only.{IsInode-only}
 use Rattle.nv_outcome.specs.Outcome.{AreRows}
 use Rattle.nv_outcome.proofs.CrossFinite.{names_in}
 use Rattle.nv_outcome.proofs.CrossLaw.{names_directory, names_are}

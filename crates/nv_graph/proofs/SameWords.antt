@@ -3,11 +3,11 @@ use Rattle.std.proofs.Common.{◌≡◌, ℕ, refl, sym, ◌∙◌, subst}
 use Rattle.nv_region.specs.Region.{Region}
 use Rattle.nv_super.specs.Layout.{Layout}
 use Rattle.nv_inode.specs.Slot.{kind_at}
-use Rattle.nv_outcome.specs.nv_scan.Scanned.{SameSlot}
-use Rattle.nv_outcome.specs.nv_scan.Inode.{Log, IsInode}
-use Rattle.nv_outcome.proofs.nv_scan.Alone.{IsInode-same}
-use Rattle.nv_outcome.proofs.nv_scan.InUse.{by_slot}
-use Rattle.nv_outcome.proofs.nv_scan.Only.{IsInode-only, slot_in_use, kind_in_use}
+use Rattle.nv_scan.specs.Scanned.{SameSlot}
+use Rattle.nv_scan.specs.Inode.{Log, IsInode}
+use Rattle.nv_scan.proofs.Alone.{IsInode-same}
+use Rattle.nv_scan.proofs.InUse.{by_slot}
+use Rattle.nv_scan.proofs.Only.{IsInode-only, slot_in_use, kind_in_use}
 use Rattle.nv_graph.specs.Step.{SameInode, SameWords}
 
 pub words_same : {R S : Region} {l : Layout} {j : ℕ} → SameWords R S l j → SameInode R S l j

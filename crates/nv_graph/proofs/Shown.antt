@@ -4,10 +4,10 @@ use Rattle.std.specs.Option.{option_map}
 use Rattle.std.proofs.lemmas.Option.{none-some}
 use Rattle.nv_region.specs.Region.{Region}
 use Rattle.nv_super.specs.Layout.{Layout}
-use Rattle.nv_outcome.specs.nv_logpage.declared.found.Placed.{Placed}
-use Rattle.nv_outcome.specs.nv_scan.State.{named, links_of}
-use Rattle.nv_outcome.specs.nv_scan.Inode.{Log, IsInode, IsInUse, good_of}
-use Rattle.nv_outcome.proofs.nv_scan.Only.{IsInode-only}
+use Rattle.nv_logpage.specs.declared.found.Placed.{Placed}
+use Rattle.nv_scan.specs.State.{named, links_of}
+use Rattle.nv_scan.specs.Inode.{Log, IsInode, IsInUse, good_of}
+use Rattle.nv_scan.proofs.Only.{IsInode-only}
 use Rattle.nv_outcome.specs.Outcome.{HasName}
 use Rattle.nv_outcome.proofs.CrossLaw.{names_directory}
 use Rattle.nv_graph.specs.Graph.{Node, Graph}

@@ -3,7 +3,7 @@ pub mod Calls
 pub mod Read
 pub mod Step
 pub use Rattle.nv_outcome.specs as nv_outcome
-pub use Rattle.nv_outcome.specs.nv_check
+pub use Rattle.nv_outcome.specs.nv_cross_check
 pub use Rattle.nv_outcome.specs.nv_scan
 pub use Rattle.nv_outcome.specs.nv_journal
 pub use Rattle.nv_outcome.specs.nv_rows

@@ -4,10 +4,10 @@ use Rattle.std.specs.Option.{option_map, option_and_then}
 use Rattle.nv_region.specs.Region.{Region}
 use Rattle.nv_super.specs.Layout.{Layout}
 use Rattle.nv_names.specs.Names.{name_at}
-use Rattle.nv_outcome.specs.nv_scan.State.{links_of}
-use Rattle.nv_outcome.specs.nv_scan.Inode.{Log, IsInode, IsInUse, good_of}
-use Rattle.nv_outcome.specs.nv_scan.declared.piece.Row.{Row}
-pub use Rattle.nv_outcome.specs.nv_rows.Rows.{row_of}
+use Rattle.nv_scan.specs.State.{links_of}
+use Rattle.nv_scan.specs.Inode.{Log, IsInode, IsInUse, good_of}
+use Rattle.nv_scan.specs.declared.piece.Row.{Row}
+pub use Rattle.nv_rows.specs.Rows.{row_of}
 use Rattle.nv_outcome.specs.Outcome.{HasName, AreNamesOf}
 use Rattle.nv_graph.specs.Graph.{Node, Graph, NoCrossFaults}
 

@@ -10,11 +10,11 @@ use Rattle.nv_entry.specs.declared.entry.Operation.{Operation}
 use Rattle.nv_entry.specs.declared.entry.Operation.TheVariants.{Add, Remove}
 use Rattle.nv_entry.specs.declared.entry.AttrEntry.{AttrEntry}
 use Rattle.nv_entry.specs.declared.entry.Entry.TheVariants as entries
-use Rattle.nv_outcome.specs.nv_logpage.declared.found.Placed.{Placed}
-use Rattle.nv_outcome.specs.nv_logpage.Grows.{SamePage}
-use Rattle.nv_outcome.specs.nv_scan.Scanned.{SameSlot}
-use Rattle.nv_outcome.specs.nv_scan.State.{says_links, says_name}
-use Rattle.nv_outcome.specs.nv_scan.Inode.{Log, IsInode, IsInUse}
+use Rattle.nv_logpage.specs.declared.found.Placed.{Placed}
+use Rattle.nv_logpage.specs.Grows.{SamePage}
+use Rattle.nv_scan.specs.Scanned.{SameSlot}
+use Rattle.nv_scan.specs.State.{says_links, says_name}
+use Rattle.nv_scan.specs.Inode.{Log, IsInode, IsInUse}
 use Rattle.nv_graph.specs.Graph.{Node}
 
 -- a name entry at a place

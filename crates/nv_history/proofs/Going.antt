@@ -8,7 +8,6 @@ use Rattle.nv_region.specs.Region.{Region, size}
 use Rattle.nv_region.specs.Fuses.{FuseState, KeepsFuse}
 use Rattle.nv_region.specs.Stops.{Choices, LeavesOnly}
 use Rattle.nv_region.proofs.Fuses.{keeps_more}
-use Rattle.nv_super.specs.declared.superblock.Super.{Super}
 use Rattle.nv_journal.specs.Undo.{undone}
 use Rattle.nv_tree.specs.declared.refusal.Refusal.{Refusal}
 use Rattle.nv_tree.specs.declared.refusal.Refusal.TheVariants.{Stopped}
@@ -27,10 +26,11 @@ use Rattle.nv_history.specs.Keeping.{KeepsRun}
 use Rattle.nv_history.specs.Stopping.{BeforeOrMade, RunLeaves, MayBeDone, RecoversMade, RecoversTree}
 use Rattle.nv_history.proofs.MadeTrees.{made_shown, one_more}
 use Rattle.nv_history.proofs.Recoveries.{always}
+use Rattle.nv_super.specs.Layout.{Layout}
 
 -- So many calls were made, and the mount runs on as it did.
 pub record Going {P : Type 0} (region : P → Region) (fuse : P → FuseState) (calls : List Call) (old now : Mount P) (made : ℕ) : Type 0 where
-  pub trees : AreMade old.sup (take made calls) (tree_of (region old.memory) old.rows) (tree_of (region now.memory) now.rows)
+  pub trees : AreMade old.layout (take made calls) (tree_of (region old.memory) old.rows) (tree_of (region now.memory) now.rows)
   pub runs : now.stopped ≡ old.stopped
   pub begun : made ≡ 0 → now ≡ old
   pub stands : IsTrue old.stopped → made ≡ 0
@@ -44,7 +44,7 @@ begins region fuse calls old = record {
   runs = refl;
   begun = λ zero. refl;
   stands = λ on. refl;
-  keeps = record { sup = refl; faults = refl; read_only = refl };
+  keeps = record { sup = refl; layout = refl; faults = refl; read_only = refl };
   as_long = refl;
   burns = record { burnt = λ on. on; steady = λ on. on; stays_open = λ limit past on. on };
 }
@@ -59,28 +59,28 @@ one_refusal a b same = cc
 -- ---- behind the last call
 
 -- What a stop leaves shows what was made.
-shows_made : {P : Type 0} (region : P → Region) (m : Mount P) (s : Super) (done : List Call) (t : Tree) → m.sup ≡ s → AreMade s done t (tree_of (region m.memory) m.rows) → (left : Region) → IsAsMounted (region m.memory) m.sup m.rows m.free.pools left
-    → RecoversMade s done t left
-shows_made region m s done t same made left w =
-    subst (λ (v : Super). RecoversMade v done t left) same
+shows_made : {P : Type 0} (region : P → Region) (m : Mount P) (l : Layout) (done : List Call) (t : Tree) → m.layout ≡ l → AreMade l done t (tree_of (region m.memory) m.rows) → (left : Region) → IsAsMounted (region m.memory) m.layout m.rows m.free.pools left
+    → RecoversMade l done t left
+shows_made region m l done t same made left w =
+    subst (λ (v : Layout). RecoversMade v done t left) same
     (record {
       rows = m.rows;
       free = m.free.pools;
-      recovers = always left m.sup m.rows m.free.pools w.0;
-      made = subst (λ (v : Super). AreMade v done t (tree_of (undone m.sup left) m.rows)) (sym same) (made_shown made (tree_of (undone m.sup left) m.rows) w.1);
+      recovers = always left m.layout m.rows m.free.pools w.0;
+      made = subst (λ (v : Layout). AreMade v done t (tree_of (undone m.layout.sup left) m.rows)) (sym same) (made_shown made (tree_of (undone m.layout.sup left) m.rows) w.1);
     })
 
 -- All calls were made.
 all_made : {P : Type 0} (region : P → Region) (fuse : P → FuseState) (calls : List Call) (old now : Mount P) (made : ℕ) → Going region fuse calls old now made → length calls ≤ made
-    → AreMade old.sup calls (tree_of (region old.memory) old.rows) (tree_of (region now.memory) now.rows)
-all_made region fuse calls old now made going all = subst (λ (done : List Call). AreMade old.sup done (tree_of (region old.memory) old.rows) (tree_of (region now.memory) now.rows)) (take_all made calls all) going.trees
+    → AreMade old.layout calls (tree_of (region old.memory) old.rows) (tree_of (region now.memory) now.rows)
+all_made region fuse calls old now made going all = subst (λ (done : List Call). AreMade old.layout done (tree_of (region old.memory) old.rows) (tree_of (region now.memory) now.rows)) (take_all made calls all) going.trees
 
 -- What a stop leaves then.
 pub left_whole : {P : Type 0} (region : P → Region) (may_hold : P → Choices) (fuse : P → FuseState) (calls : List Call) (old now : Mount P) (made : ℕ) → Going region fuse calls old now made → length calls ≤ made
     → LeavesOnly (region now.memory) (may_hold now.memory) (LeavesMounted (region now.memory) now)
-    → LeavesOnly (region now.memory) (may_hold now.memory) (RunLeaves old.sup calls (tree_of (region old.memory) old.rows) (Ok tt))
+    → LeavesOnly (region now.memory) (may_hold now.memory) (RunLeaves old.layout calls (tree_of (region old.memory) old.rows) (Ok tt))
 left_whole region may_hold fuse calls old now made going all still left may =
-    ∥∥₁_map (still left may) (λ w. (calls, refl, shows_made region now old.sup calls (tree_of (region old.memory) old.rows) going.keeps.sup (all_made region fuse calls old now made going all) left w))
+    ∥∥₁_map (still left may) (λ w. (calls, refl, shows_made region now old.layout calls (tree_of (region old.memory) old.rows) going.keeps.layout (all_made region fuse calls old now made going all) left w))
 
 -- a call of a list that has more than so many
 pub some_call : (calls : List Call) (made : ℕ) → made < length calls → Call
@@ -107,8 +107,8 @@ whole_keeps region fuse calls old now made going all = record {
 -- ---- one call more
 
 module _ {P : Type 0} (region : P → Region) (may_hold : P → Choices) (fuse : P → FuseState) (calls : List Call) (old now next : Mount P) (made : ℕ) (going : Going region fuse calls old now made) (d : Call) (more : made < length calls) where
-  abbrev s : Super
-  s = old.sup
+  abbrev l : Layout
+  l = old.layout
 
   abbrev call : Call
   call = get_or calls made d
@@ -120,21 +120,21 @@ module _ {P : Type 0} (region : P → Region) (may_hold : P → Choices) (fuse :
   t = tree_of (region now.memory) now.rows
 
   keeps_on : KeepsMount now next → KeepsMount old next
-  keeps_on keeps = record { sup = keeps.sup ∙ going.keeps.sup; faults = keeps.faults ∙ going.keeps.faults; read_only = keeps.read_only ∙ going.keeps.read_only }
+  keeps_on keeps = record { sup = keeps.sup ∙ going.keeps.sup; layout = keeps.layout ∙ going.keeps.layout; faults = keeps.faults ∙ going.keeps.faults; read_only = keeps.read_only ∙ going.keeps.read_only }
 
   burns_on : KeepsFuse (λ limit. size (region now.memory) ≤ limit) (fuse now.memory) (fuse next.memory) → KeepsFuse (λ limit. size (region old.memory) ≤ limit) (fuse old.memory) (fuse next.memory)
   burns_on burns = keeps_more (λ limit past. subst (λ n. n ≤ limit) (sym going.as_long) past) going.burns burns
 
   -- the calls with this one
-  made_more : (u : Tree) → IsMadeBy s call t u → AreMade s (take (made + 1) calls) first u
-  made_more u is = subst (λ (done : List Call). AreMade s done first u) (sym (take_more calls made d more)) (one_more going.trees call u is)
+  made_more : (u : Tree) → IsMadeBy l call t u → AreMade l (take (made + 1) calls) first u
+  made_more u is = subst (λ (done : List Call). AreMade l done first u) (sym (take_more calls made d more)) (one_more going.trees call u is)
 
-  pub goes_on : IsMadeBy now.sup call t (tree_of (region next.memory) next.rows) → (IsTrue now.stopped → ⊥) → (now.stopped ≡ false → IsTrue next.stopped → ⊥) → KeepsMount now next → size (region next.memory) ≡ size (region now.memory)
+  pub goes_on : IsMadeBy now.layout call t (tree_of (region next.memory) next.rows) → (IsTrue now.stopped → ⊥) → (now.stopped ≡ false → IsTrue next.stopped → ⊥) → KeepsMount now next → size (region next.memory) ≡ size (region now.memory)
       → KeepsFuse (λ limit. size (region now.memory) ≤ limit) (fuse now.memory) (fuse next.memory) → Going region fuse calls old next (made + 1)
   goes_on is ran runs keeps as_long burns =
       let off = off_or_on now.stopped ran in
       record {
-        trees = made_more (tree_of (region next.memory) next.rows) (subst (λ (v : Super). IsMadeBy v call t (tree_of (region next.memory) next.rows)) going.keeps.sup is);
+        trees = made_more (tree_of (region next.memory) next.rows) (subst (λ (v : Layout). IsMadeBy v call t (tree_of (region next.memory) next.rows)) going.keeps.layout is);
         runs = off_or_on next.stopped (runs off) ∙ sym off ∙ going.runs;
         begun = λ zero. absurd (omega (arith, zero));
         stands = λ on. absurd (ran (going.runs ∙ on));
@@ -146,10 +146,10 @@ module _ {P : Type 0} (region : P → Region) (may_hold : P → Choices) (fuse :
   -- ---- the refused call
 
   pub halts : (e : Refusal) → (e ≡ Stopped → ⊥) → (IsTrue now.stopped → e ≡ Stopped) → SameMount now next → (now.stopped ≡ false → RefusesCall (region now.memory) now call e)
-      → HaltsAt s first calls (record { made = made; refusal = e }) (region next.memory) next
+      → HaltsAt l first calls (record { made = made; refusal = e }) (region next.memory) next
   halts e runs before same why = record {
     asked = now;
-    made = subst (λ (p : P). AreMade s (take made calls) first (tree_of (region p) now.rows)) (sym same.memory) going.trees;
+    made = subst (λ (p : P). AreMade l (take made calls) first (tree_of (region p) now.rows)) (sym same.memory) going.trees;
     same = same;
     why = (call, slice_get-get_or calls made d more, subst (λ (p : P). RefusesCall (region p) now call e) (sym same.memory) (why (off_or_on now.stopped (λ on. runs (before on)))));
   }
@@ -172,25 +172,25 @@ module _ {P : Type 0} (region : P → Region) (may_hold : P → Choices) (fuse :
 
   -- What a stop leaves where the call was refused by its tests or for want of memory.
   stays : (e : Refusal) → SameMount now next → LeavesOnly (region now.memory) (may_hold now.memory) (LeavesMounted (region now.memory) now)
-      → LeavesOnly (region next.memory) (may_hold next.memory) (RunLeaves s calls first (Err (record { made = made; refusal = e })))
+      → LeavesOnly (region next.memory) (may_hold next.memory) (RunLeaves l calls first (Err (record { made = made; refusal = e })))
   stays e same still =
-      subst (λ (p : P). LeavesOnly (region p) (may_hold p) (RunLeaves s calls first (Err (record { made = made; refusal = e })))) (sym same.memory)
-      (λ left may. ∥∥₁_map (still left may) (λ w. (take made calls, inl refl, shows_made region now s (take made calls) first going.keeps.sup going.trees left w)))
+      subst (λ (p : P). LeavesOnly (region p) (may_hold p) (RunLeaves l calls first (Err (record { made = made; refusal = e })))) (sym same.memory)
+      (λ left may. ∥∥₁_map (still left may) (λ w. (take made calls, inl refl, shows_made region now l (take made calls) first going.keeps.layout going.trees left w)))
 
-  by_trees : (e : Refusal) → e ≡ Stopped → (left : Region) → RecoversTree s (λ u. SameTree u t) left ⊎ RecoversTree s (λ u. IsMadeBy s call t u) left
-      → (done : List Call) × MayBeDone calls (Err (record { made = made; refusal = e })) done × RecoversMade s done first left
+  by_trees : (e : Refusal) → e ≡ Stopped → (left : Region) → RecoversTree l (λ u. SameTree u t) left ⊎ RecoversTree l (λ u. IsMadeBy l call t u) left
+      → (done : List Call) × MayBeDone calls (Err (record { made = made; refusal = e })) done × RecoversMade l done first left
   by_trees e stop left (inl w) =
-      (take made calls, inl refl, record { rows = w.rows; free = w.free; recovers = always left s w.rows w.free w.recovers; made = made_shown going.trees (tree_of (undone s left) w.rows) w.shows })
+      (take made calls, inl refl, record { rows = w.rows; free = w.free; recovers = always left l w.rows w.free w.recovers; made = made_shown going.trees (tree_of (undone l.sup left) w.rows) w.shows })
   by_trees e stop left (inr w) =
-      (take (made + 1) calls, inr (stop, refl), record { rows = w.rows; free = w.free; recovers = always left s w.rows w.free w.recovers; made = made_more (tree_of (undone s left) w.rows) w.shows })
+      (take (made + 1) calls, inr (stop, refl), record { rows = w.rows; free = w.free; recovers = always left l w.rows w.free w.recovers; made = made_more (tree_of (undone l.sup left) w.rows) w.shows })
 
   -- What a stop leaves at any exit of the call.
   pub left_halted : (e : Refusal) → (IsTrue next.stopped → e ≡ Stopped) → (e ≡ Stopped → IsTrue next.stopped) → ((e ≡ Stopped → ⊥) → SameMount now next)
       → LeavesOnly (region now.memory) (may_hold now.memory) (LeavesMounted (region now.memory) now)
-      → LeavesOnly (region next.memory) (may_hold next.memory) (BeforeOrMade now.sup call t)
-      → LeavesOnly (region next.memory) (may_hold next.memory) (RunLeaves s calls first (Err (record { made = made; refusal = e })))
+      → LeavesOnly (region next.memory) (may_hold next.memory) (BeforeOrMade now.layout call t)
+      → LeavesOnly (region next.memory) (may_hold next.memory) (RunLeaves l calls first (Err (record { made = made; refusal = e })))
   left_halted e stop only same still leaves = by next.stopped refl
     where
-      by : (b : Bool) → next.stopped ≡ b → LeavesOnly (region next.memory) (may_hold next.memory) (RunLeaves s calls first (Err (record { made = made; refusal = e })))
-      by true on = λ left may. ∥∥₁_map (subst (λ (v : Super). BeforeOrMade v call t left) going.keeps.sup (leaves left may)) (λ w. by_trees e (stop on) left w)
+      by : (b : Bool) → next.stopped ≡ b → LeavesOnly (region next.memory) (may_hold next.memory) (RunLeaves l calls first (Err (record { made = made; refusal = e })))
+      by true on = λ left may. ∥∥₁_map (subst (λ (v : Layout). BeforeOrMade v call t left) going.keeps.layout (leaves left may)) (λ w. by_trees e (stop on) left w)
       by false off = stays e (same (λ is. absurd (let clash : true ≡ false = sym (only is) ∙ off in cc))) still

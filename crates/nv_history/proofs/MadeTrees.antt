@@ -3,8 +3,7 @@ use Rattle.std.proofs.Common.{◌≡◌, ℕ, Bool, not, nat_eq, ◌&&◌, is_no
 use Rattle.std.specs.List.{find}
 use Rattle.std.specs.Option.{option_map}
 use Rattle.nv_region.specs.Region.{Region}
-use Rattle.nv_super.specs.Layout.{fixed_layout}
-use Rattle.nv_super.specs.declared.superblock.Super.{Super}
+use Rattle.nv_super.specs.Layout.{Layout}
 use Rattle.nv_super.specs.declared.kind.Kind.{Kind}
 use Rattle.nv_super.specs.declared.kind.Kind.TheVariants.{File, Directory}
 use Rattle.nv_scan.specs.declared.piece.Row.{Row}
@@ -17,7 +16,7 @@ use Rattle.nv_tree.proofs.Kept.{attributed_kept, created_kept, linked_kept, remo
 use Rattle.nv_tree.proofs.Same.{same_itself, same_symmetric, same_transitive}
 use Rattle.nv_tree.proofs.Texts.{says_one}
 use Rattle.nv_paths.specs.Seen.{node_of, tree_of}
-use Rattle.nv_calls.specs.nv_held.nv_graph.Read.{row_of}
+use Rattle.nv_graph.specs.Read.{row_of}
 use Rattle.nv_history.specs.declared.calls.Call.{Call}
 use Rattle.nv_history.specs.declared.calls.Call.TheVariants.{Create, MakeDirectory, Write, SetSize, SetAttributes, Link, Unlink, RemoveDirectory, Rename, Clean}
 use Rattle.nv_history.specs.Making.{AreMade, none, more, ByPath, ByPaths, IsMadeBy, is_unused_in, lowest_unused}
@@ -32,8 +31,8 @@ mapped_none R None = refl
 mapped_none R (Some r) = refl
 
 -- those of the tree of rows are those of the rows
-pub lowest_is : (s : Super) (R : Region) (rows : List Row) (cpu : ℕ) → lowest_unused s (tree_of R rows) cpu ≡ unused_number (fixed_layout s) rows cpu
-lowest_is s R rows cpu = same_find (is_unused_in (tree_of R rows)) (is_unused rows) (λ i. ap (λ b. not (nat_eq i 0) && b) (mapped_none R (row_of rows i))) (numbers_in_table (fixed_layout s) cpu)
+pub lowest_is : (l : Layout) (R : Region) (rows : List Row) (cpu : ℕ) → lowest_unused l (tree_of R rows) cpu ≡ unused_number l rows cpu
+lowest_is l R rows cpu = same_find (is_unused_in (tree_of R rows)) (is_unused rows) (λ i. ap (λ b. not (nat_eq i 0) && b) (mapped_none R (row_of rows i))) (numbers_in_table l cpu)
 
 none_alike : (o p : Option Node) → SameNodes o p → is_none o ≡ is_none p
 none_alike None None same = refl
@@ -41,8 +40,8 @@ none_alike (Some a) (Some b) same = refl
 none_alike None (Some b) same = absurd same
 none_alike (Some a) None same = absurd same
 
-lowest_alike : (s : Super) (t u : Tree) (cpu : ℕ) → SameTree t u → lowest_unused s t cpu ≡ lowest_unused s u cpu
-lowest_alike s t u cpu same = same_find (is_unused_in t) (is_unused_in u) (λ i. ap (λ b. not (nat_eq i 0) && b) (none_alike (t i) (u i) (same i))) (numbers_in_table (fixed_layout s) cpu)
+lowest_alike : (l : Layout) (t u : Tree) (cpu : ℕ) → SameTree t u → lowest_unused l t cpu ≡ lowest_unused l u cpu
+lowest_alike l t u cpu same = same_find (is_unused_in t) (is_unused_in u) (λ i. ap (λ b. not (nat_eq i 0) && b) (none_alike (t i) (u i) (same i))) (numbers_in_table l cpu)
 
 -- ---- one call
 
@@ -52,32 +51,32 @@ by_alike text f g u w keeps same m = (m.0, m.1, same_transitive w u (g m.0) same
 both_alike : (old new : List ℕ) (f g : List (List ℕ) → List (List ℕ) → Tree) (u w : Tree) → ((names others : List (List ℕ)) → SameTree (f names others) (g names others)) → SameTree w u → ByPaths old new f u → ByPaths old new g w
 both_alike old new f g u w keeps same m = (m.0, m.1, m.2, m.3, same_transitive w u (g m.0 m.1) same (same_transitive u (f m.0 m.1) (g m.0 m.1) m.4 (keeps m.0 m.1)))
 
-created_alike : (s : Super) (kind : Kind) (cpu mode time : ℕ) (t v : Tree) → SameTree t v → (names : List (List ℕ)) → SameTree (created kind (lowest_unused s t cpu) names mode time t) (created kind (lowest_unused s v cpu) names mode time v)
-created_alike s kind cpu mode time t v same names =
-    subst (λ (o : Option ℕ). SameTree (created kind (lowest_unused s t cpu) names mode time t) (created kind o names mode time v)) (lowest_alike s t v cpu same)
-    (created_kept kind (lowest_unused s t cpu) names mode time t v same)
+created_alike : (l : Layout) (kind : Kind) (cpu mode time : ℕ) (t v : Tree) → SameTree t v → (names : List (List ℕ)) → SameTree (created kind (lowest_unused l t cpu) names mode time t) (created kind (lowest_unused l v cpu) names mode time v)
+created_alike l kind cpu mode time t v same names =
+    subst (λ (o : Option ℕ). SameTree (created kind (lowest_unused l t cpu) names mode time t) (created kind o names mode time v)) (lowest_alike l t v cpu same)
+    (created_kept kind (lowest_unused l t cpu) names mode time t v same)
 
 -- Of trees that nobody can tell apart a call makes such trees.
-pub made_alike : (s : Super) (call : Call) (t v u w : Tree) → SameTree t v → SameTree w u → IsMadeBy s call t u → IsMadeBy s call v w
-made_alike s (Create cpu path mode time) t v u w same shown m =
-    by_alike path.now (λ names. created File (lowest_unused s t cpu) names mode time t) (λ names. created File (lowest_unused s v cpu) names mode time v) u w (created_alike s File cpu mode time t v same) shown m
-made_alike s (MakeDirectory cpu path mode time) t v u w same shown m =
-    by_alike path.now (λ names. created Directory (lowest_unused s t cpu) names mode time t) (λ names. created Directory (lowest_unused s v cpu) names mode time v) u w (created_alike s Directory cpu mode time t v same) shown m
-made_alike s (Write cpu path offset bytes time) t v u w same shown m =
+pub made_alike : (l : Layout) (call : Call) (t v u w : Tree) → SameTree t v → SameTree w u → IsMadeBy l call t u → IsMadeBy l call v w
+made_alike l (Create cpu path mode time) t v u w same shown m =
+    by_alike path.now (λ names. created File (lowest_unused l t cpu) names mode time t) (λ names. created File (lowest_unused l v cpu) names mode time v) u w (created_alike l File cpu mode time t v same) shown m
+made_alike l (MakeDirectory cpu path mode time) t v u w same shown m =
+    by_alike path.now (λ names. created Directory (lowest_unused l t cpu) names mode time t) (λ names. created Directory (lowest_unused l v cpu) names mode time v) u w (created_alike l Directory cpu mode time t v same) shown m
+made_alike l (Write cpu path offset bytes time) t v u w same shown m =
     by_alike path.now (λ names. written names offset bytes.now time t) (λ names. written names offset bytes.now time v) u w (λ names. written_kept names offset bytes.now time t v same) shown m
-made_alike s (SetSize cpu path size time) t v u w same shown m =
+made_alike l (SetSize cpu path size time) t v u w same shown m =
     by_alike path.now (λ names. resized names size time t) (λ names. resized names size time v) u w (λ names. resized_kept names size time t v same) shown m
-made_alike s (SetAttributes cpu path mode owner group time) t v u w same shown m =
+made_alike l (SetAttributes cpu path mode owner group time) t v u w same shown m =
     by_alike path.now (λ names. attributed names mode owner group time t) (λ names. attributed names mode owner group time v) u w (λ names. attributed_kept names mode owner group time t v same) shown m
-made_alike s (Link cpu old new time) t v u w same shown m =
+made_alike l (Link cpu old new time) t v u w same shown m =
     both_alike old.now new.now (λ names others. linked names others time t) (λ names others. linked names others time v) u w (λ names others. linked_kept names others time t v same) shown m
-made_alike s (Unlink cpu path time) t v u w same shown m =
+made_alike l (Unlink cpu path time) t v u w same shown m =
     by_alike path.now (λ names. unlinked names time t) (λ names. unlinked names time v) u w (λ names. unlinked_kept names time t v same) shown m
-made_alike s (RemoveDirectory cpu path time) t v u w same shown m =
+made_alike l (RemoveDirectory cpu path time) t v u w same shown m =
     by_alike path.now (λ names. removed names time t) (λ names. removed names time v) u w (λ names. removed_kept names time t v same) shown m
-made_alike s (Rename cpu old new time) t v u w same shown m =
+made_alike l (Rename cpu old new time) t v u w same shown m =
     both_alike old.now new.now (λ names others. renamed names others time t) (λ names others. renamed names others time v) u w (λ names others. renamed_kept names others time t v same) shown m
-made_alike s (Clean path) t v u w same shown m = by_alike path.now (λ names. t) (λ names. v) u w (λ names. same) shown m
+made_alike l (Clean path) t v u w same shown m = by_alike path.now (λ names. t) (λ names. v) u w (λ names. same) shown m
 
 names_one : (text : List ℕ) (a b : List (List ℕ)) → IsPath text a → IsPath text b → a ≡ b
 names_one text a b first second = let one : ◌≡◌ {A = Path} (Some a) (Some b) = says_one text (Some a) (Some b) first second in cc
@@ -93,32 +92,32 @@ both_once old new f u w m n =
     let here : SameTree u (f n.0 n.1) = subst (λ (others : List (List ℕ)). SameTree u (f n.0 others)) (names_one new m.1 n.1 m.3 n.3) first in
     same_transitive u (f n.0 n.1) w here (same_symmetric w (f n.0 n.1) n.4)
 
-made_once : (s : Super) (call : Call) (t u w : Tree) → IsMadeBy s call t u → IsMadeBy s call t w → SameTree u w
-made_once s (Create cpu path mode time) t u w m n = by_once path.now (λ names. created File (lowest_unused s t cpu) names mode time t) u w m n
-made_once s (MakeDirectory cpu path mode time) t u w m n = by_once path.now (λ names. created Directory (lowest_unused s t cpu) names mode time t) u w m n
-made_once s (Write cpu path offset bytes time) t u w m n = by_once path.now (λ names. written names offset bytes.now time t) u w m n
-made_once s (SetSize cpu path size time) t u w m n = by_once path.now (λ names. resized names size time t) u w m n
-made_once s (SetAttributes cpu path mode owner group time) t u w m n = by_once path.now (λ names. attributed names mode owner group time t) u w m n
-made_once s (Link cpu old new time) t u w m n = both_once old.now new.now (λ names others. linked names others time t) u w m n
-made_once s (Unlink cpu path time) t u w m n = by_once path.now (λ names. unlinked names time t) u w m n
-made_once s (RemoveDirectory cpu path time) t u w m n = by_once path.now (λ names. removed names time t) u w m n
-made_once s (Rename cpu old new time) t u w m n = both_once old.now new.now (λ names others. renamed names others time t) u w m n
-made_once s (Clean path) t u w m n = by_once path.now (λ names. t) u w m n
+made_once : (l : Layout) (call : Call) (t u w : Tree) → IsMadeBy l call t u → IsMadeBy l call t w → SameTree u w
+made_once l (Create cpu path mode time) t u w m n = by_once path.now (λ names. created File (lowest_unused l t cpu) names mode time t) u w m n
+made_once l (MakeDirectory cpu path mode time) t u w m n = by_once path.now (λ names. created Directory (lowest_unused l t cpu) names mode time t) u w m n
+made_once l (Write cpu path offset bytes time) t u w m n = by_once path.now (λ names. written names offset bytes.now time t) u w m n
+made_once l (SetSize cpu path size time) t u w m n = by_once path.now (λ names. resized names size time t) u w m n
+made_once l (SetAttributes cpu path mode owner group time) t u w m n = by_once path.now (λ names. attributed names mode owner group time t) u w m n
+made_once l (Link cpu old new time) t u w m n = both_once old.now new.now (λ names others. linked names others time t) u w m n
+made_once l (Unlink cpu path time) t u w m n = by_once path.now (λ names. unlinked names time t) u w m n
+made_once l (RemoveDirectory cpu path time) t u w m n = by_once path.now (λ names. removed names time t) u w m n
+made_once l (Rename cpu old new time) t u w m n = both_once old.now new.now (λ names others. renamed names others time t) u w m n
+made_once l (Clean path) t u w m n = by_once path.now (λ names. t) u w m n
 
 -- ---- a run of calls
 
 -- what a run makes nobody can tell from another tree
-pub made_shown : {s : Super} {calls : List Call} {t u : Tree} → AreMade s calls t u → (w : Tree) → SameTree w u → AreMade s calls t w
+pub made_shown : {l : Layout} {calls : List Call} {t u : Tree} → AreMade l calls t u → (w : Tree) → SameTree w u → AreMade l calls t w
 made_shown (none t u same) w shown = none t w (same_transitive w u t shown same)
 made_shown (more call calls t v u first rest) w shown = more call calls t v w first (made_shown rest w shown)
 
 -- one call more
-pub one_more : {s : Super} {calls : List Call} {t v : Tree} → AreMade s calls t v → (call : Call) (u : Tree) → IsMadeBy s call v u → AreMade s (calls ++ call ∷ []) t u
-one_more {s} (none t v same) call u last = more call [] t u u (made_alike s call v t u u same (same_itself u) last) (none u u (same_itself u))
+pub one_more : {l : Layout} {calls : List Call} {t v : Tree} → AreMade l calls t v → (call : Call) (u : Tree) → IsMadeBy l call v u → AreMade l (calls ++ call ∷ []) t u
+one_more {l} (none t v same) call u last = more call [] t u u (made_alike l call v t u u same (same_itself u) last) (none u u (same_itself u))
 one_more (more first calls t x v made rest) call u last = more first (calls ++ call ∷ []) t x u made (one_more rest call u last)
 
 -- of trees that nobody can tell apart a run makes such trees
-pub one_tree : {s : Super} {calls : List Call} {t u v w : Tree} → AreMade s calls t u → SameTree t v → AreMade s calls v w → SameTree u w
+pub one_tree : {l : Layout} {calls : List Call} {t u v w : Tree} → AreMade l calls t u → SameTree t v → AreMade l calls v w → SameTree u w
 one_tree (none t u first) same (none v w second) = same_transitive u t w first (same_transitive t v w same (same_symmetric w v second))
-one_tree {s} (more call calls t x u first rest) same (more call' calls' v y w second next) =
-    one_tree rest (made_once s call v x y (made_alike s call t v x x same (same_itself x) first) second) next
+one_tree {l} (more call calls t x u first rest) same (more call' calls' v y w second next) =
+    one_tree rest (made_once l call v x y (made_alike l call t v x x same (same_itself x) first) second) next

@@ -94,9 +94,9 @@ module _ {P : Type 0} (region : P → Region) (may_hold : P → Choices) (old ne
   t = tree_of R old.rows
 
   abbrev Left : Region → Type 0
-  Left left = RecoversTree old.sup (λ u. SameTree u t) left ⊎ RecoversTree old.sup IsMade left
+  Left left = RecoversTree old.layout (λ u. SameTree u t) left ⊎ RecoversTree old.layout IsMade left
 
-  as_mounted : (left : Region) → IsAsMounted R old.sup old.rows old.free.pools left → Left left
+  as_mounted : (left : Region) → IsAsMounted R old.layout old.rows old.free.pools left → Left left
   as_mounted left m = inl (record { rows = old.rows; free = old.free.pools; recovers = m.0; shows = m.1 })
 
   -- a text that is no path leaves what was mounted
@@ -106,9 +106,9 @@ module _ {P : Type 0} (region : P → Region) (may_hold : P → Choices) (old ne
       (λ left may. ∥∥₁_map (still left may) (λ m. as_mounted left m))
 
   made_or_not : (made : Tree) → ((u : Tree) → SameTree u made → IsMade u) → (Logged : Region → Type 0) (left : Region)
-      → IsAsMounted R old.sup old.rows old.free.pools left ⊎ IsAsMade old.sup made Logged left → Left left
+      → IsAsMounted R old.layout old.rows old.free.pools left ⊎ IsAsMade old.layout made Logged left → Left left
   made_or_not made is Logged left (inl m) = as_mounted left m
-  made_or_not made is Logged left (inr m) = inr (record { rows = m.rows; free = m.free; recovers = m.recovers; shows = is (tree_of (undone old.sup left) m.rows) m.tree })
+  made_or_not made is Logged left (inr m) = inr (record { rows = m.rows; free = m.free; recovers = m.recovers; shows = is (tree_of (undone old.layout.sup left) m.rows) m.tree })
 
   does : (makes : Makes P) (logs : Logs P) (names : List (List ℕ)) → ((u : Tree) → SameTree u (makes R old names) → IsMade u)
       → LeavesOnly (region new.memory) (may_hold new.memory) (LeavesCall makes logs R old names) → LeavesOnly (region new.memory) (may_hold new.memory) (λ left. ∥ (Left left) ∥₁)

@@ -4,6 +4,7 @@ use Rattle.nv_region.specs.Region.{Region}
 use Rattle.nv_super.specs.declared.superblock.Super.{Super}
 use Rattle.nv_super.specs.declared.owners.Run.{Run}
 use Rattle.nv_super.specs.Super.{IsSuper}
+use Rattle.nv_super.specs.Layout.{Layout}
 use Rattle.nv_journal.specs.Undo.{undone}
 use Rattle.nv_scan.specs.declared.piece.Row.{Row}
 use Rattle.nv_outcome.proofs.SuperOf.{one_super}
@@ -19,10 +20,10 @@ undoes_same (again mid next before step) s is =
     let one : step.0 ≡ s = one_super mid s step.0 so_far.0 step.1 in
     (subst (λ (t : Super). IsSuper next t) one step.2, subst (λ (t : Super). undone t next ≡ undone t mid) one step.3 ∙ so_far.1)
 
-pub always : (left : Region) (s : Super) (rows : List Row) (free : List (List Run)) → RecoversTo left s rows free → AlwaysRecoversTo left s rows free
-always left s rows free found = record {
+pub always : (left : Region) (l : Layout) (rows : List Row) (free : List (List Run)) → RecoversTo left l rows free → AlwaysRecoversTo left l rows free
+always left l rows free found = record {
   first = found;
-  sup = λ next stops. (undoes_same stops s found.sup).0;
-  undoes = λ next stops. (undoes_same stops s found.sup).1;
-  finds = λ next o stops is. (let same = undoes_same stops s found.sup in later_same found same.0 same.1 o is);
+  sup = λ next stops. (undoes_same stops l.sup found.sup).0;
+  undoes = λ next stops. (undoes_same stops l.sup found.sup).1;
+  finds = λ next o stops is. (let same = undoes_same stops l.sup found.sup in later_same found same.0 same.1 o is);
 }

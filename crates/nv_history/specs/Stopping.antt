@@ -1,9 +1,9 @@
 -- What recoveries find in a region that a power cut has left.
 use Rattle.std.specs.Prelude.{◌≡◌, ◌⊎◌, ◌+◌, List, take, Result, Ok, Err, ⊤}
 use Rattle.nv_region.specs.Region.{Region}
-use Rattle.nv_super.specs.declared.superblock.Super.{Super}
 use Rattle.nv_super.specs.declared.owners.Run.{Run}
 use Rattle.nv_super.specs.Super.{IsSuper}
+use Rattle.nv_super.specs.Layout.{Layout}
 use Rattle.nv_journal.specs.Undo.{undone}
 use Rattle.nv_scan.specs.declared.piece.Row.{Row}
 use Rattle.nv_outcome.specs.Outcome.{Outcome, IsOutcome}
@@ -12,7 +12,7 @@ use Rattle.nv_recover.specs.Errors.{UndoesAsBefore}
 use Rattle.nv_tree.specs.Tree.{SameTree, Tree}
 use Rattle.nv_tree.specs.declared.refusal.Refusal.TheVariants.{Stopped}
 use Rattle.nv_paths.specs.Seen.{tree_of}
-use Rattle.nv_calls.specs.nv_held.Mounted.{faultless_outcome}
+use Rattle.nv_mounted.specs.Mounted.{faultless_outcome}
 use Rattle.nv_calls.specs.Stopped.{RecoversTo}
 use Rattle.nv_history.specs.declared.calls.Call.{Call}
 use Rattle.nv_history.specs.declared.runs.Halted.{Halted}
@@ -27,24 +27,24 @@ pub data StoppedRecoveries (left : Region) : Region → Type 0 where
 
 -- Recovery finds these rows and free lists without faults. However often recoveries are stopped and begun again, the journals
 -- roll back to the same region, and it finds them, with no faults but those of pending records.
-pub record AlwaysRecoversTo (left : Region) (s : Super) (rows : List Row) (free : List (List Run)) : Type 0 where
-  pub first : RecoversTo left s rows free
-  pub sup : (next : Region) → StoppedRecoveries left next → IsSuper next s
-  pub undoes : (next : Region) → StoppedRecoveries left next → undone s next ≡ undone s left
-  pub finds : (next : Region) (o : Outcome) → StoppedRecoveries left next → IsOutcome next o → SameOutcome (faultless_outcome s rows free) (lasting_outcome o)
+pub record AlwaysRecoversTo (left : Region) (l : Layout) (rows : List Row) (free : List (List Run)) : Type 0 where
+  pub first : RecoversTo left l rows free
+  pub sup : (next : Region) → StoppedRecoveries left next → IsSuper next l.sup
+  pub undoes : (next : Region) → StoppedRecoveries left next → undone l.sup next ≡ undone l.sup left
+  pub finds : (next : Region) (o : Outcome) → StoppedRecoveries left next → IsOutcome next o → SameOutcome (faultless_outcome l rows free) (lasting_outcome o)
 
 -- ---- one call
 
 -- Recovery finds rows and free lists without faults, whose tree is of this kind.
-pub record RecoversTree (s : Super) (IsShown : Tree → Type 0) (left : Region) : Type 0 where
+pub record RecoversTree (l : Layout) (IsShown : Tree → Type 0) (left : Region) : Type 0 where
   pub rows : List Row
   pub free : List (List Run)
-  pub recovers : RecoversTo left s rows free
-  pub shows : IsShown (tree_of (undone s left) rows)
+  pub recovers : RecoversTo left l rows free
+  pub shows : IsShown (tree_of (undone l.sup left) rows)
 
 -- recovery finds the tree that there was, or what a call makes of it
-abbrev pub BeforeOrMade : Super → Call → Tree → Region → Type 0
-BeforeOrMade s call t left = ∥ (RecoversTree s (λ u. SameTree u t) left ⊎ RecoversTree s (λ u. IsMadeBy s call t u) left) ∥₁
+abbrev pub BeforeOrMade : Layout → Call → Tree → Region → Type 0
+BeforeOrMade l call t left = ∥ (RecoversTree l (λ u. SameTree u t) left ⊎ RecoversTree l (λ u. IsMadeBy l call t u) left) ∥₁
 
 -- ---- a run of calls
 
@@ -54,12 +54,12 @@ MayBeDone calls (Ok made) done = done ≡ calls
 MayBeDone calls (Err halted) done = (done ≡ take halted.made calls) ⊎ ((halted.refusal ≡ Stopped) × (done ≡ take (halted.made + 1) calls))
 
 -- These calls make the tree of the rows that recovery finds, however often it is stopped and begun again.
-pub record RecoversMade (s : Super) (done : List Call) (t : Tree) (left : Region) : Type 0 where
+pub record RecoversMade (l : Layout) (done : List Call) (t : Tree) (left : Region) : Type 0 where
   pub rows : List Row
   pub free : List (List Run)
-  pub recovers : AlwaysRecoversTo left s rows free
-  pub made : AreMade s done t (tree_of (undone s left) rows)
+  pub recovers : AlwaysRecoversTo left l rows free
+  pub made : AreMade l done t (tree_of (undone l.sup left) rows)
 
 -- whatever a stop leaves of a run: recovery finds what such calls make
-abbrev pub RunLeaves : Super → List Call → Tree → Result ⊤ Halted → Region → Type 0
-RunLeaves s calls t answer left = ∥ ((done : List Call) × MayBeDone calls answer done × RecoversMade s done t left) ∥₁
+abbrev pub RunLeaves : Layout → List Call → Tree → Result ⊤ Halted → Region → Type 0
+RunLeaves l calls t answer left = ∥ ((done : List Call) × MayBeDone calls answer done × RecoversMade l done t left) ∥₁

@@ -87,13 +87,13 @@ pub enum Call<'a> {
 
 /// Makes a call.
 pub(crate) fn make_call<P: Pmem + Drop>(mount: &mut Fs<P>, call: &Call<'_>) -> Result<(), Refusal>
-    ensures made { OnOk result (IsMadeBy mount.old.sup call.now (shown P.region mount.old) (shown P.region mount.new)) }
+    ensures made { OnOk result (IsMadeBy mount.old.layout call.now (shown P.region mount.old) (shown P.region mount.new)) }
     ensures refused { mount.old.stopped ≡ false → IfErr result (RefusesCall (P.region mount.old.memory) mount.old call.now) }
     // What every call that writes keeps.
     ensures call { KeepsCall P.region P.fuse mount.old mount.new result }
     // Whatever a stop leaves, at any exit: recovery finds what was mounted, or what the call makes, without faults.
     ensures any_stop { mount.old.stopped ≡ false → mount.old.read_only ≡ false
-        → LeavesOnly (P.region mount.new.memory) (P.may_hold mount.new.memory) (BeforeOrMade mount.old.sup call.now (shown P.region mount.old)) }
+        → LeavesOnly (P.region mount.new.memory) (P.may_hold mount.new.memory) (BeforeOrMade mount.old.layout call.now (shown P.region mount.old)) }
 {
     // What a stop leaves of a call that stores nothing.
     mount.recovers_as_mounted();

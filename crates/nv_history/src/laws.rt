@@ -2,7 +2,7 @@
 
 ghost use Rattle.std.specs.Prelude.{◌≡◌, ℕ, List};
 ghost use Rattle.nv_region.specs.Region.{Region};
-ghost use Rattle.nv_super.specs.Layout.{fixed_layout};
+ghost use Rattle.nv_super.specs.Layout.{Layout};
 ghost use Rattle.nv_super.specs.declared.superblock.Super.{Super};
 ghost use Rattle.nv_super.specs.Super.{IsSuper};
 ghost use Rattle.nv_journal.specs.Undo.{undone};
@@ -21,10 +21,10 @@ pub fn stopped_recoveries_undo_the_same()
 
 /// Calls make one tree of a tree, up to what nobody can tell apart.
 pub fn calls_make_one_tree()
-    ensures { (s : Super) (calls : List CallValue) (t u v : Tree) → AreMade s calls t u → AreMade s calls t v → SameTree u v }
+    ensures { (l : Layout) (calls : List CallValue) (t u v : Tree) → AreMade l calls t u → AreMade l calls t v → SameTree u v }
 {}
 
 /// The number that a new inode gets by the tree is the one that it gets by the rows.
 pub fn new_numbers_are_the_same()
-    ensures { (s : Super) (region : Region) (rows : List Row) (cpu : ℕ) → lowest_unused s (tree_of region rows) cpu ≡ unused_number (fixed_layout s) rows cpu }
+    ensures { (l : Layout) (region : Region) (rows : List Row) (cpu : ℕ) → lowest_unused l (tree_of region rows) cpu ≡ unused_number l rows cpu }
 {}

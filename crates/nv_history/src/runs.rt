@@ -42,17 +42,17 @@ impl Error for Halted {}
 /// recovery finds what was made with that call or without it.
 pub fn make_calls<P: Pmem + Drop>(mount: &mut Fs<P>, calls: &[Call<'_>]) -> Result<(), Halted>
     // All were made, or one after those that were made is refused.
-    ensures made { OnOk result (AreMade mount.old.sup calls.now (shown P.region mount.old) (shown P.region mount.new)) }
+    ensures made { OnOk result (AreMade mount.old.layout calls.now (shown P.region mount.old) (shown P.region mount.new)) }
     ensures before { IfErr result (λ halted. halted.made < length calls.now) }
     ensures halted { IfErr result (λ halted. (halted.refusal ≡ RefusalValue.Stopped → ⊥)
-        → HaltsAt mount.old.sup (shown P.region mount.old) calls.now halted (P.region mount.new.memory) mount.new) }
+        → HaltsAt mount.old.layout (shown P.region mount.old) calls.now halted (P.region mount.new.memory) mount.new) }
     ensures unchanged { IfErr result (λ halted. (halted.refusal ≡ RefusalValue.Stopped → ⊥) → halted.made ≡ 0 → SameMount mount.old mount.new) }
     // What a run keeps, and when it stops the mount.
     ensures run { KeepsRun P.region P.fuse calls.now mount.old mount.new result }
     // Whatever a power cut leaves, at any store of any of the calls: recovery finds what the calls that were made make, or
     // what they make with the one that was stopped, without faults, however often recoveries are stopped too.
     ensures any_stop { mount.old.stopped ≡ false → mount.old.read_only ≡ false
-        → LeavesOnly (P.region mount.new.memory) (P.may_hold mount.new.memory) (RunLeaves mount.old.sup calls.now (shown P.region mount.old) result) }
+        → LeavesOnly (P.region mount.new.memory) (P.may_hold mount.new.memory) (RunLeaves mount.old.layout calls.now (shown P.region mount.old) result) }
 {
     for (made, call) in calls.iter().enumerate() {
         // What a stop leaves where the call is refused.

@@ -1,7 +1,6 @@
 -- Further names of a file, and what is kept of first ones.
 use Rattle.std.proofs.Common.{◌≡◌, ◌∙◌, ap₂, eqb-true, ℕ, ◌&&◌, nat_eq, Bool, true, false, cond, refl, sym, ap, List, [], ◌∷◌, ◌++◌, Option, Some, None, Bor, string_bytes, arith}
-use Rattle.std.specs.BTreeMap.{BTreeMap, IsEmpty, Updates, get, is_at}
-use Rattle.std.specs.Map.{lookup}
+use Rattle.std.specs.BTreeMap.{BTreeMap, Updates, get}
 use Rattle.std.specs.Ordering.{is_eq}
 use Rattle.std.proofs.lemmas.Bool.{true≢false}
 use Rattle.std.proofs.lemmas.Bool.Decides.{nat_tests}
@@ -99,7 +98,3 @@ kept_first es e old new path two none is_path updates keeps found shared = by (a
     by false is =
         ap path_of (updates.2 (found.device, found.inode) (keys_apart found e.found shared two is)) ∙ keeps found shared
         ∙ sym (first_of_more es e found ∙ ap (λ b. or_else (first_name es found) (cond b (Some (string_bytes e.path)) None)) is ∙ nothing_more (first_name es found))
-
--- of no entries nothing is kept
-pub kept_none : (firsts : Firsts) → IsEmpty firsts → Keeps [] firsts
-kept_none firsts empty found shared = ap (λ es. path_of (lookup (is_at (pair_cmp (found.device, found.inode))) es)) empty

@@ -1,16 +1,15 @@
 -- The layout of fixed tables is that of each region in version 1, and by it the same words are permitted.
-use Rattle.std.proofs.Common.{◌≡◌, ◌==◌, ◌&&◌, ◌||◌, ◌/◌, ◌%◌, ◌*◌, ◌+◌, nat_lt, ℕ, zero, suc, Bool, true, false, List, [], length, Some, nat_le, refl, ap, sym, subst, replicate, ne_eqb, eqb, ◌∙◌, arith}
+use Rattle.std.proofs.Common.{◌≡◌, ◌==◌, ◌&&◌, ◌||◌, ◌/◌, ◌%◌, ◌*◌, ◌+◌, nat_lt, ℕ, zero, suc, Bool, true, false, List, [], Some, nat_le, refl, ap, sym, subst, replicate, ne_eqb, eqb, ◌∙◌, arith}
 use Rattle.std.specs.Prelude.{slice_get}
 use Rattle.std.specs.List.{IsDistinct}
 use Rattle.std.proofs.lemmas.List.{length-replicate}
-use Rattle.nv_super.specs.nv_region.Region.{Region}
+use Rattle.nv_region.specs.Region.{Region}
 use Rattle.nv_super.specs.declared.superblock.Super.{Super}
 use Rattle.nv_super.specs.Layout.{IsLayout, fixed_layout, system_blocks}
 use Rattle.nv_super.proofs.Slots.{no_chain}
 use Rattle.nv_inode.specs.Chains.{IsLaid, chain_faults, in_chains, layout_of}
 use Rattle.nv_inode.specs.Permitted.{is_permitted, is_permitted_by, is_key_offset, in_extra}
-use Rattle.nv_inode.specs.SlotBlocks.{extra_blocks, slot_blocks}
-use Rattle.nv_inode.proofs.TicketBlocks.{all_long}
+use Rattle.nv_inode.specs.SlotBlocks.{extra_blocks}
 use Rattle.nv_inode.proofs.ReadChains.{empty_chains, no_faults, none_once}
 
 -- no block stands in empty chains
@@ -63,7 +62,3 @@ same_words s at = same_test (nat_le ((1 + s.cpus) * 4096 + 128) at) (nat_lt at (
 no_blocks : (s : Super) (c n : ℕ) → extra_blocks s c (replicate n []) ≡ []
 no_blocks s c zero = refl
 no_blocks s c (suc n) = no_blocks s (c + 1) n
-
--- they are the table blocks
-pub fixed_long : (s : Super) → length (slot_blocks (fixed_layout s)) ≡ s.cpus * s.table_blocks
-fixed_long s = let all = all_long (fixed_layout s) 0 in let none = ap length (no_blocks s 0 s.cpus) in omega (arith, all, none)

@@ -2,7 +2,7 @@
 use Rattle.std.proofs.Common.{◌≡◌, ◌⊎◌, inl, inr, ◌<◌, ◌+◌, ◌-◌, ◌*◌, ◌/◌, ◌%◌, ◌==◌, ℕ, zero, suc, Bool, true, false, cond, List, [], ◌∷◌, ◌++◌, length, set, Option, Some, None, refl, sym, ap, ◌∙◌, arith}
 use Rattle.std.specs.Prelude.{slice_get, unwrap_or}
 use Rattle.std.proofs.lemmas.Nat.{mod_below}
-use Rattle.nv_super.specs.nv_region.Region.{Region, word}
+use Rattle.nv_region.specs.Region.{Region, word}
 use Rattle.nv_super.specs.Layout.{Layout, chain_of, extra_slot, slot_address, slot_of}
 use Rattle.nv_inode.specs.Growing.{IsLinked, with_block}
 
@@ -12,7 +12,7 @@ get_pushed [] (suc k) b = inl refl
 get_pushed (x ∷ xs) zero b = inl refl
 get_pushed (x ∷ xs) (suc k) b = get_pushed xs k b
 
-found_grown : (chains : List (List ℕ)) (c q k b : ℕ) → c < length chains
+pub found_grown : (chains : List (List ℕ)) (c q k b : ℕ) → c < length chains
     → (slice_get (unwrap_or (slice_get (set chains c (unwrap_or (slice_get chains c) [] ++ b ∷ [])) q) []) k ≡ slice_get (unwrap_or (slice_get chains q) []) k)
     ⊎ ((slice_get (unwrap_or (slice_get chains q) []) k ≡ None) × (slice_get (unwrap_or (slice_get (set chains c (unwrap_or (slice_get chains c) [] ++ b ∷ [])) q) []) k ≡ Some b))
 found_grown [] c q k b less = absurd (omega (arith, less))

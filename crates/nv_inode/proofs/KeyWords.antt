@@ -1,12 +1,12 @@
--- An address is permitted just where it is that of a slot's valid, head or tail word.
-use Rattle.std.proofs.Common.{◌≡◌, ◌⊎◌, ◌↔◌, ℕ, Bool, inl, inr, ◌+◌, ◌-◌, ◌*◌, ◌/◌, ◌%◌, ◌<◌, ◌≤◌, IsTrue, sym, ap, subst, arith}
+-- Where the words stand that a journal may name, and the inode of each slot of the fixed tables.
+use Rattle.std.proofs.Common.{◌≡◌, ◌⊎◌, ℕ, inl, inr, ◌+◌, ◌-◌, ◌*◌, ◌/◌, ◌%◌, ◌<◌, ◌≤◌, IsTrue, ap, arith}
 use Rattle.std.proofs.Math.Nat.{le-mul_of_pos_right}
 use Rattle.std.proofs.lemmas.Nat.{div_below, mod_below, div-add-mod', div-mul-add, mod-mul-add, mul-add-lt}
 use Rattle.std.proofs.lemmas.Bool.Decides.{nat_tests}
 use Rattle.std.proofs.lemmas.Bool.{cases_eq}
 use Rattle.nv_super.specs.declared.superblock.Super.{Super}
 use Rattle.nv_super.specs.Layout.{IsLayout, system_blocks, slot_address, is_number}
-use Rattle.nv_inode.specs.Permitted.{is_permitted, IsKeyWord, NamesSlot, IsInTables, LiesBehind}
+use Rattle.nv_inode.specs.Permitted.{is_permitted, IsKeyWord, LiesBehind}
 use Rattle.nv_inode.proofs.Slots.{slot_inside, slot_behind, slot_whole}
 
 -- the three parts of the test
@@ -21,19 +21,19 @@ test_holds s at behind before offset = grind (arith, nat_tests)
 pub number_holds : (s : Super) (i : ℕ) → 0 < i → i < 32 * s.cpus * s.table_blocks → IsTrue (is_number s i)
 number_holds s i above below = grind (arith, nat_tests)
 
-pub permitted_lies : (s : Super) (at : ℕ) → IsTrue (is_permitted s at) → IsInTables s at
-permitted_lies s at permitted =
+-- each address that is permitted is of a whole word behind the journals
+pub lies_behind : (s : Super) → LiesBehind (is_permitted s) ((1 + s.cpus) * 4096)
+lies_behind s at permitted =
     let parts = test_parts s at permitted in
     let behind = parts.0 in
-    let before = parts.1 in
-    let aligned = multiple at parts.2 in
-    record { aligned = aligned; behind = omega (arith, behind); before = omega (arith, before, aligned) }
+    (omega (arith, behind), multiple at parts.2)
   where
     multiple : (at : ℕ) → (at % 128 ≡ 0) ⊎ ((at % 128 ≡ 16) ⊎ (at % 128 ≡ 24)) → at % 8 ≡ 0
     multiple at offset = elim offset [ inl e ↦ omega arith | inr other ↦ elim other [ inl e ↦ omega arith | inr e ↦ omega arith ] ]
 
-pub named_permitted : (s : Super) (at : ℕ) → IsLayout s → NamesSlot s at → IsTrue (is_permitted s at)
-named_permitted s at layout named = key s (slot_address s named.0) at (slot_inside s named.0 layout named.1) (slot_behind s named.0 layout named.1) (slot_whole s named.0) named.2
+-- the valid, head or tail word of the slot of an inode's number is permitted
+pub named_permitted : (s : Super) (i at : ℕ) → IsLayout s → IsTrue (is_number s i) → IsKeyWord (slot_address s i) at → IsTrue (is_permitted s at)
+named_permitted s i at layout number word = key s (slot_address s i) at (slot_inside s i layout number) (slot_behind s i layout number) (slot_whole s i) word
   where
     key : (s : Super) (slot at : ℕ) → slot + 128 ≤ system_blocks s * 4096 → (1 + s.cpus) * 4096 + 128 ≤ slot → slot % 128 ≡ 0 → IsKeyWord slot at → IsTrue (is_permitted s at)
     key s slot at inside behind whole word = elim word [
@@ -97,29 +97,3 @@ module _ (C T m : ℕ) (some : 0 < C) (tables : 0 < T) (above : 0 < m) (below : 
 pub place_of : (C T at : ℕ) → (1 + C) * 4096 + 128 ≤ at → at < (1 + C + C * T) * 4096
     → (m : ℕ) × (0 < m) × (m < C * (32 * T)) × (at ≡ (1 + C) * 4096 + 128 * m + at % 128)
 place_of C T at behind before = ((at - (1 + C) * 4096) / 128, omega arith, omega arith, omega arith)
-
-pub permitted_named : (s : Super) (at : ℕ) → IsLayout s → IsTrue (is_permitted s at) → NamesSlot s at
-permitted_named s at layout permitted =
-    let parts = test_parts s at permitted in
-    let found = place_of s.cpus s.table_blocks at parts.0 parts.1 in
-    let some : 0 < s.cpus = omega (arith, layout.cpus_from) in
-    let tables : 0 < s.table_blocks = omega (arith, layout.tables_from) in
-    let i = inode s.cpus s.table_blocks found.0 in (
-      i,
-      number_holds s i (inode_above s.cpus s.table_blocks found.0 some tables found.1 found.2) (inode_below s.cpus s.table_blocks found.0 some tables found.1 found.2),
-      key (slot_address s i) ((1 + s.cpus) * 4096 + 128 * found.0) at (inode_slot s.cpus s.table_blocks found.0 some tables found.1 found.2) found.3 parts.2,
-    )
-  where
-    key : (slot base at : ℕ) → slot ≡ base → at ≡ base + at % 128 → (at % 128 ≡ 0) ⊎ ((at % 128 ≡ 16) ⊎ (at % 128 ≡ 24)) → IsKeyWord slot at
-    key slot base at same is offset = elim offset [
-      | inl e ↦ inl (omega arith)
-      | inr other ↦ inr (elim other [ inl e ↦ inl (omega arith) | inr e ↦ inr (omega arith) ])
-    ]
-
-pub lies_behind : (s : Super) → LiesBehind (is_permitted s) ((1 + s.cpus) * 4096)
-lies_behind s at permitted = let lies = permitted_lies s at permitted in (lies.behind, lies.aligned)
-
--- at any test that says the same
-pub permitted_names : (s : Super) (at : ℕ) (test : Bool) → IsLayout s → test ≡ is_permitted s at → IsTrue test ↔ NamesSlot s at
-permitted_names s at test layout same =
-    ((λ holds. permitted_named s at layout (subst (λ (b : Bool). IsTrue b) same holds)), (λ named. subst (λ (b : Bool). IsTrue b) (sym same) (named_permitted s at layout named)))

@@ -98,11 +98,6 @@ chain_block l b laid marked = let found = found_in l.chains b marked in laid.ins
 none_at : (k b : ℕ) → slice_get [] k ≡ Some b → ⊥
 none_at k b e = cc
 
--- and has a small number
-pub chain_below : (l : Layout) (c k : ℕ) (found : Option ℕ) → IsLaid l → found ≡ slice_get (chain_of l c) k → IfSome found (λ b. b < 262144)
-chain_below l c k None laid is = tt
-chain_below l c k (Some b) laid is = let inside = laid.inside c k b (sym is) in let few = laid.layout.areas.blocks_to in omega (arith, inside.1, few)
-
 -- in version 1 there is none
 chain_version : (l : Layout) (b : ℕ) → IsLaid l → in_chains l.chains b ≡ true → l.sup.version ≡ 2
 chain_version l b laid marked = elim (cases_eq l.sup.version 1) [

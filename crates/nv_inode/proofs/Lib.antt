@@ -15,3 +15,5 @@ pub mod TicketsOnce
 pub mod NameNumbers
 pub mod NumberEnds
 pub mod BlockBounds
+pub mod Marks
+pub mod GrownTables

@@ -1,12 +1,11 @@
 -- A block of slots that is cleared and linked.
 use Rattle.std.proofs.Common.{◌≡◌, ◌≢◌, ◌⊎◌, inl, inr, ◌≤◌, ◌<◌, ◌+◌, ◌*◌, ◌/◌, ◌%◌, ℕ, length, sym, ap, ◌∙◌, subst, arith}
 use Rattle.std.proofs.lemmas.List.{get_or_past, get_or-set_same, get_or-set_other}
-use Rattle.std.proofs.lemmas.Bool.{cases_eq, cases_lt}
-use Rattle.nv_super.specs.nv_region.Region.{Region, put, size, word}
-use Rattle.nv_super.specs.nv_region.Stops.{Choices, IsMixed, LeavesOnly, NothingPending, One}
-use Rattle.nv_super.specs.nv_region.Stored.{StoresOnly, Within}
-use Rattle.nv_super.proofs.nv_region.Stops.{mixed_left}
-use Rattle.nv_super.proofs.nv_region.Wordwise.{mixed_word}
+use Rattle.std.proofs.lemmas.Bool.{cases_lt}
+use Rattle.nv_region.specs.Region.{Region, put, size, word}
+use Rattle.nv_region.specs.Stops.{Choices, IsMixed, One}
+use Rattle.nv_region.specs.Stored.{Within}
+use Rattle.nv_region.proofs.Wordwise.{mixed_word}
 use Rattle.nv_inode.specs.Growing.{IsBlank, IsLinked, LinksOrNot}
 
 -- a word that is 0 stays so where only zeros were stored
@@ -21,13 +20,6 @@ same_size R S these mixed = (λ i. 8 * mixed.as_long i + length (mixed.same_rest
 
 pub put_here : (R : Region) (at value : ℕ) → at % 8 ≡ 0 → at + 8 ≤ size R → length R.rest < 8 → word (put R at value) at ≡ value
 put_here R at value whole inside short = get_or-set_same R.words (at / 8) value 0 (omega (arith, whole, inside, short))
-
--- one word more of a row of starts
-pub one_start : (R S : Region) (at k : ℕ) → IsMixed R (One (at + 128 * k) 0) S → word S (at + 128 * k) ≡ 0 → ((j : ℕ) → j < k → word R (at + 128 * j) ≡ 0) → (j : ℕ) → j < k + 1 → word S (at + 128 * j) ≡ 0
-one_start R S at k mixed here before j less = elim (cases_eq j k) [
-  | inl is ↦ ap (λ (i : ℕ). word S (at + 128 * i)) is ∙ here
-  | inr differs ↦ zero_stays R S (at + 128 * k) (at + 128 * j) mixed (before j (omega (arith, less, differs)))
-]
 
 -- what lies outside of a block stays where its words alone changed
 pub away_stays : (old Q : Region) (block : ℕ) → IsMixed old (Within (4096 * block) 4096) Q → (a : ℕ) → a % 8 ≡ 0 → (a < 4096 * block) ⊎ (4096 * block + 4096 ≤ a) → word Q a ≡ word old a
@@ -56,11 +48,6 @@ module _ (old Q : Region) (link block : ℕ) (whole : link % 8 ≡ 0) (inside : 
     leads = put_here Q link (4096 * block) whole (let same = same_size old Q (Within (4096 * block) 4096) mixed in omega (arith, same, inside)) (subst (λ (n : ℕ). n < 8) (ap length (sym mixed.same_rest)) short);
     others = λ a even differs away. other_word a even differs ∙ away_stays old Q block mixed a even away;
   }
-
--- what a stop may leave
-pub clearing_leaves : (R Q : Region) (before after : Choices) (link block : ℕ) → NothingPending R before → StoresOnly (Within (4096 * block) 4096) R Q before after → LeavesOnly Q after (LinksOrNot R link block)
-clearing_leaves R Q before after link block settled wrote left may =
-    inl (mixed_left R Q (Within (4096 * block) 4096) before after wrote.mixed.as_long wrote.mixed.same_rest settled wrote.adds left may)
 
 pub linking_leaves : (R Q S left : Region) (link block : ℕ) → IsMixed R (Within (4096 * block) 4096) Q → S ≡ Q → IsLinked R link block (put Q link (4096 * block)) → (left ≡ S) ⊎ (left ≡ put S link (4096 * block)) → LinksOrNot R link block left
 linking_leaves R Q S left link block mixed same is (inl before) = inl (subst (λ (r : Region). IsMixed R (Within (4096 * block) 4096) r) (sym (before ∙ same)) mixed)

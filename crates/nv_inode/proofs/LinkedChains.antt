@@ -4,9 +4,9 @@ use Rattle.std.proofs.lemmas.Bool.{cases_lt}
 use Rattle.std.specs.List.{AllByRecursion}
 use Rattle.std.specs.Prelude.{slice_get, unwrap_or}
 use Rattle.std.specs.List.{list_any, range_with_len, IsDistinct}
-use Rattle.nv_super.specs.nv_region.Region.{Region, word}
-use Rattle.nv_super.specs.nv_region.Stops.{IsMixed}
-use Rattle.nv_super.specs.nv_region.Stored.{Within}
+use Rattle.nv_region.specs.Region.{Region, word}
+use Rattle.nv_region.specs.Stops.{IsMixed}
+use Rattle.nv_region.specs.Stored.{Within}
 use Rattle.nv_super.specs.declared.superblock.Super.{Super}
 use Rattle.nv_super.specs.Layout.{chain_of}
 use Rattle.nv_inode.specs.Chains.{chain_in, chains_in, first_link, layout_of, link_behind, SameLinks}
@@ -72,7 +72,7 @@ rows_same : {A : Type 0} (f g : ℕ → A) (a n : ℕ) → ((k : ℕ) → a ≤ 
 rows_same f g a zero each = refl
 rows_same f g a (suc n) each = let here = each a (omega arith) (omega arith) in let rest = rows_same f g (a + 1) n (λ k low high. each k (omega (arith, low)) (omega (arith, high))) in λ i. here i ∷ rest i
 
-one_set : {A : Type 0} (f g : ℕ → A) (a n c : ℕ) → c < n → ((k : ℕ) → a ≤ k → k < a + n → k ≢ a + c → g k ≡ f k) → map g (range_with_len a n) ≡ set (map f (range_with_len a n)) c (g (a + c))
+pub one_set : {A : Type 0} (f g : ℕ → A) (a n c : ℕ) → c < n → ((k : ℕ) → a ≤ k → k < a + n → k ≢ a + c → g k ≡ f k) → map g (range_with_len a n) ≡ set (map f (range_with_len a n)) c (g (a + c))
 one_set f g a zero c less each = absurd (omega (arith, less))
 one_set f g a (suc n) zero less each =
     let here : g a ≡ g (a + 0) = ap g (let e : a ≡ a + 0 = omega arith in e) in

@@ -13,7 +13,7 @@ use Rattle.std.proofs.lemmas.List.Elements.{filter_map-append}
 use Rattle.std.proofs.lemmas.Bool.Decides.{nat_tests}
 use Rattle.std.specs.Global.{Vec}
 use Rattle.nv_inode.specs.Tables.{lists_of}
-use Rattle.nv_super.specs.nv_region.Region.{Region, word}
+use Rattle.nv_region.specs.Region.{Region, word}
 use Rattle.nv_super.specs.declared.superblock.Super.{Super}
 use Rattle.nv_super.specs.declared.faults.Fault.{Fault}
 use Rattle.nv_super.specs.Layout.{IsLayout, is_page_start, system_blocks}
@@ -71,15 +71,6 @@ pub record HasRead (R : Region) (s : Super) (cpu : ℕ) (blocks : List ℕ) (at 
   pub few : length blocks ≤ s.blocks
   pub aligned : at % 8 ≡ 0
   pub inside : at + 8 ≤ 4096 * s.blocks
-
-pub none_read : (R : Region) (s : Super) (cpu : ℕ) → 1 + cpu < s.blocks → HasRead R s cpu [] (first_link cpu)
-none_read R s cpu below = record {
-  so_far = (let all : s.blocks - 0 ≡ s.blocks = omega arith in sym (ap (λ (n : ℕ). chain_on R s [] (first_link cpu) n) all));
-  link = refl;
-  few = omega arith;
-  aligned = omega arith;
-  inside = omega (arith, below);
-}
 
 module _ (R : Region) (s : Super) (cpu : ℕ) (blocks : List ℕ) (at : ℕ) (read : HasRead R s cpu blocks at) where
   pub block_read : leads_on s blocks (word R at) ≡ true → length blocks < s.blocks → HasRead R s cpu (blocks ++ word R at / 4096 ∷ []) (word R at)

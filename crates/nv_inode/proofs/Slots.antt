@@ -1,11 +1,12 @@
 -- Where the slots lie.
 use Rattle.std.proofs.Common.{◌≡◌, ◌≢◌, ℕ, inl, inr, ◌+◌, ◌*◌, ◌/◌, ◌%◌, ◌<◌, ◌≤◌, IsTrue, arith}
 use Rattle.std.proofs.Math.Nat.{mul-le-mul_right, mod-eq_of_lt}
-use Rattle.std.proofs.lemmas.Nat.{div_below, mod_below, le-div}
+use Rattle.std.proofs.lemmas.Nat.{div_below, le-div}
 use Rattle.std.proofs.lemmas.Bool.Decides.{nat_tests}
 use Rattle.std.proofs.lemmas.Bool.{cases_eq, cases_lt}
 use Rattle.nv_super.specs.declared.superblock.Super.{Super}
 use Rattle.nv_super.specs.Layout.{IsLayout, system_blocks, slot_address, is_number}
+use Rattle.nv_super.proofs.Slots.{before_data, numbered}
 
 -- the numbers of inodes
 pub number_above : (s : Super) (i : ℕ) → IsTrue (is_number s i) → 0 < i
@@ -18,19 +19,9 @@ number_below s i number = grind (arith, nat_tests)
 pub row_below : (C T i : ℕ) → 0 < C → i < 32 * C * T → i / C < 32 * T
 row_below C T i some below = div_below i C (32 * T) some (omega arith)
 
--- a table before the last table's end
-table_before : (C T c : ℕ) → c < C → c * T + T ≤ C * T
-table_before C T c before = let most : (c + 1) * T ≤ C * T = mul-le-mul_right T (omega arith) in omega (arith, most)
-
 -- a slot stands whole before the data blocks
-slot_ends : (C T i : ℕ) → 0 < C → i < 32 * C * T → (1 + C + i % C * T) * 4096 + i / C * 128 + 128 ≤ (1 + C + C * T) * 4096
-slot_ends C T i some below =
-    let place = row_below C T i some below in
-    let table = table_before C T (i % C) (mod_below i C some) in
-    omega (arith, place, table)
-
 pub slot_inside : (s : Super) (i : ℕ) → IsLayout s → IsTrue (is_number s i) → slot_address s i + 128 ≤ system_blocks s * 4096
-slot_inside s i layout number = slot_ends s.cpus s.table_blocks i (omega (arith, layout.cpus_from)) (number_below s i number)
+slot_inside s i layout number = let before = before_data s layout i (slot_address s i) (numbered s layout i (number_below s i number)) in omega (arith, before)
 
 later_place : (C i : ℕ) → 0 < C → 0 < i → i % C ≡ 0 → 1 ≤ i / C
 later_place C i some above first = le-div 1 i C some (mod_zero_le C i some above first)

@@ -1,7 +1,7 @@
 -- The chains of the tables: for each CPU the blocks of slots behind its fixed table, as links lead to them.
 use Rattle.std.specs.Prelude.{◌≡◌, ◌≤◌, ◌<◌, ℕ, zero, suc, ◌+◌, ◌*◌, ◌/◌, Bool, not, ◌&&◌, ◌==◌, eqb, if◌then◌else◌, List, [], ◌∷◌, ◌++◌, length, map, Option, Some, None, slice_get, true, false}
 use Rattle.std.specs.List.{list_any, range_with_len, filter_map, IsDistinct}
-use Rattle.nv_super.specs.nv_region.Region.{Region, word}
+use Rattle.nv_region.specs.Region.{Region, word}
 use Rattle.nv_super.specs.declared.superblock.Super.{Super}
 use Rattle.nv_super.specs.declared.faults.Fault.{Fault}
 use Rattle.nv_super.specs.declared.faults.Fault.TheVariants as faults

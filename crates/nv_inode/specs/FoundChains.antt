@@ -2,7 +2,7 @@
 use Rattle.std.specs.Prelude.{◌≡◌, ◌≤◌, ◌*◌, ℕ, length, map}
 use Rattle.std.specs.List.{range_with_len, filter_map}
 use Rattle.nv_blockset.specs.BlockSet.{is_set}
-use Rattle.nv_super.specs.nv_region.Region.{Region}
+use Rattle.nv_region.specs.Region.{Region}
 use Rattle.nv_super.specs.declared.superblock.Super.{Super}
 use Rattle.nv_inode.specs.Chains.{chain_in, end_fault, in_chains}
 use Rattle.nv_inode.specs.Tables.{lists_of}

@@ -1,9 +1,9 @@
 -- A block of slots that is linked to the end of a CPU's chain.
 use Rattle.std.specs.Prelude.{◌≡◌, ◌≢◌, ◌⊎◌, ◌≤◌, ◌<◌, ◌+◌, ◌*◌, ◌%◌, ℕ, [], ◌∷◌, ◌++◌, set, eqb, true, false}
 use Rattle.std.specs.List.{list_any}
-use Rattle.nv_super.specs.nv_region.Region.{Region, word}
-use Rattle.nv_super.specs.nv_region.Stops.{Choices, IsMixed, One}
-use Rattle.nv_super.specs.nv_region.Stored.{Within}
+use Rattle.nv_region.specs.Region.{Region, word}
+use Rattle.nv_region.specs.Stops.{Choices, IsMixed, One}
+use Rattle.nv_region.specs.Stored.{Within}
 use Rattle.nv_super.specs.declared.superblock.Super.{Super}
 use Rattle.nv_super.specs.Layout.{Layout, chain_of, system_blocks}
 use Rattle.nv_inode.specs.Chains.{chain_in, first_link, link_behind}

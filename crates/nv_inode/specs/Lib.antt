@@ -7,7 +7,7 @@ pub mod Numbers
 pub mod Growing
 pub mod Upgraded
 pub mod Permitted
-pub use Rattle.nv_super.specs.nv_region.Region
-pub use Rattle.nv_super.specs.nv_region.Stops
-pub use Rattle.nv_super.specs.nv_region.Stored
+pub use Rattle.nv_region.specs.Region
+pub use Rattle.nv_region.specs.Stops
+pub use Rattle.nv_region.specs.Stored
 pub use Rattle.nv_super.specs.Layout

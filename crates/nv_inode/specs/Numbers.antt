@@ -11,7 +11,11 @@ has_slot l i = is_some (slot_of l i)
 abbrev pub table_size : Layout → ℕ → ℕ
 table_size l c = 32 * l.sup.table_blocks + 31 * length (chain_of l c)
 
--- the same of each CPU
+-- The first number of a CPU that has no slot: the next block that is linked to its chain gives it one.
+abbrev pub next_number : Layout → ℕ → ℕ
+next_number l c = table_size l c * l.sup.cpus + c
+
+-- the sizes of the tables of all CPUs
 abbrev pub sizes_of : Layout → List ℕ
 sizes_of l = map (table_size l) (range_with_len 0 l.sup.cpus)
 

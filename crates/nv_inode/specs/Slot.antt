@@ -1,8 +1,8 @@
 -- What a slot says of an inode.
-use Rattle.std.specs.Prelude.{ℕ, ◌+◌, ◌*◌, ◌%◌, ◌&&◌, ◌==◌, nat_le, Bool, if◌then◌else◌, Option, Some, None}
-use Rattle.nv_super.specs.nv_region.Region.{Region, word, put}
+use Rattle.std.specs.Prelude.{ℕ, ◌+◌, ◌*◌, ◌%◌, ◌&&◌, ◌==◌, nat_le, Bool, if◌then◌else◌, Option, Some, None, option_map}
+use Rattle.nv_region.specs.Region.{Region, word, put}
 use Rattle.nv_super.specs.declared.superblock.Super.{Super}
-use Rattle.nv_super.specs.Layout.{is_data_address, is_page_start}
+use Rattle.nv_super.specs.Layout.{Layout, is_data_address, is_page_start, slot_of}
 use Rattle.nv_super.specs.declared.kind.Kind.{Kind}
 use Rattle.nv_super.specs.declared.kind.Kind.TheVariants.{File, Directory}
 use Rattle.nv_inode.specs.declared.slot.Slot.{Slot}
@@ -16,6 +16,10 @@ nth_slot s place = (1 + s.cpus) * 4096 + 128 * place
 -- the slot at an address, as its words stand
 abbrev pub slot_at : Region → ℕ → Slot
 slot_at R a = record { valid = word R a; kind = word R (a + 8); head = word R (a + 16); tail = word R (a + 24); created = word R (a + 32) }
+
+-- the slot of an inode, if its number has one
+abbrev pub slot_by_number : Region → Layout → ℕ → Option Slot
+slot_by_number R l i = option_map (slot_at R) (slot_of l i)
 
 -- the region with these words in the slot at an address, whose valid word stays
 abbrev pub with_slot : Region → ℕ → Slot → Region

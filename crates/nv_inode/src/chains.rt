@@ -7,13 +7,16 @@
 ghost use Rattle.std.specs.Prelude.{◌≡◌, ◌↔◌, ◌==◌, ◌<◌, ◌≤◌, ◌+◌, ◌^◌, ◌*◌, ◌/◌, ◌%◌, ◌||◌, ◌++◌, [], eqb, ℕ, IsTrue, IfOk, IfSome, OnOk, true, false, Some, length, get_or, slice_get};
 ghost use Rattle.std.specs.List.{cons_option, list_any};
 ghost use Rattle.nv_blockset.specs.BlockSet.{is_set};
-ghost use Rattle.nv_super.specs.nv_region.Region.{HasBlocks, Region};
-ghost use Rattle.nv_super.specs.Layout.{IsLayout, chain_of, extra_slot, slot_of};
+ghost use Rattle.nv_region.specs.Region.{HasBlocks, Region};
+ghost use Rattle.nv_super.specs.Layout.{IsLayout, chain_of, extra_slot, slot_of, most_blocks};
 ghost use Rattle.nv_inode.specs.FoundChains.{AreChainsTo};
 ghost use Rattle.nv_inode.specs.Chains.{IsLaid, chain_faults, chain_in, end_fault, in_chains, layout_of, link_fault};
 ghost use Rattle.nv_inode.specs.SlotBlocks.{extra_block, extra_blocks, fixed_block, slot_blocks};
 ghost use Rattle.nv_inode.specs.Numbers.{longest, number_end, table_size};
+ghost use Rattle.nv_inode.specs.Upgraded.{upgraded_layout};
 ghost use Rattle.nv_inode.specs.Permitted.{in_extra, in_fixed, is_key_offset, is_permitted_by, IsSlotWord, NamesSlotBy};
+
+mod growth;
 
 use crate::blocks::SlotBlock;
 use crate::slot::{HEAD, TAIL, VALID};
@@ -42,9 +45,13 @@ impl Model for Tables {
 
     ghost Value = { TableChains };
 
-    ghost use Rattle.nv_inode.specs.Tables.{laid, AreTables};
+    ghost use Rattle.nv_inode.specs.Tables.{laid, rooms_of, AreTables};
 
-    ghost view = { λ t. record { layout = laid t.sup t.chains.items; faults = t.faults.items } };
+    ghost view = { λ t. record {
+      layout = laid t.sup t.chains.items;
+      faults = t.faults.items;
+      rooms = rooms_of t.sup t.chains.items t.marks.items;
+    } };
 
     ghost invariant = { λ t. AreTables (laid t.sup t.chains.items) t.marks.items };
 }
@@ -115,6 +122,15 @@ impl Tables {
         ensures { result.now ≡ chain_of self.now.layout cpu }
     {
         &self.chains[cpu as usize]
+    }
+
+    /// Makes these the tables of version 2, in which all chains are empty. The region is upgraded by `upgrade_tables`.
+    pub fn upgrade(&mut self)
+        requires version { self.old.layout.sup.version ≡ 1 }
+        ensures layout { self.new.layout ≡ upgraded_layout self.old.layout }
+        ensures faults { self.new.faults ≡ self.old.faults }
+    {
+        self.sup.version = WITH_CHAINS;
     }
 
     /// The block at a place of a CPU's chain, if it has so many.
@@ -190,7 +206,7 @@ impl Tables {
     /// How many blocks the longest chain has.
     fn longest_chain(&self) -> u64
         ensures value { result ≡ longest self.now.layout.chains }
-        ensures small { result ≤ 262144 }
+        ensures small { result ≤ most_blocks }
     {
         let mut longest = 0;
         for chain in &self.chains {
@@ -253,8 +269,8 @@ fn fixed_block(sup: &Super, ticket: u64) -> SlotBlock
 fn block_in_chain(sup: &Super, cpu: u64, place: u64, block: u64) -> SlotBlock
     requires layout { IsLayout sup.now }
     requires cpu { cpu < 64 }
-    requires place { place < 262144 }
-    requires block { block < 262144 }
+    requires place { place < most_blocks }
+    requires block { block < most_blocks }
     ensures { result ≡ extra_block sup.now cpu place block }
 {
     SlotBlock {
@@ -274,7 +290,7 @@ fn is_key_offset(at: u64) -> bool
 
 /// The address of a slot of a block of a chain, if there is the block.
 fn extra_slot(block: Option<u64>, slot: u64) -> Option<u64>
-    requires block { IfSome block (λ block. block < 262144) }
+    requires block { IfSome block (λ block. block < most_blocks) }
     requires slot { slot < 31 }
     ensures { result ≡ extra_slot slot block }
 {

@@ -1,10 +1,10 @@
 //! A block of slots that is linked to the end of a CPU's chain.
 
 ghost use Rattle.std.specs.Prelude.{◌≡◌, ◌⊎◌, ◌≤◌, ◌<◌, ◌+◌, ◌*◌, ◌%◌, ℕ, IsTrue, OnOk, OnErr};
-ghost use Rattle.nv_super.specs.nv_region.Region.{size, word};
-ghost use Rattle.nv_super.specs.nv_region.Stops.{LeavesOnly, NothingPending};
-ghost use Rattle.nv_super.specs.nv_region.Fuses.{KeepsFuse};
-ghost use Rattle.nv_super.specs.nv_region.Stored.{StoresOnly, Within};
+ghost use Rattle.nv_region.specs.Region.{size, word};
+ghost use Rattle.nv_region.specs.Stops.{LeavesOnly, NothingPending};
+ghost use Rattle.nv_region.specs.Fuses.{KeepsFuse};
+ghost use Rattle.nv_region.specs.Stored.{StoresOnly, Within};
 ghost use Rattle.nv_region.specs.Storing.{StoresAndFences};
 ghost use Rattle.nv_inode.specs.Growing.{IsLinked, Links, LinksOrNot};
 

@@ -1,19 +1,18 @@
 //! Laws of the tables' chains.
 
-ghost use Rattle.std.specs.Prelude.{◌≡◌, ◌≢◌, ◌⊎◌, ◌↔◌, length, ◌≤◌, ◌<◌, ◌+◌, ◌*◌, ◌/◌, ◌%◌, ◌++◌, ◌∷◌, ℕ, IsTrue, false, eqb, List, [], Some, slice_get};
+ghost use Rattle.std.specs.Prelude.{◌≡◌, ◌≢◌, ◌⊎◌, ◌↔◌, length, ◌≤◌, ◌<◌, ◌+◌, ◌*◌, ◌/◌, ◌%◌, ◌++◌, ◌∷◌, ℕ, IsTrue, false, eqb, List, [], None, Some, set, slice_get};
 ghost use Rattle.std.specs.List.{Contains, list_any};
-ghost use Rattle.nv_super.specs.nv_region.Region.{Region, word};
+ghost use Rattle.nv_region.specs.Region.{Region, word};
 ghost use Rattle.nv_super.specs.declared.superblock.Super.{Super};
 ghost use Rattle.nv_super.specs.Layout.{IsLayout, Layout, chain_of, fixed_layout, inode_limit, is_name_number, slot_of, system_blocks};
-ghost use Rattle.nv_super.specs.nv_region.Stops.{IsMixed};
-ghost use Rattle.nv_super.specs.nv_region.Stored.{Within};
+ghost use Rattle.nv_region.specs.Stops.{IsMixed};
+ghost use Rattle.nv_region.specs.Stored.{Within};
 ghost use Rattle.nv_inode.specs.Growing.{CanLink, IsLinked, with_block};
-ghost use Rattle.nv_super.specs.Super.{IsRefused, IsSuper};
-ghost use Rattle.nv_super.specs.declared.superblock.SuperFault.TheVariants.{Version};
-ghost use Rattle.nv_inode.specs.Upgraded.{IsSuperButVersion, IsUpgraded, NoLinks, upgraded};
+ghost use Rattle.nv_super.specs.Super.{IsSuper};
+ghost use Rattle.nv_inode.specs.Upgraded.{IsUpgraded, NoLinks, upgraded, upgraded_layout};
 ghost use Rattle.nv_inode.specs.Permitted.{is_permitted, is_permitted_by};
 ghost use Rattle.nv_inode.specs.SlotBlocks.{IsIn, slot_blocks};
-ghost use Rattle.nv_inode.specs.Numbers.{has_slot, number_end, table_size};
+ghost use Rattle.nv_inode.specs.Numbers.{has_slot, next_number, number_end, sizes_of, table_size};
 ghost use Rattle.nv_inode.specs.declared.blocks.SlotBlock.{SlotBlock as SlotBlockValue};
 ghost use Rattle.nv_inode.specs.Chains.{IsChain, IsLaid, IsLink, SameLinks, chain_faults, chain_in, first_link, layout_of, link_behind};
 
@@ -65,6 +64,17 @@ pub fn linked_slots_are_unused()
     ensures unused { (l : Layout) (R Q : Region) (link c b i a : ℕ) → c < length l.chains → IsLinked R link b Q → slot_of (with_block l c b) i ≡ Some a → (slot_of l i ≡ Some a) ⊎ (word Q a ≡ 0) }
 {}
 
+/// With one block more at the end of a CPU's chain, a layout is still one that a region can have. The CPU's table has 31
+/// slots more, the first of which is that of its first number that had none. The chain's last link isn't in the block.
+pub fn tables_grow()
+    ensures laid { (l : Layout) (c b : ℕ) → IsLaid l → l.sup.version ≡ 2 → c < l.sup.cpus → system_blocks l.sup ≤ b → b < l.sup.blocks → list_any (eqb b) (chain_of l c) ≡ false → IsLaid (with_block l c b) }
+    ensures sizes { (l : Layout) (c b : ℕ) → IsLaid l → c < l.sup.cpus → sizes_of (with_block l c b) ≡ set (sizes_of l) c (table_size l c + 31) }
+    ensures before { (l : Layout) (c : ℕ) → IsLaid l → c < l.sup.cpus → slot_of l (next_number l c) ≡ None }
+    ensures slot { (l : Layout) (c b : ℕ) → IsLaid l → c < l.sup.cpus → slot_of (with_block l c b) (next_number l c) ≡ Some (4096 * b + 128) }
+    ensures apart { (l : Layout) (c b : ℕ) → c < l.sup.cpus → system_blocks l.sup ≤ b → list_any (eqb b) (chain_of l c) ≡ false
+        → (link_behind (first_link c) (chain_of l c) < 4096 * b) ⊎ (4096 * b + 4096 ≤ link_behind (first_link c) (chain_of l c)) }
+{}
+
 /// A name may say each number that has a slot.
 pub fn slots_have_names()
     ensures { (l : Layout) (i a : ℕ) → IsLaid l → slot_of l i ≡ Some a → IsTrue (is_name_number l.sup i) }
@@ -102,12 +112,13 @@ pub fn no_link_is_permitted()
     ensures { (l : Layout) (at : ℕ) → IsLink l.sup at → is_permitted_by l at ≡ false }
 {}
 
-/// A region that was upgraded has version 2, empty chains, and all slots where they were. Before that it is one of
-/// version 1. Behind it the superblock is refused for its version, and for nothing else.
+/// A region that was upgraded has the same superblock but for its version, which is 2, empty chains without faults,
+/// and all slots where they were. Before that it is one of version 1.
 pub fn upgraded_regions_are_the_same()
     ensures before { (s : Super) (R left : Region) → IsSuper R s → IsMixed R (NoLinks s.cpus) left → IsSuper left s }
-    ensures superblock { (s : Super) (R Q : Region) → IsSuper R s → IsUpgraded R s.cpus Q → IsSuperButVersion Q (upgraded s) }
-    ensures refused { (s : Super) (R Q : Region) → IsSuper R s → IsUpgraded R s.cpus Q → IsRefused Q Version }
+    ensures superblock { (s : Super) (R Q : Region) → IsSuper R s → IsUpgraded R s.cpus Q → IsSuper Q (upgraded s) }
+    ensures layout { (s : Super) (R Q : Region) → s.version ≡ 1 → IsUpgraded R s.cpus Q → layout_of (upgraded s) Q ≡ upgraded_layout (layout_of s R) }
+    ensures faults { (s : Super) (R Q : Region) → IsUpgraded R s.cpus Q → chain_faults (upgraded s) Q ≡ [] }
     ensures chains { (s : Super) (R Q : Region) (c : ℕ) → IsUpgraded R s.cpus Q → chain_of (layout_of (upgraded s) Q) c ≡ [] }
     ensures slots { (s : Super) (R Q : Region) (i : ℕ) → IsLayout s → s.version ≡ 1 → IsUpgraded R s.cpus Q → slot_of (layout_of (upgraded s) Q) i ≡ slot_of (layout_of s R) i }
 {}

@@ -6,7 +6,6 @@ mod blocks;
 mod chains;
 mod growing;
 mod laws;
-mod permitted;
 mod slot;
 mod tables;
 mod upgrading;
@@ -18,11 +17,10 @@ pub use growing::link_block;
 pub use laws::{
     blocks_have_all_slots, chains_are_laid, chains_grow, linked_blocks_are_tables,
     linked_slots_are_unused, no_link_is_permitted, numbers_have_an_end, numbers_with_slots,
-    one_chain, slots_are_in_one_block, slots_have_names, slots_of_blocks, upgraded_names_stay,
-    upgraded_regions_are_the_same, version_1_has_fixed_tables,
+    one_chain, slots_are_in_one_block, slots_have_names, slots_of_blocks, tables_grow,
+    upgraded_names_stay, upgraded_regions_are_the_same, version_1_has_fixed_tables,
 };
-pub use permitted::is_journal_word;
 pub use slot::{LINK, Slot, SlotState};
-pub use tables::{nth_slot, slot_start};
+pub use tables::nth_slot;
 pub use upgrading::upgrade_tables;
-pub use words::{put_slot, read_slot, read_slot_at, set_word, store_slot};
+pub use words::{read_slot, read_slot_at, set_word, store_slot};

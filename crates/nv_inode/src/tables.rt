@@ -1,22 +1,11 @@
 //! Where the slots lie: in the tables of all CPUs, which are one area behind the journals. The first slot there is that of
 //! number 0, which no inode has.
 
-ghost use Rattle.std.specs.Prelude.{◌≡◌, ◌≤◌, ◌<◌, ◌+◌, ◌*◌, ◌%◌, IsTrue};
-ghost use Rattle.nv_super.specs.Layout.{HasAreas, IsLayout, inode_limit, is_number, slot_address};
+ghost use Rattle.std.specs.Prelude.{◌≡◌, ◌<◌};
+ghost use Rattle.nv_super.specs.Layout.{HasAreas, IsLayout, inode_limit};
 ghost use Rattle.nv_inode.specs.Slot.{nth_slot};
 
 use nv_super::{BLOCK_SIZE, SLOT_SIZE, Super};
-
-/// The byte address of the slot of an inode: a multiple of 128. The slot lies whole within the region.
-pub fn slot_start(sup: &Super, inode: u64) -> u64
-    requires layout { IsLayout sup.now }
-    requires number { IsTrue (is_number sup.now inode) }
-    ensures value { result ≡ slot_address sup.now inode }
-    ensures whole { result % 128 ≡ 0 }
-    ensures inside { result + 128 ≤ 4096 * sup.now.blocks }
-{
-    sup.slot_address(inode)
-}
 
 /// The byte address of a slot by its place in the tables, from 0 on, where there are `inode_limit` slots, one behind
 /// the other.

@@ -1,10 +1,10 @@
 //! A region of version 1 that becomes one of version 2.
 
 ghost use Rattle.std.specs.Prelude.{◌≡◌, ◌≤◌, ◌<◌, ◌+◌, ◌*◌, ◌%◌, ℕ, IsTrue, OnOk, OnErr, is_err};
-ghost use Rattle.nv_super.specs.nv_region.Region.{HasBlocks, size, word};
-ghost use Rattle.nv_super.specs.nv_region.Stops.{LeavesOnly, NothingPending};
-ghost use Rattle.nv_super.specs.nv_region.Fuses.{KeepsFuse};
-ghost use Rattle.nv_super.specs.nv_region.Stored.{StoresOnly};
+ghost use Rattle.nv_region.specs.Region.{HasBlocks, size, word};
+ghost use Rattle.nv_region.specs.Stops.{LeavesOnly, NothingPending};
+ghost use Rattle.nv_region.specs.Fuses.{KeepsFuse};
+ghost use Rattle.nv_region.specs.Stored.{StoresOnly};
 ghost use Rattle.nv_super.specs.Layout.{IsLayout};
 ghost use Rattle.nv_inode.specs.Chains.{first_link};
 ghost use Rattle.nv_inode.specs.Upgraded.{IsUpgraded, NoLinks, UpgradeStores, UpgradedOrNot};

@@ -6,6 +6,7 @@ ghost use Rattle.std.specs.Prelude.{◌≡◌, ◌⊎◌, ◌<◌, ◌≤◌, �
 ghost use Rattle.nv_region.specs.Region.{bytes_of, region_of, size};
 ghost use Rattle.nv_region.specs.Stops.{NothingPending};
 ghost use Rattle.nv_lent.specs.WordsState.{as_it_reads, never_burns, region_over};
+ghost use Rattle.nv_region.specs.declared.memory.TheConstants.{MOST_BLOCKS};
 
 use byteorder::{ByteOrder, LittleEndian};
 use nv_region::{MOST_BLOCKS, MOST_BYTES, Pmem, RegionRefusal, Stopped};
@@ -66,7 +67,7 @@ impl<'a> WordRegion<'a> {
     pub fn new(alloc: Global, blocks: u64) -> Result<WordRegion<'a>, RegionRefusal>
         ensures zeros { IfOk result (λ m. m ≡ region_over (replicate (512 * blocks) 0)) }
         ensures settled { IfOk result (λ m. NothingPending m (as_it_reads m)) }
-        ensures length { IsErrOf result RegionRefusal.Length ↔ (blocks ≡ 0) ⊎ (262144 < blocks) }
+        ensures length { IsErrOf result RegionRefusal.Length ↔ (blocks ≡ 0) ⊎ (MOST_BLOCKS < blocks) }
     {
         if blocks == 0 || blocks > MOST_BLOCKS {
             return Err(RegionRefusal::Length);

@@ -5,20 +5,20 @@ use Rattle.std.proofs.lemmas.Bool.{and_parts}
 use Rattle.std.proofs.lemmas.List.Splits.{join_with_byte-slice_split}
 use Rattle.nv_line.specs.Request.{Request}
 use Rattle.nv_line.specs.Lines.{IsSkipped, IsBad}
-use Rattle.nv_line.specs.Table.{Row, rows, recovery_rows, showing_rows, more_rows, writing_rows, naming_rows}
+use Rattle.nv_line.specs.Table.{Row, row_of, commands, rows, names}
 use Rattle.nv_line.specs.Shapes.{Values, words_of, CanBeWritten}
 use Rattle.nv_line.specs.Spelling.{Says}
 use Rattle.nv_line.specs.Reading.{request_of, request_of_words, request_by}
 use Rattle.nv_line.proofs.Words.{AreWords, IsUnspaced, text_unspaced, unspaced_parts, split-join}
 use Rattle.nv_line.proofs.ShapedWords.{values_unspaced}
-use Rattle.nv_line.proofs.Rows.{are_distinct, found_by_name, read_by_row, row_says, row_again}
+use Rattle.nv_line.proofs.Rows.{are_distinct, found_by_name, as_row, read_by_row, row_says, row_again}
 
 -- ---- the names of the table
 
--- no two rows have one name
-rows_distinct : are_distinct rows ≡ true
-unfolding rows recovery_rows showing_rows more_rows writing_rows naming_rows
-rows_distinct = refl
+-- no two commands have one name
+all_distinct : are_distinct commands ≡ true
+unfolding commands row_of
+all_distinct = refl
 
 -- a name has no space, and doesn't begin as a comment does
 abbrev begins_a_command : List ℕ → Bool
@@ -29,7 +29,7 @@ abbrev is_name : List ℕ → Bool
 is_name name = list_all (λ b. not (eqb b 32)) name && begins_a_command name
 
 rows_named : list_all (λ (row : Row). is_name row.name) rows ≡ true
-unfolding rows recovery_rows showing_rows more_rows writing_rows naming_rows
+unfolding rows commands row_of
 rows_named = refl
 
 all_at : (table : List Row) (row : Row) → list_all (λ (row : Row). is_name row.name) table ≡ true → (k : ℕ) → k < length table → slice_index_or table k row ≡ row → is_name row.name ≡ true
@@ -51,10 +51,10 @@ both_parts name verb words others a b = cc
 
 -- words that are read are a line that says so
 words_say : (line : List ℕ) (words : List (List ℕ)) (r : Request) → slice_split (λ b. eqb b 32) line ≡ words → AllByRecursion IsUnspaced words → request_of_words words ≡ Some r → Says line r
-unfolding request_of_words
+unfolding request_of_words rows names
 words_say line [] r is free e = absurd (cc)
 words_say line (name ∷ words) r is free e =
-    let by = read_by_row rows name words r e in
+    let by = read_by_row commands name words r e in
     let said = row_says by.row words r free.1 by.reads in
     let both : (name ∷ words) ≡ by.row.name ∷ words_of by.row.shape said.values = both_parts _ _ _ _ by.named said.write in
     record {
@@ -72,8 +72,10 @@ unfolding request_of
 line_says line r e = words_say line (slice_split (λ b. eqb b 32) line) r refl (unspaced_parts line) e
 
 words_again : (row : Row) → Contains rows row → (vs : Values row.shape) → CanBeWritten row.shape vs → (r : Request) → request_by row.shape row.make (words_of row.shape vs) ≡ Some r → request_of_words (row.name ∷ words_of row.shape vs) ≡ Some r
-unfolding request_of_words
-words_again row c vs can r e = rw (found_by_name rows row (words_of row.shape vs) rows_distinct c) e
+unfolding request_of_words rows names
+words_again row c vs can r e =
+    let found = found_by_name commands row all_distinct c in
+    rw found.named (as_row found.form _ ∙ subst (λ (y : Row). request_by y.shape y.make (words_of row.shape vs) ≡ Some r) (sym found.is) e)
 
 -- what is spelled so is read
 pub line_again : (line : List ℕ) (r : Request) → Says line r → request_of line ≡ Some r

@@ -5,6 +5,7 @@ use Rattle.nv_line.specs.Reading.{is_numeral}
 use Rattle.nv_line.specs.declared.reasons.Form.{Form}
 use Rattle.nv_line.specs.declared.reasons.Form.TheVariants as forms
 use Rattle.nv_line.specs.declared.reasons.Excess.{Excess}
+use Rattle.nv_super.specs.Layout.{most_size}
 
 -- the most of 64 bits
 abbrev pub most_64 : ℕ
@@ -23,7 +24,7 @@ most_at forms.MakeDirectory place = if nat_lt 2 place then None else Some most_6
 most_at forms.Unlink place = if nat_lt 2 place then None else Some most_64
 most_at forms.RemoveDirectory place = if nat_lt 2 place then None else Some most_64
 most_at forms.SetSize place = if place == 3 then None else Some most_64
-most_at forms.Write place = if place == 3 then None else if place == 5 then Some 1073741824 else if place == 6 then Some 255 else Some most_64
+most_at forms.Write place = if place == 3 then None else if place == 5 then Some most_size else if place == 6 then Some 255 else Some most_64
 most_at forms.SetAttributes place = if place == 3 then None else if nat_lt 3 place then Some 4294967295 else Some most_64
 most_at forms.Stop place = if place == 3 then Some most_64 else None
 most_at _ place = Some most_64

@@ -1,7 +1,7 @@
 -- The command whose name is nearest to a word.
-use Rattle.std.specs.Prelude.{ℕ, ◌+◌, ◌/◌, List, [], ◌∷◌, length, map, nat_eq, nat_lt, if◌then◌else◌, Option, Some, None}
+use Rattle.std.specs.Prelude.{ℕ, ◌+◌, ◌/◌, List, [], ◌∷◌, length, nat_eq, nat_lt, if◌then◌else◌, Option, Some, None}
 use Rattle.strsim.specs.Edits.{damerau}
-use Rattle.nv_line.specs.Table.{rows}
+use Rattle.nv_line.specs.Table.{names}
 use Rattle.nv_line.specs.declared.reasons.Form.{Form}
 
 -- how many edits lead from a word to a name: a byte is put in, left out or exchanged for another, or two neighbours are swapped
@@ -23,10 +23,6 @@ look word near command = if nat_lt (edits word command.0) near.below then record
 unfoldable pub look_through : List ℕ → Near → List (List ℕ × Form) → Near
 look_through word near [] = near
 look_through word near (command ∷ commands) = look_through word (look word near command) commands
-
--- the names and the forms of all commands
-unfoldable pub names : List (List ℕ × Form)
-names = map (λ row. (row.name, row.form)) rows
 
 -- the form of the command whose name is the fewest edits from a word, and of several the first, where these are at most one for
 -- each three bytes of the word

@@ -6,13 +6,11 @@ use Rattle.std.specs.Char.{is_ascii_digit}
 use Rattle.std.specs.Str.Parse.{digits_value}
 use Rattle.nv_region.specs.declared.memory.Keep.{Keep}
 use Rattle.nv_region.specs.declared.memory.Keep.TheVariants as keeps
-use Rattle.nv_line.specs.Request as request
 use Rattle.nv_line.specs.Request.{Request}
 use Rattle.nv_line.specs.declared.reasons.Form.{Form}
 use Rattle.nv_line.specs.declared.reasons.Form.TheVariants as forms
 use Rattle.nv_line.specs.Shapes.{Moment, After, At, Slot, Number, UpTo, Path, When, Keeping, Shape, End, Numbers, Then, ValueOf, Values, Makes, made_of}
-use Rattle.nv_line.specs.Table.{Row, rows, attribute_words, cpu_and_path, cpu_and_two_paths, cpu_path_and_number, one_number, one_path, path_and_two_numbers, stop_of, stop_words, three_numbers}
-use Rattle.nv_line.specs.Table.{two_numbers, write_words}
+use Rattle.nv_line.specs.Table.{row_of, names, form_in}
 
 -- digits with no zero in front, or a zero alone
 unfoldable pub is_numeral : List ℕ → Bool
@@ -58,43 +56,15 @@ values_of (Then slot shape) (word ∷ words) = option_and_then (λ v. option_map
 unfoldable pub request_by : (shape : Shape) → Makes shape → List (List ℕ) → Option Request
 request_by shape make words = option_map (made_of shape make) (values_of shape words)
 
--- what the words behind a name make, by the form of the name's command
-abbrev pub request_as : Form → List (List ℕ) → Option Request
-request_as forms.Format words = request_by three_numbers request.Format words
-request_as forms.Time words = request_by one_number request.Time words
-request_as forms.Poke words = request_by two_numbers request.Poke words
-request_as forms.Cut words = request_by one_number request.Cut words
-request_as forms.Recover words = request_by one_number request.Recover words
-request_as forms.Replay words = request_by (Then Number Numbers) request.Replay words
-request_as forms.Tree words = request_by End request.Tree words
-request_as forms.Free words = request_by End request.Free words
-request_as forms.Faults words = request_by End request.Faults words
-request_as forms.Report words = request_by End request.Report words
-request_as forms.Peek words = request_by one_number request.Peek words
-request_as forms.Stop words = request_by stop_words stop_of words
-request_as forms.ListNames words = request_by one_path request.ListNames words
-request_as forms.Stat words = request_by one_path request.Stat words
-request_as forms.Read words = request_by path_and_two_numbers request.Read words
-request_as forms.Create words = request_by cpu_and_path request.Create words
-request_as forms.MakeDirectory words = request_by cpu_and_path request.MakeDirectory words
-request_as forms.Write words = request_by write_words request.Write words
-request_as forms.SetSize words = request_by cpu_path_and_number request.SetSize words
-request_as forms.SetAttributes words = request_by attribute_words request.SetAttributes words
-request_as forms.Link words = request_by cpu_and_two_paths request.Link words
-request_as forms.Unlink words = request_by cpu_and_path request.Unlink words
-request_as forms.RemoveDirectory words = request_by cpu_and_path request.RemoveDirectory words
-request_as forms.Rename words = request_by cpu_and_two_paths request.Rename words
-request_as forms.Clean words = request_by one_path request.Clean words
-
--- The form of the command of this name, and the request that the words after it make of it, if there is one.
-unfoldable pub read_by : List Row → List ℕ → List (List ℕ) → Option (Form × Option Request)
-read_by [] name words = None
-read_by (row ∷ rows) name words = if bytes_eq name row.name then Some (row.form, request_by row.shape row.make words) else read_by rows name words
+-- What the words behind the name of a command make. It goes by cases, so that a proof that knows the command sees its row.
+unfoldable pub request_as : Form → List (List ℕ) → Option Request
+request_as forms.Format words = request_by (row_of forms.Format).shape (row_of forms.Format).make words
+request_as form words = request_by (row_of form).shape (row_of form).make words
 
 -- a request by all its words
 unfoldable pub request_of_words : List (List ℕ) → Option Request
 request_of_words [] = None
-request_of_words (name ∷ words) = option_and_then (λ (read : Form × Option Request). read.1) (read_by rows name words)
+request_of_words (name ∷ words) = option_and_then (λ form. request_as form words) (form_in names name)
 
 -- what the line asks for, if it is a command
 unfoldable pub request_of : List ℕ → Option Request

@@ -1,50 +1,20 @@
 -- Why a line is bad, and the text that says so.
-use Rattle.std.specs.Prelude.{◌==◌, ℕ, List, [], ◌∷◌, ◌++◌, length, nat_lt, if◌then◌else◌, Option, Some, None, bytes_eq, codes, decimal}
+use Rattle.std.specs.Prelude.{◌==◌, ℕ, List, [], ◌∷◌, ◌++◌, length, nat_lt, if◌then◌else◌, Option, Some, None, codes, decimal}
 use Rattle.std.specs.List.{slice_split, starts_with, ends_with}
 use Rattle.nv_stream.specs.Lines.{line_limit}
-use Rattle.nv_line.specs.Table.{Row, rows}
+use Rattle.nv_line.specs.Table.{row_of, names, form_in}
 use Rattle.nv_line.specs.Request.{Request}
 use Rattle.nv_line.specs.Nearest.{nearest}
 use Rattle.nv_line.specs.Excess.{first_large, shrunk}
 use Rattle.nv_line.specs.Reading.{request_as}
 use Rattle.nv_line.specs.declared.reasons.Excess.{Excess}
 use Rattle.nv_line.specs.declared.reasons.Form.{Form}
-use Rattle.nv_line.specs.declared.reasons.Form.TheVariants as forms
 use Rattle.nv_line.specs.declared.reasons.Reason.{Reason}
 use Rattle.nv_line.specs.declared.reasons.Reason.TheVariants as reasons
 
 -- a command's name and its numbers
 abbrev pub form_text : Form → List ℕ
-form_text forms.Format = codes "format CPUS BLOCKS TABLES"
-form_text forms.Time = codes "time T"
-form_text forms.Poke = codes "poke AT VALUE"
-form_text forms.Cut = codes "cut LENGTH"
-form_text forms.Recover = codes "recover WORKERS"
-form_text forms.Replay = codes "replay WORKERS w w .."
-form_text forms.ListNames = codes "list PATH"
-form_text forms.Stat = codes "stat PATH"
-form_text forms.Read = codes "read PATH OFFSET COUNT"
-form_text forms.Create = codes "create CPU PATH"
-form_text forms.MakeDirectory = codes "mkdir CPU PATH"
-form_text forms.Write = codes "write CPU PATH OFFSET COUNT BYTE"
-form_text forms.SetSize = codes "size CPU PATH N"
-form_text forms.SetAttributes = codes "attr CPU PATH MODE OWNER GROUP"
-form_text forms.Link = codes "link CPU OLD NEW"
-form_text forms.Unlink = codes "unlink CPU PATH"
-form_text forms.RemoveDirectory = codes "rmdir CPU PATH"
-form_text forms.Rename = codes "rename CPU OLD NEW"
-form_text forms.Clean = codes "clean PATH"
-form_text forms.Tree = codes "tree"
-form_text forms.Free = codes "free"
-form_text forms.Faults = codes "faults"
-form_text forms.Report = codes "report"
-form_text forms.Peek = codes "peek AT"
-form_text forms.Stop = codes "stop after|at N none|all|alternate"
-
--- the form of the command of this name, if there is one
-unfoldable pub form_in : List Row → List ℕ → Option Form
-form_in [] name = None
-form_in (row ∷ rows) name = if bytes_eq name row.name then Some row.form else form_in rows name
+form_text form = (row_of form).text
 
 -- a word that is too large a number, where the words are a command with zeros for all such words
 abbrev pub by_excess : Form → Option Excess → Option Request → Reason
@@ -64,7 +34,7 @@ by_form None name words = reasons.NoCommand (nearest name)
 -- the reason that a line's words give
 unfoldable pub reason_of_words : List (List ℕ) → Reason
 reason_of_words [] = reasons.NoCommand None
-reason_of_words (name ∷ words) = by_form (form_in rows name) name words
+reason_of_words (name ∷ words) = by_form (form_in names name) name words
 
 -- Why a bad line is bad: it is too long, ends with a carriage return, or begins with a byte order mark, or else its words are no
 -- command.
@@ -83,7 +53,7 @@ abbrev pub reason_text : Reason → List ℕ
 reason_text reasons.TooLong = codes "it has more than 4096 bytes"
 reason_text reasons.CarriageReturn = codes "it ends with a carriage return, byte 13; byte 10 alone ends a line"
 reason_text (reasons.NoCommand (Some form)) = codes "no command has this name; the nearest is " ++ form_text form
-reason_text (reasons.NoCommand None) = codes "expected time, format, recover, replay, poke, cut, list, stat, read, create, mkdir, write, size, attr, link, unlink, rmdir, rename, clean, tree, free, faults, report, peek or stop"
+reason_text (reasons.NoCommand None) = codes "expected time, format, recover, replay, poke, cut, list, stat, read, create, mkdir, write, size, attr, link, unlink, rmdir, rename, clean, upgrade, tree, free, faults, report, peek or stop"
 reason_text reasons.ByteOrderMark = codes "it begins with a byte order mark, the bytes 239, 187 and 191; a script has none"
 reason_text (reasons.TooLarge excess) = excess_text excess
 reason_text (reasons.Form form) = codes "expected " ++ form_text form ++ codes ", with one space between two words, and numbers in decimal up to 18446744073709551615"

@@ -24,6 +24,7 @@ pub data Request : Type 0 where
   RemoveDirectory : (cpu : ℕ) (path : List ℕ) → Request
   Rename : (cpu : ℕ) (old new : List ℕ) → Request
   Clean : (path : List ℕ) → Request
+  Upgrade : Request
   Tree : Request
   Free : Request
   Faults : Request

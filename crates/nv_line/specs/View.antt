@@ -25,6 +25,7 @@ view (commands.Unlink cpu path) = request.Unlink cpu path.now
 view (commands.RemoveDirectory cpu path) = request.RemoveDirectory cpu path.now
 view (commands.Rename cpu old new) = request.Rename cpu old.now new.now
 view (commands.Clean path) = request.Clean path.now
+view commands.Upgrade = request.Upgrade
 view commands.Tree = request.Tree
 view commands.Free = request.Free
 view commands.Faults = request.Faults

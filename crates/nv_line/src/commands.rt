@@ -106,6 +106,8 @@ pub enum Command<'a> {
     Clean {
         path: &'a [u8],
     },
+    /// Make the region one of version 2.
+    Upgrade,
     /// Print the inodes in use.
     Tree,
     /// Print the free blocks of each CPU.

@@ -3,14 +3,13 @@
 //! A line that begins with `#`, or has no byte, is skipped. Any other is a command, or it is bad:
 //! the words of a command stand with one space between two, its numbers in decimal without leading
 //! zeros and below 2^64. The grammar is a table with a row for each command; the parser is proved to find what a line spells by
-//! it, and nothing else. `table` has the same rows in code. `reasons` says for a user why a line is bad,
+//! it, and nothing else. `table` has the same rows in code, `shapes` reads what stands behind a name. `reasons` says for a user why a line is bad,
 //! `excess` which number of it is too large, and `nearest` which command has almost its first word.
 #![tactic(auto)]
 
 mod commands;
 mod excess;
 mod lines;
-mod making;
 mod nearest;
 mod numeral;
 mod parsing;

@@ -19,7 +19,7 @@ pub(crate) fn words(alloc: Global, line: &[u8]) -> Result<Vec<&[u8]>, AllocError
     line.split(|byte| *byte == b' ').collect(alloc)
 }
 
-#[tactic(auto, using(crate::proofs::Rows::request_named), unfolding(crate::specs::Reading::request_of, crate::specs::Reading::request_of_words))]
+#[tactic(auto, unfolding(crate::specs::Reading::request_of, crate::specs::Reading::request_of_words))]
 fn parse_line(alloc: Global, line: &[u8]) -> Result<Option<Command<'_>>, AllocError>
     ensures { IfOk result (λ found. option_map view found ≡ request_of line.now) }
 {

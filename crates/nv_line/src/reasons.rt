@@ -1,7 +1,7 @@
 //! Why a line is bad, for the user: what was expected in its place.
 
 ghost use Rattle.std.specs.Prelude.{◌≡◌, Some, IfOk, map};
-ghost use Rattle.nv_line.specs.Reasons.{form_text, reason_of_form, reason_of_words, reason_of, excess_text, reason_text};
+ghost use Rattle.nv_line.specs.Reasons.{reason_of_form, reason_of_words, reason_of, excess_text, reason_text};
 
 use crate::excess::{first_large, shrunk};
 use crate::nearest::nearest;
@@ -36,6 +36,7 @@ pub enum Form {
     RemoveDirectory,
     Rename,
     Clean,
+    Upgrade,
     Tree,
     Free,
     Faults,
@@ -66,41 +67,6 @@ pub enum Reason {
     TooLarge(Excess),
     /// Its first word is a command's, and its other words aren't.
     Form(Form),
-}
-
-impl Form {
-    /// The name of the command, and its numbers.
-    pub fn text(self) -> &'static str
-        ensures { result.now ≡ form_text self }
-    {
-        match self {
-            Form::Format => "format CPUS BLOCKS TABLES",
-            Form::Time => "time T",
-            Form::Poke => "poke AT VALUE",
-            Form::Cut => "cut LENGTH",
-            Form::Recover => "recover WORKERS",
-            Form::Replay => "replay WORKERS w w ..",
-            Form::ListNames => "list PATH",
-            Form::Stat => "stat PATH",
-            Form::Read => "read PATH OFFSET COUNT",
-            Form::Create => "create CPU PATH",
-            Form::MakeDirectory => "mkdir CPU PATH",
-            Form::Write => "write CPU PATH OFFSET COUNT BYTE",
-            Form::SetSize => "size CPU PATH N",
-            Form::SetAttributes => "attr CPU PATH MODE OWNER GROUP",
-            Form::Link => "link CPU OLD NEW",
-            Form::Unlink => "unlink CPU PATH",
-            Form::RemoveDirectory => "rmdir CPU PATH",
-            Form::Rename => "rename CPU OLD NEW",
-            Form::Clean => "clean PATH",
-            Form::Tree => "tree",
-            Form::Free => "free",
-            Form::Faults => "faults",
-            Form::Report => "report",
-            Form::Peek => "peek AT",
-            Form::Stop => "stop after|at N none|all|alternate",
-        }
-    }
 }
 
 // By the words of a line. The error is a refused growth of another list of them, of a schedule, or of a table of edits.
@@ -180,7 +146,7 @@ impl fmt::Display for Reason {
                 form.text()
             ),
             Reason::NoCommand(None) => f.write_str(
-                "expected time, format, recover, replay, poke, cut, list, stat, read, create, mkdir, write, size, attr, link, unlink, rmdir, rename, clean, tree, free, faults, report, peek or stop",
+                "expected time, format, recover, replay, poke, cut, list, stat, read, create, mkdir, write, size, attr, link, unlink, rmdir, rename, clean, upgrade, tree, free, faults, report, peek or stop",
             ),
             Reason::Form(form) => write!(
                 f,

@@ -2,8 +2,8 @@
 //! behind its tail.
 //!
 //! A log is a chain of pages. Its entries stand in the first 4064 bytes of each page, one after the other, and the word
-//! behind these leads to the next page. What lies past the tail is no part of the log (the FAST 2016 paper): the tail
-//! alone commits what was appended. A damaged region may hold anything in its pages, so a reading ends at the tail or
+//! behind these leads to the next page. What lies past the tail is no part of the log: the tail alone commits
+//! what was appended. A damaged region may hold anything in its pages, so a reading ends at the tail or
 //! at a named fault, and it always ends.
 #![tactic(auto)]
 

@@ -5,18 +5,20 @@ use Rattle.std.specs.List.{Contains}
 use Rattle.nv_region.specs.Region.{Region, region_of}
 use Rattle.nv_region.specs.ImageState.{ImageState}
 use Rattle.nv_super.specs.declared.superblock.Super.{Super}
-use Rattle.nv_super.specs.Layout.{fixed_layout}
+use Rattle.nv_super.specs.Layout.{Layout}
 use Rattle.nv_super.proofs.Rising.{Contains-head, Contains-tail}
+use Rattle.nv_inode.specs.Chains.{layout_of}
 use Rattle.nv_scan.specs.Inode.{Log}
 use Rattle.nv_scan.specs.Rows.{IsRow}
 use Rattle.nv_scan.specs.declared.piece.Row.{Row}
-use Rattle.nv_outcome.proofs.Fixed.{fixed_outcome}
-use Rattle.nv_outcome.specs.nv_journal.Undo.{undone}
+use Rattle.nv_journal.specs.Undo.{undone}
+use Rattle.nv_journal.proofs.KeptLinks.{undone_layout}
 use Rattle.nv_outcome.specs.Answer.{outcome_of}
 use Rattle.nv_outcome.specs.declared.recovered.Recovered.{Recovered}
-use Rattle.nv_outcome.proofs.SuperOf.{one_super}
+use Rattle.nv_outcome.proofs.SuperOf.{layout_of_super, one_super}
 use Rattle.nv_outcome.proofs.Metadata.{same_inodes}
 use Rattle.nv_outcome.proofs.SameInodes.{SameInodes}
+use Rattle.nv_outcome.proofs.Tabled.{tables_laid}
 use Rattle.nv_metadata.specs.Memory.{MetadataState}
 use Rattle.nv_metadata.specs.Gathered.{AreGathered}
 use Rattle.nv_metadata.specs.declared.gathering.Gathered.{Gathered}
@@ -26,13 +28,13 @@ use Rattle.nv_text.specs.Refusals.{refusal_name}
 use Rattle.nv_text.specs.declared.refusals.Refusal as texts
 use Rattle.nv_report.specs.Texts.{AddsText}
 use Rattle.nv_report.proofs.TextLemmas.{adds_both}
-use Rattle.nv_checking.specs.Checking.{IsRefusal}
-use Rattle.nv_checking.specs.Recovering.{IsRecovered, IsSuperRefused}
-use Rattle.nv_checking.specs.GatheredImage.{IsFoundIn}
-use Rattle.nv_checking.specs.declared.answered.Answered.{Answered}
-use Rattle.nv_checking.specs.declared.imaging.Image.TheVariants as images
-use Rattle.nv_checking.specs.declared.gathered_image.GatheredImage.TheVariants as gathered_images
-use Rattle.nv_checking.proofs.Gathering.{found_refused}
+use Rattle.nv_image_check.specs.Checking.{IsRefusal}
+use Rattle.nv_image_check.specs.Recovering.{IsRecovered, IsSuperRefused}
+use Rattle.nv_image_check.specs.GatheredImage.{IsFoundIn}
+use Rattle.nv_image_check.specs.declared.answered.Answered.{Answered}
+use Rattle.nv_image_check.specs.declared.imaging.Image.TheVariants as images
+use Rattle.nv_image_check.specs.declared.gathered_image.GatheredImage.TheVariants as gathered_images
+use Rattle.nv_image_check.proofs.Gathering.{found_refused}
 use Rattle.nv_inspect.specs.Log.{IsLogText}
 use Rattle.nv_logs.specs.All.{AreLogTexts, IsLogsLook}
 use Rattle.nv_logs.specs.declared.looking.Look.{Look}
@@ -51,12 +53,12 @@ module _ (R : Region) (s : Super) where
 
 -- ---- regions with the same inodes
 
-module _ (s : Super) (U V : Region) (same : SameInodes (fixed_layout s) U V) where
-  same_texts : (rows : List Row) → ((row : Row) → Contains rows row → (a : ℕ) × (log : Log) × IsRow V (fixed_layout s) a log row) → (text : List ℕ) → AreLogTexts V s rows text → AreLogTexts U s rows text
+module _ (l : Layout) (U V : Region) (same : SameInodes l U V) where
+  same_texts : (rows : List Row) → ((row : Row) → Contains rows row → (a : ℕ) × (log : Log) × IsRow V l a log row) → (text : List ℕ) → AreLogTexts V l.sup rows text → AreLogTexts U l.sup rows text
   same_texts [] each text are = are
   same_texts (row ∷ rows) each text are =
       let of = each row (Contains-head row rows) in
-      (are.0, are.1, same_text s U V same of.0 of.1 row of.2 are.0 are.2, same_texts rows (λ r c. each r (Contains-tail row rows r c)) are.1 are.3, are.4)
+      (are.0, are.1, same_text l U V same of.0 of.1 row of.2 are.0 are.2, same_texts rows (λ r c. each r (Contains-tail row rows r c)) are.1 are.3, are.4)
 
 -- ---- the superblock isn't accepted
 
@@ -83,9 +85,11 @@ module _ {E : Type 0} (R : Region) where
       let sup : r.sup ≡ s = one_super S s r.sup (gathered_super s R S are.0 are.1) found.0.sup in
       let outcome = whole_outcome s R S are.0 are.1 (outcome_of r) sup found.0 in
       let same = same_inodes s R S are.0 (has_metadata s R S are.0 are.1) in
-      let inodes = subst (λ (x : Super). SameInodes (fixed_layout x) (undone x R) (undone x S)) (sym sup) same in
+      let inodes = subst (λ (x : Super). SameInodes (layout_of x R) (undone x R) (undone x S)) (sym sup) same in
+      let tables : layout_of r.sup R ≡ layout_of r.sup (undone r.sup S) = sym (undone_layout r.sup R (layout_of_super R r.sup outcome.sup)) ∙ tables_laid S (outcome_of r) (layout_of r.sup (undone r.sup R)) found.0 refl (sym outcome.tables) in
+      let rows = subst (λ (l : Layout). (row : Row) → Contains r.rows.items row → (a : ℕ) × (log : Log) × IsRow (undone r.sup S) l a log row) (sym tables) found.0.rows.each in
       let here : AreLogTexts (undone r.sup S) r.sup r.rows.items (string_bytes look.text) = subst (λ (Q : Region). AreLogTexts Q r.sup r.rows.items (string_bytes look.text)) found.1 told in
-      inr (outcome_of r, outcome, same_texts r.sup (undone r.sup R) (undone r.sup S) inodes r.rows.items (fixed_outcome S (outcome_of r) found.0).rows.each (string_bytes look.text) here, status, faults)
+      inr (outcome_of r, outcome, same_texts (layout_of r.sup R) (undone r.sup R) (undone r.sup S) inodes r.rows.items rows (string_bytes look.text) here, status, faults)
   found_answer (gatherings.Metadata s memory) are m r found (Err e) told status faults = tt
   found_answer (gatherings.Refused fault) are m r found result told status faults = absurd found
 

@@ -5,7 +5,7 @@ use Rattle.nv_region.specs.Region.{region_of}
 use Rattle.nv_region.specs.ImageState.{ImageState}
 use Rattle.nv_super.specs.Layout.{Layout}
 use Rattle.nv_inode.specs.Chains.{layout_of}
-use Rattle.nv_outcome.specs.nv_journal.Undo.{undone}
+use Rattle.nv_journal.specs.Undo.{undone}
 use Rattle.nv_outcome.specs.Answer.{outcome_of}
 use Rattle.nv_outcome.specs.Outcome.{AreRows}
 use Rattle.nv_outcome.specs.declared.recovered.Recovered.{Recovered}
@@ -14,10 +14,10 @@ use Rattle.nv_block.specs.Hex.{block_bytes}
 use Rattle.nv_text.specs.Refusals.{refusal_name}
 use Rattle.nv_text.specs.declared.refusals.Refusal as texts
 use Rattle.nv_region.specs.Region.{Region}
-use Rattle.nv_checking.specs.Checking.{IsRefusal}
-use Rattle.nv_checking.specs.Recovering.{IsRecovered, IsSuperRefused}
-use Rattle.nv_checking.specs.declared.answered.Answered.{Answered}
-use Rattle.nv_checking.specs.declared.imaging.Image.TheVariants as images
+use Rattle.nv_image_check.specs.Checking.{IsRefusal}
+use Rattle.nv_image_check.specs.Recovering.{IsRecovered, IsSuperRefused}
+use Rattle.nv_image_check.specs.declared.answered.Answered.{Answered}
+use Rattle.nv_image_check.specs.declared.imaging.Image.TheVariants as images
 use Rattle.nv_logs.specs.Block.{IsBlockLook, TellsBlock}
 use Rattle.nv_logs.specs.declared.looking.Look.{Look}
 

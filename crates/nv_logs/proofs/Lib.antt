@@ -3,6 +3,6 @@ pub mod Asked
 pub mod Regions
 pub mod Looks
 pub mod BlockLooks
-pub mod LowRows
+pub mod AskedRows
 pub mod RowLooks
 pub mod Tops

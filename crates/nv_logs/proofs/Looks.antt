@@ -1,19 +1,24 @@
 -- What a look at a log tells, by what was recovered.
-use Rattle.std.proofs.Common.{◌≡◌, ℕ, inl, inr, List, length, Result, Ok, Err, sym, subst, string_bytes}
+use Rattle.std.proofs.Common.{◌≡◌, ◌∙◌, ℕ, inl, inr, List, length, Result, Ok, Err, refl, sym, subst, string_bytes}
 use Rattle.std.specs.Prelude.{IfOk}
+use Rattle.std.specs.List.{Contains}
 use Rattle.nv_region.specs.Region.{Region, HasBlocks, region_of}
 use Rattle.nv_region.specs.ImageState.{ImageState}
 use Rattle.nv_region.proofs.Fronted.{short_rest}
 use Rattle.nv_super.specs.declared.superblock.Super.{Super}
-use Rattle.nv_super.specs.Layout.{HasAreas, fixed_layout}
+use Rattle.nv_super.specs.Layout.{HasAreas, Layout}
+use Rattle.nv_inode.specs.Chains.{layout_of}
+use Rattle.nv_scan.specs.Inode.{Log}
+use Rattle.nv_scan.specs.Rows.{IsRow}
 use Rattle.nv_scan.specs.declared.piece.Row.{Row}
-use Rattle.nv_outcome.proofs.Fixed.{fixed_outcome}
-use Rattle.nv_outcome.specs.nv_journal.Undo.{undone}
+use Rattle.nv_journal.specs.Undo.{undone}
+use Rattle.nv_journal.proofs.KeptLinks.{undone_layout}
 use Rattle.nv_outcome.specs.Answer.{outcome_of}
 use Rattle.nv_outcome.specs.declared.recovered.Recovered.{Recovered}
 use Rattle.nv_outcome.proofs.SuperOf.{layout_of_super, one_super}
 use Rattle.nv_outcome.proofs.Metadata.{same_inodes}
 use Rattle.nv_outcome.proofs.SameInodes.{SameInodes}
+use Rattle.nv_outcome.proofs.Tabled.{tables_laid}
 use Rattle.nv_metadata.specs.Memory.{MetadataState}
 use Rattle.nv_metadata.specs.Gathered.{AreGathered, IsOpen}
 use Rattle.nv_metadata.specs.declared.gathering.Gathered.{Gathered}
@@ -23,13 +28,13 @@ use Rattle.nv_text.specs.Refusals.{refusal_name}
 use Rattle.nv_text.specs.declared.refusals.Refusal as texts
 use Rattle.nv_paths.specs.Seen.{tree_of}
 use Rattle.nv_tree.specs.Tree.{Tree}
-use Rattle.nv_checking.specs.Checking.{IsRefusal}
-use Rattle.nv_checking.specs.Recovering.{IsRecovered, IsSuperRefused}
-use Rattle.nv_checking.specs.GatheredImage.{IsFoundIn}
-use Rattle.nv_checking.specs.declared.answered.Answered.{Answered}
-use Rattle.nv_checking.specs.declared.imaging.Image.TheVariants as images
-use Rattle.nv_checking.specs.declared.gathered_image.GatheredImage.TheVariants as gathered_images
-use Rattle.nv_checking.proofs.Gathering.{found_refused}
+use Rattle.nv_image_check.specs.Checking.{IsRefusal}
+use Rattle.nv_image_check.specs.Recovering.{IsRecovered, IsSuperRefused}
+use Rattle.nv_image_check.specs.GatheredImage.{IsFoundIn}
+use Rattle.nv_image_check.specs.declared.answered.Answered.{Answered}
+use Rattle.nv_image_check.specs.declared.imaging.Image.TheVariants as images
+use Rattle.nv_image_check.specs.declared.gathered_image.GatheredImage.TheVariants as gathered_images
+use Rattle.nv_image_check.proofs.Gathering.{found_refused}
 use Rattle.nv_inspect.specs.Log.{IsLogText}
 use Rattle.nv_logs.specs.declared.inode.Inode.{Inode}
 use Rattle.nv_logs.specs.Looking.{IsLogLook, TellsLog}
@@ -86,17 +91,20 @@ module _ (R : Region) (inode : Inode) (text : List ℕ) (answered : Answered) wh
       let sup : r.sup ≡ s = one_super S s r.sup (gathered_super s R S are.0 are.1) found.0.sup in
       let outcome = whole_outcome s R S are.0 are.1 (outcome_of r) sup found.0 in
       let same = same_inodes s R S are.0 (has_metadata s R S are.0 are.1) in
-      let inodes = subst (λ (x : Super). SameInodes (fixed_layout x) (undone x R) (undone x S)) (sym sup) same in
+      let inodes = subst (λ (x : Super). SameInodes (layout_of x R) (undone x R) (undone x S)) (sym sup) same in
+      let tables : layout_of r.sup R ≡ layout_of r.sup (undone r.sup S) = sym (undone_layout r.sup R (layout_of_super R r.sup outcome.sup)) ∙ tables_laid S (outcome_of r) (layout_of r.sup (undone r.sup R)) found.0 refl (sym outcome.tables) in
+      let rows = subst (λ (l : Layout). (row : Row) → Contains r.rows.items row → (a : ℕ) × (log : Log) × IsRow (undone r.sup S) l a log row) (sym tables) found.0.rows.each in
       let here : TellsLog (tree_of (undone r.sup R) r.rows.items) (undone r.sup S) r.sup r.rows.items inode text answered.status =
       subst (λ (Q : Region). TellsLog (tree_of (undone r.sup R) r.rows.items) Q r.sup r.rows.items inode text answered.status) found.1 (told (undone r.sup R)) in
-      inr (outcome_of r, outcome, whole_told inodes here, faults)
+      inr (outcome_of r, outcome, whole_told inodes rows here, faults)
     where
-      whole_told : SameInodes (fixed_layout r.sup) (undone r.sup R) (undone r.sup memory.memory.region) → TellsLog (tree_of (undone r.sup R) r.rows.items) (undone r.sup memory.memory.region) r.sup r.rows.items inode text answered.status
+      whole_told : SameInodes (layout_of r.sup R) (undone r.sup R) (undone r.sup memory.memory.region)
+          → ((row : Row) → Contains r.rows.items row → (a : ℕ) × (log : Log) × IsRow (undone r.sup memory.memory.region) (layout_of r.sup R) a log row) → TellsLog (tree_of (undone r.sup R) r.rows.items) (undone r.sup memory.memory.region) r.sup r.rows.items inode text answered.status
           → TellsLog (tree_of (undone r.sup R) r.rows.items) (undone r.sup R) r.sup r.rows.items inode text answered.status
-      whole_told inodes (inl (row, asked, shown, status)) =
-          let of = (fixed_outcome memory.memory.region (outcome_of r) found.0).rows.each row (asked_there (tree_of (undone r.sup R) r.rows.items) r.rows.items inode row asked) in
-          inl (row, asked, same_text r.sup (undone r.sup R) (undone r.sup memory.memory.region) inodes of.0 of.1 row of.2 text shown, status)
-      whole_told inodes (inr refused) = inr refused
+      whole_told inodes rows (inl (row, asked, shown, status)) =
+          let of = rows row (asked_there (tree_of (undone r.sup R) r.rows.items) r.rows.items inode row asked) in
+          inl (row, asked, same_text (layout_of r.sup R) (undone r.sup R) (undone r.sup memory.memory.region) inodes of.0 of.1 row of.2 text shown, status)
+      whole_told inodes rows (inr refused) = inr refused
   found_look (gatherings.Refused fault) are m r found told faults = absurd found
 
   pub unfound_look : (g : Gathered) → AreGathered R g → (refusal : texts.Refusal) → IsFoundIn g (gathered_images.Refused refusal) → IsRefusal (refusal_name refusal) text answered.status × (answered.faults ≡ 0) → IsLogLook inode R text answered

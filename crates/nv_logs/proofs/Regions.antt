@@ -5,7 +5,7 @@ use Rattle.std.proofs.lemmas.List.FromFn.{length-map-range_with_len}
 use Rattle.nv_region.specs.Region.{Region, HasBlocks, size, word}
 use Rattle.nv_super.specs.declared.superblock.Super.{Super}
 use Rattle.nv_super.specs.declared.superblock.SuperFault.TheVariants.{Length}
-use Rattle.nv_super.specs.Layout.{fixed_layout}
+use Rattle.nv_super.specs.Layout.{Layout}
 use Rattle.nv_super.specs.Super.{IsSuper}
 use Rattle.nv_inode.specs.Slot.{is_right_log}
 use Rattle.nv_logpage.specs.declared.found.Placed.{Placed}
@@ -15,7 +15,7 @@ use Rattle.nv_scan.specs.Inode.{Log, IsInode, right, wrong}
 use Rattle.nv_scan.specs.Rows.{IsRow}
 use Rattle.nv_scan.specs.declared.piece.Row.{Row}
 use Rattle.nv_scan.proofs.Only.{kind_in_use, slot_in_use}
-use Rattle.nv_outcome.specs.nv_journal.Undo.{undone}
+use Rattle.nv_journal.specs.Undo.{undone}
 use Rattle.nv_outcome.proofs.SuperOf.{blocks_of_super, is_equal}
 use Rattle.nv_outcome.proofs.SameInodes.{SameInodes}
 use Rattle.nv_text.specs.Answers.{line}
@@ -34,9 +34,9 @@ blocks_undone R s n has = (length-map-range_with_len _ 0 (length R.words) ∙ ha
 
 -- ---- regions with the same inodes
 
-module _ (s : Super) (U V : Region) (same : SameInodes (fixed_layout s) U V) (a : ℕ) (log : Log) (row : Row) (is : IsRow V (fixed_layout s) a log row) where
-  read_of : (found : Log) → IsInode U (fixed_layout s) row.inode a found → is_right_log s (word U (a + 16)) (word U (a + 24)) ≡ true
-      → Reads U s (word U (a + 16)) (word U (a + 24)) found.entries found.pages found.fault
+module _ (l : Layout) (U V : Region) (same : SameInodes l U V) (a : ℕ) (log : Log) (row : Row) (is : IsRow V l a log row) where
+  read_of : (found : Log) → IsInode U l row.inode a found → is_right_log l.sup (word U (a + 16)) (word U (a + 24)) ≡ true
+      → Reads U l.sup (word U (a + 16)) (word U (a + 24)) found.entries found.pages found.fault
   read_of _ (right slot used ok read) good = read
   read_of _ (wrong slot used bad) good = absurd (true≢false (sym good ∙ bad))
 
@@ -46,18 +46,18 @@ module _ (s : Super) (U V : Region) (same : SameInodes (fixed_layout s) U V) (a 
   tail_is : row.tail ≡ word U (a + 24)
   tail_is = is.tail ∙ (same.slots row.inode a (slot_in_use is.inode)).tail
 
-  reads_there : (es : List Placed) (pages : List ℕ) (end : Option LogEnd) → is_right_log s row.head row.tail ≡ true → Reads V s row.head row.tail es pages end → Reads U s row.head row.tail es pages end
+  reads_there : (es : List Placed) (pages : List ℕ) (end : Option LogEnd) → is_right_log l.sup row.head row.tail ≡ true → Reads V l.sup row.head row.tail es pages end → Reads U l.sup row.head row.tail es pages end
   reads_there es pages end good read =
       let found : Log = record { kind = log.kind; entries = es; pages = pages; fault = end } in
-      let there : IsInode V (fixed_layout s) row.inode a found = right (slot_in_use is.inode) (kind_in_use is.inode) (rw (is.head, is.tail) at good) (rw (is.head, is.tail) at read) in
+      let there : IsInode V l row.inode a found = right (slot_in_use is.inode) (kind_in_use is.inode) (rw (is.head, is.tail) at good) (rw (is.head, is.tail) at read) in
       let mine = read_of found (same.back there) (rw (head_is, tail_is) at good) in
       rw (head_is, tail_is) mine
 
   -- the log has the same text in both
-  pub same_text : (text : List ℕ) → IsLogText V s row text → IsLogText U s row text
-  same_text text told = (told.0, by (is_right_log s row.head row.tail) refl told.1, told.2) where
-    by : (b : Bool) → is_right_log s row.head row.tail ≡ b
-        → MatchBool b ((es : List Placed) × (pages : List ℕ) × (end : Option LogEnd) × Reads V s row.head row.tail es pages end × (told.0 ≡ read_text s row es pages end)) (told.0 ≡ line (codes "  no log, by I3"))
-        → MatchBool b ((es : List Placed) × (pages : List ℕ) × (end : Option LogEnd) × Reads U s row.head row.tail es pages end × (told.0 ≡ read_text s row es pages end)) (told.0 ≡ line (codes "  no log, by I3"))
+  pub same_text : (text : List ℕ) → IsLogText V l.sup row text → IsLogText U l.sup row text
+  same_text text told = (told.0, by (is_right_log l.sup row.head row.tail) refl told.1, told.2) where
+    by : (b : Bool) → is_right_log l.sup row.head row.tail ≡ b
+        → MatchBool b ((es : List Placed) × (pages : List ℕ) × (end : Option LogEnd) × Reads V l.sup row.head row.tail es pages end × (told.0 ≡ read_text l.sup row es pages end)) (told.0 ≡ line (codes "  no log, by I3"))
+        → MatchBool b ((es : List Placed) × (pages : List ℕ) × (end : Option LogEnd) × Reads U l.sup row.head row.tail es pages end × (told.0 ≡ read_text l.sup row es pages end)) (told.0 ≡ line (codes "  no log, by I3"))
     by true good w = (w.0, w.1, w.2, reads_there w.0 w.1 w.2 good w.3, w.4)
     by false bad none = none

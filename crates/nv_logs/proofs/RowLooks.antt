@@ -3,7 +3,7 @@ use Rattle.std.proofs.Common.{◌≡◌, ℕ, inl, inr, List, length, Result, Ok
 use Rattle.std.specs.Prelude.{IfOk}
 use Rattle.nv_region.specs.Region.{Region, region_of}
 use Rattle.nv_region.specs.ImageState.{ImageState}
-use Rattle.nv_outcome.specs.nv_journal.Undo.{undone}
+use Rattle.nv_journal.specs.Undo.{undone}
 use Rattle.nv_outcome.specs.Answer.{outcome_of}
 use Rattle.nv_outcome.specs.declared.recovered.Recovered.{Recovered}
 use Rattle.nv_outcome.proofs.SuperOf.{one_super}
@@ -15,13 +15,13 @@ use Rattle.nv_metadata.proofs.Same.{gathered_super, whole_outcome}
 use Rattle.nv_text.specs.Refusals.{refusal_name}
 use Rattle.nv_text.specs.declared.refusals.Refusal as texts
 use Rattle.nv_paths.specs.Seen.{tree_of}
-use Rattle.nv_checking.specs.Checking.{IsRefusal}
-use Rattle.nv_checking.specs.Recovering.{IsRecovered, IsSuperRefused}
-use Rattle.nv_checking.specs.GatheredImage.{IsFoundIn}
-use Rattle.nv_checking.specs.declared.answered.Answered.{Answered}
-use Rattle.nv_checking.specs.declared.imaging.Image.TheVariants as images
-use Rattle.nv_checking.specs.declared.gathered_image.GatheredImage.TheVariants as gathered_images
-use Rattle.nv_checking.proofs.Gathering.{found_refused}
+use Rattle.nv_image_check.specs.Checking.{IsRefusal}
+use Rattle.nv_image_check.specs.Recovering.{IsRecovered, IsSuperRefused}
+use Rattle.nv_image_check.specs.GatheredImage.{IsFoundIn}
+use Rattle.nv_image_check.specs.declared.answered.Answered.{Answered}
+use Rattle.nv_image_check.specs.declared.imaging.Image.TheVariants as images
+use Rattle.nv_image_check.specs.declared.gathered_image.GatheredImage.TheVariants as gathered_images
+use Rattle.nv_image_check.proofs.Gathering.{found_refused}
 use Rattle.nv_logs.specs.Rows.{IsRowLook, TellsRows}
 use Rattle.nv_logs.specs.declared.looking.Look.{Look}
 

@@ -9,7 +9,7 @@ use Rattle.nv_rows.specs.RowList.{RowList}
 use Rattle.nv_paths.specs.Seen.{node_of}
 use Rattle.nv_paths.proofs.Walks.{one_byte}
 use Rattle.nv_tree.specs.Path.{IsPath, spelled}
-use Rattle.nv_folders.specs.nv_members.Members.{kind_of}
+use Rattle.nv_members.specs.Members.{kind_of}
 use Rattle.nv_folders.specs.Folders.{AreAllFolders, Spot, spot_of}
 use Rattle.nv_folders.specs.declared.folder.Folder.{Folder}
 use Rattle.nv_listing.specs.Folders.{AreFolderTexts}

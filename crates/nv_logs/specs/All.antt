@@ -3,11 +3,11 @@ use Rattle.std.specs.Prelude.{◌≡◌, ◌⊎◌, ℕ, List, [], ◌∷◌, �
 use Rattle.nv_region.specs.Region.{Region}
 use Rattle.nv_super.specs.declared.superblock.Super.{Super}
 use Rattle.nv_scan.specs.declared.piece.Row.{Row}
-use Rattle.nv_report.specs.nv_outcome.nv_journal.Undo.{undone}
-use Rattle.nv_report.specs.nv_outcome.Outcome.{Outcome, IsOutcome}
+use Rattle.nv_journal.specs.Undo.{undone}
+use Rattle.nv_outcome.specs.Outcome.{Outcome, IsOutcome}
 use Rattle.nv_inspect.specs.Log.{IsLogText}
-use Rattle.nv_checking.specs.Checking.{IsSuperRefusal}
-use Rattle.nv_checking.specs.declared.answered.Answered.{Answered}
+use Rattle.nv_image_check.specs.Checking.{IsSuperRefusal}
+use Rattle.nv_image_check.specs.declared.answered.Answered.{Answered}
 
 -- the logs of the inodes of these rows, one after another
 abbrev pub AreLogTexts : Region → Super → List Row → List ℕ → Type 0

@@ -5,10 +5,10 @@ use Rattle.nv_super.specs.Layout.{Layout}
 use Rattle.nv_inode.specs.Chains.{layout_of}
 use Rattle.nv_block.specs.Block.{IsBlockText}
 use Rattle.nv_block.specs.Hex.{block_bytes, hex_text}
-use Rattle.nv_report.specs.nv_outcome.nv_journal.Undo.{undone}
-use Rattle.nv_report.specs.nv_outcome.Outcome.{Outcome, IsOutcome}
-use Rattle.nv_checking.specs.Checking.{IsRefusal, IsSuperRefusal}
-use Rattle.nv_checking.specs.declared.answered.Answered.{Answered}
+use Rattle.nv_journal.specs.Undo.{undone}
+use Rattle.nv_outcome.specs.Outcome.{Outcome, IsOutcome}
+use Rattle.nv_image_check.specs.Checking.{IsRefusal, IsSuperRefusal}
+use Rattle.nv_image_check.specs.declared.answered.Answered.{Answered}
 
 -- the bytes of the block as they stand in the image, where they are asked for
 abbrev pub bytes_text : List ℕ → ℕ → Bool → List ℕ

@@ -7,8 +7,8 @@ use Rattle.nv_listing.specs.Long.{IsLongText}
 use Rattle.nv_tree.specs.Tree.{Tree}
 use Rattle.nv_tree.specs.Refusals.{refusal_word}
 use Rattle.nv_tree.specs.declared.refusal.Refusal.{Refusal}
-use Rattle.nv_checking.specs.Checking.{IsRefusal}
-use Rattle.nv_checking.specs.declared.answered.Answered.{Answered}
+use Rattle.nv_image_check.specs.Checking.{IsRefusal}
+use Rattle.nv_image_check.specs.declared.answered.Answered.{Answered}
 use Rattle.nv_logs.specs.declared.inode.Inode.{Inode}
 use Rattle.nv_logs.specs.Asking.{IsAsked, IsRefused}
 use Rattle.nv_logs.specs.Rows.{IsRowLook}

@@ -3,15 +3,15 @@ use Rattle.std.specs.Prelude.{◌≡◌, ◌⊎◌, ℕ, List, length}
 use Rattle.nv_region.specs.Region.{Region}
 use Rattle.nv_super.specs.declared.superblock.Super.{Super}
 use Rattle.nv_scan.specs.declared.piece.Row.{Row}
-use Rattle.nv_report.specs.nv_outcome.nv_journal.Undo.{undone}
-use Rattle.nv_report.specs.nv_outcome.Outcome.{Outcome, IsOutcome}
+use Rattle.nv_journal.specs.Undo.{undone}
+use Rattle.nv_outcome.specs.Outcome.{Outcome, IsOutcome}
 use Rattle.nv_paths.specs.Seen.{tree_of}
 use Rattle.nv_tree.specs.Tree.{Tree}
 use Rattle.nv_tree.specs.Refusals.{refusal_word}
 use Rattle.nv_tree.specs.declared.refusal.Refusal.{Refusal}
 use Rattle.nv_inspect.specs.Log.{IsLogText}
-use Rattle.nv_checking.specs.Checking.{IsRefusal, IsSuperRefusal}
-use Rattle.nv_checking.specs.declared.answered.Answered.{Answered}
+use Rattle.nv_image_check.specs.Checking.{IsRefusal, IsSuperRefusal}
+use Rattle.nv_image_check.specs.declared.answered.Answered.{Answered}
 use Rattle.nv_logs.specs.declared.inode.Inode.{Inode}
 use Rattle.nv_logs.specs.Asking.{IsAsked, IsRefused}
 

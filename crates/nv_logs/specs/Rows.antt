@@ -2,12 +2,12 @@
 use Rattle.std.specs.Prelude.{◌≡◌, ◌⊎◌, ℕ, List, length}
 use Rattle.nv_region.specs.Region.{Region}
 use Rattle.nv_scan.specs.declared.piece.Row.{Row}
-use Rattle.nv_report.specs.nv_outcome.nv_journal.Undo.{undone}
-use Rattle.nv_report.specs.nv_outcome.Outcome.{Outcome, IsOutcome}
+use Rattle.nv_journal.specs.Undo.{undone}
+use Rattle.nv_outcome.specs.Outcome.{Outcome, IsOutcome}
 use Rattle.nv_paths.specs.Seen.{tree_of}
 use Rattle.nv_tree.specs.Tree.{Tree}
-use Rattle.nv_checking.specs.Checking.{IsSuperRefusal}
-use Rattle.nv_checking.specs.declared.answered.Answered.{Answered}
+use Rattle.nv_image_check.specs.Checking.{IsSuperRefusal}
+use Rattle.nv_image_check.specs.declared.answered.Answered.{Answered}
 
 -- what is told of a tree by its rows, as a text and the exit status
 abbrev pub TellsRows : Type 1

@@ -5,7 +5,7 @@ use Rattle.nv_region.specs.Region.{Region}
 use Rattle.nv_stream.specs.Streams.{AppendsFront}
 use Rattle.nv_stream.specs.declared.fault.ScriptError.{ScriptError}
 use Rattle.nv_stream.specs.declared.fault.ScriptError.TheVariants.{Read, Write, Memory}
-use Rattle.nv_checking.specs.declared.answered.Answered.{Answered}
+use Rattle.nv_image_check.specs.declared.answered.Answered.{Answered}
 use Rattle.nv_logs.specs.declared.inode.Inode.{Inode}
 use Rattle.nv_logs.specs.Looking.{IsLogLook}
 

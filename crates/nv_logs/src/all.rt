@@ -10,7 +10,7 @@ ghost use Rattle.nv_logs.specs.Writing.{WritesTold, FailsTold};
 
 use crate::looking::{Look, unaccepted_look};
 use crate::writing::write_look;
-use nv_checking::{Answered, GatheredImage, Image, recover_gathered, recover_image};
+use nv_image_check::{Answered, GatheredImage, Image, recover_gathered, recover_image};
 use nv_inspect::push_log;
 use nv_metadata::Gathered;
 use nv_region::Pmem;

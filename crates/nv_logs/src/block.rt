@@ -2,14 +2,14 @@
 
 ghost use Rattle.std.specs.Prelude.{◌≡◌, ◌<◌, ◌≤◌, ◌^◌, ◌++◌, IfOk, IfErr, OnOk, length, string_bytes};
 ghost use Rattle.nv_region.specs.Region.{Region};
-ghost use Rattle.nv_report.specs.nv_outcome.Outcome.{AreRows};
+ghost use Rattle.nv_outcome.specs.Outcome.{AreRows};
 ghost use Rattle.nv_logs.specs.Block.{IsBlockLook, IsShown, TellsBlock, bytes_text};
 ghost use Rattle.nv_logs.specs.Writing.{WritesTold, FailsTold};
 
 use crate::looking::{Look, refused_look, unaccepted_look};
 use crate::writing::write_look;
 use nv_block::{block_bytes, push_block, push_hex_rows};
-use nv_checking::{Answered, Image, recover_image};
+use nv_image_check::{Answered, Image, recover_image};
 use nv_report::{Last, Recovered};
 use nv_stream::ScriptError;
 use nv_super::BLOCK_SIZE;

@@ -5,7 +5,6 @@ ghost use Rattle.nv_region.specs.Region.{Region, region_of};
 ghost use Rattle.nv_folders.specs.Folders.{spot_of};
 ghost use Rattle.nv_rows.specs.Rows.{row_of};
 ghost use Rattle.nv_tree.specs.Path.{IsPath, spelled};
-ghost use Rattle.nv_archive.specs.Shown.{AreLowRows};
 ghost use Rattle.nv_paths.specs.Seen.{tree_of};
 ghost use Rattle.nv_metadata.specs.Gathered.{AreGathered, IsOpen};
 ghost use Rattle.nv_logs.specs.Folders.{AreFoldersBelow, IsFoldersLook, IsFoldersText, IsTop, TellsFolders, TellsFoldersOf};
@@ -15,8 +14,8 @@ use crate::asking::row_asked;
 use crate::inode::Inode;
 use crate::looking::{Look, refused_look, unaccepted_look};
 use crate::writing::write_look;
-use nv_checking::{Answered, GatheredImage, Image, recover_gathered, recover_image};
 use nv_folders::{Folder, folders_of};
+use nv_image_check::{Answered, GatheredImage, Image, recover_gathered, recover_image};
 use nv_listing::push_folders;
 use nv_metadata::Gathered;
 use nv_report::{Last, Recovered};
@@ -99,7 +98,6 @@ fn look_at_gathered(
 
 // The names by what was found, or why they aren't told.
 fn look_in(alloc: Global, found: &Recovered, inode: &Inode, long: bool) -> Result<Look, AllocError>
-    requires { AreLowRows found.now.rows.items }
     ensures told { (R : Region) → IfOk result (λ look. TellsFolders (tree_of R found.now.rows.items) found.now.rows.items inode.now long (string_bytes look.text) look.answered.status) }
     ensures faults { IfOk result (λ look. look.answered.faults ≡ length found.now.faults.items) }
 {
@@ -118,8 +116,7 @@ fn row_look(
     long: bool,
     faults: usize,
 ) -> Result<Look, AllocError>
-    requires low { AreLowRows rows.now.items }
-    requires among { row_of rows.now.items row.now.inode ≡ Some row.now }
+    requires { row_of rows.now.items row.now.inode ≡ Some row.now }
     ensures told { IfOk result (λ look. TellsFoldersOf rows.now.items row.now inode.now long (string_bytes look.text) look.answered.status) }
     ensures faults { IfOk result (λ look. look.answered.faults ≡ faults) }
 {
@@ -142,7 +139,6 @@ fn folders_text(
     inode: &Inode,
     long: bool,
 ) -> Result<String, AllocError>
-    requires low { AreLowRows rows.now.items }
     requires among { row_of rows.now.items row.now.inode ≡ Some row.now }
     requires directory { row.now.kind ≡ Kind.Directory }
     ensures { IfOk result (λ text. IsFoldersText rows.now.items row.now.inode inode.now long (string_bytes text)) }
@@ -159,7 +155,6 @@ fn folders_below(
     row: &Row,
     inode: &Inode,
 ) -> Result<Vec<Folder>, AllocError>
-    requires low { AreLowRows rows.now.items }
     requires among { row_of rows.now.items row.now.inode ≡ Some row.now }
     requires directory { row.now.kind ≡ Kind.Directory }
     ensures { IfOk result (λ folders. AreFoldersBelow rows.now.items row.now.inode inode.now (map spot_of folders.items)) }

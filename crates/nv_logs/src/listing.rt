@@ -12,7 +12,7 @@ use crate::asking::row_asked;
 use crate::inode::Inode;
 use crate::looking::{Look, refused_look, unaccepted_look};
 use crate::writing::write_look;
-use nv_checking::{Answered, GatheredImage, Image, recover_gathered, recover_image};
+use nv_image_check::{Answered, GatheredImage, Image, recover_gathered, recover_image};
 use nv_listing::push_long_list;
 use nv_metadata::Gathered;
 use nv_report::{Last, Recovered};

@@ -10,12 +10,12 @@ ghost use Rattle.nv_paths.specs.Seen.{tree_of};
 ghost use Rattle.nv_tree.specs.Refusals.{refusal_word};
 ghost use Rattle.nv_inspect.specs.Log.{IsLogText};
 ghost use Rattle.nv_metadata.specs.Gathered.{AreGathered, IsOpen};
-ghost use Rattle.nv_checking.specs.Checking.{IsRefusal};
+ghost use Rattle.nv_image_check.specs.Checking.{IsRefusal};
 ghost use Rattle.nv_logs.specs.Looking.{IsLogLook, TellsLog};
 
 use crate::asking::row_asked;
 use crate::inode::Inode;
-use nv_checking::{Answered, GatheredImage, Image, recover_gathered, recover_image};
+use nv_image_check::{Answered, GatheredImage, Image, recover_gathered, recover_image};
 use nv_inspect::push_log;
 use nv_metadata::Gathered;
 use nv_region::Pmem;

@@ -3,7 +3,6 @@
 ghost use Rattle.std.specs.Prelude.{◌≡◌, ◌≢◌, IfOk, IfErr, length, string_bytes};
 ghost use Rattle.nv_region.specs.Region.{Region, region_of};
 ghost use Rattle.nv_rows.specs.Rows.{IsInUse};
-ghost use Rattle.nv_archive.specs.Shown.{AreLowRows};
 ghost use Rattle.nv_paths.specs.Seen.{tree_of};
 ghost use Rattle.nv_metadata.specs.Gathered.{AreGathered, IsOpen};
 ghost use Rattle.nv_logs.specs.Usage.{IsUsageLook, TellsCount, TellsUsage};
@@ -13,7 +12,7 @@ use crate::asking::row_asked;
 use crate::inode::Inode;
 use crate::looking::{Look, refused_look, unaccepted_look};
 use crate::writing::write_look;
-use nv_checking::{Answered, GatheredImage, Image, recover_gathered, recover_image};
+use nv_image_check::{Answered, GatheredImage, Image, recover_gathered, recover_image};
 use nv_metadata::Gathered;
 use nv_report::{Last, Recovered};
 use nv_rows::Rows;
@@ -84,7 +83,6 @@ fn look_at_gathered(alloc: Global, gathered: Gathered, inode: &Inode) -> Result<
 
 // The count by what was found, or why it isn't told.
 fn look_in(alloc: Global, found: &Recovered, inode: &Inode) -> Result<Look, AllocError>
-    requires { AreLowRows found.now.rows.items }
     ensures told { (R : Region) → IfOk result (λ look. TellsUsage (tree_of R found.now.rows.items) found.now.rows.items inode.now (string_bytes look.text) look.answered.status) }
     ensures faults { IfOk result (λ look. look.answered.faults ≡ length found.now.faults.items) }
 {
@@ -96,8 +94,7 @@ fn look_in(alloc: Global, found: &Recovered, inode: &Inode) -> Result<Look, Allo
 }
 
 fn count_look(alloc: Global, rows: &Rows, inode: u64, faults: usize) -> Result<Look, AllocError>
-    requires low { AreLowRows rows.now.items }
-    requires used { IsInUse rows.now.items inode }
+    requires { IsInUse rows.now.items inode }
     ensures told { IfOk result (λ look. TellsCount rows.now.items inode (string_bytes look.text) look.answered.status) }
     ensures faults { IfOk result (λ look. look.answered.faults ≡ faults) }
 {

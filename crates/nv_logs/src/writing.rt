@@ -7,7 +7,7 @@ ghost use Rattle.nv_logs.specs.Writing.{Sends, SendsFront, WritesLog, FailsLog};
 
 use crate::inode::Inode;
 use crate::looking::{Look, look_at_gathered, look_at_image};
-use nv_checking::Answered;
+use nv_image_check::Answered;
 use nv_metadata::Gathered;
 use nv_report::Last;
 use nv_stream::{ScriptError, write_text};

@@ -3,16 +3,16 @@ use Rattle.std.proofs.Common.{◌≡◌, ◌∙◌, inl, inr, ℕ, Bool, List, l
 use Rattle.std.specs.Prelude.{Result, Ok, Err, IfOk, IfErr, OnOk, codes}
 use Rattle.std.proofs.KnownBytes.{Keeps-refl}
 use Rattle.nv_region.specs.Region.{Region, region_of}
-use Rattle.nv_report.specs.nv_outcome.nv_journal.Undo.{undone}
-use Rattle.nv_report.specs.nv_outcome.Outcome.{Outcome, IsOutcome}
+use Rattle.nv_journal.specs.Undo.{undone}
+use Rattle.nv_outcome.specs.Outcome.{Outcome, IsOutcome}
 use Rattle.nv_metadata.specs.Memory.{MetadataState}
 use Rattle.nv_metadata.specs.Gathered.{AreGathered}
 use Rattle.nv_metadata.specs.declared.gathering.Gathered.{Gathered}
 use Rattle.nv_scan.specs.declared.piece.Row.{Row}
 use Rattle.nv_text.specs.Answers.{refused_line}
 use Rattle.nv_calls.specs.Mount.{Mount}
-use Rattle.nv_session.specs.nv_calls.ByNumber.{stat_inode_tests}
-use Rattle.nv_session.specs.nv_paths.Seen.{tree_of}
+use Rattle.nv_calls.specs.ByNumber.{stat_inode_tests}
+use Rattle.nv_paths.specs.Seen.{tree_of}
 use Rattle.nv_stream.specs.declared.fault.ScriptError.{ScriptError}
 use Rattle.nv_stream.specs.declared.fault.ScriptError.TheVariants as errors
 use Rattle.nv_tree.specs.Path.{IsPath, Says}
@@ -24,22 +24,22 @@ use Rattle.nv_tree.proofs.Texts.{text_says}
 use Rattle.nv_tar.specs.Archive.{IsArchive}
 use Rattle.nv_tar.specs.declared.errors.TarError.{TarError}
 use Rattle.nv_tar.specs.declared.errors.TarError.TheVariants as tars
-use Rattle.nv_checking.specs.declared.answered.Answered.{Answered}
-use Rattle.nv_checking.specs.declared.gathered.BlocksError.{BlocksError}
-use Rattle.nv_checking.specs.declared.gathered.BlocksError.TheVariants.{Read, Answer}
+use Rattle.nv_image_check.specs.declared.answered.Answered.{Answered}
+use Rattle.nv_image_check.specs.declared.gathered.BlocksError.{BlocksError}
+use Rattle.nv_image_check.specs.declared.gathered.BlocksError.TheVariants.{Read, Answer}
 use Rattle.nv_archive.specs.Chosen.{AreTests, IsBase, IsChosen, IsFoundBy, IsNamedBy}
-use Rattle.nv_archive.specs.Shown.{AreKnown}
+use Rattle.nv_archive.specs.Shown.{AreKnown, shown_tree}
 use Rattle.nv_archive.specs.Archiving.{FailsArchiveOf, WritesArchiveOf, WritesFrontOf}
 use Rattle.nv_archive.specs.declared.chosen.Chosen.{Chosen as ChosenValue}
 use Rattle.nv_archive.specs.declared.chosen.Chosen.TheVariants.{Path as ByPath, Number as ByNumber}
 use Rattle.nv_looks.specs.Sent.{Written, written}
 use Rattle.nv_looks.specs.Looking.{Call, IsLook, WritesLook, WritesLookFront, WritesRefusal, FailsRefusal, call_status}
-use Rattle.nv_looks.specs.Gathered.{IsOpenedOf, FailsBlocksCat}
-use Rattle.nv_looks.specs.Catting.{AreShownAs}
+use Rattle.nv_looks.specs.Gathered.{IsOpenedOf, FailsBlocksCat, is_whole}
+use Rattle.nv_looks.specs.Catting.{AreReadFrom, AreShownAs}
 use Rattle.nv_looks.specs.Archiving.{FailsTold, GivesArchive, WritesTold, WritesToldFront, archive_status}
 use Rattle.nv_looks.specs.declared.gathered.OpenedMetadata.TheVariants as opened
 use Rattle.nv_looks.proofs.Cats.{no_zero}
-use Rattle.nv_looks.proofs.Filed.{shown_as, there}
+use Rattle.nv_looks.proofs.ReadFrom.{read_from}
 use Rattle.nv_looks.proofs.ShownRows.{tree_same}
 
 -- ---- what is chosen
@@ -119,40 +119,46 @@ module _ (Tells : Call) (bytes : List ℕ) (g : Gathered) (are : AreGathered (re
   abbrev R : Region
   R = region_of bytes
 
-  shows : (o : Outcome) × IsOutcome R o × (m.rows ≡ o.rows) × (m.faults ≡ o.faults)
-  shows = there R g are m is
+  shows : (o : Outcome) × IsOutcome R o × (m.rows ≡ o.rows) × (m.faults ≡ o.faults) × AreReadFrom (is_whole g) (Some bytes) m.memory (undone o.sup R) m.rows
+  shows = read_from bytes g are m is
 
   abbrev U : Region
   U = undone shows.0.sup R
 
-  shown : AreShownAs U R m.rows
-  shown = subst (λ (rows : List Row). AreShownAs U R rows) (sym shows.2) (shown_as R shows.0 shows.1)
+  reads : AreReadFrom (is_whole g) (Some bytes) m.memory U m.rows
+  reads = shows.4
 
-  pub known_opened : AreKnown (Some bytes) m.rows
-  known_opened = shown.inside
-
-  looks : (text : List ℕ) (answered : Answered) → Tells (tree_of R m.rows) text answered.status → answered.faults ≡ length m.faults → IsLook Tells R text answered
+  looks : (text : List ℕ) (answered : Answered) → Tells (tree_of U m.rows) text answered.status → answered.faults ≡ length m.faults → IsLook Tells R text answered
   looks text answered tells faults = inr (
     shows.0,
     shows.1,
-    subst (λ (rows : List Row). Tells (tree_of U rows) text answered.status) shows.2 (subst (λ (t : Tree). Tells t text answered.status) (sym (tree_same U R m.rows shown)) tells),
+    subst (λ (rows : List Row). Tells (tree_of U rows) text answered.status) shows.2 tells,
     faults ∙ ap length shows.3,
   )
 
-  pub told_opened : (answered : Answered) → WritesTold Tells (tree_of R m.rows) old new answered.status → answered.faults ≡ length m.faults → WritesLook Tells bytes old new answered
+  pub told_opened : (answered : Answered) → ((Q : Region) → AreReadFrom (is_whole g) (Some bytes) m.memory Q m.rows → WritesTold Tells (tree_of Q m.rows) old new answered.status) → answered.faults ≡ length m.faults → WritesLook Tells bytes old new answered
   told_opened answered w faults =
-      let (text, tells, sends) = w in
+      let (text, tells, sends) = w U reads in
       (text, looks text answered tells faults, sends)
 
-  front_opened : WritesToldFront Tells (tree_of R m.rows) old new → WritesLookFront Tells bytes old new
+  front_opened : WritesToldFront Tells (tree_of U m.rows) old new → WritesLookFront Tells bytes old new
   front_opened f =
       let (text, status, tells, sends) = f in
       let answered : Answered = record { status = status; faults = length m.faults } in
       (text, answered, looks text answered tells refl, sends)
 
-  pub fails_opened : (e : BlocksError) → FailsTold Tells (tree_of R m.rows) e old new → FailsBlocksCat Tells bytes e old new
-  fails_opened (Read e) f = f
-  fails_opened (Answer errors.Read) f = f
-  fails_opened (Answer errors.Write) f = front_opened f
-  fails_opened (Answer errors.Memory) (inl kept) = inl kept
-  fails_opened (Answer errors.Memory) (inr f) = inr (front_opened f)
+  fails : (e : BlocksError) → FailsTold Tells (tree_of U m.rows) e old new → FailsBlocksCat Tells bytes e old new
+  fails (Read e) f = f
+  fails (Answer errors.Read) f = f
+  fails (Answer errors.Write) f = front_opened f
+  fails (Answer errors.Memory) (inl kept) = inl kept
+  fails (Answer errors.Memory) (inr f) = inr (front_opened f)
+
+  pub fails_opened : (e : BlocksError) → ((Q : Region) → AreReadFrom (is_whole g) (Some bytes) m.memory Q m.rows → FailsTold Tells (tree_of Q m.rows) e old new) → FailsBlocksCat Tells bytes e old new
+  fails_opened e f = fails e (f U reads)
+
+-- ---- of bytes that are read
+
+-- what is so of the tree of rows over bytes that are known is so of it over a region that has them
+pub told_by : (known : Option (List ℕ)) (image : List ℕ) (R : Region) (rows : List Row) → known ≡ Some image → AreShownAs R (region_of image) rows → (P : Tree → Type 0) → (AreKnown known rows → P (shown_tree known rows)) → P (tree_of R rows)
+told_by known image R rows is shown P h = subst P (sym (tree_same R (region_of image) rows shown)) (subst (λ (k : Option (List ℕ)). AreKnown k rows → P (shown_tree k rows)) is h shown.inside)

@@ -4,8 +4,8 @@ use Rattle.std.specs.Prelude.{Result, Ok, Err, IfOk, IfErr, OnOk}
 use Rattle.nv_region.specs.Region.{region_of}
 use Rattle.nv_region.specs.ImageState.{ImageState}
 use Rattle.nv_text.specs.Answers.{refused_line}
-use Rattle.nv_session.specs.nv_calls.Mount.{Mount}
-use Rattle.nv_session.specs.nv_paths.Seen.{tree_of}
+use Rattle.nv_calls.specs.Mount.{Mount}
+use Rattle.nv_paths.specs.Seen.{tree_of}
 use Rattle.nv_session.specs.Machine.{TellsRefusal}
 use Rattle.nv_session.proofs.Told.{refusal_told}
 use Rattle.nv_stream.specs.Streams.{AppendsFront}
@@ -20,7 +20,7 @@ use Rattle.nv_tree.proofs.Texts.{text_says}
 use Rattle.std.proofs.KnownBytes.{Keeps-refl}
 use Rattle.nv_looks.specs.Sent.{Written, written, SendsFront}
 use Rattle.nv_looks.specs.Looking.{GivesBytes, IsWholeFile, TellsFile, IsOpened, WritesLook, WritesLookFront, FailsCat, WritesFile, FailsFile, WritesCall, FailsCall, WritesRefusal, FailsRefusal, call_status}
-use Rattle.nv_checking.specs.declared.answered.Answered.{Answered}
+use Rattle.nv_image_check.specs.declared.answered.Answered.{Answered}
 use Rattle.nv_looks.specs.declared.looking.Opened.TheVariants as opened
 use Rattle.nv_looks.proofs.Looks.{mounted_look}
 

@@ -4,9 +4,9 @@ use Rattle.std.specs.Prelude.{Result, Ok, Err, IfOk, IfErr, OnOk}
 use Rattle.nv_region.specs.Region.{region_of}
 use Rattle.nv_region.specs.ImageState.{ImageState}
 use Rattle.nv_text.specs.Answers.{refused_line}
-use Rattle.nv_session.specs.nv_calls.Mount.{Mount}
-use Rattle.nv_session.specs.nv_calls.ByNumber.{read_inode_tests}
-use Rattle.nv_session.specs.nv_paths.Seen.{tree_of}
+use Rattle.nv_calls.specs.Mount.{Mount}
+use Rattle.nv_calls.specs.ByNumber.{read_inode_tests}
+use Rattle.nv_paths.specs.Seen.{tree_of}
 use Rattle.nv_session.specs.Machine.{TellsRefusal}
 use Rattle.nv_session.proofs.Told.{refusal_told}
 use Rattle.nv_stream.specs.Streams.{AppendsFront}
@@ -20,7 +20,7 @@ use Rattle.std.proofs.KnownBytes.{Keeps-refl}
 use Rattle.nv_looks.specs.Sent.{Written, written, SendsFront}
 use Rattle.nv_looks.specs.Looking.{IsOpened, WritesLook, WritesLookFront, FailsCat, WritesRefusal, FailsRefusal, call_status}
 use Rattle.nv_looks.specs.LookingByNumber.{GivesInodeBytes, TellsInodeFile, WritesInode, FailsInode, WritesInodeCall, FailsInodeCall}
-use Rattle.nv_checking.specs.declared.answered.Answered.{Answered}
+use Rattle.nv_image_check.specs.declared.answered.Answered.{Answered}
 use Rattle.nv_looks.specs.declared.looking.Opened.TheVariants as opened
 use Rattle.nv_looks.proofs.Looks.{mounted_look}
 use Rattle.nv_looks.proofs.Cats.{no_zero}

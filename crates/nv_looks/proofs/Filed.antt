@@ -3,76 +3,50 @@ use Rattle.std.proofs.Common.{◌≡◌, ◌∙◌, ◌+◌, ◌-◌, ◌*◌, �
 use Rattle.std.specs.Prelude.{IfOk, IfErr, OnOk}
 use Rattle.std.specs.List.{Contains, range_with_len}
 use Rattle.nv_region.specs.Region.{Region, region_of}
-use Rattle.nv_super.specs.Layout.{IsLayout, fixed_layout, system_blocks}
-use Rattle.nv_super.specs.declared.superblock.Super.{Super}
-use Rattle.nv_report.specs.nv_outcome.nv_journal.Undo.{undone}
-use Rattle.nv_report.specs.nv_outcome.Outcome.{Outcome, IsOutcome}
-use Rattle.nv_report.specs.nv_outcome.Same.{lasting_outcome}
-use Rattle.nv_report.proofs.nv_outcome.SuperOf.{blocks_of_super, layout_of_super, one_super, version_of_super}
-use Rattle.nv_report.proofs.nv_outcome.Again.{rolled_back, stays}
-use Rattle.nv_report.proofs.nv_outcome.Fixed.{fixed_outcome}
-use Rattle.nv_report.proofs.nv_outcome.nv_journal.High.{data_word}
+use Rattle.nv_journal.specs.Undo.{undone}
+use Rattle.nv_outcome.specs.Outcome.{Outcome, IsOutcome}
+use Rattle.nv_outcome.proofs.SuperOf.{layout_of_super}
 use Rattle.nv_metadata.specs.Memory.{MetadataState}
 use Rattle.nv_metadata.specs.Gathered.{AreGathered}
 use Rattle.nv_metadata.specs.declared.gathering.Gathered.{Gathered}
 use Rattle.nv_metadata.specs.declared.gathering.Gathered.TheVariants as gatherings
-use Rattle.nv_metadata.proofs.Same.{gathered_super, whole_outcome}
 use Rattle.nv_radix.specs.Pages.{block_at}
 use Rattle.nv_rows.specs.Rows.{row_of}
-use Rattle.nv_held.specs.Bytes.{byte_in}
+use Rattle.nv_mounted.specs.Bytes.{byte_in}
+use Rattle.nv_mounted.specs.Mounted.{outcome_layout}
 use Rattle.nv_bytes.specs.Bytes.{file_byte}
 use Rattle.nv_scan.specs.declared.piece.Row.{Row}
-use Rattle.nv_scan.proofs.Blocks.{data_pages}
 use Rattle.nv_tree.specs.Path.{IsPath, Says}
 use Rattle.nv_tree.specs.Tree.{Tree}
 use Rattle.nv_tree.specs.Refusals.{Path, first_refusal, read_tests}
 use Rattle.nv_tree.specs.Calls.{bytes_read}
 use Rattle.nv_tree.proofs.Texts.{text_says}
 use Rattle.nv_stream.specs.declared.fault.ScriptError.TheVariants as errors
-use Rattle.nv_checking.specs.declared.gathered.BlocksError.{BlocksError}
-use Rattle.nv_checking.specs.declared.gathered.BlocksError.TheVariants.{Read, Answer}
-use Rattle.nv_checking.specs.declared.answered.Answered.{Answered}
-use Rattle.nv_calls.specs.Mount.{Mount, IsKept, has_faults}
+use Rattle.nv_image_check.specs.declared.gathered.BlocksError.{BlocksError}
+use Rattle.nv_image_check.specs.declared.gathered.BlocksError.TheVariants.{Read, Answer}
+use Rattle.nv_image_check.specs.declared.answered.Answered.{Answered}
+use Rattle.nv_calls.specs.Mount.{Mount, has_faults}
 use Rattle.nv_calls.proofs.FileBytes.{row_size}
+use Rattle.nv_calls.proofs.Mounted.{kept_outcome}
 use Rattle.nv_calls.proofs.RowChange.{row_there}
-use Rattle.nv_session.specs.nv_calls.Reading.{IsRead}
-use Rattle.nv_session.specs.nv_paths.Seen.{LeadsTo, node_of, tree_of}
+use Rattle.nv_calls.specs.Reading.{IsRead}
+use Rattle.nv_paths.specs.Seen.{LeadsTo, node_of, tree_of}
 use Rattle.nv_looks.specs.Sent.{Written, written, SendsFront}
 use Rattle.nv_looks.specs.Looking.{GivesBytes, IsSized, TellsFile, IsLook, WritesLook, WritesLookFront, FailsCat, WritesFile, FailsFile, WritesCall, FailsCall, call_status}
-use Rattle.nv_looks.specs.Gathered.{IsOpenedOf, FailsBlocksCat}
+use Rattle.nv_looks.specs.Gathered.{IsOpenedOf, FailsBlocksCat, is_whole}
 use Rattle.nv_looks.specs.declared.gathered.OpenedMetadata.TheVariants as opened
 use Rattle.nv_archive.specs.Shown.{AreSmallRows}
-use Rattle.nv_looks.specs.Catting.{AreShownAs, IsFileOf, FailsBlocksFile, FailsBlocksCall}
+use Rattle.nv_looks.specs.Catting.{AreReadFrom, AreShownAs, IsFileOf, FailsBlocksFile, FailsBlocksCall}
 use Rattle.nv_looks.proofs.Cats.{file_called, file_failed}
+use Rattle.nv_looks.proofs.ReadFrom.{bounds, read_from}
 
 -- ---- rows of an outcome
 
-module _ (S : Region) (o : Outcome) (is : IsOutcome S o) where
-  layout : IsLayout o.sup
-  layout = layout_of_super S o.sup is.sup
-
-  -- the blocks of their files are data blocks
-  bounds : (row : Row) → Contains o.rows row → (p b : ℕ) → block_at row.index p ≡ Some b → (system_blocks o.sup ≤ b) × (b < o.sup.blocks)
-  bounds row c p b at = let r = is.rows.each row c in let inside = data_pages o.sup r.1.kind r.1.entries p b (sym (r.2.index p) ∙ at) in (inside.1, inside.2)
-
-  kept : IsKept (undone o.sup S) o.sup o.rows (record { sup = o.sup; pools = o.free; room = 0 }) o.faults (has_faults o.faults) false
-  kept = record { writes = refl; lists = refl; own = λ runs. stays S o.sup is.sup; shown = λ runs. ∣ (o.doubled, by_tables) ∣₁ }
-    where
-      by_tables : IsOutcome (undone o.sup S) (lasting_outcome (record o { tables = (fixed_layout o.sup).chains }))
-      by_tables = subst (λ (chains : List (List ℕ)). IsOutcome (undone o.sup S) (lasting_outcome (record o { tables = chains }))) (fixed_outcome S o is).tables (rolled_back S o is)
-
-  pub small_rows : AreSmallRows o.rows
-  small_rows row c = record {
-    size = row_size (undone o.sup S) o.sup o.rows (record { sup = o.sup; pools = o.free; room = 0 }) o.faults (has_faults o.faults) false kept refl row c;
-    blocks = λ p b at. (let high = (bounds row c p b at).1 in let most = layout.blocks_to in omega (arith, high, most));
-  }
-
-  -- no journal names a word of a data block
-  pub shown_as : AreShownAs (undone o.sup S) S o.rows
-  shown_as = record {
-    inside = λ row c p b at. (let high = (bounds row c p b at).1 in let blocks = blocks_of_super S o.sup is.sup in omega (arith, high, blocks));
-    same = λ row p b x c at. ap (λ (w : ℕ). w / 256 ^ (x % 8) % 256) (let low = (bounds row c p b at).0 in data_word o.sup S layout (version_of_super S o.sup is.sup) (b * 4096 + x % 4096 / 8 * 8) (omega arith) (omega (arith, low)));
-  }
+pub small_rows : (S : Region) (o : Outcome) → IsOutcome S o → AreSmallRows o.rows
+small_rows S o is row c = record {
+  size = row_size (undone o.sup S) o.sup (outcome_layout o) o.rows (record { sup = o.sup; pools = o.free; room = 0 }) o.faults (has_faults o.faults) false (kept_outcome S o is) refl row c;
+  blocks = λ p b at. (let high = (bounds S o is row c p b at).1 in let most = (layout_of_super S o.sup is.sup).blocks_to in omega (arith, high, most));
+}
 
 -- the same of the rows that are mounted
 pub opened_small : (g : Gathered) (m : Mount MetadataState) → IsOpenedOf g (opened.Mounted m) → AreSmallRows m.rows
@@ -129,26 +103,18 @@ module _ (t : Tree) (path : List ℕ) (p : Path) (says : Says path p) (old new o
 
 -- ---- of the region of some bytes
 
--- what was mounted is the region's outcome
-pub there : (R : Region) (g : Gathered) → AreGathered R g → (m : Mount MetadataState) → IsOpenedOf g (opened.Mounted m) → (o : Outcome) × IsOutcome R o × (m.rows ≡ o.rows) × (m.faults ≡ o.faults)
-there R (gatherings.Metadata s held) are m is =
-    let S = held.memory.region in
-    let o = is.0 in
-    (o, whole_outcome s R S are.0 are.1 o (one_super S s o.sup (gathered_super s R S are.0 are.1) is.1.sup) is.1, is.3, is.4)
-there R (gatherings.Refused fault) are m is = absurd is
-
 module _ (bytes path : List ℕ) (g : Gathered) (are : AreGathered (region_of bytes) g) (m : Mount MetadataState) (is : IsOpenedOf g (opened.Mounted m)) (old new : Written) where
   abbrev R : Region
   R = region_of bytes
 
-  shows : (o : Outcome) × IsOutcome R o × (m.rows ≡ o.rows) × (m.faults ≡ o.faults)
-  shows = there R g are m is
+  shows : (o : Outcome) × IsOutcome R o × (m.rows ≡ o.rows) × (m.faults ≡ o.faults) × AreReadFrom (is_whole g) (Some bytes) m.memory (undone o.sup R) m.rows
+  shows = read_from bytes g are m is
 
   abbrev U : Region
   U = undone shows.0.sup R
 
-  shown : AreShownAs U R m.rows
-  shown = subst (λ (rows : List Row). AreShownAs U R rows) (sym shows.2) (shown_as R shows.0 shows.1)
+  reads : AreReadFrom (is_whole g) (Some bytes) m.memory U m.rows
+  reads = shows.4
 
   looks : (text : List ℕ) (answered : Answered) (p : Path) → Says path p → TellsFile (tree_of U m.rows) p text → answered.status ≡ call_status (first_refusal (read_tests (tree_of U m.rows) p)) → answered.faults ≡ length m.faults
       → IsLook (GivesBytes path) R text answered
@@ -159,10 +125,10 @@ module _ (bytes path : List ℕ) (g : Gathered) (are : AreGathered (region_of by
     faults ∙ ap length shows.3,
   )
 
-  pub cat_opened : (answered : Answered) → ((Q : Region) → AreShownAs Q R m.rows → (p : Path) → Says path p → WritesCall (tree_of Q m.rows) p old new answered.status) → answered.faults ≡ length m.faults → WritesLook (GivesBytes path) bytes old new answered
+  pub cat_opened : (answered : Answered) → ((Q : Region) → AreReadFrom (is_whole g) (Some bytes) m.memory Q m.rows → (p : Path) → Says path p → WritesCall (tree_of Q m.rows) p old new answered.status) → answered.faults ≡ length m.faults → WritesLook (GivesBytes path) bytes old new answered
   cat_opened answered writes faults =
       let p = text_says path in
-      let w = writes U shown p.0 p.1 in
+      let w = writes U reads p.0 p.1 in
       (w.0, looks w.0 answered p.0 p.1 w.1 w.2 faults, w.3)
 
   front : (p : Path) → Says path p → (text : List ℕ) → TellsFile (tree_of U m.rows) p text → SendsFront (call_status (first_refusal (read_tests (tree_of U m.rows) p))) old new text → WritesLookFront (GivesBytes path) bytes old new
@@ -177,5 +143,5 @@ module _ (bytes path : List ℕ) (g : Gathered) (are : AreGathered (region_of by
   fails p says (Answer errors.Memory) (inl kept) = inl kept
   fails p says (Answer errors.Memory) (inr f) = inr (front p says f.0 f.1 f.2)
 
-  pub cat_opened_fails : (e : BlocksError) → ((Q : Region) → AreShownAs Q R m.rows → (p : Path) → Says path p → FailsBlocksCall (tree_of Q m.rows) p e old new) → FailsBlocksCat (GivesBytes path) bytes e old new
-  cat_opened_fails e f = let p = text_says path in fails p.0 p.1 e (f U shown p.0 p.1)
+  pub cat_opened_fails : (e : BlocksError) → ((Q : Region) → AreReadFrom (is_whole g) (Some bytes) m.memory Q m.rows → (p : Path) → Says path p → FailsBlocksCall (tree_of Q m.rows) p e old new) → FailsBlocksCat (GivesBytes path) bytes e old new
+  cat_opened_fails e f = let p = text_says path in fails p.0 p.1 e (f U reads p.0 p.1)

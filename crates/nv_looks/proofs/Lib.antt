@@ -6,6 +6,7 @@ pub mod Cats
 pub mod CatsByNumber
 pub mod Bare
 pub mod Opened
+pub mod ReadFrom
 pub mod Filed
 pub mod ShownRows
 pub mod Archived

@@ -5,18 +5,18 @@ use Rattle.nv_region.specs.Region.{Region}
 use Rattle.nv_region.specs.ImageState.{ImageState}
 use Rattle.nv_text.specs.Refusals.{refusal_name}
 use Rattle.nv_text.specs.declared.refusals.Refusal as texts
-use Rattle.nv_report.specs.nv_outcome.nv_journal.Undo.{undone}
-use Rattle.nv_session.specs.nv_calls.Mount.{Mount}
-use Rattle.nv_session.specs.nv_paths.Seen.{tree_of}
+use Rattle.nv_journal.specs.Undo.{undone}
+use Rattle.nv_calls.specs.Mount.{Mount}
+use Rattle.nv_paths.specs.Seen.{tree_of}
 use Rattle.nv_tree.specs.Path.{Says}
 use Rattle.nv_tree.specs.Tree.{Tree}
 use Rattle.nv_tree.specs.Refusals.{Path, Tests, first_refusal}
 use Rattle.nv_tree.specs.declared.refusal.Refusal.{Refusal}
 use Rattle.nv_tree.proofs.Texts.{text_says}
-use Rattle.nv_checking.specs.Checking.{IsRefusal}
+use Rattle.nv_image_check.specs.Checking.{IsRefusal}
 use Rattle.nv_looks.specs.Looking.{Call, ByPath, IsLook, IsOpened, call_status}
 use Rattle.nv_looks.specs.LookingByNumber.{ByNumber}
-use Rattle.nv_checking.specs.declared.answered.Answered.{Answered}
+use Rattle.nv_image_check.specs.declared.answered.Answered.{Answered}
 use Rattle.nv_looks.specs.declared.looking.Opened.TheVariants as opened
 
 -- the superblock isn't accepted

@@ -1,26 +1,28 @@
 -- What looking into the metadata of a region tells, by what it mounted: it is told of the region.
-use Rattle.std.proofs.Common.{◌≡◌, ◌∙◌, ℕ, inl, inr, false, [], List, length, Some, refl, ap, subst}
+use Rattle.std.proofs.Common.{◌≡◌, ◌∙◌, ℕ, inl, inr, false, [], List, length, Some, refl, sym, ap, subst}
+use Rattle.nv_region.specs.ImageState.{is_open_to}
 use Rattle.nv_region.specs.Region.{Region}
 use Rattle.nv_text.specs.Refusals.{refusal_name}
 use Rattle.nv_text.specs.declared.refusals.Refusal as texts
-use Rattle.nv_report.specs.nv_outcome.nv_journal.Undo.{undone}
-use Rattle.nv_report.specs.nv_outcome.Answer.{outcome_of}
-use Rattle.nv_report.specs.nv_outcome.Outcome.{IsOutcome}
-use Rattle.nv_report.specs.nv_outcome.declared.recovered.Recovered.{Recovered}
-use Rattle.nv_report.proofs.nv_outcome.SuperOf.{one_super}
+use Rattle.nv_journal.specs.Undo.{undone}
+use Rattle.nv_outcome.specs.Answer.{outcome_of}
+use Rattle.nv_outcome.specs.Outcome.{IsOutcome}
+use Rattle.nv_outcome.specs.declared.recovered.Recovered.{Recovered}
+use Rattle.nv_outcome.proofs.SuperOf.{one_super}
 use Rattle.nv_metadata.specs.Memory.{MetadataState}
 use Rattle.nv_metadata.specs.Gathered.{AreGathered}
 use Rattle.nv_metadata.specs.declared.gathering.Gathered.{Gathered}
 use Rattle.nv_metadata.specs.declared.gathering.Gathered.TheVariants as gatherings
 use Rattle.nv_metadata.proofs.Same.{gathered_super, whole_outcome}
 use Rattle.nv_scan.specs.declared.piece.Row.{Row}
-use Rattle.nv_checking.specs.Checking.{IsRefusal}
-use Rattle.nv_checking.specs.GatheredImage.{IsFoundIn}
-use Rattle.nv_checking.specs.declared.gathered_image.GatheredImage.TheVariants as images
-use Rattle.nv_checking.specs.declared.recovery.Answer.TheVariants as answers
-use Rattle.nv_checking.specs.declared.answered.Answered.{Answered}
-use Rattle.nv_session.specs.nv_calls.Mount.{Mount}
-use Rattle.nv_session.specs.nv_paths.Seen.{tree_of}
+use Rattle.nv_image_check.specs.Answering.{IsOpenInFront}
+use Rattle.nv_image_check.specs.Checking.{IsRefusal}
+use Rattle.nv_image_check.specs.GatheredImage.{IsFoundIn}
+use Rattle.nv_image_check.specs.declared.gathered_image.GatheredImage.TheVariants as images
+use Rattle.nv_image_check.specs.declared.recovery.Answer.TheVariants as answers
+use Rattle.nv_image_check.specs.declared.answered.Answered.{Answered}
+use Rattle.nv_calls.specs.Mount.{Mount}
+use Rattle.nv_paths.specs.Seen.{tree_of}
 use Rattle.nv_session.specs.Sessions.{CanMount}
 use Rattle.nv_session.proofs.Moved.{can_mount}
 use Rattle.nv_tree.specs.Tree.{Tree}
@@ -36,7 +38,7 @@ can_open (gatherings.Refused fault) memory r is = absurd is
 -- and the mount shows it
 pub open_mounted : (g : Gathered) (memory : MetadataState) (r : Recovered) → IsFoundIn g (images.Recovered memory r) → (m : Mount MetadataState) → m.memory ≡ memory → m.rows ≡ r.rows.items → m.faults ≡ r.faults.items → m.stopped ≡ false
     → IsOpenedOf g (opened.Mounted m)
-open_mounted (gatherings.Metadata s held) memory r is m here rows faults runs = (outcome_of r, is.0, ap (λ (x : MetadataState). x.memory.region) here ∙ is.1, rows, faults, runs)
+open_mounted (gatherings.Metadata s held) memory r is m here rows faults runs = (outcome_of r, is.0, ap (λ (x : MetadataState). x.memory.region) here ∙ is.1, rows, faults, runs, subst (λ (x : MetadataState). IsOpenInFront held.memory.region (is_open_to x.memory)) (sym here) is.5)
 open_mounted (gatherings.Refused fault) memory r is m here rows faults runs = absurd is
 
 -- or its superblock was refused

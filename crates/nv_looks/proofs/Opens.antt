@@ -2,15 +2,15 @@
 use Rattle.std.proofs.Common.{◌≡◌, ◌∙◌, false, [], Some, refl, ap}
 use Rattle.nv_region.specs.Region.{Region}
 use Rattle.nv_region.specs.ImageState.{ImageState}
-use Rattle.nv_report.specs.nv_outcome.Answer.{outcome_of}
-use Rattle.nv_report.specs.nv_outcome.declared.recovered.Recovered.{Recovered}
-use Rattle.nv_checking.specs.declared.recovery.Answer.TheVariants as answers
-use Rattle.nv_session.specs.nv_calls.Mount.{Mount}
+use Rattle.nv_outcome.specs.Answer.{outcome_of}
+use Rattle.nv_outcome.specs.declared.recovered.Recovered.{Recovered}
+use Rattle.nv_image_check.specs.declared.recovery.Answer.TheVariants as answers
+use Rattle.nv_calls.specs.Mount.{Mount}
 use Rattle.nv_session.specs.Sessions.{CanMount}
 use Rattle.nv_session.proofs.Moved.{can_mount}
 use Rattle.nv_looks.specs.Looking.{IsOpened}
-use Rattle.nv_checking.specs.Recovering.{IsRecovered}
-use Rattle.nv_checking.specs.declared.imaging.Image.TheVariants as images
+use Rattle.nv_image_check.specs.Recovering.{IsRecovered}
+use Rattle.nv_image_check.specs.declared.imaging.Image.TheVariants as images
 use Rattle.nv_looks.specs.declared.looking.Opened.TheVariants as opened
 
 module _ (R : Region) (memory : ImageState) (r : Recovered) (is : IsRecovered R (images.Recovered memory r)) where

@@ -4,8 +4,8 @@ use Rattle.std.specs.Io.KnownBytes.{Appends}
 use Rattle.std.specs.List.{range_with_len}
 use Rattle.nv_tree.specs.Tree.{Tree, Node}
 use Rattle.nv_tree.specs.Calls.{bytes_read}
-use Rattle.nv_session.specs.nv_paths.Seen.{LeadsTo}
-use Rattle.nv_session.specs.nv_calls.Reading.{IsRead}
+use Rattle.nv_paths.specs.Seen.{LeadsTo}
+use Rattle.nv_calls.specs.Reading.{IsRead}
 use Rattle.nv_session.proofs.FileParts.{one_node}
 use Rattle.nv_stream.specs.Streams.{AppendsFront}
 use Rattle.nv_stream.proofs.StreamLemmas.{appends_none, appends_both, appends_front, front_of_whole}

@@ -4,7 +4,7 @@ use Rattle.std.specs.Io.KnownBytes.{Appends}
 use Rattle.std.specs.List.{range_with_len}
 use Rattle.nv_tree.specs.Tree.{Tree, Node}
 use Rattle.nv_tree.specs.Calls.{bytes_read}
-use Rattle.nv_session.specs.nv_calls.ByNumber.{IsInodeRead}
+use Rattle.nv_calls.specs.ByNumber.{IsInodeRead}
 use Rattle.nv_stream.specs.Streams.{AppendsFront}
 use Rattle.nv_stream.proofs.StreamLemmas.{appends_both, appends_front, front_of_whole}
 use Rattle.nv_looks.specs.LookingByNumber.{IsInodeSized, IsWholeInode, WritesInode, FailsInode}

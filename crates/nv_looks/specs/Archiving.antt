@@ -5,8 +5,8 @@ use Rattle.nv_tree.specs.Refusals.{Tests, first_refusal}
 use Rattle.nv_stream.specs.declared.fault.ScriptError.TheVariants as errors
 use Rattle.nv_tar.specs.declared.errors.TarError.{TarError}
 use Rattle.nv_tar.specs.declared.errors.TarError.TheVariants as tars
-use Rattle.nv_checking.specs.declared.gathered.BlocksError.{BlocksError}
-use Rattle.nv_checking.specs.declared.gathered.BlocksError.TheVariants.{Read, Answer}
+use Rattle.nv_image_check.specs.declared.gathered.BlocksError.{BlocksError}
+use Rattle.nv_image_check.specs.declared.gathered.BlocksError.TheVariants.{Read, Answer}
 use Rattle.nv_session.specs.Machine.{TellsRefusal}
 use Rattle.nv_archive.specs.Chosen.{AreTests}
 use Rattle.nv_archive.specs.Archiving.{IsArchiveOf}

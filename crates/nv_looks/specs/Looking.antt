@@ -2,8 +2,8 @@
 use Rattle.std.specs.Prelude.{◌≡◌, ◌≢◌, ◌⊎◌, ℕ, false, List, length, Option, Some, None}
 use Rattle.std.specs.Io.KnownBytes.{Appends, Keeps}
 use Rattle.nv_region.specs.Region.{Region, region_of}
-use Rattle.nv_report.specs.nv_outcome.nv_journal.Undo.{undone}
-use Rattle.nv_report.specs.nv_outcome.Outcome.{Outcome, IsOutcome}
+use Rattle.nv_journal.specs.Undo.{undone}
+use Rattle.nv_outcome.specs.Outcome.{Outcome, IsOutcome}
 use Rattle.nv_tree.specs.Path.{Says}
 use Rattle.nv_tree.specs.Tree.{Tree, Node}
 use Rattle.nv_tree.specs.Refusals.{Path, Tests, first_refusal, refusal_word, list_tests, stat_tests, read_tests}
@@ -11,14 +11,14 @@ use Rattle.nv_tree.specs.Calls.{bytes_read}
 use Rattle.nv_tree.specs.declared.refusal.Refusal.{Refusal}
 use Rattle.nv_tree.specs.declared.refusal.Refusal.TheVariants as calls
 use Rattle.nv_text.specs.Answers.{refused_line}
-use Rattle.nv_session.specs.nv_paths.Seen.{tree_of, LeadsTo}
+use Rattle.nv_paths.specs.Seen.{tree_of, LeadsTo}
 use Rattle.nv_session.specs.Machine.{TellsRefusal, TellsNames, TellsStat}
 use Rattle.nv_stream.specs.declared.fault.ScriptError.{ScriptError}
 use Rattle.nv_stream.specs.declared.fault.ScriptError.TheVariants.{Read, Write, Memory}
 use Rattle.nv_stream.specs.Streams.{AppendsFront}
-use Rattle.nv_checking.specs.Checking.{IsSuperRefusal}
-use Rattle.nv_checking.specs.Recovering.{IsSuperRefused}
-use Rattle.nv_checking.specs.declared.answered.Answered.{Answered}
+use Rattle.nv_image_check.specs.Checking.{IsSuperRefusal}
+use Rattle.nv_image_check.specs.Recovering.{IsSuperRefused}
+use Rattle.nv_image_check.specs.declared.answered.Answered.{Answered}
 use Rattle.nv_looks.specs.Sent.{Written, Sends, SendsFront, KeepsBoth}
 use Rattle.nv_looks.specs.declared.looking.Opened.{Opened}
 use Rattle.nv_looks.specs.declared.looking.Opened.TheVariants as opened

@@ -4,7 +4,7 @@ use Rattle.std.specs.Io.KnownBytes.{Appends, Keeps}
 use Rattle.nv_tree.specs.Tree.{Tree, Node}
 use Rattle.nv_tree.specs.Refusals.{Tests, first_refusal}
 use Rattle.nv_tree.specs.Calls.{bytes_read}
-use Rattle.nv_session.specs.nv_calls.ByNumber.{list_inode_tests, stat_inode_tests, read_inode_tests}
+use Rattle.nv_calls.specs.ByNumber.{list_inode_tests, stat_inode_tests, read_inode_tests}
 use Rattle.nv_session.specs.Machine.{TellsRefusal}
 use Rattle.nv_session.specs.ByNumber.{TellsInodeNames, TellsInodeStat}
 use Rattle.nv_stream.specs.declared.fault.ScriptError.{ScriptError}

@@ -2,20 +2,23 @@
 //! are written.
 
 ghost use Rattle.std.specs.Prelude.{◌≡◌, ℕ, List, Some, IfOk, IfErr};
-ghost use Rattle.nv_region.specs.Region.{region_of};
+ghost use Rattle.nv_region.specs.Region.{Region, region_of};
 ghost use Rattle.nv_metadata.specs.Gathered.{AreGathered, IsOpen};
-ghost use Rattle.nv_archive.specs.Shown.{AreKnown, AreLowRows, AreSmallRows, shown_tree};
+ghost use Rattle.nv_archive.specs.Shown.{AreKnown, AreSmallRows, shown_tree};
 ghost use Rattle.nv_looks.specs.Sent.{written};
 ghost use Rattle.nv_looks.specs.Looking.{WritesLook};
 ghost use Rattle.nv_looks.specs.Gathered.{FailsBlocksCat};
 ghost use Rattle.nv_looks.specs.Archiving.{FailsTold, GivesArchive, WritesTold, archive_status};
+ghost use Rattle.nv_looks.specs.Catting.{AreReadFrom};
+ghost use Rattle.nv_paths.specs.Seen.{tree_of};
 
-use crate::gathered::{OpenedMetadata, open_gathered};
+use crate::gathered::{OpenedMetadata, is_whole, open_gathered};
 use crate::looking::{refused_look, write_refusal};
 use nv_archive::{Chosen, inode_of, write_archive};
-use nv_checking::{Answered, BlocksError};
-use nv_metadata::{Blocks, Gathered, gather};
+use nv_image_check::{Answered, BlocksError};
+use nv_metadata::{Blocks, Gathered, HeldBytes, MetadataRegion, gather};
 use nv_rows::Rows;
+use nv_session::Fs;
 use nv_stream::write_text;
 use nv_tar::TarError;
 use std::alloc::Global;
@@ -63,10 +66,11 @@ pub fn tar_gathered<B: Blocks, W: Write, E: Write>(
         → IfErr result (λ e. FailsBlocksCat (GivesArchive chosen.entry all) bytes e (written (W.contents writer.old) (E.contents errors.old))
         (written (W.contents writer.new) (E.contents errors.new))) }
 {
+    let whole = is_whole(&gathered);
     let opened = open_gathered(alloc, gathered)?;
     match opened {
         OpenedMetadata::Mounted(mount) => {
-            let status = tar_rows(alloc, source, mount.rows(), chosen, all, writer, errors)?;
+            let status = tar_mounted(alloc, source, &mount, whole, chosen, all, writer, errors)?;
             Ok(Answered {
                 status,
                 faults: mount.faults().len(),
@@ -80,6 +84,34 @@ pub fn tar_gathered<B: Blocks, W: Write, E: Write>(
     }
 }
 
+// Writes the archive of what is chosen in a mount, or why there is none. The bytes of files are read from the memory where it
+// holds all bytes, with its journals rolled back, and else from the reader. Answers the exit status.
+fn tar_mounted<B: Blocks, W: Write, E: Write>(
+    alloc: Global,
+    source: &B,
+    mount: &Fs<MetadataRegion>,
+    whole: bool,
+    chosen: Chosen<'_>,
+    all: bool,
+    writer: &mut W,
+    errors: &mut E,
+) -> Result<u8, BlocksError>
+    requires { AreSmallRows mount.now.rows }
+    ensures ok { (R : Region) → AreReadFrom whole (B.bytes source.now) mount.now.memory R mount.now.rows
+        → IfOk result (λ status. WritesTold (GivesArchive chosen.entry all) (tree_of R mount.now.rows) (written (W.contents writer.old) (E.contents errors.old))
+        (written (W.contents writer.new) (E.contents errors.new)) status) }
+    ensures err { (R : Region) → AreReadFrom whole (B.bytes source.now) mount.now.memory R mount.now.rows
+        → IfErr result (λ e. FailsTold (GivesArchive chosen.entry all) (tree_of R mount.now.rows) e (written (W.contents writer.old) (E.contents errors.old))
+        (written (W.contents writer.new) (E.contents errors.new))) }
+{
+    let rows = mount.rows();
+    if whole {
+        let held = HeldBytes::new(mount.memory().front());
+        return tar_rows(alloc, &held, rows, chosen, all, writer, errors);
+    }
+    tar_rows(alloc, source, rows, chosen, all, writer, errors)
+}
+
 // Writes the archive of what is chosen among these rows, or why there is none. Answers the exit status.
 fn tar_rows<B: Blocks, W: Write, E: Write>(
     alloc: Global,
@@ -90,8 +122,7 @@ fn tar_rows<B: Blocks, W: Write, E: Write>(
     writer: &mut W,
     errors: &mut E,
 ) -> Result<u8, BlocksError>
-    requires small { AreSmallRows rows.now.items }
-    requires low { AreLowRows rows.now.items }
+    requires { AreSmallRows rows.now.items }
     ensures ok { AreKnown (B.bytes source.now) rows.now.items
         → IfOk result (λ status. WritesTold (GivesArchive chosen.entry all) (shown_tree (B.bytes source.now) rows.now.items) (written (W.contents writer.old) (E.contents errors.old))
         (written (W.contents writer.new) (E.contents errors.new)) status) }

@@ -8,22 +8,22 @@ ghost use Rattle.nv_metadata.specs.Gathered.{AreGathered, IsOpen};
 ghost use Rattle.nv_tree.specs.Path.{IsPath, Says};
 ghost use Rattle.nv_tree.specs.Tree.{Tree};
 ghost use Rattle.nv_tree.specs.Refusals.{Path, first_refusal, read_tests};
-ghost use Rattle.nv_session.specs.nv_paths.Seen.{node_of, tree_of, LeadsTo};
+ghost use Rattle.nv_paths.specs.Seen.{node_of, tree_of, LeadsTo};
 ghost use Rattle.nv_looks.specs.Sent.{written};
 ghost use Rattle.nv_looks.specs.Looking.{GivesBytes, WritesLook, WritesFile, WritesCall};
 ghost use Rattle.nv_looks.specs.Gathered.{FailsBlocksCat};
 ghost use Rattle.nv_archive.specs.Shown.{AreSmallRows, IsSmallRow};
-ghost use Rattle.nv_looks.specs.Catting.{IsFileOf, AreShownAs, FailsBlocksCall, FailsBlocksFile};
+ghost use Rattle.nv_looks.specs.Catting.{IsFileOf, AreReadFrom, AreShownAs, FailsBlocksCall, FailsBlocksFile};
 
-use crate::gathered::{OpenedMetadata, open_gathered};
+use crate::gathered::{OpenedMetadata, is_whole, open_gathered};
 use crate::looking::{refused_look, status_of, write_refusal};
-use nv_checking::{Answered, BlocksError};
-use nv_metadata::{Blocks, Gathered, gather};
+use nv_image_check::{Answered, BlocksError};
+use nv_metadata::{Blocks, Gathered, HeldBytes, MetadataRegion, gather};
 use nv_pages::bytes_of_pages;
 use nv_paths::row_at;
 use nv_rows::Rows;
 use nv_scan::Row;
-use nv_session::CallRefusal;
+use nv_session::{CallRefusal, Fs};
 use nv_stream::write_text;
 use nv_super::Kind;
 use std::alloc::Global;
@@ -70,10 +70,11 @@ pub fn cat_gathered<B: Blocks, W: Write, E: Write>(
     ensures err { (bytes : List ℕ) → B.bytes source.now ≡ Some bytes → AreGathered (region_of bytes) gathered
         → IfErr result (λ e. FailsBlocksCat (GivesBytes path.now) bytes e (written (W.contents writer.old) (E.contents errors.old)) (written (W.contents writer.new) (E.contents errors.new))) }
 {
+    let whole = is_whole(&gathered);
     let opened = open_gathered(alloc, gathered)?;
     match opened {
         OpenedMetadata::Mounted(mount) => {
-            let status = cat_file(alloc, source, mount.rows(), path, writer, errors)?;
+            let status = cat_mounted(alloc, source, &mount, whole, path, writer, errors)?;
             Ok(Answered {
                 status,
                 faults: mount.faults().len(),
@@ -85,6 +86,31 @@ pub fn cat_gathered<B: Blocks, W: Write, E: Write>(
             Ok(look.answered)
         }
     }
+}
+
+// Writes the bytes of the file that a path leads to in a mount, or why they aren't read. They are read from the memory where it
+// holds all bytes, with its journals rolled back, and else from the reader. Answers the exit status.
+fn cat_mounted<B: Blocks, W: Write, E: Write>(
+    alloc: Global,
+    source: &B,
+    mount: &Fs<MetadataRegion>,
+    whole: bool,
+    path: &[u8],
+    writer: &mut W,
+    errors: &mut E,
+) -> Result<u8, BlocksError>
+    requires { AreSmallRows mount.now.rows }
+    ensures ok { (R : Region) → AreReadFrom whole (B.bytes source.now) mount.now.memory R mount.now.rows → (p : Path) → Says path.now p
+        → IfOk result (λ status. WritesCall (tree_of R mount.now.rows) p (written (W.contents writer.old) (E.contents errors.old)) (written (W.contents writer.new) (E.contents errors.new)) status) }
+    ensures err { (R : Region) → AreReadFrom whole (B.bytes source.now) mount.now.memory R mount.now.rows → (p : Path) → Says path.now p
+        → IfErr result (λ e. FailsBlocksCall (tree_of R mount.now.rows) p e (written (W.contents writer.old) (E.contents errors.old)) (written (W.contents writer.new) (E.contents errors.new))) }
+{
+    let rows = mount.rows();
+    if whole {
+        let held = HeldBytes::new(mount.memory().front());
+        return cat_file(alloc, &held, rows, path, writer, errors);
+    }
+    cat_file(alloc, source, rows, path, writer, errors)
 }
 
 // Writes the bytes of the file that a path leads to among these rows, or why they aren't read. Answers the exit status.

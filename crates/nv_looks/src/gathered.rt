@@ -7,13 +7,14 @@ ghost use Rattle.nv_region.specs.Region.{Region, region_of};
 ghost use Rattle.nv_metadata.specs.Gathered.{AreGathered, IsOpen};
 ghost use Rattle.nv_looks.specs.Sent.{written};
 ghost use Rattle.nv_looks.specs.Looking.{IsLook, ListsNames, TellsNumbers, WritesLook, FailsLook};
-ghost use Rattle.nv_looks.specs.Gathered.{IsOpenedOf, FailsBlocksLook, KeepsBothUnread};
+ghost use Rattle.nv_looks.specs.Gathered.{IsOpenedOf, FailsBlocksLook, KeepsBothUnread, is_whole};
 
 use crate::looking::{Look, refused_look, told_look, write_look};
-use nv_checking::{Answered, BlocksError, GatheredImage, recover_gathered};
+use nv_image_check::{Answered, BlocksError, GatheredImage, recover_gathered};
 use nv_metadata::{Blocks, Gathered, MetadataRegion, gather};
 use nv_session::{Fs, list_text, stat_text};
 use nv_stream::ScriptError;
+use nv_super::WITH_CHAINS;
 use nv_text::Refusal;
 use std::alloc::{AllocError, Global};
 use std::io::Write;
@@ -139,6 +140,16 @@ fn look_at_numbers(alloc: Global, gathered: Gathered, path: &[u8]) -> Result<Loo
             Ok(told_look(told, mount.faults().len()))
         }
         OpenedMetadata::Refused(refusal) => refused_look(alloc, refusal),
+    }
+}
+
+// Whether all bytes of the region are held: so they are in version 2.
+pub(crate) fn is_whole(gathered: &Gathered) -> bool
+    ensures { result ≡ is_whole gathered.now }
+{
+    match gathered {
+        Gathered::Metadata(sup, _) => sup.version == WITH_CHAINS,
+        Gathered::Refused(_) => false,
     }
 }
 

@@ -17,4 +17,4 @@ pub use gathered::{list_blocks, list_gathered, stat_blocks, stat_gathered};
 pub use looking::{cat_image, list_image, stat_image};
 pub use looking_by_number::{cat_inode_image, list_inode_image, stat_inode_image};
 pub use nv_archive::Chosen;
-pub use nv_checking::Answered;
+pub use nv_image_check::Answered;

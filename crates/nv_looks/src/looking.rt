@@ -7,14 +7,14 @@ ghost use Rattle.nv_region.specs.Region.{region_of};
 ghost use Rattle.nv_text.specs.Refusals.{refusal_name};
 ghost use Rattle.nv_tree.specs.Path.{IsPath, Says};
 ghost use Rattle.nv_tree.specs.Refusals.{Path};
-ghost use Rattle.nv_session.specs.nv_calls.Reading.{IsRead};
-ghost use Rattle.nv_checking.specs.Checking.{IsRefusal};
+ghost use Rattle.nv_calls.specs.Reading.{IsRead};
+ghost use Rattle.nv_image_check.specs.Checking.{IsRefusal};
 ghost use Rattle.nv_looks.specs.Sent.{Sends, SendsFront, written};
 ghost use Rattle.nv_looks.specs.Looking.{IsLook, IsOpened, IsSized, ListsNames, TellsNumbers, GivesBytes, WritesLook, FailsLook, FailsCat, WritesCall, FailsCall, WritesFile, FailsFile, WritesRefusal};
 ghost use Rattle.nv_looks.specs.Looking.{FailsRefusal};
 ghost use Rattle.nv_calls.specs.Mount.{shown};
 
-use nv_checking::{Answered, Image, recover_image};
+use nv_image_check::{Answered, Image, recover_image};
 use nv_region::{ImageRegion, Pmem};
 use nv_report::{Last, refused_text};
 use nv_session::{CallRefusal, CallText, Fs, list_text, refused_call_text, stat_text};

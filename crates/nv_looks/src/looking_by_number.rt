@@ -2,7 +2,7 @@
 
 ghost use Rattle.std.specs.Prelude.{◌≡◌, false, IfOk, IfErr, OnOk, string_bytes};
 ghost use Rattle.nv_region.specs.Region.{region_of};
-ghost use Rattle.nv_session.specs.nv_calls.ByNumber.{IsInodeRead};
+ghost use Rattle.nv_calls.specs.ByNumber.{IsInodeRead};
 ghost use Rattle.nv_looks.specs.Sent.{written};
 ghost use Rattle.nv_looks.specs.Looking.{IsLook, WritesLook, FailsLook, FailsCat};
 ghost use Rattle.nv_looks.specs.LookingByNumber.{ListsInodeNames, TellsInodeNumbers, GivesInodeBytes, IsInodeSized, WritesInode, FailsInode, WritesInodeCall, FailsInodeCall};
@@ -11,7 +11,7 @@ ghost use Rattle.nv_calls.specs.Mount.{shown};
 use crate::looking::{
     Look, Opened, PIECE, open_image, refused_look, status_of, told_look, write_look, write_refusal,
 };
-use nv_checking::Answered;
+use nv_image_check::Answered;
 use nv_region::Pmem;
 use nv_session::{Fs, list_inode_text, stat_inode_text};
 use nv_stream::{ScriptError, write_text};

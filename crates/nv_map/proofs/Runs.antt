@@ -1,8 +1,6 @@
 -- Which cells a run of blocks stands in, and what marking them tells.
-use Rattle.std.proofs.Common.{◌≡◌, ◌⊎◌, inl, inr, ℕ, suc, ◌+◌, ◌*◌, ◌/◌, ◌<◌, ◌≤◌, Bool, cond, List, length, get_or, refl, ap, sym, ◌∙◌, subst, arith, mul_comm}
+use Rattle.std.proofs.Common.{◌≡◌, ◌⊎◌, inl, inr, ℕ, suc, ◌+◌, ◌*◌, ◌/◌, ◌<◌, ◌≤◌, Bool, cond, get_or, ap, sym, ◌∙◌, subst, arith, mul_comm}
 use Rattle.std.proofs.Math.Nat.{div-mul-le_self, lt-div-mul-add, mul-le-mul_right, lt_of_mul-lt-mul_right}
-use Rattle.std.proofs.Math.ListN.{set}
-use Rattle.std.proofs.lemmas.List.{length-set, get_or-set_same, get_or-set_other}
 use Rattle.std.proofs.lemmas.Bool.{cases_lt, lt-ltb, le-ltb}
 use Rattle.std.proofs.lemmas.Grind.{div_ceil_times}
 use Rattle.std.specs.Int.{div_ceil}
@@ -94,17 +92,6 @@ raises_run start count end kind a b some full inside short all r = record {
   ];
 }
 
--- no cell is marked yet
-pub raised_none : (from : ℕ) (kind : BlockUse) (a : Marks) → AreRaised from from kind a a
-raised_none from kind a = record {
-  blocks = refl;
-  each = refl;
-  count = refl;
-  within = λ place inside ge lt. absurd (let none : ⊥ = omega (arith, ge, lt) in none);
-  before = λ place lt. refl;
-  behind = λ place ge. refl;
-}
-
 -- one cell more
 pub raised_more : (from to : ℕ) (kind : BlockUse) (a b c : Marks) → from ≤ to → AreRaised from to kind a b → AreRaised to (suc to) kind b c → AreRaised from (suc to) kind a c
 raised_more from to kind a b c le r s = record {
@@ -117,33 +104,6 @@ raised_more from to kind a b c le r s = record {
   ];
   before = λ place lt. s.before place (omega (arith, lt, le)) ∙ r.before place lt;
   behind = λ place ge. s.behind place ge ∙ r.behind place (omega (arith, ge));
-}
-
--- a cell is stored, or is left since it tells something later
-pub raised_set : (place : ℕ) (kind : BlockUse) (a b : Marks) → b.blocks ≡ a.blocks → b.each ≡ a.each → place < length a.uses.items → rank (get_or a.uses.items place Free) < rank kind
-    → b.uses.items ≡ set a.uses.items place kind → AreRaised place (suc place) kind a b
-raised_set place kind a b blocks each inside lt is = record {
-  blocks = blocks;
-  each = each;
-  count = ap length is ∙ length-set a.uses.items place kind;
-  within = λ k inside' ge le. (let e : k ≡ place = omega (arith, ge, le) in
-      ap (λ (xs : List BlockUse). get_or xs k Free) is
-      ∙ ap (λ (n : ℕ). get_or (set a.uses.items place kind) n Free) e ∙ get_or-set_same a.uses.items place kind Free inside
-      ∙ sym (ap (λ (t : Bool). cond t kind (get_or a.uses.items place Free)) (lt-ltb _ _ lt))
-      ∙ ap (λ (n : ℕ). raised (get_or a.uses.items n Free) kind) (sym e));
-  before = λ k before. ap (λ (xs : List BlockUse). get_or xs k Free) is ∙ get_or-set_other a.uses.items place k kind Free (λ e. let no : ⊥ = omega (arith, e, before) in no);
-  behind = λ k behind. ap (λ (xs : List BlockUse). get_or xs k Free) is ∙ get_or-set_other a.uses.items place k kind Free (λ e. let no : ⊥ = omega (arith, e, behind) in no);
-}
-
-pub raised_left : (place : ℕ) (kind : BlockUse) (a : Marks) → rank kind ≤ rank (get_or a.uses.items place Free) → AreRaised place (suc place) kind a a
-raised_left place kind a ge = record {
-  blocks = refl;
-  each = refl;
-  count = refl;
-  within = λ k inside le lt. (let e : k ≡ place = omega (arith, le, lt) in
-      sym (ap (λ (t : Bool). cond t kind (get_or a.uses.items k Free)) (le-ltb _ _ (subst (λ (n : ℕ). rank kind ≤ rank (get_or a.uses.items n Free)) (sym e) ge))));
-  before = λ k lt. refl;
-  behind = λ k ge'. refl;
 }
 
 -- each cell of a run of blocks is there

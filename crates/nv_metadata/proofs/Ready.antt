@@ -4,13 +4,16 @@ use Rattle.std.proofs.lemmas.List.{take-append-drop, take-take, length-take}
 use Rattle.byteorder.specs.Endian.{little_number}
 use Rattle.nv_region.specs.Region.{Region, HasBlocks, size, word}
 use Rattle.nv_super.specs.declared.superblock.Super.{Super}
-use Rattle.nv_super.specs.Layout.{IsLayout, most_blocks, system_blocks}
+use Rattle.nv_super.specs.Layout.{IsLayout, system_blocks}
 use Rattle.nv_super.specs.Super.{IsSuper}
 use Rattle.nv_super.proofs.Accepted.{super_stays}
 use Rattle.nv_journal.specs.Undone.{SameBefore}
+use Rattle.nv_journal.proofs.Fixed.{end_fixed}
+use Rattle.nv_outcome.proofs.Metadata.{end_two}
 use Rattle.nv_metadata.specs.Memory.{MetadataState, CanHold, IsReady, SameFront}
 use Rattle.nv_metadata.specs.Holding.{SameShape}
 use Rattle.nv_metadata.specs.Blocks.{AreBytesAt}
+use Rattle.nv_metadata.specs.Fronts.{IsWhole}
 use Rattle.nv_metadata.specs.Gathered.{SaysSuper}
 use Rattle.nv_metadata.specs.Parts.{IsFront}
 use Rattle.nv_metadata.proofs.Pieces.{number_within}
@@ -44,17 +47,6 @@ can_still s m new can before shape = record {
   blocks : HasBlocks new.memory.region s.blocks
   blocks = (shape.as_long ∙ can.blocks.0, ap length shape.rest ∙ can.blocks.1)
 
--- at first
-pub ready_first : (s : Super) (first rest front : List ℕ) (m : MetadataState) → SaysSuper first s → s.blocks ≤ most_blocks → front ≡ first ++ rest → length front ≡ 4096 * system_blocks s → length first ≤ length front → HasBlocks m.memory.region s.blocks
-    → ((at : ℕ) → at % 8 ≡ 0 → at + 8 ≤ length front → word m.memory.region at ≡ little_number 8 (drop at front)) → (m.memory.front ≡ length front) × (m.memory.burnt ≡ false) → IsReady s m
-ready_first s first rest front m says few joined count longer has words fresh = record {
-  blocks = has;
-  few = few;
-  superblock = says m.memory.region has (λ at aligned within. words at aligned (omega (arith, within, longer)) ∙ ap (λ (l : List ℕ). little_number 8 (drop at l)) joined ∙ number_within first rest at within);
-  front = fresh.0 ∙ count;
-  unburnt = fresh.1;
-}
-
 -- the first block of a front is one
 pub front_first : (s : Super) (front : List ℕ) → IsFront s front → IsFront s (take 4096 front)
 front_first s front is =
@@ -75,23 +67,42 @@ read_first bytes front n are few =
       same = ap (take n) are.same ∙ take-take n (length front) bytes few ∙ ap (λ (k : ℕ). take k bytes) (sym long);
     }
 
+-- a region that begins with these bytes has the superblock that the first block says
+pub said_of : (s : Super) (front : List ℕ) (M : Region) → SaysSuper (take 4096 front) s → HasBlocks M s.blocks → ((at : ℕ) → at % 8 ≡ 0 → at + 8 ≤ length front → word M at ≡ little_number 8 (drop at front)) → IsSuper M s
+said_of s front M says has words =
+    says M has (λ at aligned within. words at aligned (omega (arith, within, length-take 4096 front)) ∙ ap (λ (l : List ℕ). little_number 8 (drop at l)) (sym (take-append-drop 4096 front)) ∙ number_within (take 4096 front) (drop 4096 front) at within)
+
 -- a memory with this front can hold data blocks
 pub can_first : (s : Super) (front : List ℕ) (m : MetadataState) → IsLayout s → IsFront s front → HasBlocks m.memory.region s.blocks → ((at : ℕ) → at % 8 ≡ 0 → at + 8 ≤ length front → word m.memory.region at ≡ little_number 8 (drop at front))
     → (m.memory.front ≡ length front) × (m.memory.burnt ≡ false) → CanHold s m
 can_first s front m layout is has words fresh = record {
   blocks = has;
   few = layout.blocks_to;
-  superblock = is.superblock m.memory.region has (λ at aligned within. words at aligned (omega (arith, within, length-take 4096 front)) ∙ ap (λ (l : List ℕ). little_number 8 (drop at l)) (sym (take-append-drop 4096 front)) ∙ number_within (take 4096 front) (drop 4096 front) at within);
+  superblock = said_of s front m.memory.region is.superblock has words;
   front = (let ends = is.ends in let n = fresh.0 in omega (arith, ends, n));
+}
+
+-- one that can, and whose front is all in front of the data blocks, is ready in version 1
+pub ready_part : (s : Super) (m : MetadataState) (n : ℕ) → CanHold s m → s.version ≡ 1 → (m.memory.front ≡ n) × (m.memory.burnt ≡ false) → n ≡ 4096 * system_blocks s → IsReady s m
+ready_part s m n can one opens count = record {
+  blocks = can.blocks;
+  few = can.few;
+  superblock = can.superblock;
+  front = opens.0 ∙ count ∙ ap (λ (b : ℕ). 4096 * b) (sym (end_fixed s one));
+  unburnt = opens.1;
+}
+
+-- and in version 2 one whose front is all of the image
+pub ready_whole : (s : Super) (bytes : List ℕ) (m : MetadataState) → IsLayout s → IsWhole s bytes → HasBlocks m.memory.region s.blocks → ((at : ℕ) → at % 8 ≡ 0 → at + 8 ≤ length bytes → word m.memory.region at ≡ little_number 8 (drop at bytes))
+    → (m.memory.front ≡ length bytes) × (m.memory.burnt ≡ false) → IsReady s m
+ready_whole s bytes m layout is has words fresh = record {
+  blocks = has;
+  few = layout.blocks_to;
+  superblock = said_of s bytes m.memory.region is.superblock has words;
+  front = fresh.0 ∙ is.count ∙ ap (λ (b : ℕ). 4096 * b) (sym (end_two s is.version));
+  unburnt = fresh.1;
 }
 
 -- what a region that has these bytes alone says, each one says that begins with them
 pub says : (s : Super) (first : List ℕ) (M : Region) → length first ≡ 4096 → HasBlocks M s.blocks → ((at : ℕ) → at % 8 ≡ 0 → at + 8 ≤ length first → word M at ≡ little_number 8 (drop at first)) → IsSuper M s → SaysSuper first s
 says s first M count blocks words is R has same = accepted_there R M (same_size R M s.blocks has blocks) (λ at aligned low. words at aligned (omega (arith, low, aligned, count)) ∙ sym (same at aligned (omega (arith, low, aligned, count)))) s is
-
--- what is ready can hold data blocks, and is ready then
-pub ready_holds : (s : Super) (m : MetadataState) → IsReady s m → CanHold s m
-ready_holds s m ready = record { blocks = ready.blocks; few = ready.few; superblock = ready.superblock; front = (let is = ready.front in omega (arith, is)) }
-
-pub ready_stays : (s : Super) (m new : MetadataState) → IsReady s m → SameFront m new → CanHold s new → IsReady s new
-ready_stays s m new ready same can = record { blocks = can.blocks; few = can.few; superblock = can.superblock; front = same.0 ∙ ready.front; unburnt = same.1 ∙ ready.unburnt }

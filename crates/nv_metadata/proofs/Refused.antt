@@ -14,7 +14,7 @@ SameHead R Q = (at : ℕ) → at % 8 ≡ 0 → at < 48 → word Q at ≡ word R 
 applied : (R Q : Region) → size Q ≡ size R → SameHead R Q → (fault : SuperFault) → Applies Q fault → Applies R fault
 applied R Q long same Length h = subst (λ (n : ℕ). (n % 4096 ≢ 0) ⊎ ((n / 4096 < 8) ⊎ (most_blocks < n / 4096))) long h
 applied R Q long same Magic h = subst (λ (n : ℕ). n ≢ magic) (same 0 (omega arith) (omega arith)) h
-applied R Q long same Version h = subst (λ (n : ℕ). n ≢ 1) (same 8 (omega arith) (omega arith)) h
+applied R Q long same Version h = subst (λ (n : ℕ). (n ≢ 1) × (n ≢ 2)) (same 8 (omega arith) (omega arith)) h
 applied R Q long same Cpus h = subst (λ (n : ℕ). (n < 1) ⊎ (64 < n)) (same 16 (omega arith) (omega arith)) h
 applied R Q long same Blocks h = λ is. h (same 24 (omega arith) (omega arith) ∙ is ∙ ap (λ (n : ℕ). n / 4096) (sym long))
 applied R Q long same Tables h =

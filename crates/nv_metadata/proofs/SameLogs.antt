@@ -78,10 +78,6 @@ ends_are_right U s logs are log c = (let l = are.only log c in l.2.right)
 pub right_start : (s : Super) (head tail : ℕ) → IsTrue (is_right_log s head tail) → IsTrue (is_page_start s head)
 right_start s head tail h = grind (arith, nat_tests)
 
--- and its tail is a word's address
-pub right_whole : (s : Super) (head tail : ℕ) → IsTrue (is_right_log s head tail) → tail % 8 ≡ 0
-right_whole s head tail h = grind (arith, nat_tests)
-
 -- ---- one slot after another
 
 -- the first place is that of number 0
@@ -120,7 +116,7 @@ one_log U s i a head tail slot is l = (l.head_is ∙ ap (λ (x : Slot). x.head) 
 
 -- and where it is in use, some inode has it, but for the first one
 pub slot_log : (U : Region) (s : Super) (k head tail : ℕ) (kind : Kind) → IsLayout s → 1 ≤ k → k < inode_limit s → kind_at U (nth_slot s k) ≡ Some kind → head ≡ word U (nth_slot s k + 16) → tail ≡ word U (nth_slot s k + 24)
-    → is_right_log s head tail ≡ true → IsLog U s head tail
+    → is_right_log s head tail ≡ true → (i : ℕ) × IsLogOf U s i (nth_slot s k) head tail
 slot_log U s k head tail kind layout later below used head_is tail_is right =
     let there = slot_at_place s k layout below in
     let i : ℕ = there.0 in
@@ -130,7 +126,7 @@ slot_log U s k head tail kind layout later below used head_is tail_is right =
       | inl first ↦ absurd (let one = slot_place s 0 in let zero = place_of_first s layout in let at = ap (slot_address s) first in omega (arith, same, at, one, zero, later))
       | inr other ↦ omega (arith, other)
     ] in
-    (i, nth_slot s k, record { kind = kind; slot = slot_is s i layout (is_a_number s i some low) ∙ ap (λ (x : ℕ). Some x) (sym same); used = used; head_is = head_is; tail_is = tail_is; right = right })
+    (i, record { kind = kind; slot = slot_is s i layout (is_a_number s i some low) ∙ ap (λ (x : ℕ). Some x) (sym same); used = used; head_is = head_is; tail_is = tail_is; right = right })
 
 -- the logs of the inodes whose slots lie before a place
 pub record LogsBelow (U : Region) (s : Super) (n : ℕ) (logs : List LogEnds) : Type 0 where

@@ -133,9 +133,6 @@ module _ (s : Super) (R : Region) (head tail : ℕ) (old : MetadataState) where
 
 -- ---- one log after another
 
-pub fetched_none : (s : Super) (R : Region) (m : MetadataState) → Shows R m → AreFetched s R [] m m
-fetched_none s R m shows = record { shows = shows; all = λ log b c. absurd (none_in log c); only = λ b. inl refl }
-
 pub fetched_more : (s : Super) (R : Region) (logs : List LogEnds) (log : LogEnds) (old m new : MetadataState) → AreFetched s R logs old m → IsFetched s R log.head log.tail m new → AreFetched s R (logs ++ log ∷ []) old new
 fetched_more s R logs log old m new before this = record {
   shows = this.shows;

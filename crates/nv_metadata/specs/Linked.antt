@@ -18,7 +18,7 @@ pub data IsLinked (R : Region) (s : Super) (head tail : ℕ) : ℕ → Type 0 wh
   first : IsLinked R s head tail (head / 4096)
   next : {b : ℕ} → IsLinked R s head tail b → b ≢ tail / 4096 → is_page_start s (link_in R b) ≡ true → IsLinked R s head tail (link_in R b / 4096)
 
--- an inode in use, whose slot has this address, has a log with this head and tail, which are right
+-- an inode in use, whose slot in the fixed tables has this address, has a log with this head and tail, which are right
 pub record IsLogOf (U : Region) (s : Super) (i a head tail : ℕ) : Type 0 where
   pub kind : Kind
   pub slot : slot_of (fixed_layout s) i ≡ Some a

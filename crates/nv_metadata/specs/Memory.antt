@@ -7,6 +7,7 @@ use Rattle.nv_super.specs.declared.superblock.Super.{Super}
 use Rattle.nv_super.specs.Layout.{most_blocks, system_blocks}
 use Rattle.nv_super.specs.Super.{IsSuper}
 use Rattle.nv_region.specs.ImageState.{ImageState}
+use Rattle.nv_inode.specs.Permitted.{slots_end}
 use Rattle.nv_journal.specs.Undone.{SameBefore}
 use Rattle.nv_metadata.specs.declared.memory.MetadataRegion.TheInside.{Inside}
 use Rattle.nv_metadata.specs.declared.places.Place.{Place}
@@ -71,10 +72,10 @@ pub record CanHold (s : Super) (m : MetadataState) : Type 0 where
 abbrev pub SameFront : MetadataState → MetadataState → Type 0
 SameFront old new = (new.memory.front ≡ old.memory.front) × (new.memory.burnt ≡ old.memory.burnt)
 
--- The memory has this superblock, and takes stores just in front of the data blocks.
+-- The memory has this superblock, and takes stores just where slots can stand: in version 1 in front of the data blocks.
 pub record IsReady (s : Super) (m : MetadataState) : Type 0 where
   pub blocks : HasBlocks m.memory.region s.blocks
   pub few : s.blocks ≤ most_blocks
   pub superblock : IsSuper m.memory.region s
-  pub front : m.memory.front ≡ 4096 * system_blocks s
+  pub front : m.memory.front ≡ 4096 * slots_end s
   pub unburnt : m.memory.burnt ≡ false

@@ -2,17 +2,21 @@
 //!
 //! First the superblock is read, and then all blocks in front of the data blocks in one read. Rolled back, they say where logs
 //! begin and end. From each head on the links lead to the pages, which are read once by each thread, that of the tail up to it.
+//!
+//! In version 2 slots may stand in each block, so all blocks are read in one read, and no log is looked for.
 
 ghost use Rattle.std.specs.Prelude.{◌≡◌, ◌≤◌, ◌+◌, ◌*◌, ◌^◌, ℕ, List, Some, IfOk, IfErr, OnOk, IsTrue, false, length, take};
 ghost use Rattle.std.specs.List.{Contains};
 ghost use Rattle.nv_region.specs.Region.{HasBlocks, region_of};
-ghost use Rattle.nv_super.specs.Layout.{IsLayout, system_blocks};
+ghost use Rattle.nv_super.specs.Layout.{IsLayout, most_blocks, system_blocks};
+ghost use Rattle.nv_super.specs.Super.{IsSuper};
 ghost use Rattle.nv_inode.specs.Slot.{is_right_log};
 ghost use Rattle.nv_journal.specs.Undo.{undone};
 ghost use Rattle.nv_journal.specs.Undone.{AllQuiet};
 ghost use Rattle.nv_metadata.specs.Blocks.{AreBytesAt};
-ghost use Rattle.nv_metadata.specs.Fronts.{IsFrontOf, IsSoundFront};
-ghost use Rattle.nv_metadata.specs.Gathered.{AreGathered, IsOpen};
+ghost use Rattle.nv_metadata.specs.Fronts.{IsFrontOf, IsSoundFront, IsWhole};
+ghost use Rattle.nv_metadata.specs.Gathered.{AreGathered, IsGathered, IsOpen, SaysSuper};
+ghost use Rattle.nv_metadata.specs.Memory.{IsReady};
 ghost use Rattle.nv_metadata.specs.Walk.{AreLogs};
 ghost use Rattle.nv_metadata.specs.declared.logs.LogEnds.{LogEnds as LogEndsValue};
 
@@ -24,8 +28,8 @@ use crate::memory::MetadataRegion;
 use crate::parts::{fetch_alone, fetch_apart};
 use nv_journal::undo;
 use nv_region::Pmem;
-use nv_super::{BLOCK_SIZE, LEAST_BLOCKS, MOST_BLOCKS, Super, SuperFault, read_super};
-use std::alloc::Global;
+use nv_super::{BLOCK_SIZE, LEAST_BLOCKS, MOST_BLOCKS, Super, SuperFault, WITH_CHAINS, read_super};
+use std::alloc::{AllocError, Global};
 use std::thread::Threads;
 
 // More threads than these wait for one another, and each holds tables with a place for every block.
@@ -46,17 +50,20 @@ pub enum Gathered {
     Refused(SuperFault),
 }
 
-// The bytes of an image in front of its data blocks.
+// The bytes of an image in which slots can stand.
 #[derive(Drop)]
 enum Front {
-    // The superblock's numbers, and all of these bytes.
+    // The superblock's numbers in version 1, and all bytes in front of the data blocks.
     Accepted(Super, Vec<u8>),
+    // The superblock's numbers in version 2, and all bytes.
+    Whole(Super, Vec<u8>),
     // The first fault of the superblock.
     Refused(SuperFault),
 }
 
 /// Reads the metadata of an image: the superblock, the journals, the tables and the pages of logs up to their tails. The region
-/// that they make has zeros elsewhere, and takes stores in front of the data blocks.
+/// that they make has zeros elsewhere, and takes stores in front of the data blocks. In version 2 slots may stand in each block:
+/// then all blocks are read, and all take stores.
 ///
 /// Where the bytes are known, that region has the same outcome as all of them, or the superblock is refused for the same fault.
 ///
@@ -71,6 +78,10 @@ pub fn gather<B: Blocks>(alloc: Global, source: &B) -> Result<Gathered, GatherEr
         Front::Accepted(sup, front) => {
             let logs = logs_rolled_back(alloc, &sup, &front)?;
             let memory = fetch_alone(alloc, source, &sup, front, &logs)?;
+            Ok(Gathered::Metadata(sup, memory))
+        }
+        Front::Whole(sup, bytes) => {
+            let memory = hold_whole(alloc, &sup, bytes)?;
             Ok(Gathered::Metadata(sup, memory))
         }
         Front::Refused(fault) => Ok(Gathered::Refused(fault)),
@@ -98,6 +109,10 @@ pub fn gather_on<B: Blocks + Sync, H: Threads + Sync>(
             let memory = fetch_apart(rt, alloc, source, &sup, front, &logs, threads)?;
             Ok(Gathered::Metadata(sup, memory))
         }
+        Front::Whole(sup, bytes) => {
+            let memory = hold_whole(alloc, &sup, bytes)?;
+            Ok(Gathered::Metadata(sup, memory))
+        }
         Front::Refused(fault) => Ok(Gathered::Refused(fault)),
     }
 }
@@ -110,8 +125,8 @@ fn worth(threads: u64, logs: usize) -> u64 {
     threads.min(MOST_THREADS)
 }
 
-// The bytes of an image in front of its data blocks, or the first fault of its superblock, for which no more than the first
-// block is read.
+// The bytes of an image in which slots can stand, or the first fault of its superblock, for which no more than the first block
+// is read.
 fn read_front<B: Blocks>(alloc: Global, source: &B) -> Result<Front, GatherError>
     ensures read { (image : List ℕ) → B.bytes source.now ≡ Some image → IfOk result (IsFrontOf image) }
     ensures known { (image : List ℕ) → B.bytes source.now ≡ Some image → IfErr result (λ e. e ≡ GatherError.Memory) }
@@ -125,30 +140,50 @@ fn read_front<B: Blocks>(alloc: Global, source: &B) -> Result<Front, GatherError
     let first = read_bytes(alloc, source, 0, BLOCK_SIZE)?;
     let alone = FrontRegion::new(blocks, &first);
     match read_super(&alone) {
-        Ok(sup) => {
-            let front = read_rest(alloc, source, &sup, first)?;
-            Ok(Front::Accepted(sup, front))
-        }
+        Ok(sup) => read_accepted(alloc, source, sup, first),
         Err(fault) => Ok(Front::Refused(fault)),
     }
 }
 
-// The bytes in front of the data blocks, of which the first block was read.
+// The bytes in which slots can stand of an image with this superblock, of which the first block was read.
+fn read_accepted<B: Blocks>(
+    alloc: Global,
+    source: &B,
+    sup: Super,
+    first: Vec<u8>,
+) -> Result<Front, GatherError>
+    requires layout { IsLayout sup }
+    requires first { length first.items ≡ 4096 }
+    requires says { SaysSuper first.items sup }
+    ensures read { (image : List ℕ) → B.bytes source.now ≡ Some image → length image ≡ 4096 * sup.blocks → AreBytesAt image 0 first.items → IfOk result (IsFrontOf image) }
+    ensures known { (image : List ℕ) → B.bytes source.now ≡ Some image → length image ≡ 4096 * sup.blocks → IfErr result (λ e. e ≡ GatherError.Memory) }
+    ensures sound { IfOk result IsSoundFront }
+{
+    if sup.version == WITH_CHAINS {
+        let bytes = read_rest(alloc, source, sup.blocks, first)?;
+        return Ok(Front::Whole(sup, bytes));
+    }
+    let front = read_rest(alloc, source, sup.system_blocks(), first)?;
+    Ok(Front::Accepted(sup, front))
+}
+
+// The bytes of so many blocks at the start, the first of which was read.
 fn read_rest<B: Blocks>(
     alloc: Global,
     source: &B,
-    sup: &Super,
+    blocks: u64,
     first: Vec<u8>,
 ) -> Result<Vec<u8>, GatherError>
-    requires layout { IsLayout sup.now }
+    requires some { 1 ≤ blocks }
+    requires few { blocks ≤ most_blocks }
     requires first { length first.items ≡ 4096 }
     ensures begins { IfOk result (λ front. take 4096 front.items ≡ first.items) }
-    ensures count { IfOk result (λ front. length front.items ≡ 4096 * system_blocks sup.now) }
+    ensures count { IfOk result (λ front. length front.items ≡ 4096 * blocks) }
     ensures read { (image : List ℕ) → B.bytes source.now ≡ Some image → AreBytesAt image 0 first.items → IfOk result (λ front. AreBytesAt image 0 front.items) }
-    ensures known { (image : List ℕ) → B.bytes source.now ≡ Some image → length image ≡ 4096 * sup.now.blocks → IfErr result (λ e. e ≡ GatherError.Memory) }
+    ensures known { (image : List ℕ) → B.bytes source.now ≡ Some image → 4096 * blocks ≤ length image → IfErr result (λ e. e ≡ GatherError.Memory) }
 {
     let mut front = first;
-    front.resize((sup.system_blocks() * BLOCK_SIZE) as usize, 0)?;
+    front.resize((blocks * BLOCK_SIZE) as usize, 0)?;
     read_behind(source, &mut front)?;
     Ok(front)
 }
@@ -180,6 +215,17 @@ fn read_bytes<B: Blocks>(
     let mut bytes = vec![in alloc; 0; count as usize]?;
     source.read(at, &mut bytes)?;
     Ok(bytes)
+}
+
+// The memory of an image in version 2, with all of its bytes as the front.
+fn hold_whole(alloc: Global, sup: &Super, bytes: Vec<u8>) -> Result<MetadataRegion, AllocError>
+    requires layout { IsLayout sup.now }
+    requires whole { IsWhole sup.now bytes.items }
+    ensures gathered { (image : List ℕ) → length image ≡ 4096 * sup.now.blocks → AreBytesAt image 0 bytes.items → IfOk result (λ m. IsSuper (region_of image) sup.now × IsGathered sup.now (region_of image) m.memory.region) }
+    ensures ready { IfOk result (IsReady sup.now) }
+{
+    let memory = MetadataRegion::of_front(alloc, sup.blocks, bytes, 0)?;
+    Ok(memory)
 }
 
 // Where logs begin and end, once the journals in the blocks of the front are rolled back. Only where there may be something to

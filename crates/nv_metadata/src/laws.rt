@@ -8,7 +8,8 @@ ghost use Rattle.nv_outcome.specs.Metadata.{SameMetadata};
 ghost use Rattle.nv_outcome.specs.Outcome.{Outcome, IsOutcome};
 ghost use Rattle.nv_metadata.specs.Gathered.{IsGathered};
 
-/// Each page of each log is a block that the links lead to: so what is gathered has all metadata of a region.
+/// Each page of each log is a block that the links lead to, or all blocks are gathered: so what is gathered has all metadata of
+/// a region.
 pub fn a_gathered_region_has_the_metadata()
     ensures { (s : Super) (whole gathered : Region) → IsSuper whole s → IsGathered s whole gathered → SameMetadata s whole gathered }
 {}

@@ -1,7 +1,7 @@
 //! The metadata of an image alone: superblock, journals, tables and log pages are read, and nothing else.
 //!
 //! The outcome of a region is read from these words alone. So the region of the image in which every other word is 0 has the
-//! same outcome as the whole image.
+//! same outcome as the whole image. In version 2 slots may stand in each block, and the whole image is read.
 #![tactic(auto)]
 
 mod blocks;

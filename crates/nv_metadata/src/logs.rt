@@ -48,7 +48,7 @@ fn right_log<P: Pmem>(memory: &P, sup: &Super, place: u64) -> Option<LogEnds>
     requires blocks { HasBlocks (P.region memory.now) sup.now.blocks }
     requires place { (1 ≤ place) × (place < inode_limit sup.now) }
     ensures all { (i head tail : ℕ) → IsLogOf (P.region memory.now) sup.now i (nth_slot sup.now place) head tail → result ≡ Some (record { head = head; tail = tail }) }
-    ensures only { IfSome result (λ log. IsLog (P.region memory.now) sup.now log.head log.tail) }
+    ensures only { IfSome result (λ log. (i : ℕ) × IsLogOf (P.region memory.now) sup.now i (nth_slot sup.now place) log.head log.tail) }
 {
     let slot = read_slot_at(memory, nth_slot(sup, place));
     match slot.state() {

@@ -104,6 +104,14 @@ impl MetadataRegion {
         })
     }
 
+    /// The bytes of the front, as they are now.
+    pub fn front(&self) -> &[u8]
+        ensures count { length result.now ≡ self.now.memory.front }
+        ensures words { (at : ℕ) → at % 8 ≡ 0 → at + 8 ≤ length result.now → word self.now.memory.region at ≡ little_number 8 (drop at result.now) }
+    {
+        &self.front
+    }
+
     /// How many bytes of a block behind the front are held, from its first on: 0 where it isn't.
     pub fn held(&self, block: u64) -> usize
         requires { 4096 * block < size self.now.memory.region }

@@ -1,15 +1,14 @@
 -- What the calls of a table make of its buckets and of the list beside it.
-use Rattle.std.proofs.Common.{◌≡◌, ℕ, cond, not, nat_eq, zero, suc, List, [], ◌∷◌, ◌++◌, ◌+◌, ◌-◌, length, take, slice_get, map, Option, Some, None, sym, ap, subst, ◌∙◌, arith}
+use Rattle.std.proofs.Common.{◌≡◌, ℕ, not, nat_eq, zero, suc, List, [], ◌∷◌, ◌++◌, ◌+◌, ◌-◌, length, take, slice_get, map, Some, None, sym, ap, subst, ◌∙◌, arith}
 use Rattle.std.specs.List.{IsDistinct, filter}
-use Rattle.std.specs.Option.{option_or}
 use Rattle.std.specs.Cmp.Lexicographic.{pointwise}
 use Rattle.std.proofs.lemmas.List.{map-append}
 use Rattle.std.proofs.lemmas.Option.{slice_get_within, none-some}
 use Rattle.nv_names.specs.declared.target.Target.{Target}
-use Rattle.nv_names.specs.Names.{found_in, inode_and_place}
+use Rattle.nv_names.specs.Names.{inode_and_place}
 use Rattle.nv_names.specs.Table.{fresh_line, PutsAt, FindSame, AreBeside}
-use Rattle.nv_names.proofs.Entries.{found_in-append, fresh-removed}
-use Rattle.nv_names.proofs.Beside.{option_or-None, PutsAt-twice, PutsAt-after, PutsAt-both, PutsAt-pushed, AreBeside-removed, AreBeside-pushed, AreApart-same, found_here, moved}
+use Rattle.nv_names.proofs.Entries.{fresh-removed}
+use Rattle.nv_names.proofs.Beside.{PutsAt-twice, PutsAt-both, PutsAt-pushed, AreBeside-removed, AreBeside-pushed, found_here, moved}
 
 -- no name is beside the bucket
 pub none_beside : (bucket : List (List ℕ × ℕ × ℕ)) (fs : List (List ℕ × Target)) → fs ≡ [] → AreBeside bucket (map fresh_line fs)
@@ -58,10 +57,6 @@ front_last (x ∷ []) zero e len at = let it : x ≡ e = cc in ap (λ y. y ∷ [
 front_last (x ∷ y ∷ ys) zero e len at = absurd (omega (arith, len))
 front_last (x ∷ xs) (suc k) e len at = ap (λ ys. x ∷ ys) (front_last xs k e (omega (arith, len)) at)
 
--- the bucket may find the same by other means
-pub AreBeside-same : (a b : List (List ℕ × ℕ × ℕ)) (fs : List (List ℕ × Target)) → FindSame a b → AreBeside a (map fresh_line fs) → AreBeside b (map fresh_line fs)
-AreBeside-same a b fs same beside = record { once = beside.once; apart = AreApart-same a b (map fresh_line fs) same beside.apart }
-
 -- the last name of the list is put into the bucket
 pub last_settled : (a b : List (List ℕ × ℕ × ℕ)) (fs gs : List (List ℕ × Target)) (e : List ℕ × Target) → slice_get fs (length fs - 1) ≡ Some e → gs ≡ take (length fs - 1) fs → AreBeside a (map fresh_line fs)
     → PutsAt a b e.0 (Some (inode_and_place e.1)) → AreBeside b (map fresh_line gs) × FindSame (a ++ map fresh_line fs) (b ++ map fresh_line gs)
@@ -74,11 +69,3 @@ last_settled a b fs gs e last rest beside puts =
     lines : map fresh_line fs ≡ map fresh_line (take (length fs - 1) fs) ++ (e.0, e.1.inode, e.1.place) ∷ []
     lines = ap (map fresh_line) (front_last fs (length fs - 1) e (let within = slice_get_within fs (length fs - 1) e last in omega (arith, within)) last)
         ∙ map-append fresh_line (take (length fs - 1) fs) (e ∷ [])
-
--- a name is put into the bucket once the list is empty
-pub puts_settled : (a b d : List (List ℕ × ℕ × ℕ)) (fs : List (List ℕ × Target)) (name : List ℕ) (w : Option (ℕ × ℕ)) → FindSame a (b ++ map fresh_line fs) → fs ≡ [] → PutsAt b d name w
-    → PutsAt a (d ++ map fresh_line fs) name w
-puts_settled a b d fs name w same none puts = PutsAt-after a (b ++ map fresh_line fs) (d ++ map fresh_line fs) name w same (λ q. alone d q ∙ puts q ∙ ap (cond (pointwise nat_eq q name) w) (sym (alone b q)))
-  where
-    alone : (es : List (List ℕ × ℕ × ℕ)) (q : List ℕ) → found_in (es ++ map fresh_line fs) q ≡ found_in es q
-    alone es q = found_in-append es (map fresh_line fs) q ∙ ap (λ gs. option_or (found_in es q) (found_in (map fresh_line gs) q)) none ∙ option_or-None (found_in es q)

@@ -15,7 +15,7 @@ use Rattle.nv_super.proofs.Filters.{rises_filter, from_filter, into_filter}
 use Rattle.nv_inode.specs.Chains.{chain_faults, end_fault, fault_behind, chain_in, chains_in, layout_of, link_fault}
 use Rattle.nv_journal.specs.Undo.{undone}
 use Rattle.nv_journal.specs.Faults.{HasFault, IsPointerFault}
-use Rattle.nv_check.specs.nv_scan.Faults.{IsFaultOf, IsEntryFault, e1, e2, e3, e4, i1, i2, i3, l1, l2, l3, l4, entry}
+use Rattle.nv_scan.specs.Faults.{IsFaultOf, IsEntryFault, e1, e2, e3, e4, i1, i2, i3, l1, l2, l3, l4, entry}
 use Rattle.nv_outcome.specs.Outcome.{AreRows, AreFreeLists, IsDoubled, IsCrossFault, c1, c2, c2_root, c3, c4, c5, IsFaulty, journal, chain, inode, cross, double, Outcome, IsOutcome}
 use Rattle.nv_outcome.specs.Same.{is_lasting, IsLasting, ShowsAgain, lasting_outcome}
 use Rattle.nv_outcome.proofs.SuperOf.{one_super, layout_of_super}

@@ -9,7 +9,7 @@ use Rattle.nv_super.specs.Order.{Rises}
 use Rattle.nv_super.proofs.Rising.{Contains-cons, Contains-head, Contains-tail, head_least, below_not_self, tail_rises}
 use Rattle.nv_super.specs.Owners.{claims_of}
 use Rattle.nv_super.proofs.Members.{none_in}
-use Rattle.nv_check.specs.nv_scan.Faults.{IsOnce}
+use Rattle.nv_scan.specs.Faults.{IsOnce}
 
 pub IsOnce-from_rises : {A : Type 0} (key : A → List ℕ) (xs : List A) → Rises key xs → IsOnce xs
 IsOnce-from_rises key [] r = tt

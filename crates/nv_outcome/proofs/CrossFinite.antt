@@ -10,8 +10,8 @@ use Rattle.nv_super.proofs.Rising.{Contains-cons, Contains-head, Contains-tail, 
 use Rattle.nv_super.proofs.Sorted.{same_keys}
 use Rattle.nv_super.proofs.OneMore.{pair_only, TakenOut, take_out}
 use Rattle.nv_names.specs.Names.{found_in, name_at, names_of}
-use Rattle.nv_check.specs.nv_scan.declared.piece.Row.{Row}
-use Rattle.nv_check.specs.Cross.{HasNameIn, IsUnusedIn, AreNamesIn, IsReachedIn, root, step, IsCrossFaultIn, c1, c2, c2_root, c3, c4, c5}
+use Rattle.nv_scan.specs.declared.piece.Row.{Row}
+use Rattle.nv_cross_check.specs.Cross.{HasNameIn, IsUnusedIn, AreNamesIn, IsReachedIn, root, step, IsCrossFaultIn, c1, c2, c2_root, c3, c4, c5}
 use Rattle.nv_outcome.proofs.Finite.{Decided, both, not_so, told_as, number_is, number_below, Finite, only, elements, value_of, by_name, either, if_so, over, those, some, holds, in_order}
 
 -- ---- names

@@ -9,14 +9,14 @@ use Rattle.nv_super.specs.declared.kind.Kind.TheVariants.{File, Directory}
 use Rattle.nv_super.specs.declared.faults.Fault.{Fault}
 use Rattle.nv_super.specs.declared.faults.Fault.TheVariants as faults
 use Rattle.nv_super.proofs.Rising.{Lists-same}
-use Rattle.nv_check.specs.nv_scan.State.{named}
-use Rattle.nv_check.specs.nv_scan.Inode.{Log, IsInode, IsInUse, good_of}
-use Rattle.nv_check.specs.nv_scan.Rows.{IsRow}
-use Rattle.nv_check.specs.nv_scan.declared.piece.Row.{Row}
-use Rattle.nv_check.proofs.nv_scan.Only.{IsInode-only}
-use Rattle.nv_check.proofs.nv_scan.KindsApart.{file_names}
-use Rattle.nv_check.specs.Cross as rowed
-use Rattle.nv_check.specs.Cross.{HasNameIn, IsUnusedIn, AreNamesIn, IsReachedIn, IsCrossFaultIn}
+use Rattle.nv_scan.specs.State.{named}
+use Rattle.nv_scan.specs.Inode.{Log, IsInode, IsInUse, good_of}
+use Rattle.nv_scan.specs.Rows.{IsRow}
+use Rattle.nv_scan.specs.declared.piece.Row.{Row}
+use Rattle.nv_scan.proofs.Only.{IsInode-only}
+use Rattle.nv_scan.proofs.KindsApart.{file_names}
+use Rattle.nv_cross_check.specs.Cross as rowed
+use Rattle.nv_cross_check.specs.Cross.{HasNameIn, IsUnusedIn, AreNamesIn, IsReachedIn, IsCrossFaultIn}
 use Rattle.nv_outcome.specs.Outcome as reg
 use Rattle.nv_outcome.specs.Outcome.{AreRows, HasName, AreNamesOf, IsReached, IsCrossFault}
 

@@ -24,14 +24,14 @@ use Rattle.nv_inode.proofs.ReadChains.{region_laid}
 use Rattle.nv_journal.specs.Undo.{undone}
 use Rattle.nv_journal.specs.Faults.{HasFault}
 use Rattle.nv_alloc.proofs.Changed.{AreRuns-same}
-use Rattle.nv_check.specs.nv_scan.Inode.{Log, IsInUse}
-use Rattle.nv_check.specs.nv_scan.Owners.{Owns}
-use Rattle.nv_check.specs.nv_scan.Faults.{IsFaultOf}
-use Rattle.nv_check.specs.nv_scan.Rows.{IsRow}
-use Rattle.nv_check.specs.nv_scan.declared.piece.Row.{Row}
-use Rattle.nv_check.proofs.nv_scan.Existing.{slot_of_fault, inode_faults, row_or_none}
-use Rattle.nv_check.proofs.nv_scan.Only.{slot_in_use}
-use Rattle.nv_check.specs.Cross.{row_key}
+use Rattle.nv_scan.specs.Inode.{Log, IsInUse}
+use Rattle.nv_scan.specs.Owners.{Owns}
+use Rattle.nv_scan.specs.Faults.{IsFaultOf}
+use Rattle.nv_scan.specs.Rows.{IsRow}
+use Rattle.nv_scan.specs.declared.piece.Row.{Row}
+use Rattle.nv_scan.proofs.Existing.{slot_of_fault, inode_faults, row_or_none}
+use Rattle.nv_scan.proofs.Only.{slot_in_use}
+use Rattle.nv_cross_check.specs.Cross.{row_key}
 use Rattle.nv_outcome.specs.Outcome.{AreRows, IsFree, AreFreeLists, IsDoubled, IsCrossFault, IsFaulty, journal, chain, inode, cross, double, Outcome, IsOutcome}
 use Rattle.nv_outcome.proofs.Finite.{Decided, both, not_so, told_as, number_is, Finite, only, numbers, by_name, either, over, those, some, in_order}
 use Rattle.nv_outcome.proofs.FreeRuns.{runs_between}

@@ -7,7 +7,7 @@ use Rattle.nv_super.specs.Order.{Lists, SortedOf}
 use Rattle.nv_super.proofs.Rising.{Contains-cons, Contains-head, Contains-tail}
 use Rattle.nv_super.proofs.Members.{none_in, into_flat, from_flat}
 use Rattle.nv_super.proofs.OneMore.{put_in}
-use Rattle.nv_check.specs.nv_scan.Faults.{Has}
+use Rattle.nv_scan.specs.Faults.{Has}
 
 -- it holds or it doesn't
 abbrev pub Decided : Type 0 → Type 0

@@ -15,12 +15,12 @@ pub mod OnlyOne
 pub mod Again
 pub mod Reordered
 pub mod Tickets
-pub mod Fixed
+pub mod SameChains
 pub mod Tabled
 pub mod Exists
 pub mod SameInodes
 pub mod Metadata
-pub use Rattle.nv_check.proofs as nv_check
-pub use Rattle.nv_check.proofs.nv_scan
+pub use Rattle.nv_cross_check.proofs as nv_cross_check
+pub use Rattle.nv_cross_check.proofs.nv_scan
 pub use Rattle.nv_journal.proofs as nv_journal
 pub use Rattle.nv_rows.proofs as nv_rows

@@ -14,11 +14,11 @@ use Rattle.nv_super.proofs.Members.{into_map, from_map}
 use Rattle.nv_inode.specs.Chains.{chains_in, layout_of}
 use Rattle.nv_journal.specs.Undo.{undone}
 use Rattle.nv_alloc.specs.Taking.{pool_at}
-use Rattle.nv_check.specs.nv_scan.Inode.{Log, IsInode, IsInUse}
-use Rattle.nv_check.specs.nv_scan.Rows.{IsRow}
-use Rattle.nv_check.specs.nv_scan.declared.piece.Row.{Row}
-use Rattle.nv_check.proofs.nv_scan.Only.{IsInode-only}
-use Rattle.nv_check.specs.Cross.{row_key}
+use Rattle.nv_scan.specs.Inode.{Log, IsInode, IsInUse}
+use Rattle.nv_scan.specs.Rows.{IsRow}
+use Rattle.nv_scan.specs.declared.piece.Row.{Row}
+use Rattle.nv_scan.proofs.Only.{IsInode-only}
+use Rattle.nv_cross_check.specs.Cross.{row_key}
 use Rattle.nv_outcome.specs.Outcome.{AreRows, IsFree, AreFreeLists, IsDoubled, IsFaulty, Outcome, IsOutcome}
 use Rattle.nv_outcome.specs.Same.{SameRow, SameRows, SameOutcome}
 use Rattle.nv_outcome.proofs.SuperOf.{one_super}

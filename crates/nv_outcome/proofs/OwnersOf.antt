@@ -8,13 +8,13 @@ use Rattle.nv_super.specs.declared.owners.Owner.TheVariants as owners
 use Rattle.nv_super.specs.Layout.{Layout, chain_of}
 use Rattle.nv_super.proofs.Rising.{Contains-head, Contains-tail}
 use Rattle.nv_radix.specs.Pages.{Pages, block_at}
-use Rattle.nv_check.specs.nv_scan.Inode.{Log, IsInode}
-use Rattle.nv_check.specs.nv_scan.Owners.{Owns, by_table, teller, IsTable, table}
-use Rattle.nv_check.specs.nv_scan.Claims.{IsClaim, of_log, of_page}
-use Rattle.nv_check.specs.nv_scan.declared.piece.Row.{Row}
-use Rattle.nv_check.proofs.nv_scan.ChainBlocks.{chain_within}
-use Rattle.nv_check.proofs.nv_scan.Only.{owned_table, owned_log, owned_page}
-use Rattle.nv_check.proofs.nv_scan.Pieces.{owned, owns}
+use Rattle.nv_scan.specs.Inode.{Log, IsInode}
+use Rattle.nv_scan.specs.Owners.{Owns, by_table, teller, IsTable, table}
+use Rattle.nv_scan.specs.Claims.{IsClaim, of_log, of_page}
+use Rattle.nv_scan.specs.declared.piece.Row.{Row}
+use Rattle.nv_scan.proofs.ChainBlocks.{chain_within}
+use Rattle.nv_scan.proofs.Only.{owned_table, owned_log, owned_page}
+use Rattle.nv_scan.proofs.Pieces.{owned, owns}
 use Rattle.nv_outcome.specs.Outcome.{AreRows}
 use Rattle.nv_outcome.proofs.CrossLaw.{stands}
 use Rattle.nv_outcome.proofs.Finite.{Decided, told_as, number_is, Finite, only, elements, value_of, numbers, by_name, either, over, those, some}

@@ -9,14 +9,14 @@ use Rattle.nv_super.specs.Order.{owner_key, Rises}
 use Rattle.nv_journal.specs.Chains.{IsLaid}
 use Rattle.nv_super.proofs.Rising.{Contains-head, Contains-tail, Below, head_least, below_not_self, tail_rises}
 use Rattle.nv_super.proofs.Members.{into_flat, from_flat}
-use Rattle.nv_check.specs.nv_scan.Owners.{Owns, by_table, by_log, by_page, teller}
-use Rattle.nv_check.specs.nv_scan.Faults.{Has, IsOnce, IsFaultOf}
-use Rattle.nv_check.specs.nv_scan.Rows.{IsPiece}
-use Rattle.nv_check.specs.nv_scan.Work.{claims_in}
-use Rattle.nv_check.specs.nv_scan.declared.piece.Piece.{Piece}
-use Rattle.nv_check.proofs.nv_scan.Existing.{slot_of_fault}
-use Rattle.nv_check.proofs.nv_scan.ChainBlocks.{first_slot}
-use Rattle.nv_check.proofs.nv_scan.Only.{slot_in_use}
+use Rattle.nv_scan.specs.Owners.{Owns, by_table, by_log, by_page, teller}
+use Rattle.nv_scan.specs.Faults.{Has, IsOnce, IsFaultOf}
+use Rattle.nv_scan.specs.Rows.{IsPiece}
+use Rattle.nv_scan.specs.Work.{claims_in}
+use Rattle.nv_scan.specs.declared.piece.Piece.{Piece}
+use Rattle.nv_scan.proofs.Existing.{slot_of_fault}
+use Rattle.nv_scan.proofs.ChainBlocks.{first_slot}
+use Rattle.nv_scan.proofs.Only.{slot_in_use}
 use Rattle.nv_outcome.specs.Parts.{ArePieces, faults_in, piece_key}
 use Rattle.nv_outcome.proofs.Counts.{IsOnce-from_rises, IsOnce-append}
 

@@ -7,12 +7,12 @@ use Rattle.nv_super.specs.Layout.{Layout}
 use Rattle.nv_super.specs.Order.{Rises}
 use Rattle.nv_super.proofs.Rising.{Contains-cons, Contains-head, Contains-tail, Below, head_least, rises_cons, tail_rises}
 use Rattle.nv_super.proofs.Members.{none_in}
-use Rattle.nv_check.specs.nv_scan.Inode.{Log, IsInUse}
-use Rattle.nv_check.specs.nv_scan.Rows.{IsRow, IsPiece}
-use Rattle.nv_check.specs.nv_scan.declared.piece.Row.{Row}
-use Rattle.nv_check.specs.nv_scan.declared.piece.Piece.{Piece}
-use Rattle.nv_check.proofs.nv_scan.Only.{slot_in_use}
-use Rattle.nv_check.specs.Cross.{row_key}
+use Rattle.nv_scan.specs.Inode.{Log, IsInUse}
+use Rattle.nv_scan.specs.Rows.{IsRow, IsPiece}
+use Rattle.nv_scan.specs.declared.piece.Row.{Row}
+use Rattle.nv_scan.specs.declared.piece.Piece.{Piece}
+use Rattle.nv_scan.proofs.Only.{slot_in_use}
+use Rattle.nv_cross_check.specs.Cross.{row_key}
 use Rattle.nv_outcome.specs.Outcome.{AreRows}
 use Rattle.nv_outcome.specs.Parts.{ArePieces, rows_in, piece_key}
 

@@ -8,12 +8,12 @@ use Rattle.nv_super.specs.Layout.{Layout, slot_of}
 use Rattle.nv_super.proofs.Rising.{Lists-same}
 use Rattle.nv_alloc.specs.Taking.{pool_at}
 use Rattle.nv_alloc.proofs.Changed.{AreRuns-same}
-use Rattle.nv_check.specs.nv_scan.Inode.{Log, IsInode, IsInUse}
-use Rattle.nv_check.specs.nv_scan.Owners.{Owns, by_table, by_log, by_page}
-use Rattle.nv_check.specs.nv_scan.Rows.{IsRow}
-use Rattle.nv_check.specs.nv_scan.Faults.{IsFaultOf, i1, i2, i3, l1, l2, l3, l4, entry}
-use Rattle.nv_check.specs.nv_scan.declared.piece.Row.{Row}
-use Rattle.nv_check.proofs.nv_scan.Only.{slot_in_use}
+use Rattle.nv_scan.specs.Inode.{Log, IsInode, IsInUse}
+use Rattle.nv_scan.specs.Owners.{Owns, by_table, by_log, by_page}
+use Rattle.nv_scan.specs.Rows.{IsRow}
+use Rattle.nv_scan.specs.Faults.{IsFaultOf, i1, i2, i3, l1, l2, l3, l4, entry}
+use Rattle.nv_scan.specs.declared.piece.Row.{Row}
+use Rattle.nv_scan.proofs.Only.{slot_in_use}
 use Rattle.nv_outcome.specs.Outcome.{AreRows, AreFreeLists, AreNamesOf, HasName, IsCrossFault, IsDoubled, IsFree, IsReached, c1, c2, c2_root, c3, c4, c5, root, step}
 
 -- the slots at an address have the same words, the creation time too

@@ -1,5 +1,5 @@
 -- What an accepted superblock is.
-use Rattle.std.proofs.Common.{◌≡◌, ◌≢◌, ℕ, ◌+◌, ◌*◌, ◌/◌, ◌<◌, ◌≤◌, inl, inr, refl, sym, ◌∙◌, arith}
+use Rattle.std.proofs.Common.{◌≡◌, ◌≢◌, ◌⊎◌, ℕ, ◌+◌, ◌*◌, ◌/◌, ◌<◌, ◌≤◌, inl, inr, refl, sym, ◌∙◌, arith}
 use Rattle.std.specs.Prelude.{◌==◌, if◌then◌else◌}
 use Rattle.std.proofs.lemmas.Bool.{cases_eq, cases_lt}
 use Rattle.nv_region.specs.Region.{Region, word, size}
@@ -46,15 +46,18 @@ at_least a b h = elim (cases_lt a b) [ inl less ↦ absurd (h less) | inr more �
 pub blocks_of_super : (R : Region) (s : Super) → IsSuper R s → s.blocks ≡ size R / 4096
 blocks_of_super R s is = is.blocks ∙ is_equal (word R 24) (size R / 4096) (is.sound Blocks)
 
--- its version is 1
-pub version_of_super : (R : Region) (s : Super) → IsSuper R s → s.version ≡ 1
-version_of_super R s is = is.version ∙ is_equal (word R 8) 1 (is.sound Version)
+-- its version is 1 or 2
+pub version_of_super : (R : Region) (s : Super) → IsSuper R s → (s.version ≡ 1) ⊎ (s.version ≡ 2)
+version_of_super R s is = elim (cases_eq (word R 8) 1) [
+  | inl one ↦ inl (is.version ∙ one)
+  | inr other ↦ inr (is.version ∙ is_equal (word R 8) 2 (λ another. is.sound Version (other, another)))
+]
 
 -- its numbers are those of a layout
 pub layout_of_super : (R : Region) (s : Super) → IsSuper R s → IsLayout s
 layout_of_super R s is = record {
-  version_from = (let e = version_of_super R s is in omega (arith, e));
-  version_to = (let e = version_of_super R s is in omega (arith, e));
+  version_from = from_one s.version (version_of_super R s is);
+  version_to = to_two s.version (version_of_super R s is);
   cpus_from = (let low = at_least (word R 16) 1 (λ h. is.sound Cpus (inl h)) in let e = is.cpus in omega (arith, low, e));
   blocks_from = (let low = at_least (size R / 4096) 8 (λ h. is.sound Length (inr (inl h))) in omega (arith, low, blocks));
   blocks_to = (let high = at_least most_blocks (size R / 4096) (λ h. is.sound Length (inr (inr h))) in omega (arith, high, blocks));
@@ -70,6 +73,14 @@ layout_of_super R s is = record {
         let e = is.cpus in let f = is.blocks in omega (arith, more, tables, e, f));
   };
 } where
+  from_one : (v : ℕ) → (v ≡ 1) ⊎ (v ≡ 2) → 1 ≤ v
+  from_one v (inl one) = omega (arith, one)
+  from_one v (inr two) = omega (arith, two)
+
+  to_two : (v : ℕ) → (v ≡ 1) ⊎ (v ≡ 2) → v ≤ 2
+  to_two v (inl one) = omega (arith, one)
+  to_two v (inr two) = omega (arith, two)
+
   blocks : s.blocks ≡ size R / 4096
   blocks = blocks_of_super R s is
 

@@ -5,24 +5,21 @@ use Rattle.std.specs.List.{Contains, AllByRecursion, range_with_len, count_by}
 use Rattle.std.specs.List.Sorted.{IsPermutation, IsSortedByKey, IsNonDecreasingBy}
 use Rattle.std.proofs.lemmas.Bool.{cases_lt, ltb-true}
 use Rattle.std.proofs.lemmas.Nat.{le-div}
-use Rattle.std.proofs.lemmas.List.{map-append}
 use Rattle.std.proofs.lemmas.List.Sorted.{Contains-permutation, IsPermutation-sym, sum_by-IsPermutation, IsNonDecreasingBy-from_sort, IsNonDecreasingBy-drop}
 use Rattle.nv_region.specs.Region.{Region}
 use Rattle.nv_super.specs.declared.superblock.Super.{Super}
 use Rattle.nv_super.specs.Layout.{IsLayout, Layout, fixed_layout, inode_limit, slot_of, slot_address, extra_slot, chain_of}
 use Rattle.nv_super.specs.Order.{Rises}
 use Rattle.nv_journal.specs.Chains.{IsLaid}
-use Rattle.nv_super.proofs.Ranges.{one_more}
 use Rattle.nv_super.proofs.Slots.{none_behind}
 use Rattle.nv_super.proofs.Rising.{Contains-cons, Contains-head, Contains-tail, below_first}
 use Rattle.nv_super.proofs.Members.{none_in, into_map, from_map}
-use Rattle.nv_check.specs.nv_claimcore.Claims.{times, below}
-use Rattle.nv_check.specs.nv_scan.Rows.{IsPiece}
-use Rattle.nv_check.specs.nv_scan.Tickets.{ticket_count}
-use Rattle.nv_check.specs.nv_scan.Work.{numbers_in, claims_in, ArePiecesOf}
-use Rattle.nv_check.specs.nv_scan.declared.piece.Piece.{Piece}
-use Rattle.nv_check.proofs.nv_scan.Drawn.{count_cons, once, stands}
-use Rattle.nv_check.proofs.nv_scan.Work.{AllByRecursion-append}
+use Rattle.nv_claimcore.specs.Claims.{times, below}
+use Rattle.nv_scan.specs.Rows.{IsPiece}
+use Rattle.nv_scan.specs.Tickets.{ticket_count}
+use Rattle.nv_scan.specs.Work.{numbers_in, claims_in, ArePiecesOf}
+use Rattle.nv_scan.specs.declared.piece.Piece.{Piece}
+use Rattle.nv_scan.proofs.Drawn.{count_cons, once, stands}
 use Rattle.nv_outcome.specs.Parts.{ArePieces, piece_key}
 use Rattle.nv_outcome.proofs.Reordered.{flat_map_permutation}
 
@@ -78,32 +75,6 @@ in_range a (suc n) i low high = elim (cases_lt a i) [
   | inl more ↦ Contains-tail a (range_with_len (a + 1) n) i (in_range (a + 1) n i (omega (arith, more)) (omega (arith, high)))
   | inr same ↦ (let e : a ≡ i = omega arith in let P : ℕ → Type 0 = λ j. Contains (range_with_len a (suc n)) j in subst P e (Contains-head a (range_with_len (a + 1) n)))
 ]
-
-rises_in_order : (ps : List Piece) (a n : ℕ) → map (λ (p : Piece). p.inode) ps ≡ range_with_len a n → Rises piece_key ps
-rises_in_order [] a n e = tt
-rises_in_order (x ∷ []) a n e = tt
-rises_in_order (x ∷ y ∷ ps) a zero e = absurd (cc)
-rises_in_order (x ∷ y ∷ ps) a (suc zero) e = absurd (cc)
-rises_in_order (x ∷ y ∷ ps) a (suc (suc n)) e =
-    let first : x.inode ≡ a = cc in
-    let second : y.inode ≡ a + 1 = cc in
-    let rest : map (λ (p : Piece). p.inode) (y ∷ ps) ≡ range_with_len (a + 1) (suc n) = cc in
-    (below_first x.inode y.inode [] [] (omega (arith, first, second)), rises_in_order (y ∷ ps) (a + 1) (suc n) rest)
-
--- The pieces of the inodes 1, 2, and so on up to the last are those of a region.
-pub pieces_in_order : (R : Region) (s : Super) (ps : List Piece) → IsLayout s → map (λ (p : Piece). p.inode) ps ≡ range_with_len 1 (inode_limit s - 1) → AllByRecursion (IsPiece R (fixed_layout s)) ps
-    → ArePieces R (fixed_layout s) ps
-pieces_in_order R s ps layout order all = pieces_cover R (fixed_layout s) ps (rises_in_order ps 1 (inode_limit s - 1) order) (of_each (IsPiece R (fixed_layout s)) ps all)
-    (λ i a slot. (let number = slot_number s i a layout slot in let P : List ℕ → Type 0 = λ numbers. Contains numbers i in subst P (sym order) (in_range 1 (inode_limit s - 1) i number.0 (omega (arith, number.0, number.1)))))
-
--- The piece of the next inode keeps that order.
-pub one_more_in_order : (R : Region) (s : Super) (ps : List Piece) (p : Piece) (n : ℕ) → map (λ (p : Piece). p.inode) ps ≡ range_with_len 1 n → AllByRecursion (IsPiece R (fixed_layout s)) ps → p.inode ≡ n + 1 → IsPiece R (fixed_layout s) p
-    → (map (λ (p : Piece). p.inode) (ps ++ p ∷ []) ≡ range_with_len 1 (n + 1)) × AllByRecursion (IsPiece R (fixed_layout s)) (ps ++ p ∷ [])
-one_more_in_order R s ps p n order all next is =
-    let number : p.inode ≡ 1 + n = omega (arith, next) in (
-      map-append (λ (p : Piece). p.inode) ps (p ∷ []) ∙ (λ i. order i ++ number i ∷ []) ∙ one_more 1 n,
-      AllByRecursion-append (IsPiece R (fixed_layout s)) ps (p ∷ []) all (is, tt),
-    )
 
 -- ---- pieces of the tickets drawn
 

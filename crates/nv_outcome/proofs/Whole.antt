@@ -22,10 +22,10 @@ use Rattle.nv_inode.specs.Chains.{IsLaid, chain_faults, chains_in, layout_of}
 use Rattle.nv_journal.specs.Undo.{undone}
 use Rattle.nv_alloc.specs.FreeValue.{FreeLists}
 use Rattle.nv_alloc.proofs.Changed.{AreRuns-same}
-use Rattle.nv_check.specs.nv_scan.Owners.{Owns}
-use Rattle.nv_check.specs.nv_scan.Faults.{Has}
-use Rattle.nv_check.specs.nv_scan.Work.{claims_in}
-use Rattle.nv_check.specs.nv_scan.declared.piece.Piece.{Piece}
+use Rattle.nv_scan.specs.Owners.{Owns}
+use Rattle.nv_scan.specs.Faults.{Has}
+use Rattle.nv_scan.specs.Work.{claims_in}
+use Rattle.nv_scan.specs.declared.piece.Piece.{Piece}
 use Rattle.nv_outcome.specs.Outcome.{IsFree, IsDoubled, IsFaulty, journal, chain, inode, cross, double, IsOutcome}
 use Rattle.nv_outcome.specs.Parts.{ArePieces, AreMaps, AreParts, rows_in, faults_in, double_fault}
 use Rattle.nv_inode.proofs.ReadChains.{region_laid}

@@ -16,13 +16,13 @@ use Rattle.nv_inode.specs.Chains.{chain_faults, chains_in, layout_of}
 use Rattle.nv_journal.specs.Undo.{undone}
 use Rattle.nv_journal.specs.Faults.{HasFault}
 use Rattle.nv_alloc.specs.Taking.{pool_at}
-use Rattle.nv_check.specs.nv_scan.State.{named, links_of}
-use Rattle.nv_check.specs.nv_scan.Inode.{Log, IsInode, IsInUse, good_of}
-use Rattle.nv_check.specs.nv_scan.Owners.{Owns}
-use Rattle.nv_check.specs.nv_scan.Faults.{IsFaultOf}
-use Rattle.nv_check.specs.nv_scan.Rows.{IsRow}
-use Rattle.nv_check.specs.nv_scan.declared.piece.Row.{Row}
-use Rattle.nv_check.specs.Cross.{row_key}
+use Rattle.nv_scan.specs.State.{named, links_of}
+use Rattle.nv_scan.specs.Inode.{Log, IsInode, IsInUse, good_of}
+use Rattle.nv_scan.specs.Owners.{Owns}
+use Rattle.nv_scan.specs.Faults.{IsFaultOf}
+use Rattle.nv_scan.specs.Rows.{IsRow}
+use Rattle.nv_scan.specs.declared.piece.Row.{Row}
+use Rattle.nv_cross_check.specs.Cross.{row_key}
 
 -- ---- rows
 

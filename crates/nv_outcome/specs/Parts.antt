@@ -16,12 +16,12 @@ use Rattle.nv_journal.specs.Undo.{undone}
 use Rattle.nv_journal.specs.Faults.{HasFault}
 use Rattle.nv_alloc.specs.FreeValue.{FreeLists}
 use Rattle.nv_alloc.specs.FreeLists.{AreOutside}
-use Rattle.nv_check.specs.nv_scan.Rows.{IsPiece}
-use Rattle.nv_check.specs.nv_scan.Work.{claims_in}
-pub use Rattle.nv_check.specs.nv_scan.Work.{rows_in, faults_in}
-use Rattle.nv_check.specs.nv_scan.declared.piece.Piece.{Piece}
-use Rattle.nv_check.specs.Cross.{IsCrossFaultIn}
-use Rattle.nv_check.specs.Doubled.{AreDoubled}
+use Rattle.nv_scan.specs.Rows.{IsPiece}
+use Rattle.nv_scan.specs.Work.{claims_in}
+pub use Rattle.nv_scan.specs.Work.{rows_in, faults_in}
+use Rattle.nv_scan.specs.declared.piece.Piece.{Piece}
+use Rattle.nv_cross_check.specs.Cross.{IsCrossFaultIn}
+use Rattle.nv_cross_check.specs.Doubled.{AreDoubled}
 
 -- by inode
 abbrev pub piece_key : Piece → List ℕ

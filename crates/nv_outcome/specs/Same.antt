@@ -5,7 +5,7 @@ use Rattle.nv_super.specs.declared.faults.Fault.{Fault}
 use Rattle.nv_super.specs.declared.faults.Fault.TheVariants.{J2}
 use Rattle.nv_radix.specs.Pages.{block_at}
 use Rattle.nv_names.specs.Names.{name_at}
-use Rattle.nv_check.specs.nv_scan.declared.piece.Row.{Row}
+use Rattle.nv_scan.specs.declared.piece.Row.{Row}
 use Rattle.nv_outcome.specs.Outcome.{Outcome}
 
 -- the rows say the same of their inode

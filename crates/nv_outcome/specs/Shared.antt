@@ -5,7 +5,7 @@ use Rattle.nv_super.specs.declared.owners.Owner.{Owner}
 use Rattle.nv_super.specs.declared.owners.Run.{Run}
 use Rattle.nv_super.specs.Layout.{Layout, system_blocks}
 use Rattle.nv_alloc.specs.Taking.{HasBlock, pool_at}
-use Rattle.nv_check.specs.nv_scan.Owners.{Owns}
+use Rattle.nv_scan.specs.Owners.{Owns}
 
 -- The block stands in exactly one free list or has exactly one owner, and never both.
 pub record IsShared (R : Region) (l : Layout) (free : List (List Run)) (b : ℕ) : Type 0 where

@@ -11,9 +11,9 @@ ghost use Rattle.nv_super.specs.Super.{IsSuper, IsRefused};
 ghost use Rattle.nv_inode.specs.Chains.{chains_in, layout_of};
 ghost use Rattle.nv_journal.specs.Undo.{undone};
 ghost use Rattle.nv_alloc.specs.FreeValue.{FreeLists};
-ghost use Rattle.nv_check.specs.nv_scan.declared.piece.Row.{Row};
-ghost use Rattle.nv_check.specs.nv_scan.declared.piece.Piece.{Piece};
-ghost use Rattle.nv_check.specs.Cross.{IsCrossFaultIn};
+ghost use Rattle.nv_scan.specs.declared.piece.Row.{Row};
+ghost use Rattle.nv_scan.specs.declared.piece.Piece.{Piece};
+ghost use Rattle.nv_cross_check.specs.Cross.{IsCrossFaultIn};
 ghost use Rattle.nv_outcome.specs.Outcome.{AreRows, IsCrossFault, Outcome, IsOutcome};
 ghost use Rattle.nv_outcome.specs.Same.{SameOutcome, ShowsAgain, lasting_outcome};
 ghost use Rattle.nv_outcome.specs.Shared.{SharesAll};
@@ -61,8 +61,8 @@ pub fn rolled_back_outcome()
     ensures same { (region : Region) (o : Outcome) → IsOutcome region o → undone o.sup (undone o.sup region) ≡ undone o.sup region }
 {}
 
-/// The outcome of a region depends on its superblock, journals and tables and on the pages of its logs up to their tails, and
-/// on nothing else: a region of the same length with the same words there has the same outcome.
+/// The outcome of a region depends on its superblock, journals and tables with their chains and on the pages of its logs up to
+/// their tails, and on nothing else: a region of the same length with the same words there has the same outcome.
 pub fn outcome_reads_metadata_alone()
     ensures { (region other : Region) (o : Outcome) → SameMetadata o.sup region other → IsOutcome region o → IsOutcome other o }
 {}

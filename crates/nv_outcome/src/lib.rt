@@ -12,6 +12,6 @@ pub use laws::{
     cross_faults_are, each_block_once, each_region_has_an_outcome, one_outcome,
     outcome_reads_metadata_alone, parts_make_the_outcome, recovered_again, rolled_back_outcome,
 };
-pub use nv_check::{cross_faults, doubled};
+pub use nv_cross_check::{cross_faults, doubled};
 pub use nv_rows::Rows;
 pub use recovered::Recovered;

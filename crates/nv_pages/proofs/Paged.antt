@@ -9,7 +9,7 @@ use Rattle.nv_region.proofs.Bytes.{size_of_bytes}
 use Rattle.nv_metadata.specs.Blocks.{AreBytesAt}
 use Rattle.nv_metadata.proofs.Shown.{word_read}
 use Rattle.nv_radix.specs.Pages.{Pages, block_at}
-use Rattle.nv_held.specs.Bytes.{byte_in}
+use Rattle.nv_mounted.specs.Bytes.{byte_in}
 use Rattle.nv_bytes.specs.Bytes.{file_byte, byte_of_word, LieInside}
 use Rattle.nv_bytes.proofs.Words.{byte_read}
 

@@ -4,13 +4,12 @@ use Rattle.std.specs.Option.{option_and_then, option_map}
 use Rattle.std.proofs.lemmas.List.Elements.{All-head, All-tail}
 use Rattle.nv_region.specs.Region.{Region}
 use Rattle.nv_super.specs.declared.superblock.Super.{Super}
-use Rattle.nv_super.specs.Layout.{is_number}
-use Rattle.nv_super.proofs.Names.{number_named}
+use Rattle.nv_super.specs.Layout.{is_name_number}
 use Rattle.nv_super.specs.declared.kind.Kind.TheVariants.{Directory}
 use Rattle.nv_names.specs.Names.{name_at}
 use Rattle.nv_scan.specs.declared.piece.Row.{Row}
-use Rattle.nv_held.specs.nv_graph.Read.{row_of}
-use Rattle.nv_held.specs.nv_graph.Step.{IsGoodName}
+use Rattle.nv_graph.specs.Read.{row_of}
+use Rattle.nv_graph.specs.Step.{IsGoodName}
 use Rattle.nv_tree.specs.declared.refusal.Refusal.{Refusal}
 use Rattle.nv_tree.specs.declared.refusal.Refusal.TheVariants.{BadName, Exists, NoInodes, Stopped}
 use Rattle.nv_tree.specs.Path.{IsPath, IsPathName, Says, last_name}
@@ -94,8 +93,8 @@ pub last_is_name : (name : List ℕ) (names : List (List ℕ)) → All IsPathNam
 last_is_name name [] good = All-head IsPathName name [] good
 last_is_name name (next ∷ names) good = last_is_name next names (All-tail IsPathName name (next ∷ names) good)
 
-pub good_name : (s : Super) (j : ℕ) (name : List ℕ) → IsPathName name → IsTrue (is_number s j) → IsGoodName s j name
-good_name s j name good number = rw (good.bytes, good.no_dots, number_named s j number) refl
+pub good_name : (s : Super) (j : ℕ) (name : List ℕ) → IsPathName name → IsTrue (is_name_number s j) → IsGoodName s j name
+good_name s j name good number = rw (good.bytes, good.no_dots, number) refl
 
 module _ (R : Region) (rows : List Row) (text name : List ℕ) (d : ℕ) (used : IsInUse rows d) (o : Option (Bor Row)) (long : length text ≡ 1 → ⊥)
     (directory : (names : List (List ℕ)) → Spells text names → (row : Row) → row_of rows d ≡ Some row → (walk (tree_of R rows) 1 names ≡ Ok row.inode) × (row.kind ≡ Directory)) (last : (names : List (List ℕ)) → Spells text names → name ≡ last_name names)

@@ -11,7 +11,7 @@ use Rattle.nv_tree.specs.declared.refusal.Refusal.{Refusal}
 use Rattle.nv_tree.specs.declared.refusal.Refusal.TheVariants.{BadName, Exists, IntoItself, NotFound, Stopped}
 use Rattle.nv_names.specs.Names.{name_at}
 use Rattle.nv_rows.specs.Rows.{IsInUse}
-use Rattle.nv_held.specs.nv_graph.Read.{row_of}
+use Rattle.nv_graph.specs.Read.{row_of}
 use Rattle.nv_tree.specs.Path.{IsPath, Says, last_name}
 use Rattle.nv_tree.specs.Names.{Spells}
 use Rattle.nv_tree.specs.Tree.{Node, Tree, found, is_directory, passed, walk}

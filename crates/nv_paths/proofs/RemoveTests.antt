@@ -8,7 +8,7 @@ use Rattle.nv_super.specs.declared.kind.Kind.TheVariants.{File, Directory}
 use Rattle.nv_names.specs.Names.{found_in, name_at}
 use Rattle.nv_names.proofs.Listing.{empty-found_in}
 use Rattle.nv_scan.specs.declared.piece.Row.{Row}
-use Rattle.nv_held.specs.nv_graph.Read.{row_of}
+use Rattle.nv_graph.specs.Read.{row_of}
 use Rattle.nv_tree.specs.declared.refusal.Refusal.{Refusal}
 use Rattle.nv_tree.specs.declared.refusal.Refusal.TheVariants.{BadName, IsDirectory, NotDirectory, NotEmpty, NotFound, Stopped}
 use Rattle.nv_tree.specs.Path.{IsPath, Says}

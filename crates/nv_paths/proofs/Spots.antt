@@ -1,5 +1,5 @@
 -- Where the last name of a path stands.
-use Rattle.std.proofs.Common.{◌≡◌, ℕ, ◌<◌, true, false, cond, List, ◌∷◌, length, refl, sym, ◌∙◌, ap, subst, Option, Some, None, Ok, Err}
+use Rattle.std.proofs.Common.{◌≡◌, ℕ, ◌<◌, true, false, cond, List, ◌∷◌, length, refl, sym, ◌∙◌, ap, Option, Some, None, Ok, Err}
 use Rattle.std.specs.Option.{option_map}
 use Rattle.nv_region.specs.Region.{Region}
 use Rattle.nv_super.specs.declared.kind.Kind.{Kind}
@@ -10,26 +10,17 @@ use Rattle.nv_tree.specs.Path.{IsPath, Says}
 use Rattle.nv_tree.specs.Names.{Spells}
 use Rattle.nv_tree.specs.Tree.{as_directory, is_directory, walk}
 use Rattle.nv_tree.specs.Refusals.{Path, is_bad_name}
-use Rattle.nv_held.specs.nv_graph.Read.{row_of}
+use Rattle.nv_graph.specs.Read.{row_of}
 use Rattle.nv_paths.specs.Seen.{node_of, tree_of}
 use Rattle.nv_rows.proofs.Places.{numbered}
 use Rattle.nv_paths.proofs.Targets.{said}
-use Rattle.nv_paths.proofs.Walks.{longer, one_byte, some_names, walk_ends}
+use Rattle.nv_paths.proofs.Walks.{longer, some_names, walk_ends}
 
 -- ---- paths with a name
-
--- a longer path ends in a name
-pub ends_in_name : (text : List ℕ) → (names : List (List ℕ)) × IsPath text names → (length text ≡ 1 → ⊥) → (name : List ℕ) × (others : List (List ℕ)) × IsPath text (name ∷ others)
-ends_in_name text some long = let w = longer text some.0 some.1 long in (w.0, w.1, subst (IsPath text) w.2 some.1)
 
 -- so it is no bad name
 pub good_name : (text : List ℕ) → (names : List (List ℕ)) × IsPath text names → (length text ≡ 1 → ⊥) → (p : Path) → Says text p → is_bad_name p ≡ (false, BadName)
 good_name text some long = said text (λ p. is_bad_name p ≡ (false, BadName)) some (λ names is. (let w = longer text names is long in rw w.2 refl))
-
--- the path of one byte is one
-pub bad_root : (text : List ℕ) → length text ≡ 1 → (p : Path) → Says text p → is_bad_name p ≡ (true, BadName)
-bad_root text one None says = refl
-bad_root text one (Some names) says = rw (one_byte text names says one) refl
 
 -- and so is what is no path
 pub bad_text : (text : List ℕ) → Says text None → (p : Path) → Says text p → is_bad_name p ≡ (true, BadName)

@@ -7,7 +7,7 @@ use Rattle.nv_tree.specs.declared.refusal.Refusal.TheVariants.{NotFound}
 use Rattle.nv_tree.specs.Path.{IsPath, Says}
 use Rattle.nv_tree.specs.Tree.{Tree, walk, found, in_use, last_in}
 use Rattle.nv_tree.specs.Refusals.{Path, first_refusal, stat_tests}
-use Rattle.nv_held.specs.nv_graph.Read.{row_of}
+use Rattle.nv_graph.specs.Read.{row_of}
 use Rattle.nv_rows.proofs.Places.{numbered, own_row}
 use Rattle.nv_paths.specs.Seen.{node_of, tree_of, LeadsTo}
 

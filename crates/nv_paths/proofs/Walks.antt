@@ -12,7 +12,7 @@ use Rattle.nv_tree.specs.Path.{IsPathName, spelled, IsPath, last_name}
 use Rattle.nv_tree.specs.Names.{Spells}
 use Rattle.nv_tree.specs.Tree.{Node, Tree, walk, found, as_directory, and_then, or_not_found, name_in, in_use, is_directory, last_in}
 use Rattle.nv_tree.proofs.Spelled.{has_no_bytes, one_spelling}
-use Rattle.nv_held.specs.nv_graph.Read.{row_of}
+use Rattle.nv_graph.specs.Read.{row_of}
 use Rattle.nv_paths.specs.Seen.{node_of, tree_of}
 
 -- ---- a text of names, cut behind its first

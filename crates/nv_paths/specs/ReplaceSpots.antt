@@ -3,7 +3,7 @@ use Rattle.std.specs.Prelude.{◌≡◌, ◌≢◌, ℕ, List, [], ◌∷◌, �
 use Rattle.std.specs.Option.{option_map}
 use Rattle.nv_names.specs.Names.{name_at}
 use Rattle.nv_scan.specs.declared.piece.Row.{Row}
-use Rattle.nv_held.specs.nv_graph.Read.{row_of}
+use Rattle.nv_graph.specs.Read.{row_of}
 use Rattle.nv_tree.specs.Tree.{Tree, found}
 use Rattle.nv_tree.specs.Refusals.{Path, Tests, is_bad_name, is_into_itself, is_missing, walk_tests}
 use Rattle.nv_tree.specs.Replace.{is_over_directory, is_over_file, is_over_names}

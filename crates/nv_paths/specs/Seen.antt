@@ -5,9 +5,9 @@ use Rattle.nv_region.specs.Region.{Region}
 use Rattle.nv_radix.specs.Pages.{block_at}
 use Rattle.nv_names.specs.Names.{name_at}
 use Rattle.nv_scan.specs.declared.piece.Row.{Row}
-use Rattle.nv_held.specs.Bytes.{byte_in}
+use Rattle.nv_mounted.specs.Bytes.{byte_in}
 use Rattle.nv_tree.specs.Tree.{Node, Tree, found}
-use Rattle.nv_held.specs.nv_graph.Read.{row_of}
+use Rattle.nv_graph.specs.Read.{row_of}
 
 -- what a row shows
 abbrev pub node_of : Region → Row → Node

@@ -2,9 +2,9 @@
 use Rattle.std.specs.Prelude.{◌≡◌, ℕ, List, [], Option, codes}
 use Rattle.std.specs.Io.KnownBytes.{Appends}
 use Rattle.nv_region.specs.Region.{Region, region_of}
-use Rattle.nv_checking.specs.Checking.{EndsCheck}
-use Rattle.nv_images.specs.declared.image.Image.{Image}
-use Rattle.nv_images.specs.declared.image.Image.TheVariants as images
+use Rattle.nv_image_check.specs.Checking.{EndsCheck}
+use Rattle.nv_image_files.specs.declared.image.Image.{Image}
+use Rattle.nv_image_files.specs.declared.image.Image.TheVariants as images
 use Rattle.nv_records.specs.Rolling.{TellsJournals}
 use Rattle.nv_records.specs.Text.{records_text}
 use Rattle.nv_records.specs.declared.rolling.Journals.{Journals}

@@ -4,8 +4,10 @@ ghost use Rattle.std.specs.Prelude.{◌≡◌, IfOk, string_bytes};
 ghost use Rattle.nv_region.specs.Region.{region_of};
 ghost use Rattle.nv_pending.specs.Above.{IsJournalsText, WritesAbove, WritesImageAbove, journals_text};
 
-use nv_checking::check_region;
-use nv_images::{Failure, Image, image_at, refuse_length, tell_explain, tell_length, tell_refused};
+use nv_image_check::check_region;
+use nv_image_files::{
+    Failure, Image, image_at, refuse_length, tell_explain, tell_length, tell_refused,
+};
 use nv_records::{Journals, find_pending, records_text};
 use nv_region::{ImageRegion, RegionRefusal};
 use nv_stream::{ScriptError, write_text};
@@ -18,7 +20,7 @@ use std::thread::Threads;
 // The status of a check that shows faults.
 const FAULTY: u8 = 1;
 
-/// Checks the image in the file at a path as `check_file` of nv_checking does, and prints above the whole report the pending
+/// Checks the image in the file at a path as `check_file` of nv_image_check does, and prints above the whole report the pending
 /// records of its journals. For this the image is read whole.
 ///
 /// Errors: a file that can't be read, and want of memory or of a place to write to.
@@ -56,7 +58,7 @@ fn check_image<H: AllocGlobal + Threads + Sync, W: Write>(
     }
 }
 
-/// `check_region` of nv_checking, which writes above the report the pending records of the journals, and how many they are.
+/// `check_region` of nv_image_check, which writes above the report the pending records of the journals, and how many they are.
 /// Where the superblock isn't accepted, nothing is written above.
 ///
 /// Errors: `Memory` where a growth was refused; `Write` where the writer failed.

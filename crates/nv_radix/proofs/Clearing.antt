@@ -172,10 +172,3 @@ module _ (old mid new : Runs) (k : ℕ) (b : Blocks) (between : AreRuns mid) (is
     | true ↦ λ e. refl
     | false ↦ λ e. unmapped p ∙ ap (λ (t : Bool). cond t None (block_by old p)) e
   ] refl
-
--- Behind the old pages and the new ones nothing is mapped.
-pub mapped_past : (old new : Runs) (k count start end p : ℕ) → ((q : ℕ) → end ≤ q → block_by old q ≡ None) → ((q : ℕ) → block_by new q ≡ (if in_run k count q then Some (start + (q - k)) else block_by old q))
-    → end ≤ p → k + count ≤ p → block_by new p ≡ None
-mapped_past old new k count start end p none set over past =
-    let no : in_run k count p ≡ false = grind (arith, nat_tests) in
-    set p ∙ ap (λ (t : Bool). cond t (Some (start + (p - k))) (block_by old p)) no ∙ none p over

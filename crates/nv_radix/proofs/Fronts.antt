@@ -10,13 +10,6 @@ use Rattle.nv_radix.specs.Runs.{Runs, block_by, one_page, front_runs}
 abbrev pub over : ℕ → Pages → Option ℕ → ℕ → Option ℕ
 over n m o p = if nat_lt p n then option_or (block_at m p) o else o
 
--- which no page from n on is
-pub over_all : (n : ℕ) (m : Pages) (o : Option ℕ) (p : ℕ) → n ≤ 64 → (n ≤ p → block_at m p ≡ None) → over n m o p ≡ over 64 m o p
-over_all n m o p few none = elim (cases_lt p n) [
-  | inl l ↦ grind (arith, nat_tests, l, few)
-  | inr l ↦ rw (none l) (grind (arith, nat_tests, l))
-]
-
 page_here : (o : Option ℕ) (n p : ℕ) (rest : Option ℕ) → n ≡ p → cond (in_run n (one_page o).count p) (Some ((one_page o).start + (p - n))) rest ≡ option_or o rest
 page_here None n p rest e = grind (arith, nat_tests)
 page_here (Some b) n p rest e = grind (arith, nat_tests)

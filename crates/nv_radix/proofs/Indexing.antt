@@ -1,5 +1,5 @@
 -- The index that is made of the runs of a map.
-use Rattle.std.proofs.Common.{◌≡◌, ℕ, ◌+◌, ◌-◌, ◌<◌, ◌≤◌, length, get_or, suc, Bool, true, false, cond, if◌then◌else◌, [], ◌∷◌, ◌++◌, Option, Some, None, refl, ap, sym, ◌∙◌, subst, arith, append_assoc}
+use Rattle.std.proofs.Common.{◌≡◌, ℕ, ◌+◌, ◌-◌, ◌<◌, ◌≤◌, length, get_or, suc, Bool, true, false, cond, if◌then◌else◌, [], ◌∷◌, ◌++◌, Some, None, refl, ap, sym, ◌∙◌, subst, arith, append_assoc}
 use Rattle.std.specs.List.{Contains}
 use Rattle.std.specs.List.Sorted.{IsStrictlySortedBy}
 use Rattle.std.specs.Map.{keys_of}
@@ -93,10 +93,3 @@ more_indexed all rest more index new x are so_far is set = record {
       | true ↦ λ e g. absurd (cc)
       | false ↦ λ e g. so_far.waits p g ∙ ap (λ (r : Runs). block_by r p) is ∙ ap (λ (t : Bool). cond t (Some (x.1.start + (p - x.0))) (block_by more p)) e
     ] refl (sym (set p) ∙ h)
-
--- all of them are
-pub all_indexed : (all rest : Runs) (index : Pages) → IsIndexed all rest index → rest ≡ [] → (p : ℕ) → block_at index p ≡ block_by all p
-all_indexed all rest index so_far none p = elim (block_at index p) as (λ (o : Option ℕ). block_at index p ≡ o → o ≡ block_by all p) [
-  | Some b ↦ λ h. sym (so_far.right p b h)
-  | None ↦ λ h. sym (so_far.waits p h ∙ ap (λ (r : Runs). block_by r p) none)
-] refl

@@ -154,25 +154,6 @@ leaf_set_one mapped blocks page block p inside few = leaf_set mapped _ blocks (s
       | inr n ↦ rw (other_page page q n) (get_or-set_other blocks page q block 0 n)
     ]
 
--- one place more of a loop that writes a run
-pub run_more : (X : Type 0) (page step p : ℕ) (new old : X) → (p ≡ page + step → ⊥) → cond (in_run page step p) new old ≡ cond (in_run page (step + 1) p) new old
-run_more X page step p new old other = ap (λ (b : Bool). cond b new old) (same page step p other)
-  where
-    same : (page step p : ℕ) → (p ≡ page + step → ⊥) → in_run page step p ≡ in_run page (step + 1) p
-    same page step p other = elim (leb_tells page p) [
-      | inl w ↦ elim (leb_tells (suc p) (page + step)) [
-        | inl v ↦ elim (leb_tells (suc p) (page + (step + 1))) [ inl u ↦ rw (w.0, v.0, u.0) refl | inr u ↦ absurd (omega (arith, v.1, u.1)) ]
-        | inr v ↦ elim (leb_tells (suc p) (page + (step + 1))) [ inl u ↦ absurd (other (omega (arith, v.1, u.1))) | inr u ↦ rw (w.0, v.0, u.0) refl ]
-      ]
-      | inr w ↦ rw w.0 refl
-    ]
-
-pub in_run-last : (page step : ℕ) → in_run page (step + 1) (page + step) ≡ true
-in_run-last page step = elim (leb_tells page (page + step)) [
-  | inl w ↦ elim (leb_tells (suc (page + step)) (page + (step + 1))) [ inl v ↦ rw (w.0, v.0) refl | inr v ↦ absurd (omega (arith, v.1)) ]
-  | inr w ↦ absurd (omega (arith, w.1))
-]
-
 -- the extents of a leaf whose pages from a place on have no block
 pub AreExtents-rest : (base i mapped : ℕ) (blocks : List ℕ) (m : Pages) (extents : List Extent) → i ≤ length blocks → mapped / 2 ^ i ≡ 0 → AreExtents (m ++ raised base (leaf_pages mapped (take i blocks) 0)) extents → AreExtents (m ++ raised base (leaf_pages mapped blocks 0)) extents
 AreExtents-rest base i mapped blocks m extents l e a =

@@ -1,6 +1,5 @@
 -- One page more at the end of a map.
-use Rattle.std.proofs.Common.{◌≡◌, ℕ, ◌+◌, ◌<◌, Bool, true, false, cond, eqb, ◌++◌, [], ◌∷◌, Option, Some, None, refl, ap, ◌∙◌, arith, inl, inr}
-use Rattle.std.proofs.lemmas.Bool.{cases_lt}
+use Rattle.std.proofs.Common.{◌≡◌, ℕ, ◌+◌, ◌<◌, Bool, true, false, cond, eqb, ◌++◌, [], ◌∷◌, Option, None, refl, ap, ◌∙◌, arith, inl, inr}
 use Rattle.std.proofs.lemmas.Bool.Decides.{eqb_tells}
 use Rattle.nv_radix.specs.Pages.{Pages, block_at}
 use Rattle.nv_radix.specs.Rising.{Rises}
@@ -29,7 +28,3 @@ none_again false = refl
 pub block_at-push_none : (m : Pages) (p q : ℕ) → block_at (m ++ (p, None) ∷ []) q ≡ block_at m q
 block_at-push_none [] p q = none_again (eqb p q)
 block_at-push_none (x ∷ xs) p q = ap (cond (eqb x.0 q) x.1) (block_at-push_none xs p q)
-
--- a mapped page is one of the pages
-pub mapped-below : (m : Pages) (p q b : ℕ) → Rises 0 p m → block_at m q ≡ Some b → q < p
-mapped-below m p q b h e = elim (cases_lt q p) [ inl l ↦ l | inr l ↦ absurd (let none = block_at-above 0 p m q h l in cc) ]

@@ -1,5 +1,5 @@
 -- A map has one list of longest extents.
-use Rattle.std.proofs.Common.{◌≡◌, ◌≢◌, ℕ, ◌+◌, ◌<◌, ◌≤◌, length, get_or, List, [], ◌∷◌, Some, Result, Ok, Err, IfOk, refl, ap, sym, ◌∙◌, subst, arith, zero, suc, add-zero, inl, inr, ◌⊎◌}
+use Rattle.std.proofs.Common.{◌≡◌, ◌≢◌, ℕ, ◌+◌, ◌<◌, ◌≤◌, length, get_or, List, [], ◌∷◌, Some, refl, ap, sym, ◌∙◌, subst, arith, zero, suc, add-zero, inl, inr, ◌⊎◌}
 use Rattle.std.specs.List.{Contains}
 use Rattle.std.proofs.lemmas.Bool.{cases_order}
 use Rattle.std.proofs.lemmas.List.Elements.{All-contains}
@@ -122,8 +122,3 @@ extents_of_map m extents a = record {
 -- two lists of the longest extents of one map are equal
 pub AreExtents-only : (m : Pages) (xs ys : List Extent) → AreExtents m xs → AreExtents m ys → xs ≡ ys
 AreExtents-only m xs ys a b = ExtentsOf-only (λ p c. block_at m p ≡ Some c) (λ p c d h k. cc) xs ys (extents_of_map m xs a) (extents_of_map m ys b)
-
--- so each list of them is the one that a call gave
-pub only_of_result : {V E : Type 0} (items : V → List Extent) (m : Pages) (r : Result V E) → IfOk r (λ v. AreExtents m (items v)) → IfOk r (λ v. (others : List Extent) → AreExtents m others → others ≡ items v)
-only_of_result items m (Ok v) h = λ others a. AreExtents-only m others (items v) a h
-only_of_result items m (Err e) h = tt

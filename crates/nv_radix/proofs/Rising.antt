@@ -1,6 +1,5 @@
 -- Rising pages, joined and cut.
-use Rattle.std.proofs.Common.{◌≡◌, ℕ, ◌+◌, ◌<◌, ◌≤◌, Bool, false, cond, ◌||◌, eqb, [], ◌∷◌, ◌++◌, length, get_or, Option, true, true≢false, None, refl, ap, sym, ◌∙◌, arith, inl, inr, zero, suc}
-use Rattle.std.proofs.lemmas.Bool.{cases_lt}
+use Rattle.std.proofs.Common.{◌≡◌, ℕ, ◌+◌, ◌<◌, ◌≤◌, Bool, false, cond, ◌||◌, eqb, [], ◌∷◌, ◌++◌, None, refl, ap, ◌∙◌, arith, inl, inr}
 use Rattle.std.proofs.lemmas.Bool.Decides.{eqb_tells}
 use Rattle.nv_radix.specs.Pages.{Pages, block_at, is_ready}
 use Rattle.nv_radix.specs.Rising.{Rises}
@@ -74,28 +73,6 @@ is_ready-second a b (x ∷ xs) n p h l = elim (eqb_tells x.0 p) [
   | inl w ↦ absurd (omega (arith, w.1, h.1, l))
   | inr w ↦ rw w.0 (is_ready-second (x.0 + 1) b xs n p h.2 l)
 ]
-
--- no more entries than pages
-pub Rises-length : (a b : ℕ) (m : Pages) → Rises a b m → a + length m ≤ b
-Rises-length a b [] h = omega (arith, h)
-Rises-length a b (x ∷ xs) h = (let rest = Rises-length (x.0 + 1) b xs h.2 in omega (arith, rest, h.0))
-
--- an entry of rising pages is within the bounds
-pub Rises-get_or : (a b : ℕ) (m : Pages) (i : ℕ) (d : ℕ × Option ℕ) → Rises a b m → i < length m → (a ≤ (get_or m i d).0) × ((get_or m i d).0 < b)
-Rises-get_or a b [] i d h l = absurd (omega (arith, l))
-Rises-get_or a b (x ∷ xs) zero d h l = (h.0, h.1)
-Rises-get_or a b (x ∷ xs) (suc i) d h l = (let rest = Rises-get_or (x.0 + 1) b xs i d h.2 (omega (arith, l)) in (omega (arith, rest.0, h.0), rest.1))
-
--- pages of which none is ready from a bound on rise below it
-pub Rises-below : (a b c : ℕ) (m : Pages) → a ≤ c → Rises a b m → ((p : ℕ) → c ≤ p → is_ready m p ≡ false) → Rises a c m
-Rises-below a b c [] l h none = l
-Rises-below a b c (x ∷ xs) l h none = elim (cases_lt x.0 c) [
-  | inl w ↦ (h.0, w, Rises-below (x.0 + 1) b c xs (omega (arith, w)) h.2 (λ p k. tail x xs p (none p k)))
-  | inr w ↦ absurd (let first : is_ready (x ∷ xs) x.0 ≡ true = elim (eqb_tells x.0 x.0) [ inl v ↦ rw v.0 refl | inr v ↦ absurd (v.1 refl) ] in true≢false (sym first ∙ none x.0 w))
-]
-  where
-    tail : (x : ℕ × Option ℕ) (xs : Pages) (p : ℕ) → is_ready (x ∷ xs) p ≡ false → is_ready xs p ≡ false
-    tail x xs p e = elim (eqb_tells x.0 p) [ inl w ↦ (let e' = rw w.0 at e in absurd (true≢false e')) | inr w ↦ (let e' = rw w.0 at e in e') ]
 
 -- pages with no block add none
 pub block_at-none : (m n : Pages) (p : ℕ) → ((q : ℕ) → block_at n q ≡ None) → block_at (m ++ n) p ≡ block_at m p

@@ -199,10 +199,6 @@ node_is pages xs i x l is = ap pages is ∙ sym (get_or-map pages xs i x [] l)
 pub kept_node : {X : Type 0} (pages : X → Pages) (xs : List X) (n : ℕ) (x : X) → n < length xs → x ≡ get_or (take (n + 1) xs) n x → pages x ≡ get_or (map pages xs) n []
 kept_node pages xs n x l is = node_is pages xs n x l (is ∙ get_or-take (n + 1) xs n x (omega arith))
 
--- a row with more empty nodes at its end
-pub same_step : (xs ys : List Pages) → ((i : ℕ) → get_or ys i [] ≡ get_or xs i []) → (i r : ℕ) → is_ready (get_or ys i []) r ≡ is_ready (get_or xs i []) r
-same_step xs ys same i r = ap (λ m. is_ready m r) (same i)
-
 -- a list of nodes that got empty ones at its end
 pub record IsGrown (span : ℕ) (old new : List Pages) : Type 0 where
   pub same : (i : ℕ) → get_or new i [] ≡ get_or old i []

@@ -32,7 +32,7 @@ impl Model for FileIndex {
 
     ghost view = { λ a. a.front ++ raised 64 a.rest };
 
-    ghost invariant = { λ a. Rises 0 64 a.front × IsNode 262144 a.rest × ((p : ℕ) → MAX_FILE_PAGES ≤ p → is_ready (a.front ++ raised 64 a.rest) p ≡ false) };
+    ghost invariant = { λ a. Rises 0 64 a.front × IsNode MAX_FILE_PAGES a.rest × ((p : ℕ) → MAX_FILE_PAGES ≤ p → is_ready (a.front ++ raised 64 a.rest) p ≡ false) };
 }
 
 impl FileIndex {
@@ -124,7 +124,7 @@ impl FileIndex {
     /// Makes the leaf of a page behind the first 64 ready. An error leaves the pages.
     fn make_leaf_ready(&mut self, page: u64) -> Result<(), AllocError>
         requires behind { 64 ≤ page }
-        requires page { page < 262144 }
+        requires page { page < MAX_FILE_PAGES }
         ensures blocks { (p : ℕ) → block_at self.new p ≡ block_at self.old p }
         ensures ready { OnOk result ((p : ℕ) → is_ready self.new p ≡ (p / 64 == page / 64 || is_ready self.old p)) }
         ensures err { OnErr result ((p : ℕ) → is_ready self.new p ≡ is_ready self.old p) }

@@ -11,8 +11,7 @@ use Rattle.nv_inode.specs.SlotBlocks.{IsIn, IsSmallBlock, slot_blocks}
 use Rattle.nv_inode.proofs.BlockBounds.{small_block}
 use Rattle.nv_inode.proofs.BlocksOfSlots.{block_found, slots_are}
 use Rattle.nv_inode.proofs.LayoutWords.{slot_lies, slot_stands}
-use Rattle.nv_records.specs.declared.naming.SlotPart.{SlotPart}
-use Rattle.nv_records.specs.Records.{HoldsSlot, IsPartAt, StandsIn, offset_of}
+use Rattle.nv_records.specs.Records.{HoldsSlot, StandsIn}
 
 has_block : (l : Layout) (t : ℕ) (x : SlotBlock) → slice_get (slot_blocks l) t ≡ Some x → Contains (slot_blocks l) x
 has_block l t x there = (t, slice_get_within (slot_blocks l) t x there, get_or_from_slice_get (slot_blocks l) t x x there)
@@ -81,9 +80,3 @@ module _ (l : Layout) (at : ℕ) (laid : IsLaid l) (named : NamesSlotBy l at) wh
     | inr (inl is) ↦ omega (arith, is, lies)
     | inr (inr is) ↦ omega (arith, is, lies)
   ]
-
-pub part_there : (l : Layout) (at inode : ℕ) (part : SlotPart) → at % 128 ≡ offset_of part → slot_of l inode ≡ Some (at - at % 128) → IsPartAt l at part inode
-part_there l at inode part offset is = (at - at % 128, is, split at (offset_of part) offset)
-  where
-    split : (at n : ℕ) → at % 128 ≡ n → at ≡ at - at % 128 + n
-    split at n is = omega (arith, is)

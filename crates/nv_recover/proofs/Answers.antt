@@ -15,17 +15,17 @@ use Rattle.nv_inode.specs.Tables.{TableChains}
 use Rattle.nv_journal.specs.Undo.{undone}
 use Rattle.nv_alloc.specs.FreeLists.{AreOutside}
 use Rattle.nv_scan.specs.declared.piece.Row.{Row}
-use Rattle.nv_outcome.specs.nv_rows.RowList.{HasNumbersOf}
-use Rattle.nv_outcome.specs.nv_rows.Rows.{row_key}
-use Rattle.nv_outcome.specs.nv_check.Doubled.{AreDoubled}
+use Rattle.nv_rows.specs.RowList.{HasNumbersOf}
+use Rattle.nv_rows.specs.Rows.{row_key}
+use Rattle.nv_cross_check.specs.Doubled.{AreDoubled}
 use Rattle.nv_outcome.specs.Outcome.{IsOutcome}
 use Rattle.nv_outcome.specs.Parts.{ArePieces, AreParts, rows_in, faults_in, double_fault}
 use Rattle.nv_outcome.specs.Shared.{SharesAll}
 use Rattle.nv_outcome.proofs.RowsOf.{rows_are}
 use Rattle.nv_outcome.proofs.Whole.{parts_outcome}
 use Rattle.nv_outcome.proofs.Shared.{shares_all}
-use Rattle.nv_outcome.proofs.nv_check.SameCross.{same_cross}
-use Rattle.nv_outcome.proofs.nv_rows.InOrder.{rising_stay}
+use Rattle.nv_cross_check.proofs.SameCross.{same_cross}
+use Rattle.nv_rows.proofs.InOrder.{rising_stay}
 use Rattle.nv_recover.specs.declared.starting.Started.{Started}
 use Rattle.nv_recover.specs.declared.scanned.Scanned.{Scanned}
 use Rattle.nv_outcome.specs.declared.recovered.Recovered.{Recovered}

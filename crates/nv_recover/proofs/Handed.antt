@@ -1,13 +1,15 @@
 -- What holds of an error that is handed on, or made of another.
-use Rattle.std.proofs.Common.{◌≡◌, ◌≢◌, ℕ, List, inl, inr, sym, subst, true≢false, Result, Ok, Err, IfErr, IsTrue, refl}
+use Rattle.std.proofs.Common.{◌≡◌, ◌≢◌, ℕ, List, inl, inr, sym, subst, true≢false, Result, Ok, Err, IfErr, IsTrue, None, Some, refl}
 use Rattle.std.specs.Prelude.{IsErrAnd, ⊤}
 use Rattle.nv_region.specs.Region.{Region}
 use Rattle.nv_super.specs.Super.{IsSuper}
 use Rattle.nv_super.specs.declared.superblock.Super.{Super}
 use Rattle.nv_journal.specs.Undo.{undone}
+use Rattle.nv_claimcore.specs.Replay.{first_stranger}
+use Rattle.nv_outcome.specs.declared.recovered.Recovered.{Recovered}
 use Rattle.nv_journal.specs.declared.undoing.UndoError.{UndoError}
 use Rattle.nv_journal.specs.declared.undoing.UndoError.TheVariants as undo
-use Rattle.nv_recover.specs.Errors.{Fails, comes_first, error_of_undo}
+use Rattle.nv_recover.specs.Errors.{Fails, IsBadCount, RefusesFirst, comes_first, error_of_undo}
 use Rattle.nv_recover.specs.declared.errors.RecoverError.{RecoverError}
 use Rattle.nv_recover.specs.declared.errors.RecoverError.TheVariants.{Super as Refused, Memory, Stopped, Workers, Schedule}
 
@@ -25,6 +27,17 @@ GoesOn (Schedule place) = ⊤
 
 pub goes_on : (e : RecoverError) → GoesOn e → e ≢ Stopped
 goes_on e other = λ is. subst GoesOn is other
+
+-- ---- what is refused first
+
+module _ {count : ℕ} {schedule : List ℕ} (good : IsBadCount count → ⊥) where
+  -- nothing, where each number of the schedule is a worker's
+  pub goes_by : {result : Result Recovered RecoverError} → first_stranger count schedule ≡ None → RefusesFirst count schedule result
+  goes_by none = record { count = λ bad. absurd (good bad); stranger = λ place well is. absurd (cc) }
+
+  -- the first place that names no worker
+  pub stranger_first : {place : ℕ} → first_stranger count schedule ≡ Some place → RefusesFirst count schedule (Err (Schedule place))
+  stranger_first {place} is = record { count = λ bad. absurd (good bad); stranger = λ other well also. (tt, (let same : Schedule place ≡ Schedule other = cc in same)) }
 
 -- ---- an error of the journals, by that of the call
 

@@ -14,10 +14,10 @@ use Rattle.nv_scan.proofs.Only.{slot_in_use}
 use Rattle.nv_outcome.specs.Outcome.{AreRows}
 use Rattle.nv_outcome.specs.Parts.{rows_in}
 use Rattle.nv_outcome.proofs.RowsOf.{rows_are}
-use Rattle.nv_outcome.specs.nv_rows.Unused.{HaveSlots}
-use Rattle.nv_outcome.proofs.nv_rows.GivenRows.{listed_numbers}
-use Rattle.nv_outcome.proofs.nv_rows.InOrder.{moved_given}
-use Rattle.nv_outcome.proofs.nv_rows.TableNumbers.{has_one}
+use Rattle.nv_rows.specs.Unused.{HaveSlots}
+use Rattle.nv_rows.proofs.GivenRows.{listed_numbers}
+use Rattle.nv_rows.proofs.InOrder.{moved_given}
+use Rattle.nv_rows.proofs.TableNumbers.{has_one}
 use Rattle.nv_scan.specs.declared.inodes.ListedInodes.{ListedInodes}
 use Rattle.nv_recover.specs.Scanned.{AreInodes}
 

@@ -20,7 +20,7 @@ use Rattle.nv_scan.specs.declared.piece.Piece.{Piece}
 use Rattle.nv_scan.specs.declared.piece.Row.{Row}
 use Rattle.nv_scan.proofs.Owned.{owned_block}
 use Rattle.nv_scan.proofs.Runs.{claims_fit}
-use Rattle.nv_outcome.specs.nv_check.Doubled.{AreDoubled}
+use Rattle.nv_cross_check.specs.Doubled.{AreDoubled}
 use Rattle.nv_outcome.specs.Outcome.{AreRows}
 use Rattle.nv_outcome.specs.Parts.{AreMaps, ArePieces, rows_in}
 use Rattle.nv_outcome.proofs.Pieces.{claimed_owned, owned_claimed as owned_claimed_by}

@@ -1,5 +1,5 @@
 -- What an error leaves of the region.
-use Rattle.std.specs.Prelude.{◌≡◌, ◌⊎◌, ◌<◌, ℕ, Bool, true, false, List, Some}
+use Rattle.std.specs.Prelude.{◌≡◌, ◌⊎◌, ◌<◌, ℕ, Bool, true, false, List, Some, Result, IfOk, IfErr}
 use Rattle.nv_region.specs.Region.{Region}
 use Rattle.nv_super.specs.declared.superblock.Super.{Super}
 use Rattle.nv_super.specs.Super.{IsSuper, IsRefused}
@@ -7,6 +7,7 @@ use Rattle.nv_journal.specs.Undo.{undone}
 use Rattle.nv_journal.specs.declared.undoing.UndoError.{UndoError}
 use Rattle.nv_journal.specs.declared.undoing.UndoError.TheVariants as undo
 use Rattle.nv_claimcore.specs.Replay.{first_stranger}
+use Rattle.nv_outcome.specs.declared.recovered.Recovered.{Recovered}
 use Rattle.nv_recover.specs.declared.errors.RecoverError.{RecoverError}
 use Rattle.nv_recover.specs.declared.errors.RecoverError.TheVariants.{Super as Refused, Memory, Stopped, Workers, Schedule}
 
@@ -21,6 +22,11 @@ UndoesAsBefore old new = (s : Super) × IsSuper old s × IsSuper new s × (undon
 -- there can't be so many workers
 abbrev pub IsBadCount : ℕ → Type 0
 IsBadCount workers = (workers < 1) ⊎ (64 < workers)
+
+-- What is refused before all else: a bad number of workers, and next the first place of the schedule that names no worker.
+pub record RefusesFirst (workers : ℕ) (schedule : List ℕ) (result : Result Recovered RecoverError) : Type 0 where
+  pub count : IsBadCount workers → IfOk result (λ _. ⊥) × IfErr result (λ e. e ≡ Workers)
+  pub stranger : (place : ℕ) → (IsBadCount workers → ⊥) → first_stranger workers schedule ≡ Some place → IfOk result (λ _. ⊥) × IfErr result (λ e. e ≡ Schedule place)
 
 -- the error is found before anything is stored
 abbrev pub comes_first : RecoverError → Bool

@@ -19,8 +19,8 @@ use Rattle.nv_scan.specs.declared.inodes.Inodes.{Inodes}
 use Rattle.nv_scan.specs.declared.inodes.ListedInodes.{ListedInodes}
 use Rattle.nv_scan.specs.declared.piece.Row.{Row}
 use Rattle.nv_scan.specs.declared.piece.Piece.{Piece}
-use Rattle.nv_outcome.specs.nv_check.Cross.{IsCrossFaultIn}
-use Rattle.nv_outcome.specs.nv_check.Doubled.{AreDoubled}
+use Rattle.nv_cross_check.specs.Cross.{IsCrossFaultIn}
+use Rattle.nv_cross_check.specs.Doubled.{AreDoubled}
 use Rattle.nv_outcome.specs.Parts.{ArePieces, AreMaps, rows_in, faults_in, double_fault}
 use Rattle.nv_recover.specs.declared.scanned.Owned.{Owned}
 use Rattle.nv_recover.specs.declared.scanned.Scanned.{Scanned}

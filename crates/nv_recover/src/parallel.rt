@@ -2,7 +2,7 @@
 
 ghost use Rattle.std.specs.Prelude.{◌≡◌, ◌*◌, ◌<◌, ◌≤◌, [], IfOk, IfErr};
 ghost use Rattle.nv_region.specs.Region.{HasBlocks};
-ghost use Rattle.nv_outcome.specs.nv_rows.RowList.{HasNumbersOf};
+ghost use Rattle.nv_rows.specs.RowList.{HasNumbersOf};
 ghost use Rattle.nv_recover.specs.declared.errors.RecoverError.TheVariants as errors;
 ghost use Rattle.nv_outcome.specs.Answer.{outcome_of, SharesBlocks};
 ghost use Rattle.nv_outcome.specs.Outcome.{IsOutcome};

@@ -7,12 +7,12 @@ ghost use Rattle.nv_claimcore.specs.Replay.{lists, Inside, first_stranger};
 ghost use Rattle.nv_scan.specs.declared.piece.Piece.{Piece as PieceValue};
 ghost use Rattle.nv_scan.specs.Tickets.{ticket_count};
 ghost use Rattle.nv_scan.specs.Work.{claims_among, claims_in};
-ghost use Rattle.nv_outcome.specs.nv_rows.RowList.{HasNumbersOf};
+ghost use Rattle.nv_rows.specs.RowList.{HasNumbersOf};
 ghost use Rattle.nv_recover.specs.declared.errors.RecoverError.TheVariants as errors;
 ghost use Rattle.nv_outcome.specs.Answer.{outcome_of, SharesBlocks};
 ghost use Rattle.nv_outcome.specs.Outcome.{IsOutcome};
 ghost use Rattle.nv_journal.specs.Undo.{undone};
-ghost use Rattle.nv_recover.specs.Errors.{Fails, IsBadCount};
+ghost use Rattle.nv_recover.specs.Errors.{Fails, RefusesFirst};
 ghost use Rattle.nv_recover.specs.Keeping.{KeepsRecovering};
 ghost use Rattle.nv_recover.specs.Scanned.{AreInodes, IsScanned, AreClaimedSets, all_claims};
 
@@ -53,8 +53,7 @@ pub fn recover_replay<P: Pmem>(
     // The tables are those of the outcome, and each row has a number in them.
     ensures tables { IfOk result (λ r. r.tables.layout.sup ≡ r.sup) }
     ensures numbers { IfOk result (λ r. HasNumbersOf r.tables.layout r.rows) }
-    ensures workers { IsBadCount workers → IfOk result (λ _. ⊥) × IfErr result (λ e. e ≡ errors.Workers) }
-    ensures schedule { (place : ℕ) → (IsBadCount workers → ⊥) → first_stranger workers schedule.now ≡ Some place → IfOk result (λ _. ⊥) × IfErr result (λ e. e ≡ errors.Schedule place) }
+    ensures first { RefusesFirst workers schedule.now result }
     ensures err { IfErr result (λ e. Fails workers schedule.now e (P.region memory.old) (P.region memory.new)) }
     // What it stores, what a stop leaves, and when it is stopped.
     ensures kept { KeepsRecovering P.region P.may_hold P.fuse memory.old memory.new result }

@@ -10,7 +10,7 @@ ghost use Rattle.nv_scan.specs.ChainBlocks.{table_claims};
 ghost use Rattle.nv_scan.specs.Claims.{log_claims, run_claims, data_claims, IsSmall};
 ghost use Rattle.nv_scan.specs.Work.{claims_among, claims_in};
 ghost use Rattle.nv_scan.specs.declared.piece.Piece.{Piece};
-ghost use Rattle.nv_outcome.specs.nv_check.Doubled.{AreDoubled};
+ghost use Rattle.nv_cross_check.specs.Doubled.{AreDoubled};
 ghost use Rattle.nv_outcome.specs.Parts.{AreMaps};
 ghost use Rattle.nv_recover.specs.Scanned.{AreOwned, AreSetsOf, Cover, Fits, TakeIn, second_after};
 

@@ -43,13 +43,6 @@ word_filled words more rest eight first behind piece none x whole is pushed empt
     ap (λ l. (flat_map (little_bytes 8) more ++ l) ++ behind) empty ∙ ap (λ l. l ++ behind) (append-nil (flat_map (little_bytes 8) more) ∙ added ∙ ap (λ l. front ++ l) whole)
     ∙ append_assoc front (rest ++ first) behind ∙ ap (λ l. front ++ l) (append_assoc rest first behind ∙ ap (λ l. rest ++ l) parts) ∙ sym (append_assoc front rest piece)
 
--- or stay fewer
-pub word_not_filled : (words rest more first behind piece : List ℕ) → more ≡ rest ++ first → first ++ behind ≡ piece
-    → bytes_of (record { words = words; rest = more }) ++ behind ≡ bytes_of (record { words = words; rest = rest }) ++ piece
-word_not_filled words rest more first behind piece is parts =
-    let front = flat_map (little_bytes 8) words in
-    ap (λ l. (front ++ l) ++ behind) is ∙ append_assoc front (rest ++ first) behind ∙ ap (λ l. front ++ l) (append_assoc rest first behind ∙ ap (λ l. rest ++ l) parts) ∙ sym (append_assoc front rest piece)
-
 -- words are added, and the bytes behind them
 words_added : (words rest bytes : List ℕ) → rest ≡ [] → ((i : ℕ) → get_or bytes i 0 < 256)
     → bytes_of (record { words = words ++ words_of bytes; rest = rest ++ rest_of bytes }) ≡ bytes_of (record { words = words; rest = rest }) ++ bytes

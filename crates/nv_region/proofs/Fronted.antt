@@ -57,13 +57,6 @@ stored_or_before words k value i x inside is = elim (cases_eq i k) [
   | inr other ↦ inl (is ∙ get_or-set_other words k i value 0 other)
 ]
 
--- at first nothing is added
-pub nothing_added : (front words : List ℕ) → front ≡ front ++ drop (length front) (take (length front) words)
-nothing_added front words = sym (ap (λ (l : List ℕ). front ++ l) (drop_taken (length front) words) ∙ append-nil front)
-  where
-    drop_taken : (n : ℕ) (words : List ℕ) → drop n (take n words) ≡ []
-    drop_taken n words = drop_all n (take n words) (omega (arith, length-take n words))
-
 -- so many are there already
 pub none_added : (front : List ℕ) (count : ℕ) (words : List ℕ) → count ≤ length front → front ++ drop (length front) (take count words) ≡ front
 none_added front count words there = ap (λ (l : List ℕ). front ++ l) (drop_all (length front) (take count words) (omega (arith, length-take count words, there))) ∙ append-nil front

@@ -43,9 +43,6 @@ words_here R at words (suc n) k aligned within below = elim (cases_eq k n) [
 
 -- ---- in turn
 
-pub none_stored : (at : ℕ) (words : List ℕ) (R : Region) (old : Choices) → FirstStored at words 0 R R old old
-none_stored at words R old = record { reads = refl; adds = λ i x may. inl may }
-
 pub same_stored : (at : ℕ) (words : List ℕ) (n : ℕ) (R Q S : Region) (old mid new : Choices) → FirstStored at words n R Q old mid → S ≡ Q → ((i x : ℕ) → new i x → mid i x) → FirstStored at words n R S old new
 same_stored at words n R Q S old mid new first same none = record { reads = same ∙ first.reads; adds = λ i x may. first.adds i x (none i x may) }
 

@@ -1,7 +1,7 @@
 //! A region of byte-addressable memory: its words, its fence, and what a stop may leave of it.
 //!
 //! A store of an aligned 8-byte word is atomic. After a stop each word, by itself, has its value at the last fence
-//! or one that was stored to it since (the store model of the FAST 2016 paper's persistent memory).
+//! or one that was stored to it since.
 #![tactic(auto)]
 
 mod image;

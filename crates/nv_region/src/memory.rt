@@ -16,6 +16,7 @@ ghost use Rattle.nv_region.specs.RegionState.{RegionState, fenced_or_last, burns
 ghost use Rattle.nv_region.specs.OneStore.{PassesFuse};
 ghost use Rattle.nv_region.specs.Kept.{kept};
 ghost use Rattle.nv_region.specs.StoredLines.{words_before};
+ghost use Rattle.nv_region.specs.declared.memory.TheConstants.{MOST_BLOCKS};
 
 use crate::keeping::keep_words;
 use crate::recent::{RecentStores, hold, note_recent};
@@ -117,7 +118,7 @@ impl MemRegion {
         ensures zeros { IfOk result (λ m. m.region ≡ record { words = replicate (512 * blocks) 0; rest = [] }) }
         ensures settled { IfOk result (λ m. NothingPending m.region (fenced_or_last m)) }
         ensures fuse { IfOk result (λ m. (m.fuse ≡ Fuse.Off) × (m.burnt ≡ false)) }
-        ensures length { IsErrOf result RegionRefusal.Length ↔ (blocks ≡ 0) ⊎ (262144 < blocks) }
+        ensures length { IsErrOf result RegionRefusal.Length ↔ (blocks ≡ 0) ⊎ (MOST_BLOCKS < blocks) }
     {
         if blocks == 0 || blocks > MOST_BLOCKS {
             return Err(RegionRefusal::Length);

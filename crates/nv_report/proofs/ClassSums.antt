@@ -8,7 +8,8 @@ use Rattle.std.proofs.lemmas.List.{get_or-map, length-map, map-append}
 use Rattle.std.proofs.lemmas.List.Elements.{filter_more}
 use Rattle.nv_super.specs.declared.faults.Fault.{Fault}
 use Rattle.nv_report.specs.declared.summary.ClassSum.{ClassSum}
-use Rattle.nv_report.specs.Summary.{class_and_count, class_of, class_sum, is_some_sum}
+use Rattle.nv_super.specs.Classes.{class_of}
+use Rattle.nv_report.specs.Summary.{class_and_count, class_sum, is_some_sum}
 
 module _ (faults : List Fault) (names : List (List ℕ)) where
   -- the sums of the first so many classes

@@ -1,10 +1,10 @@
 -- What sums an outcome up in one line.
-use Rattle.std.specs.Prelude.{ℕ, ◌-◌, Bool, true, false, not, nat_lt, List, [], ◌∷◌, ◌++◌, length, map, take, flat_map, count_by, bytes_eq, codes, decimal}
+use Rattle.std.specs.Prelude.{ℕ, ◌-◌, Bool, true, false, not, nat_lt, List, [], ◌∷◌, ◌++◌, length, map, flat_map, count_by, bytes_eq, codes, decimal}
 use Rattle.std.specs.List.{filter, sum_by}
 use Rattle.nv_super.specs.declared.kind.Kind.{Kind}
 use Rattle.nv_super.specs.declared.kind.Kind.TheVariants.{File, Directory}
 use Rattle.nv_super.specs.declared.faults.Fault.{Fault}
-use Rattle.nv_super.specs.FaultText.{fault_text}
+use Rattle.nv_super.specs.Classes.{class_of, fault_class_names}
 use Rattle.nv_super.specs.Layout.{system_blocks}
 use Rattle.nv_alloc.specs.Taking.{all_blocks}
 use Rattle.nv_scan.specs.declared.piece.Row.{Row}
@@ -35,14 +35,6 @@ used_blocks o = o.sup.blocks - system_blocks o.sup - all_blocks o.free
 
 -- ---- faults by class
 
--- the classes in their order
-abbrev pub classes : List (List ℕ)
-classes = codes "J1" ∷ codes "J2" ∷ codes "H1" ∷ codes "H2" ∷ codes "I1" ∷ codes "I2" ∷ codes "I3" ∷ codes "L1" ∷ codes "L2" ∷ codes "L3" ∷ codes "L4" ∷ codes "E1" ∷ codes "E2" ∷ codes "E3" ∷ codes "E4" ∷ codes "C1" ∷ codes "C2" ∷ codes "C3" ∷ codes "C4" ∷ codes "C5" ∷ codes "B1" ∷ []
-
--- the class of a fault, with which its text begins
-abbrev pub class_of : Fault → List ℕ
-class_of fault = take 2 (fault_text fault)
-
 -- a class, and how many faults are of it
 abbrev pub class_sum : List Fault → List ℕ → List ℕ × ℕ
 class_sum faults class = (class, count_by (λ fault. bytes_eq (class_of fault) class) faults)
@@ -53,7 +45,7 @@ is_some_sum x = nat_lt 0 x.1
 
 -- the classes of which there are faults, and how many of each
 abbrev pub class_sums : List Fault → List (List ℕ × ℕ)
-class_sums faults = filter is_some_sum (map (class_sum faults) classes)
+class_sums faults = filter is_some_sum (map (class_sum faults) fault_class_names)
 
 -- a sum of the code's as such a pair
 abbrev pub class_and_count : ClassSum → List ℕ × ℕ

@@ -1,18 +1,16 @@
 //! The line that sums a recovery up: how many inodes, names, blocks and faults there are.
 
-ghost use Rattle.std.specs.Prelude.{◌≡◌, ◌<◌, ◌-◌, ◌++◌, [], get_or, bytes_eq, count_by, length, map, IfOk, OnOk, string_bytes};
+ghost use Rattle.std.specs.Prelude.{◌≡◌, ◌-◌, ◌++◌, bytes_eq, count_by, length, map, IfOk, OnOk, string_bytes};
 ghost use Rattle.nv_super.specs.Layout.{HasAreas, system_blocks};
 ghost use Rattle.nv_outcome.specs.Answer.{outcome_of};
-ghost use Rattle.nv_report.specs.Summary.{classes, directories, files, names, class_of, class_sums, class_and_count, inodes_part, inodes_text, blocks_part, used_text, free_text, faults_part};
+ghost use Rattle.nv_super.specs.Classes.{class_of};
+ghost use Rattle.nv_report.specs.Summary.{directories, files, names, class_sums, class_and_count, inodes_part, inodes_text, blocks_part, used_text, free_text, faults_part};
 ghost use Rattle.nv_report.specs.Summary.{count_text, sum_text, sums_text, more_text, summary_line};
 
 use nv_outcome::{Recovered, Rows};
-use nv_super::{Fault, Kind, Super};
+use nv_super::{FAULT_CLASS_COUNT, Fault, Kind, Super, class_name};
 use std::alloc::{AllocError, Global};
 use std::fmt::Write;
-
-/// How many fault classes there are.
-const CLASSES: usize = 21;
 
 // How many inodes are in use, how many of them are directories and files, and how many names those have.
 #[derive(Clone, Copy)]
@@ -132,7 +130,7 @@ fn class_sums(alloc: Global, faults: &[Fault]) -> Result<Vec<ClassSum>, AllocErr
     ensures { IfOk result (λ sums. map class_and_count sums.items ≡ class_sums faults.now) }
 {
     let mut sums = Vec::new(alloc);
-    for number in 0..CLASSES {
+    for number in 0..FAULT_CLASS_COUNT {
         let class = class_name(number);
         let count = count_class(faults, class);
         if count > 0 {
@@ -147,7 +145,7 @@ fn count_class(faults: &[Fault], class: &str) -> usize
 {
     let mut count = 0;
     for fault in faults {
-        if class_of(fault) == class {
+        if fault.class() == class {
             count += 1;
         }
     }
@@ -180,62 +178,4 @@ fn push_sum(out: &mut String, sum: &ClassSum) -> Result<(), AllocError>
     ensures { OnOk result (string_bytes out.new ≡ string_bytes out.old ++ sum_text (class_and_count sum.now)) }
 {
     write!(out, "{} {}", sum.class, sum.count)
-}
-
-// The classes in their order.
-fn class_name(number: usize) -> &'static str
-    requires { number < 21 }
-    ensures { result.now ≡ get_or classes number [] }
-{
-    match number {
-        0 => "J1",
-        1 => "J2",
-        2 => "H1",
-        3 => "H2",
-        4 => "I1",
-        5 => "I2",
-        6 => "I3",
-        7 => "L1",
-        8 => "L2",
-        9 => "L3",
-        10 => "L4",
-        11 => "E1",
-        12 => "E2",
-        13 => "E3",
-        14 => "E4",
-        15 => "C1",
-        16 => "C2",
-        17 => "C3",
-        18 => "C4",
-        19 => "C5",
-        _ => "B1",
-    }
-}
-
-fn class_of(fault: &Fault) -> &'static str
-    ensures { result.now ≡ class_of fault.now }
-{
-    match fault {
-        Fault::J1 { .. } => "J1",
-        Fault::J2 { .. } => "J2",
-        Fault::H1 { .. } => "H1",
-        Fault::H2 { .. } => "H2",
-        Fault::I1 { .. } => "I1",
-        Fault::I2 { .. } => "I2",
-        Fault::I3 { .. } => "I3",
-        Fault::L1 { .. } => "L1",
-        Fault::L2 { .. } => "L2",
-        Fault::L3 { .. } => "L3",
-        Fault::L4 { .. } => "L4",
-        Fault::E1 { .. } => "E1",
-        Fault::E2 { .. } => "E2",
-        Fault::E3 { .. } => "E3",
-        Fault::E4 { .. } => "E4",
-        Fault::C1 { .. } => "C1",
-        Fault::C2 { .. } => "C2",
-        Fault::C3 { .. } => "C3",
-        Fault::C4 { .. } => "C4",
-        Fault::C5 => "C5",
-        Fault::B1 { .. } => "B1",
-    }
 }

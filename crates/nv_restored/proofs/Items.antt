@@ -4,7 +4,7 @@ use Rattle.std.specs.List.{slice_get}
 use Rattle.std.proofs.lemmas.Bool.{ltb-true, eqb-true}
 use Rattle.std.proofs.lemmas.List.{length-take}
 use Rattle.std.proofs.lemmas.List.Elements.{All-cons, All-head, All-nil, All-tail}
-use Rattle.nv_super.specs.declared.superblock.Super.{Super}
+use Rattle.nv_super.specs.Layout.{Layout}
 use Rattle.nv_super.specs.declared.kind.Kind.{Kind}
 use Rattle.nv_super.specs.declared.kind.Kind.TheVariants as kinds
 use Rattle.nv_entry.specs.Content.{is_dots}
@@ -21,7 +21,10 @@ use Rattle.nv_history.specs.Making.{lowest_unused}
 use Rattle.nv_unpack.specs.Said.{Said, said, Create, MakeDirectory, Write, SetAttributes, Link}
 use Rattle.nv_unpack.specs.Places.{place}
 use Rattle.nv_changes.specs.Calls.{IsThere}
-use Rattle.nv_unpack.specs.Calls.{BeginsFile, MakesDirectory, MakesItem, MakesKind, MakesLink, ends_above}
+use Rattle.nv_unpack.specs.declared.maker.Maker.{Maker}
+use Rattle.nv_unpack.specs.Calls.{BeginsFile, MakesDirectory, MakesKind, MakesLink}
+use Rattle.nv_unpack.specs.Turns.{IsInodeMaker, IsMaker}
+use Rattle.nv_unpack.specs.Ways.{MakesWay, ends_above}
 use Rattle.nv_tar.specs.Archive.{ArePaths, escape, link_path, member_kind, path_of, shown_path, tar_name}
 use Rattle.nv_roundtrip.specs.Archives.{bytes_of, item_kind}
 use Rattle.nv_restored.proofs.Contents.{IsFilled}
@@ -72,6 +75,16 @@ module _ (v : Tree) (front : List (List ℕ)) (q : List ℕ) (good : All IsPathN
           let both = both_left (nat_lt 0 k) (is_slash (slice_index (spelled (front ++ q ∷ [])) k)) is in
           by_front (take k (spelled (front ++ q ∷ []))) (omega (arith, short, length-take k (spelled (front ++ q ∷ [])))) (front_at (front ++ q ∷ []) good k (ltb-true 0 k both.0) (eqb-true (get_or (spelled (front ++ q ∷ [])) k 0) 47 both.1))
 
+-- What makes an item at a place: the way to it, and its own calls.
+pub record MakesItem (l : Layout) (maker : Maker) (text old : List ℕ) (item : Item) (v w : Tree) : Type 0 where
+  pub tree : Tree
+  pub leads : MakesWay l maker item.time text (length text) v tree
+  pub cpu : ℕ
+  pub may : (IsThere tree text × IsMaker maker l cpu) ⊎ IsInodeMaker maker l tree cpu
+  pub all : List Said
+  pub makes : MakesKind item.kind tree cpu text old item all
+  pub made : AreSaid l all tree w
+
 module _ (t : Tree) (members : List Member) (are : AreMembers t 1 false members) (orderly : IsOrderly t) (lost : List ℕ) (paths : List (List ℕ)) (are_paths : ArePaths (codes ".") lost members paths) where
   abbrev pub text : ℕ → List ℕ
   text k = slice_index_or paths k []
@@ -99,9 +112,8 @@ module _ (t : Tree) (members : List Member) (are : AreMembers t 1 false members)
   }
 
   -- its calls
-  abbrev pub CallsFor : Tree → ℕ → Kind → Bool → ℕ → Member → Node → List Said → Type 0
-  CallsFor v cpu kind first k m a all =
-      MakesItem v cpu (place (codes "/") (item_for kind first k m a).path) (place (codes "/") (item_for kind first k m a).link) (item_for kind first k m a) all
+  abbrev pub CallsFor : Layout → Maker → Kind → Bool → ℕ → Member → Node → Tree → Tree → Type 0
+  CallsFor l maker kind first k m a v w = MakesItem l maker (place (codes "/") (item_for kind first k m a).path) (place (codes "/") (item_for kind first k m a).link) (item_for kind first k m a) v w
 
   -- no copy yet of what stands for the first time
   not_copied : (P : ℕ → Node → Type 0) (k : ℕ) (f : ℕ → Option ℕ) (v : Tree) → IsStage t members P k f v → (m : Member) → slice_get members k ≡ Some m → (m.first ≡ k) ⊎ (m.kind ≡ kinds.Directory) → f m.inode ≡ None
@@ -124,7 +136,7 @@ module _ (t : Tree) (members : List Member) (are : AreMembers t 1 false members)
       by None is = refl
       by (Some j) is = absurd (never j is new)
 
-  module _ (s : Super) (cpu : ℕ) (room : HasNumbersFor s cpu (length members)) (k : ℕ) (f : ℕ → Option ℕ) (v w : Tree) (stage : IsStage t members (IsFilled t) k f v) (m : Member) (p : ℕ) (at : slice_get members k ≡ Some m) (hangs : m.parent ≡ Some p) (within : k < length members) (a : Node) (shows : t m.inode ≡ Some a) where
+  module _ (l : Layout) (maker : Maker) (room : HasNumbersFor l maker (length members)) (k : ℕ) (f : ℕ → Option ℕ) (v w : Tree) (stage : IsStage t members (IsFilled t) k f v) (m : Member) (p : ℕ) (at : slice_get members k ≡ Some m) (hangs : m.parent ≡ Some p) (within : k < length members) (a : Node) (shows : t m.inode ≡ Some a) where
     its : IsNameOf t members k p m
     its = stands_of t members are orderly k m p at hangs
 
@@ -140,11 +152,11 @@ module _ (t : Tree) (members : List Member) (are : AreMembers t 1 false members)
     short : length (spelled (next.front ++ m.name.now ∷ [])) ≤ 4096
     short = let long = next.long in let fits = (are.each k m at).short in omega (arith, long, fits)
 
-    unused : (n : ℕ) × (lowest_unused s v cpu ≡ Some n) × (v n ≡ None)
-    unused =
+    unused : (cpu : ℕ) → IsInodeMaker maker l v cpu → (n : ℕ) × (lowest_unused l v cpu ≡ Some n) × (v n ≡ None)
+    unused cpu may =
         let few = stage.few.1 in
-        let n = room v stage.few.0 (omega (arith, few, within)) (λ i used. let b = used_node (v i) used in stage.few.2 i b.0 b.1) in
-        (n.0, n.1, lowest_is_unused s v cpu n.0 n.1)
+        let n = room v stage.few.0 (omega (arith, few, within)) (λ i used. let b = used_node (v i) used in stage.few.2 i b.0 b.1) cpu may in
+        (n.0, n.1, lowest_is_unused l v cpu n.0 n.1)
 
     says_path : IsPath (path_text (next.front ++ m.name.now ∷ [])) (next.front ++ m.name.now ∷ [])
     says_path = path_is v next.front m.name.now next.good short next.number next.way
@@ -152,83 +164,93 @@ module _ (t : Tree) (members : List Member) (are : AreMembers t 1 false members)
     missing : IsThere v (path_text (next.front ++ m.name.now ∷ [])) → ⊥
     missing = not_there v (path_text (next.front ++ m.name.now ∷ [])) (next.front ++ m.name.now ∷ []) says_path next.none
 
-    -- none of its calls are for the way
-    own_calls : (old : List ℕ) (item : Item) (all : List Said) → MakesItem v cpu (path_text (next.front ++ m.name.now ∷ [])) old item all → MakesKind item.kind v cpu (path_text (next.front ++ m.name.now ∷ [])) old item all
-    own_calls old item all makes =
-        let none = no_way v cpu item.time (path_text (next.front ++ m.name.now ∷ [])) (all_above v next.front m.name.now next.good short next.number next.way) (length (path_text (next.front ++ m.name.now ∷ []))) makes.way makes.leads in
-        subst (λ (x : List Said). MakesKind item.kind v cpu (path_text (next.front ++ m.name.now ∷ [])) old item x) (sym (makes.whole ∙ ap (λ (x : List Said). x ++ makes.own) none)) makes.makes
+    -- where nothing is at its place, its CPU may make an inode
+    may_make : (cpu : ℕ) → (IsThere v (path_text (next.front ++ m.name.now ∷ [])) × IsMaker maker l cpu) ⊎ IsInodeMaker maker l v cpu → IsInodeMaker maker l v cpu
+    may_make cpu (inl there) = absurd (missing there.0)
+    may_make cpu (inr may) = may
+
+    -- its calls, of this tree
+    abbrev OwnCalls : List ℕ → Item → Tree → Type 0
+    OwnCalls old item x = (cpu : ℕ) × ((IsThere x (path_text (next.front ++ m.name.now ∷ [])) × IsMaker maker l cpu) ⊎ IsInodeMaker maker l x cpu) × (all : List Said)
+        × MakesKind item.kind x cpu (path_text (next.front ++ m.name.now ∷ [])) old item all × AreSaid l all x w
+
+    -- nothing is made for the way
+    own_calls : (old : List ℕ) (item : Item) → MakesItem l maker (path_text (next.front ++ m.name.now ∷ [])) old item v w → OwnCalls old item v
+    own_calls old item calls =
+        let same = no_way l maker item.time (path_text (next.front ++ m.name.now ∷ [])) v (all_above v next.front m.name.now next.good short next.number next.way) (length (path_text (next.front ++ m.name.now ∷ []))) v calls.tree refl calls.leads in
+        subst (OwnCalls old item) same (calls.cpu, calls.may, calls.all, calls.makes, calls.made)
 
     -- a file that stands for the first time
-    pub file_step : (all : List Said) → m.kind ≡ kinds.File → m.first ≡ k → CallsFor v cpu kinds.File true k m a all → AreSaid s all v w → (g : ℕ → Option ℕ) × IsStage t members (IsFilled t) (suc k) g w
-    file_step all kind first calls said =
+    pub file_step : m.kind ≡ kinds.File → m.first ≡ k → CallsFor l maker kinds.File true k m a v w → (g : ℕ → Option ℕ) × IsStage t members (IsFilled t) (suc k) g w
+    file_step kind first calls =
         let there : place (codes "/") (text k) ≡ path_text (next.front ++ m.name.now ∷ []) = ap (place (codes "/")) next.says ∙ file_place (next.front ++ m.name.now ∷ []) next.good in
         let item = item_for kinds.File true k m a in
-        let own = own_calls (place (codes "/") []) item all (subst (λ (x : List ℕ). MakesItem v cpu x (place (codes "/") []) item all) there calls) in
-        by own.0 own.1 (subst (λ (x : List Said). AreSaid s x v w) own.2 said)
+        let own = own_calls (place (codes "/") []) item (subst (λ (x : List ℕ). MakesItem l maker x (place (codes "/") []) item v w) there calls) in
+        by own.0 (may_make own.0 own.1) own.3.0 own.3.1 (subst (λ (x : List Said). AreSaid l x v w) own.3.2 own.4)
       where
-        by : (one : Said) → BeginsFile v cpu (path_text (next.front ++ m.name.now ∷ [])) (item_for kinds.File true k m a) one
-            → AreSaid s (one ∷ Write cpu (path_text (next.front ++ m.name.now ∷ [])) 0 (bytes_read 0 a.size a) a.time ∷ SetAttributes cpu (path_text (next.front ++ m.name.now ∷ [])) a.mode a.owner a.group a.time ∷ []) v w
+        by : (cpu : ℕ) → IsInodeMaker maker l v cpu → (one : Said) → BeginsFile v cpu (path_text (next.front ++ m.name.now ∷ [])) (item_for kinds.File true k m a) one
+            → AreSaid l (one ∷ Write cpu (path_text (next.front ++ m.name.now ∷ [])) 0 (bytes_read 0 a.size a) a.time ∷ SetAttributes cpu (path_text (next.front ++ m.name.now ∷ [])) a.mode a.owner a.group a.time ∷ []) v w
             → (g : ℕ → Option ℕ) × IsStage t members (IsFilled t) (suc k) g w
-        by one (inl is) said = absurd (missing is.0)
-        by one (inr is) said =
+        by cpu may one (inl is) said = absurd (missing is.0)
+        by cpu may one (inr is) said =
             let names = next.front ++ m.name.now ∷ [] in
-            let x = more_said s one _ v w said in
-            let y = more_said s _ _ x.0 w x.2 in
-            let z = more_said s _ [] y.0 w y.2 in
-            let n = unused in
-            let create : SaidMakes s (Create cpu (path_text names) a.mode a.time) v x.0 = subst (λ (c : Said). SaidMakes s c v x.0) is.1 x.1 in
-            let begun = by_names (path_text names) names (λ r. created kinds.File (lowest_unused s v cpu) r a.mode a.time v) x.0 says_path create in
+            let x = more_said l one _ v w said in
+            let y = more_said l _ _ x.0 w x.2 in
+            let z = more_said l _ [] y.0 w y.2 in
+            let n = unused cpu may in
+            let create : SaidMakes l (Create cpu (path_text names) a.mode a.time) v x.0 = subst (λ (c : Said). SaidMakes l c v x.0) is.1 x.1 in
+            let begun = by_names (path_text names) names (λ r. created kinds.File (lowest_unused l v cpu) r a.mode a.time v) x.0 says_path create in
             let begun_now : SameTree x.0 (created kinds.File (Some n.0) names a.mode a.time v) = subst (λ (o : Option ℕ). SameTree x.0 (created kinds.File o names a.mode a.time v)) n.1 begun in
             let filled = by_names (path_text names) names (λ r. written r 0 (bytes_read 0 a.size a) a.time x.0) y.0 says_path y.1 in
             let set = by_names (path_text names) names (λ r. attributed r a.mode a.owner a.group a.time y.0) z.0 says_path z.1 in
-            let last = same_transitive w z.0 (attributed names a.mode a.owner a.group a.time y.0) (none_said s z.0 w z.2) set in (
+            let last = same_transitive w z.0 (attributed names a.mode a.owner a.group a.time y.0) (none_said l z.0 w z.2) set in (
               add f m.inode n.0,
               file_made t members are orderly text texts k f v stage m p at hangs its next a shows n.0 a.time a.mode x.0 y.0 w
                   (not_copied (IsFilled t) k f v stage m at (inl first)) n.2 (kind_is ∙ kind) begun_now filled last,
             )
 
     -- a directory
-    pub directory_step : (first : Bool) (all : List Said) → m.kind ≡ kinds.Directory → CallsFor v cpu kinds.Directory first k m a all → AreSaid s all v w → (g : ℕ → Option ℕ) × IsStage t members (IsFilled t) (suc k) g w
-    directory_step first all kind calls said =
+    pub directory_step : (first : Bool) → m.kind ≡ kinds.Directory → CallsFor l maker kinds.Directory first k m a v w → (g : ℕ → Option ℕ) × IsStage t members (IsFilled t) (suc k) g w
+    directory_step first kind calls =
         let there : place (codes "/") (text k ++ codes "/") ≡ path_text (next.front ++ m.name.now ∷ []) = ap (λ (x : List ℕ). place (codes "/") (x ++ codes "/")) next.says ∙ directory_place (next.front ++ m.name.now ∷ []) next.good in
         let item = item_for kinds.Directory first k m a in
-        let own = own_calls (place (codes "/") []) item all (subst (λ (x : List ℕ). MakesItem v cpu x (place (codes "/") []) item all) there calls) in
-        by own
+        let own = own_calls (place (codes "/") []) item (subst (λ (x : List ℕ). MakesItem l maker x (place (codes "/") []) item v w) there calls) in
+        by own.0 (may_make own.0 own.1) own.2 own.3 own.4
       where
-        by : MakesDirectory v cpu (path_text (next.front ++ m.name.now ∷ [])) (item_for kinds.Directory first k m a) all → (g : ℕ → Option ℕ) × IsStage t members (IsFilled t) (suc k) g w
-        by (inl is) = let d = is.0 in absurd (missing (d.0, d.1, d.3, d.4.leads))
-        by (inr is) =
+        by : (cpu : ℕ) → IsInodeMaker maker l v cpu → (all : List Said) → MakesDirectory v cpu (path_text (next.front ++ m.name.now ∷ [])) (item_for kinds.Directory first k m a) all → AreSaid l all v w → (g : ℕ → Option ℕ) × IsStage t members (IsFilled t) (suc k) g w
+        by cpu may all (inl is) said = let d = is.0 in absurd (missing (d.0, d.1, d.3, d.4.leads))
+        by cpu may all (inr is) said =
             let names = next.front ++ m.name.now ∷ [] in
-            let x = more_said s (MakeDirectory cpu (path_text names) a.mode a.time) [] v w (subst (λ (c : List Said). AreSaid s c v w) is.1 said) in
-            let n = unused in
-            let begun = by_names (path_text names) names (λ r. created kinds.Directory (lowest_unused s v cpu) r a.mode a.time v) x.0 says_path x.1 in
+            let x = more_said l (MakeDirectory cpu (path_text names) a.mode a.time) [] v w (subst (λ (c : List Said). AreSaid l c v w) is.1 said) in
+            let n = unused cpu may in
+            let begun = by_names (path_text names) names (λ r. created kinds.Directory (lowest_unused l v cpu) r a.mode a.time v) x.0 says_path x.1 in
             let begun_now : SameTree x.0 (created kinds.Directory (Some n.0) names a.mode a.time v) = subst (λ (o : Option ℕ). SameTree x.0 (created kinds.Directory o names a.mode a.time v)) n.1 begun in (
               add f m.inode n.0,
               directory_made t members are orderly text texts k f v stage m p at hangs its next a shows n.0 a.time a.mode w
-                  (not_copied (IsFilled t) k f v stage m at (inr kind)) n.2 (kind_is ∙ kind) (same_transitive w x.0 (created kinds.Directory (Some n.0) names a.mode a.time v) (none_said s x.0 w x.2) begun_now),
+                  (not_copied (IsFilled t) k f v stage m at (inr kind)) n.2 (kind_is ∙ kind) (same_transitive w x.0 (created kinds.Directory (Some n.0) names a.mode a.time v) (none_said l x.0 w x.2) begun_now),
             )
 
     -- a further name of a file
-    pub link_step : (all : List Said) → m.kind ≡ kinds.File → m.first < k → CallsFor v cpu kinds.File false k m a all → AreSaid s all v w → (g : ℕ → Option ℕ) × IsStage t members (IsFilled t) (suc k) g w
-    link_step all kind earlier calls said =
+    pub link_step : m.kind ≡ kinds.File → m.first < k → CallsFor l maker kinds.File false k m a v w → (g : ℕ → Option ℕ) × IsStage t members (IsFilled t) (suc k) g w
+    link_step kind earlier calls =
         let there : place (codes "/") (text k) ≡ path_text (next.front ++ m.name.now ∷ []) = ap (place (codes "/")) next.says ∙ file_place (next.front ++ m.name.now ∷ []) next.good in
         let item = item_for kinds.File false k m a in
-        let own = own_calls (place (codes "/") (text m.first)) item all (subst (λ (x : List ℕ). MakesItem v cpu x (place (codes "/") (text m.first)) item all) there calls) in
-        by own
+        let own = own_calls (place (codes "/") (text m.first)) item (subst (λ (x : List ℕ). MakesItem l maker x (place (codes "/") (text m.first)) item v w) there calls) in
+        by own.0 own.2 own.3 own.4
       where
-        by : MakesLink v cpu (path_text (next.front ++ m.name.now ∷ [])) (place (codes "/") (text m.first)) (item_for kinds.File false k m a) all → (g : ℕ → Option ℕ) × IsStage t members (IsFilled t) (suc k) g w
-        by (inl is) = absurd (missing is.0)
-        by (inr is) =
+        by : (cpu : ℕ) (all : List Said) → MakesLink v cpu (path_text (next.front ++ m.name.now ∷ [])) (place (codes "/") (text m.first)) (item_for kinds.File false k m a) all → AreSaid l all v w → (g : ℕ → Option ℕ) × IsStage t members (IsFilled t) (suc k) g w
+        by cpu all (inl is) said = absurd (missing is.0)
+        by cpu all (inr is) said =
             let names = next.front ++ m.name.now ∷ [] in
             let first = are.first k m at in
             let old = way_at t members are orderly text texts (IsFilled t) k f v stage m.first first.0 earlier first.1 in
             let old_is : place (codes "/") (text m.first) ≡ path_text old.names = ap (place (codes "/")) old.says ∙ file_place old.names old.good in
             let short_old : length (spelled old.names) ≤ 4096 = (let long = old.long in let fits = (are.each m.first first.0 first.1).short in omega (arith, long, fits)) in
-            let x = more_said s (Link cpu (place (codes "/") (text m.first)) (path_text names) a.time) [] v w (subst (λ (c : List Said). AreSaid s c v w) is.1 said) in
-            let link : SaidMakes s (Link cpu (path_text old.names) (path_text names) a.time) v x.0 = subst (λ (c : List ℕ). SaidMakes s (Link cpu c (path_text names) a.time) v x.0) old_is x.1 in
+            let x = more_said l (Link cpu (place (codes "/") (text m.first)) (path_text names) a.time) [] v w (subst (λ (c : List Said). AreSaid l c v w) is.1 said) in
+            let link : SaidMakes l (Link cpu (path_text old.names) (path_text names) a.time) v x.0 = subst (λ (c : List ℕ). SaidMakes l (Link cpu c (path_text names) a.time) v x.0) old_is x.1 in
             let made = by_both (path_text old.names) (path_text names) old.names names (λ r q. linked r q a.time v) x.0 (path_of_names old.names old.good short_old) says_path link in
             let number : f m.inode ≡ Some old.number = ap f (sym first.2) ∙ old.of in (
               f,
               link_made t members are orderly text texts k f v stage m p at hangs its next a shows old.number a.time old.names w number old.leads refl (kind_is ∙ kind)
-                  (same_transitive w x.0 (linked old.names names a.time v) (none_said s x.0 w x.2) made),
+                  (same_transitive w x.0 (linked old.names names a.time v) (none_said l x.0 w x.2) made),
             )

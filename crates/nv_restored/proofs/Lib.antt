@@ -18,3 +18,4 @@ pub mod Unpacked
 pub mod Slots
 pub mod Sound
 pub mod RoundTrip
+pub mod Formatted

@@ -13,11 +13,6 @@ use Rattle.nv_restored.proofs.Copies.{edit_at, edit_off, edit_used, key_cases, s
 
 -- ---- lists of names
 
-one_once : (x : ℕ × List ℕ) → IsOnce (x ∷ [])
-one_once x zero zero y here there = refl
-one_once x zero (suc k) y here there = absurd (cc)
-one_once x (suc j) k y here there = absurd (cc)
-
 more_once : (x : ℕ × List ℕ) (names : List (ℕ × List ℕ)) → IsOnce names → (Contains names x → ⊥) → IsOnce (x ∷ names)
 more_once x names once new zero zero y here there = refl
 more_once x names once new zero (suc k) y here there = let same : x ≡ y = first x y here in absurd (new (subst (λ (z : ℕ × List ℕ). Contains names z) (sym same) (stands names k y there)))

@@ -1,6 +1,6 @@
 -- What is unpacked of the bytes of an archive.
-use Rattle.std.proofs.Common.{◌≡◌, ℕ, false, List, length, map, codes, Result, Ok, refl}
-use Rattle.nv_super.specs.declared.superblock.Super.{Super}
+use Rattle.std.proofs.Common.{◌≡◌, ℕ, false, List, length, map, codes, Result, Ok, refl, sym, subst}
+use Rattle.nv_super.specs.Layout.{Layout}
 use Rattle.nv_tree.specs.Tree.{Tree}
 use Rattle.nv_tar.specs.Archive.{IsArchive}
 use Rattle.nv_untar.specs.declared.errors.Damage.{Damage}
@@ -9,6 +9,8 @@ use Rattle.nv_untar.specs.Items.{Item, item_of}
 use Rattle.nv_untar.specs.Reading.{Holds}
 use Rattle.nv_roundtrip.specs.Archives.{HasRoomFor, items_of}
 use Rattle.nv_roundtrip.proofs.Archives.{archive_read_alone}
+use Rattle.nv_history.specs.Making.{AreMade}
+use Rattle.nv_unpack.specs.declared.maker.Maker.{Maker}
 use Rattle.nv_unpack.specs.Steps.{steps_of}
 use Rattle.nv_unpack.specs.Making.{AreSteps}
 use Rattle.nv_restored.specs.Restored.{IsRestored}
@@ -20,15 +22,28 @@ use Rattle.nv_restored.proofs.Unpacked.{steps_unpacked}
 same_items : (a b : List Item) → ◌≡◌ {A = Result (List Item) Damage} (Ok a) (Ok b) → a ≡ b
 same_items a b h = cc
 
-module _ (t empty u : Tree) (s : Super) (cpu : ℕ) (lost bytes : List ℕ) (archive : IsArchive t 1 (codes ".") lost false bytes) (items : List ItemValue) where
-  pub items_unpacked : IsOrderly t → IsEmpty empty → HasNumbersFor s cpu (length archive.members) → map item_of items ≡ items_of t archive.paths archive.members → AreSteps s (codes "/") cpu (steps_of items) empty u
+module _ (t empty u : Tree) (l : Layout) (maker : Maker) (lost bytes : List ℕ) (archive : IsArchive t 1 (codes ".") lost false bytes) (items : List ItemValue) where
+  pub items_unpacked : IsOrderly t → IsEmpty empty → HasNumbersFor l maker (length archive.members) → map item_of items ≡ items_of t archive.paths archive.members → AreSteps l (codes "/") maker (steps_of items) empty u
       → IsRestored t u
   items_unpacked orderly is_empty numbers are steps =
-      steps_unpacked t archive.members archive.are_members orderly lost archive.paths archive.are_paths s cpu numbers items empty u is_empty are _ _ steps
-      (λ value v w step. record { all = map said step.calls; are = step.are; made = record { calls = step.calls; say = refl; made = step.made } })
-      (λ value v w step. record { all = map said step.calls; are = step.are; made = record { calls = step.calls; say = refl; made = step.made } })
+      steps_unpacked t archive.members archive.are_members orderly lost archive.paths archive.are_paths l maker numbers items empty u is_empty are _ _ steps
+      (λ value v w step. record {
+        tree = step.tree;
+        leads = step.way;
+        cpu = step.are.cpu;
+        may = step.are.may;
+        all = map said step.calls;
+        makes = step.are.are;
+        made = record { calls = step.calls; say = refl; made = step.made };
+      })
+      (λ value v w step. record {
+        cpu = step.are.cpu;
+        all = map said step.calls;
+        are = step.are.are;
+        made = record { calls = step.calls; say = refl; made = subst (λ (x : Tree). AreMade l step.calls x w) (sym step.way) step.made };
+      })
 
-  pub bytes_unpacked : IsOrderly t → HasRoomFor t (codes ".") lost → IsEmpty empty → HasNumbersFor s cpu (length archive.members) → Holds bytes (Ok (map item_of items)) → AreSteps s (codes "/") cpu (steps_of items) empty u
+  pub bytes_unpacked : IsOrderly t → HasRoomFor t (codes ".") lost → IsEmpty empty → HasNumbersFor l maker (length archive.members) → Holds bytes (Ok (map item_of items)) → AreSteps l (codes "/") maker (steps_of items) empty u
       → IsRestored t u
   bytes_unpacked orderly room is_empty numbers holds steps =
       items_unpacked orderly is_empty numbers (same_items (map item_of items) (items_of t archive.paths archive.members) (archive_read_alone t 1 (codes ".") lost false bytes archive room (Ok (map item_of items)) holds)) steps

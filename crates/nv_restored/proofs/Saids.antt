@@ -1,8 +1,7 @@
 -- What calls make of a tree, by what they say.
 use Rattle.std.proofs.Common.{◌≡◌, ℕ, Bool, true, false, not, nat_eq, is_none, ◌&&◌, cond, List, [], ◌∷◌, take, map, Option, Some, None, refl, sym, ◌∙◌, ap, subst}
 use Rattle.std.specs.List.{find}
-use Rattle.nv_super.specs.Layout.{fixed_layout}
-use Rattle.nv_super.specs.declared.superblock.Super.{Super}
+use Rattle.nv_super.specs.Layout.{Layout}
 use Rattle.nv_super.specs.declared.kind.Kind.TheVariants as kinds
 use Rattle.nv_tree.specs.Path.{IsPath}
 use Rattle.nv_tree.specs.Tree.{Node, Tree, SameTree, found}
@@ -13,8 +12,9 @@ use Rattle.nv_history.specs.declared.calls.Call.{Call}
 use Rattle.nv_history.specs.declared.calls.Call.TheVariants as calls
 use Rattle.nv_history.specs.Making.{AreMade, none, more, ByPath, ByPaths, IsMadeBy, is_unused_in, lowest_unused}
 use Rattle.nv_unpack.specs.Said.{Said, said, Create, MakeDirectory, Write, SetSize, SetAttributes, Link, Unlink, RemoveDirectory, Rename, Clean}
-use Rattle.nv_unpack.specs.Calls.{MakesWay, ends_above}
-use Rattle.nv_unpack.specs.Calls as ways
+use Rattle.nv_unpack.specs.declared.maker.Maker.{Maker}
+use Rattle.nv_unpack.specs.Ways.{MakesWay, ends_above}
+use Rattle.nv_unpack.specs.Ways as ways
 use Rattle.nv_changes.specs.Calls.{IsThere}
 
 -- ---- unused numbers
@@ -35,41 +35,41 @@ both_hold : (x y : Bool) → (x && y) ≡ true → y ≡ true
 both_hold true y h = h
 both_hold false y h = absurd (cc)
 
-pub lowest_is_unused : (s : Super) (v : Tree) (cpu n : ℕ) → lowest_unused s v cpu ≡ Some n → v n ≡ None
-lowest_is_unused s v cpu n is = none_there (v n) (both_hold (not (nat_eq n 0)) (is_none (v n)) (found_passes (is_unused_in v) (numbers_in_table (fixed_layout s) cpu) n is))
+pub lowest_is_unused : (l : Layout) (v : Tree) (cpu n : ℕ) → lowest_unused l v cpu ≡ Some n → v n ≡ None
+lowest_is_unused l v cpu n is = none_there (v n) (both_hold (not (nat_eq n 0)) (is_none (v n)) (found_passes (is_unused_in v) (numbers_in_table l cpu) n is))
 
 -- ---- calls
 
 -- what a call makes, by what it says
-abbrev pub SaidMakes : Super → Said → Tree → Tree → Type 0
-SaidMakes s (Create cpu path mode time) t u = ByPath path (λ names. created kinds.File (lowest_unused s t cpu) names mode time t) u
-SaidMakes s (MakeDirectory cpu path mode time) t u = ByPath path (λ names. created kinds.Directory (lowest_unused s t cpu) names mode time t) u
-SaidMakes s (Write cpu path offset bytes time) t u = ByPath path (λ names. written names offset bytes time t) u
-SaidMakes s (SetSize cpu path size time) t u = ByPath path (λ names. resized names size time t) u
-SaidMakes s (SetAttributes cpu path mode owner group time) t u = ByPath path (λ names. attributed names mode owner group time t) u
-SaidMakes s (Link cpu old new time) t u = ByPaths old new (λ names others. linked names others time t) u
-SaidMakes s (Unlink cpu path time) t u = ByPath path (λ names. unlinked names time t) u
-SaidMakes s (RemoveDirectory cpu path time) t u = ByPath path (λ names. removed names time t) u
-SaidMakes s (Rename cpu old new time) t u = ByPaths old new (λ names others. renamed names others time t) u
-SaidMakes s (Clean path) t u = ByPath path (λ names. t) u
+abbrev pub SaidMakes : Layout → Said → Tree → Tree → Type 0
+SaidMakes l (Create cpu path mode time) t u = ByPath path (λ names. created kinds.File (lowest_unused l t cpu) names mode time t) u
+SaidMakes l (MakeDirectory cpu path mode time) t u = ByPath path (λ names. created kinds.Directory (lowest_unused l t cpu) names mode time t) u
+SaidMakes l (Write cpu path offset bytes time) t u = ByPath path (λ names. written names offset bytes time t) u
+SaidMakes l (SetSize cpu path size time) t u = ByPath path (λ names. resized names size time t) u
+SaidMakes l (SetAttributes cpu path mode owner group time) t u = ByPath path (λ names. attributed names mode owner group time t) u
+SaidMakes l (Link cpu old new time) t u = ByPaths old new (λ names others. linked names others time t) u
+SaidMakes l (Unlink cpu path time) t u = ByPath path (λ names. unlinked names time t) u
+SaidMakes l (RemoveDirectory cpu path time) t u = ByPath path (λ names. removed names time t) u
+SaidMakes l (Rename cpu old new time) t u = ByPaths old new (λ names others. renamed names others time t) u
+SaidMakes l (Clean path) t u = ByPath path (λ names. t) u
 
-said_makes : (s : Super) (call : Call) (t u : Tree) → IsMadeBy s call t u → SaidMakes s (said call) t u
-said_makes s (calls.Create cpu path mode time) t u h = h
-said_makes s (calls.MakeDirectory cpu path mode time) t u h = h
-said_makes s (calls.Write cpu path offset bytes time) t u h = h
-said_makes s (calls.SetSize cpu path size time) t u h = h
-said_makes s (calls.SetAttributes cpu path mode owner group time) t u h = h
-said_makes s (calls.Link cpu old new time) t u h = h
-said_makes s (calls.Unlink cpu path time) t u h = h
-said_makes s (calls.RemoveDirectory cpu path time) t u h = h
-said_makes s (calls.Rename cpu old new time) t u h = h
-said_makes s (calls.Clean path) t u h = h
+said_makes : (l : Layout) (call : Call) (t u : Tree) → IsMadeBy l call t u → SaidMakes l (said call) t u
+said_makes l (calls.Create cpu path mode time) t u h = h
+said_makes l (calls.MakeDirectory cpu path mode time) t u h = h
+said_makes l (calls.Write cpu path offset bytes time) t u h = h
+said_makes l (calls.SetSize cpu path size time) t u h = h
+said_makes l (calls.SetAttributes cpu path mode owner group time) t u h = h
+said_makes l (calls.Link cpu old new time) t u h = h
+said_makes l (calls.Unlink cpu path time) t u h = h
+said_makes l (calls.RemoveDirectory cpu path time) t u h = h
+said_makes l (calls.Rename cpu old new time) t u h = h
+said_makes l (calls.Clean path) t u h = h
 
 -- The second tree is made by calls that say this.
-pub record AreSaid (s : Super) (all : List Said) (t u : Tree) : Type 0 where
+pub record AreSaid (l : Layout) (all : List Said) (t u : Tree) : Type 0 where
   pub calls : List Call
   pub say : map said calls ≡ all
-  pub made : AreMade s calls t u
+  pub made : AreMade l calls t u
 
 first_of_both : (x y : Said) (xs ys : List Said) → x ∷ xs ≡ y ∷ ys → x ≡ y
 first_of_both x y xs ys h = cc
@@ -77,20 +77,20 @@ first_of_both x y xs ys h = cc
 rest_of_both : (x y : Said) (xs ys : List Said) → x ∷ xs ≡ y ∷ ys → xs ≡ ys
 rest_of_both x y xs ys h = cc
 
-no_calls : (s : Super) (calls : List Call) (t u : Tree) → map said calls ≡ [] → AreMade s calls t u → SameTree u t
-no_calls s [] t u say (none x y same) = same
-no_calls s (call ∷ calls) t u say made = absurd (cc)
+no_calls : (l : Layout) (calls : List Call) (t u : Tree) → map said calls ≡ [] → AreMade l calls t u → SameTree u t
+no_calls l [] t u say (none x y same) = same
+no_calls l (call ∷ calls) t u say made = absurd (cc)
 
-pub none_said : (s : Super) (t u : Tree) → AreSaid s [] t u → SameTree u t
-none_said s t u h = no_calls s h.calls t u h.say h.made
+pub none_said : (l : Layout) (t u : Tree) → AreSaid l [] t u → SameTree u t
+none_said l t u h = no_calls l h.calls t u h.say h.made
 
-one_call : (s : Super) (calls : List Call) (one : Said) (all : List Said) (t u : Tree) → map said calls ≡ one ∷ all → AreMade s calls t u → (v : Tree) × SaidMakes s one t v × AreSaid s all v u
-one_call s [] one all t u say made = absurd (cc)
-one_call s (call ∷ calls) one all t u say (more c cs x v y first rest) =
-    (v, subst (λ (z : Said). SaidMakes s z x v) (first_of_both (said c) one (map said cs) all say) (said_makes s c x v first), record { calls = cs; say = rest_of_both (said c) one (map said cs) all say; made = rest })
+one_call : (l : Layout) (calls : List Call) (one : Said) (all : List Said) (t u : Tree) → map said calls ≡ one ∷ all → AreMade l calls t u → (v : Tree) × SaidMakes l one t v × AreSaid l all v u
+one_call l [] one all t u say made = absurd (cc)
+one_call l (call ∷ calls) one all t u say (more c cs x v y first rest) =
+    (v, subst (λ (z : Said). SaidMakes l z x v) (first_of_both (said c) one (map said cs) all say) (said_makes l c x v first), record { calls = cs; say = rest_of_both (said c) one (map said cs) all say; made = rest })
 
-pub more_said : (s : Super) (one : Said) (all : List Said) (t u : Tree) → AreSaid s (one ∷ all) t u → (v : Tree) × SaidMakes s one t v × AreSaid s all v u
-more_said s one all t u h = one_call s h.calls one all t u h.say h.made
+pub more_said : (l : Layout) (one : Said) (all : List Said) (t u : Tree) → AreSaid l (one ∷ all) t u → (v : Tree) × SaidMakes l one t v × AreSaid l all v u
+more_said l one all t u h = one_call l h.calls one all t u h.say h.made
 
 -- ---- paths
 
@@ -114,7 +114,9 @@ not_there v text names is nowhere h =
 -- ---- the way to a place
 
 -- where each directory above is there, none is made
-pub no_way : (v : Tree) (cpu time : ℕ) (text : List ℕ) → ((k : ℕ) → ends_above text k ≡ true → IsThere v (take k text)) → (n : ℕ) (way : List Said) → MakesWay v cpu time text n way → way ≡ []
-no_way v cpu time text there n way ways.none = refl
-no_way v cpu time text there n way (ways.passes k before why rest) = no_way v cpu time text there k before rest
-no_way v cpu time text there n way (ways.makes k before ends missing rest) = absurd (missing (there k ends))
+pub no_way : (l : Layout) (maker : Maker) (time : ℕ) (text : List ℕ) (v : Tree) → ((k : ℕ) → ends_above text k ≡ true → IsThere v (take k text)) → (n : ℕ) (t w : Tree) → t ≡ v → MakesWay l maker time text n t w → w ≡ v
+no_way l maker time text v there n t w is (ways.none x) = is
+no_way l maker time text v there n t w is (ways.passes k x y why rest) = no_way l maker time text v there k x y is rest
+no_way l maker time text v there n t w is (ways.makes k x y z calls asks made rest) =
+    let same = no_way l maker time text v there k x y is rest in
+    absurd (asks.1 (subst (λ (q : Tree). IsThere q (take k text)) (sym same) (there k asks.0)))

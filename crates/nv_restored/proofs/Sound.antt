@@ -1,9 +1,10 @@
 -- Each tree of rows that a region shows without faults is one that an archive gives back.
-use Rattle.std.proofs.Common.{◌≡◌, ◌≢◌, ℕ, ◌<◌, Bool, true, false, cond, not, ◌&&◌, ◌||◌, nat_eq, List, [], ◌∷◌, length, Option, Some, None, refl, sym, ◌∙◌, ap, subst, inl, inr, arith}
+use Rattle.std.proofs.Common.{◌≡◌, ◌≢◌, ℕ, ◌<◌, Bool, true, false, cond, not, ◌&&◌, ◌||◌, nat_eq, List, [], ◌∷◌, length, get_or, Option, Some, None, refl, sym, ◌∙◌, ap, subst, inl, inr, arith}
 use Rattle.std.specs.Cmp.Lexicographic.{pointwise}
-use Rattle.std.specs.List.{All, Contains}
+use Rattle.std.specs.List.{All, Contains, slice_get}
 use Rattle.std.specs.Option.{option_and_then, option_map}
 use Rattle.std.proofs.lemmas.List.Elements.{All-contains, All-filter, filter_passes}
+use Rattle.std.proofs.lemmas.Option.{slice_get-get_or, slice_get_within}
 use Rattle.nv_region.specs.Region.{Region}
 use Rattle.nv_super.specs.Layout.{Layout, is_name_number}
 use Rattle.nv_super.specs.declared.kind.Kind.{Kind}
@@ -12,6 +13,8 @@ use Rattle.nv_super.specs.declared.superblock.Super.{Super}
 use Rattle.nv_super.proofs.Members.{none_in}
 use Rattle.nv_super.proofs.Rising.{Contains-cons}
 use Rattle.nv_super.proofs.Sorted.{same_keys}
+use Rattle.nv_super.proofs.RisingPlaces.{one_place}
+use Rattle.nv_super.specs.Order.{Rises}
 use Rattle.nv_entry.specs.Content.{has_bad_byte, is_dots, is_good, is_wrong_kind}
 use Rattle.nv_entry.specs.Spelling.{Stands}
 use Rattle.nv_entry.specs.declared.entry.NameEntry.{NameEntry}
@@ -25,12 +28,13 @@ use Rattle.nv_scan.specs.declared.piece.Row.{Row}
 use Rattle.nv_scan.proofs.Blocks.{last_word-all}
 use Rattle.nv_names.specs.Names.{name_at}
 use Rattle.nv_rows.specs.Rows.{row_of}
-use Rattle.nv_graph.specs.Graph.{IsOfKind, NoCrossFaults}
+use Rattle.nv_graph.specs.Graph.{IsOfKind, NoCrossFaults, pair_key}
 use Rattle.nv_graph.specs.Read.{graph_of}
 use Rattle.nv_tree.specs.Path.{IsPathName}
 use Rattle.nv_tree.specs.Tree.{Node, name_in}
 use Rattle.nv_paths.specs.Seen.{node_of, tree_of}
 use Rattle.nv_roundtrip.proofs.Shown.{IsThere, log_there, low_mode, name_behind, row_behind, row_there}
+use Rattle.nv_restored.specs.Links.{IsOnce, LinksAreNames}
 use Rattle.nv_restored.specs.Orderly.{IsOrderly}
 
 -- ---- what entries say
@@ -111,13 +115,23 @@ none_listed : {A : Type 0} (xs : List A) (x : A) → length xs ≡ 0 → Contain
 none_listed [] x none here = none_in x here
 none_listed (z ∷ xs) x none here = absurd (omega (arith, none))
 
+-- no element of a rising list stands twice
+rising_once : (key : ℕ × List ℕ → List ℕ) (xs : List (ℕ × List ℕ)) → Rises key xs → IsOnce xs
+rising_once key xs rises j k x here there =
+    let low = slice_get_within xs j x here in
+    let high = slice_get_within xs k x there in
+    one_place key xs j k x rises low high (ap key (sym (at j low here) ∙ at k high there))
+  where
+    at : (n : ℕ) → n < length xs → slice_get xs n ≡ Some x → x ≡ get_or xs n x
+    at n below is = (let same : Some x ≡ Some (get_or xs n x) = sym is ∙ slice_get-get_or xs n x below in cc)
+
 module _ (R : Region) (rows : List Row) (sound : NoCrossFaults (graph_of rows)) where
-  in_graph : (d i : ℕ) (name : List ℕ) → name_in (tree_of R rows) d name ≡ Some i → (graph_of rows).name d name ≡ Some i
+  pub in_graph : (d i : ℕ) (name : List ℕ) → name_in (tree_of R rows) d name ≡ Some i → (graph_of rows).name d name ≡ Some i
   in_graph d i name shows =
       let row = name_behind R rows d i name shows in
       ap (option_and_then (λ (r : Row). option_map (λ (x : ℕ × ℕ). x.0) (name_at r.names name))) row.1 ∙ row.2
 
-  no_root_name : (d : ℕ) (name : List ℕ) → name_in (tree_of R rows) d name ≢ Some 1
+  pub no_root_name : (d : ℕ) (name : List ℕ) → name_in (tree_of R rows) d name ≢ Some 1
   no_root_name d name shows =
       let names = sound.root_unnamed in
       none_listed names.0 (d, name) names.2 (names.1.all (d, name) (in_graph d 1 name shows))
@@ -135,7 +149,7 @@ module _ (R : Region) (rows : List Row) (sound : NoCrossFaults (graph_of rows)) 
       let same = one_listed names.0 (d, name) (e, other) names.2 (names.1.all (d, name) (in_graph d i name here)) (names.1.all (e, other) (in_graph e i other there)) in
       (ap (λ (x : ℕ × List ℕ). x.0) same, ap (λ (x : ℕ × List ℕ). x.1) same)
 
-  root_is : (node : Node) × (tree_of R rows 1 ≡ Some node) × (node.kind ≡ inodes.Directory)
+  pub root_is : (node : Node) × (tree_of R rows 1 ≡ Some node) × (node.kind ≡ inodes.Directory)
   root_is =
       let r = sound.root in
       by (row_of rows 1) refl r.1
@@ -145,6 +159,28 @@ module _ (R : Region) (rows : List Row) (sound : NoCrossFaults (graph_of rows)) 
       by (Some row) is shows =
           let same : record { kind = row.kind; links = row.numbers.links } ≡ sound.root.0 = cc in
           (node_of R row, ap (option_map (node_of R)) is, ap (λ n. n.kind) same ∙ sound.root.2)
+
+  -- ---- link counts
+
+  in_tree : (d i : ℕ) (name : List ℕ) → (graph_of rows).name d name ≡ Some i → name_in (tree_of R rows) d name ≡ Some i
+  in_tree d i name shows = by (row_of rows d) shows
+    where
+      by : (o : Option Row) → option_and_then (λ (r : Row). option_map (λ (x : ℕ × ℕ). x.0) (name_at r.names name)) o ≡ Some i → option_and_then (λ (node : Node). node.names name) (option_map (node_of R) o) ≡ Some i
+      by None is = is
+      by (Some row) is = is
+
+  pub links_are_names : LinksAreNames (tree_of R rows)
+  links_are_names i node shows kind =
+      let row = row_behind R rows i node shows in
+      let names = sound.files i (record { kind = row.0.kind; links = row.0.numbers.links }) (ap (option_map (λ (r : Row). record { kind = r.kind; links = r.numbers.links })) row.1) (ap (λ (n : Node). n.kind) row.2 ∙ kind) in (
+        names.0,
+        record {
+          once = rising_once pair_key names.0 names.1.rising;
+          each = λ x here. in_tree x.0 i x.1 (names.1.each x here);
+          all = λ x is. names.1.all x (in_graph x.0 i x.1 is);
+        },
+        names.2 ∙ ap (λ (n : Node). n.links) row.2,
+      )
 
 pub rows_are_orderly : (R S : Region) (l : Layout) (rows : List Row) → HasRows S l rows → NoCrossFaults (graph_of rows) → IsOrderly (tree_of R rows)
 rows_are_orderly R S l rows are sound = record {

@@ -62,9 +62,6 @@ parts_spelled b front (name ∷ names) clean good = parts_joined (b ∷ front) (
     rest [] is next = let some = is.fits.some in absurd (omega (arith, some))
     rest (c ∷ n) is next = next c n (no_slash (c ∷ n) is.bytes) (All-tail IsPathName name names good) ∙ ap (λ (x : List ℕ). x ++ spelled names) (part_said (c ∷ n) is)
 
-root_parts : parts_text (codes "/") ≡ []
-root_parts = refl
-
 spelled_or_root : (names : List (List ℕ)) → or_root (spelled names) ≡ path_text names
 spelled_or_root [] = refl
 spelled_or_root (name ∷ names) = refl

@@ -5,7 +5,7 @@ use Rattle.std.specs.Option.{option_map_or}
 use Rattle.std.proofs.lemmas.Bool.{cases_lt, eqb-true}
 use Rattle.std.proofs.lemmas.Bool.Decides.{eqb_tells}
 use Rattle.std.proofs.lemmas.List.Elements.{All-nil}
-use Rattle.nv_super.specs.declared.superblock.Super.{Super}
+use Rattle.nv_super.specs.Layout.{Layout}
 use Rattle.nv_super.specs.declared.kind.Kind.{Kind}
 use Rattle.nv_super.specs.declared.kind.Kind.TheVariants as kinds
 use Rattle.nv_tree.specs.Path.{IsPathName, path_text, spelled}
@@ -24,7 +24,9 @@ use Rattle.nv_untar.specs.Items.{Item, item_of}
 use Rattle.nv_unpack.specs.Steps.{is_directory_item, is_directory_kind, item_in}
 use Rattle.nv_unpack.specs.Said.{Said, SetAttributes}
 use Rattle.nv_unpack.specs.Places.{place}
-use Rattle.nv_unpack.specs.Calls.{IsDirectoryAt, MakesDirectory, MakesItem, attributes_call, ends_above}
+use Rattle.nv_unpack.specs.declared.maker.Maker.{Maker}
+use Rattle.nv_unpack.specs.Calls.{IsDirectoryAt, MakesDirectory, attributes_call}
+use Rattle.nv_unpack.specs.Ways.{ends_above}
 use Rattle.nv_unpack.specs.Making.{AreSteps, IsStep, none, more}
 use Rattle.nv_tar.specs.Archive.{ArePaths}
 use Rattle.nv_roundtrip.specs.Archives.{item_at, item_kind, items_from, items_of, one_item}
@@ -37,7 +39,7 @@ use Rattle.nv_restored.proofs.Begins.{first_stage, first_table}
 use Rattle.nv_restored.proofs.Same.{all_reached, all_within, path_of_names, same_by_paths}
 use Rattle.nv_restored.proofs.Texts.{directory_place}
 use Rattle.nv_restored.proofs.Saids.{AreSaid, by_names, more_said, no_way, none_said}
-use Rattle.nv_restored.proofs.Items.{CallsFor, directory_step, file_step, item_for, link_step, text, texts}
+use Rattle.nv_restored.proofs.Items.{CallsFor, MakesItem, directory_step, file_step, item_for, link_step, text, texts}
 
 -- ---- lists
 
@@ -82,11 +84,11 @@ Taken {A} f = A
 abbrev pub Step : Type 0
 Step = Taken item_in
 
-one_step : (s : Super) (base : List ℕ) (cpu : ℕ) (step : Step) (steps : List Step) (v u : Tree) → AreSteps s base cpu (step ∷ steps) v u → (w : Tree) × IsStep s base cpu step v w × AreSteps s base cpu steps w u
-one_step s base cpu step steps v u (more x xs t w y is rest) = (w, is, rest)
+one_step : (l : Layout) (base : List ℕ) (maker : Maker) (step : Step) (steps : List Step) (v u : Tree) → AreSteps l base maker (step ∷ steps) v u → (w : Tree) × IsStep l base maker step v w × AreSteps l base maker steps w u
+one_step l base maker step steps v u (more x xs t w y is rest) = (w, is, rest)
 
-no_steps : (s : Super) (base : List ℕ) (cpu : ℕ) (v u : Tree) → AreSteps s base cpu [] v u → v ≡ u
-no_steps s base cpu v u (none t) = refl
+no_steps : (l : Layout) (base : List ℕ) (maker : Maker) (v u : Tree) → AreSteps l base maker [] v u → v ≡ u
+no_steps l base maker v u (none t) = refl
 
 ends_nowhere : (k : ℕ) → ends_above (47 ∷ []) k ≡ true → ⊥
 ends_nowhere zero h = absurd (cc)
@@ -97,46 +99,39 @@ ends_nowhere (suc k) h = by (nat_lt 0 (suc k)) h
     by false is = cc
 
 -- a step that makes an item
-pub record IsMakeStep (s : Super) (cpu : ℕ) (value : ItemValue) (v w : Tree) : Type 0 where
-  pub all : List Said
-  pub are : MakesItem v cpu (place (codes "/") (item_of value).path) (place (codes "/") (item_of value).link) (item_of value) all
-  pub made : AreSaid s all v w
+abbrev pub IsMakeStep : Layout → Maker → ItemValue → Tree → Tree → Type 0
+IsMakeStep l maker value v w = MakesItem l maker (place (codes "/") (item_of value).path) (place (codes "/") (item_of value).link) (item_of value) v w
 
 -- a step that sets the attributes of one
-pub record IsSetStep (s : Super) (cpu : ℕ) (value : ItemValue) (v w : Tree) : Type 0 where
+pub record IsSetStep (l : Layout) (value : ItemValue) (v w : Tree) : Type 0 where
+  pub cpu : ℕ
   pub all : List Said
   pub are : all ≡ attributes_call cpu (place (codes "/") (item_of value).path) (item_of value) ∷ []
-  pub made : AreSaid s all v w
+  pub made : AreSaid l all v w
 
 kind_differs : kinds.File ≡ kinds.Directory → ⊥
 kind_differs h = cc
 
 module _ (t : Tree) (members : List Member) (are : AreMembers t 1 false members) (orderly : IsOrderly t) (lost : List ℕ) (paths : List (List ℕ)) (are_paths : ArePaths (codes ".") lost members paths) where
-  -- its step says this of a member
-  record IsFor (v : Tree) (cpu k : ℕ) (m : Member) (a : Node) (s : Super) (w : Tree) : Type 0 where
-    all : List Said
-    calls : CallsFor t members are orderly lost paths are_paths v cpu m.kind (m.first == k) k m a all
-    said_all : AreSaid s all v w
+  -- its step makes this of a member
+  abbrev IsFor : ℕ → Member → Node → Layout → Maker → Tree → Tree → Type 0
+  IsFor k m a l maker v w = CallsFor t members are orderly lost paths are_paths l maker m.kind (m.first == k) k m a v w
 
-  for_member : (s : Super) (cpu k : ℕ) (m : Member) (a : Node) (value : ItemValue) (v w : Tree) → item_of value ≡ item_at paths k m a → IsMakeStep s cpu value v w → IsFor v cpu k m a s w
-  for_member s cpu k m a value v w is step = record {
-    all = step.all;
-    calls = subst (λ (x : Item). MakesItem v cpu (place (codes "/") x.path) (place (codes "/") x.link) x step.all) is step.are;
-    said_all = step.made;
-  }
+  for_member : (l : Layout) (maker : Maker) (k : ℕ) (m : Member) (a : Node) (value : ItemValue) (v w : Tree) → item_of value ≡ item_at paths k m a → IsMakeStep l maker value v w → IsFor k m a l maker v w
+  for_member l maker k m a value v w is step = subst (λ (x : Item). MakesItem l maker (place (codes "/") x.path) (place (codes "/") x.link) x v w) is step
 
   -- ---- the root
 
-  root_stays : (s : Super) (cpu : ℕ) (m : Member) (a : Node) (v w : Tree) → IsEmpty v → slice_get members 0 ≡ Some m → m.parent ≡ None → m.kind ≡ kinds.Directory → IsFor v cpu 0 m a s w → SameTree w v
-  root_stays s cpu m a v w empty at no_parent kind f =
-      let all = f.all in
-      let calls : CallsFor t members are orderly lost paths are_paths v cpu kinds.Directory (m.first == 0) 0 m a all = subst (λ (x : Kind). CallsFor t members are orderly lost paths are_paths v cpu x (m.first == 0) 0 m a all) kind f.calls in
+  root_stays : (l : Layout) (maker : Maker) (m : Member) (a : Node) (v w : Tree) → IsEmpty v → slice_get members 0 ≡ Some m → m.parent ≡ None → m.kind ≡ kinds.Directory → IsFor 0 m a l maker v w → SameTree w v
+  root_stays l maker m a v w empty at no_parent kind f =
+      let calls : CallsFor t members are orderly lost paths are_paths l maker kinds.Directory (m.first == 0) 0 m a v w = subst (λ (x : Kind). CallsFor t members are orderly lost paths are_paths l maker x (m.first == 0) 0 m a v w) kind f in
       let says : slice_text ≡ 46 ∷ [] = subst (λ (o : Option ℕ). IsTextOf (text t members are orderly lost paths are_paths) 0 o m) no_parent (texts t members are orderly lost paths are_paths 0 m at) in
       let there : place (codes "/") (slice_text ++ codes "/") ≡ 47 ∷ [] = ap (λ (x : List ℕ). place (codes "/") (x ++ codes "/")) says ∙ directory_place [] (All-nil IsPathName) in
-      let here : MakesItem v cpu (47 ∷ []) (place (codes "/") []) (item_for t members are orderly lost paths are_paths kinds.Directory (m.first == 0) 0 m a) all =
-      subst (λ (x : List ℕ). MakesItem v cpu x (place (codes "/") []) (item_for t members are orderly lost paths are_paths kinds.Directory (m.first == 0) 0 m a) all) there calls in
-      let no_calls_way = no_way v cpu a.time (47 ∷ []) (λ k ends. absurd (ends_nowhere k ends)) 1 here.way here.leads in
-      none_said s v w (subst (λ (x : List Said). AreSaid s x v w) (here.whole ∙ ap (λ (x : List Said). x ++ here.own) no_calls_way ∙ own here.own here.makes) f.said_all)
+      let here : MakesItem l maker (47 ∷ []) (place (codes "/") []) (item_for t members are orderly lost paths are_paths kinds.Directory (m.first == 0) 0 m a) v w =
+      subst (λ (x : List ℕ). MakesItem l maker x (place (codes "/") []) (item_for t members are orderly lost paths are_paths kinds.Directory (m.first == 0) 0 m a) v w) there calls in
+      let same = no_way l maker a.time (47 ∷ []) v (λ k ends. absurd (ends_nowhere k ends)) 1 v here.tree refl here.leads in
+      let now = subst (λ (x : Tree). (all : List Said) × MakesDirectory x here.cpu (47 ∷ []) (item_for t members are orderly lost paths are_paths kinds.Directory (m.first == 0) 0 m a) all × AreSaid l all x w) same (here.all, here.makes, here.made) in
+      none_said l v w (subst (λ (x : List Said). AreSaid l x v w) (own here.cpu now.0 now.1) now.2)
     where
       slice_text : List ℕ
       slice_text = text t members are orderly lost paths are_paths 0
@@ -144,23 +139,23 @@ module _ (t : Tree) (members : List Member) (are : AreMembers t 1 false members)
       root_there : IsDirectoryAt v (47 ∷ [])
       root_there = let r = empty.root in ([], 1, r.0, root_path (47 ∷ []) refl, record { leads = in_use_at v 1 r.0 r.1; shows = r.1 }, r.2)
 
-      own : (these : List Said) → MakesDirectory v cpu (47 ∷ []) (item_for t members are orderly lost paths are_paths kinds.Directory (m.first == 0) 0 m a) these → these ≡ []
-      own these (inl is) = is.1
-      own these (inr is) = absurd (is.0 root_there)
+      own : (cpu : ℕ) (these : List Said) → MakesDirectory v cpu (47 ∷ []) (item_for t members are orderly lost paths are_paths kinds.Directory (m.first == 0) 0 m a) these → these ≡ []
+      own cpu these (inl is) = is.1
+      own cpu these (inr is) = absurd (is.0 root_there)
 
   -- ---- the members behind it
 
-  module _ (s : Super) (cpu : ℕ) (room : HasNumbersFor s cpu (length members)) (make set : ItemValue → Step) (is_make : (value : ItemValue) (v w : Tree) → IsStep s (codes "/") cpu (make value) v w → IsMakeStep s cpu value v w) (is_set : (value : ItemValue) (v w : Tree) → IsStep s (codes "/") cpu (set value) v w → IsSetStep s cpu value v w) where
-    member_made : (k : ℕ) (m : Member) (a : Node) (f : ℕ → Option ℕ) (v w : Tree) → 1 ≤ k → slice_get members k ≡ Some m → t m.inode ≡ Some a → IsStage t members (IsFilled t) k f v → IsFor v cpu k m a s w → (g : ℕ → Option ℕ) × IsStage t members (IsFilled t) (suc k) g w
+  module _ (l : Layout) (maker : Maker) (room : HasNumbersFor l maker (length members)) (make set : ItemValue → Step) (is_make : (value : ItemValue) (v w : Tree) → IsStep l (codes "/") maker (make value) v w → IsMakeStep l maker value v w) (is_set : (value : ItemValue) (v w : Tree) → IsStep l (codes "/") maker (set value) v w → IsSetStep l value v w) where
+    member_made : (k : ℕ) (m : Member) (a : Node) (f : ℕ → Option ℕ) (v w : Tree) → 1 ≤ k → slice_get members k ≡ Some m → t m.inode ≡ Some a → IsStage t members (IsFilled t) k f v → IsFor k m a l maker v w → (g : ℕ → Option ℕ) × IsStage t members (IsFilled t) (suc k) g w
     member_made k m a f v w behind at shows stage is = by m.parent refl
       where
         within : k < length members
         within = inside members k m at
 
-        by_kind : (p : ℕ) → m.parent ≡ Some p → (kind : Kind) → m.kind ≡ kind → (first : Bool) → (m.first == k) ≡ first → CallsFor t members are orderly lost paths are_paths v cpu kind first k m a is.all → (g : ℕ → Option ℕ) × IsStage t members (IsFilled t) (suc k) g w
-        by_kind p hangs kinds.Directory kind first one calls = directory_step t members are orderly lost paths are_paths s cpu room k f v w stage m p at hangs within a shows first is.all kind calls is.said_all
-        by_kind p hangs kinds.File kind true one calls = file_step t members are orderly lost paths are_paths s cpu room k f v w stage m p at hangs within a shows is.all kind (eqb-true m.first k one) calls is.said_all
-        by_kind p hangs kinds.File kind false one calls = link_step t members are orderly lost paths are_paths s cpu room k f v w stage m p at hangs within a shows is.all kind (earlier (eqb_tells m.first k)) calls is.said_all
+        by_kind : (p : ℕ) → m.parent ≡ Some p → (kind : Kind) → m.kind ≡ kind → (first : Bool) → (m.first == k) ≡ first → CallsFor t members are orderly lost paths are_paths l maker kind first k m a v w → (g : ℕ → Option ℕ) × IsStage t members (IsFilled t) (suc k) g w
+        by_kind p hangs kinds.Directory kind first one calls = directory_step t members are orderly lost paths are_paths l maker room k f v w stage m p at hangs within a shows first kind calls
+        by_kind p hangs kinds.File kind true one calls = file_step t members are orderly lost paths are_paths l maker room k f v w stage m p at hangs within a shows kind (eqb-true m.first k one) calls
+        by_kind p hangs kinds.File kind false one calls = link_step t members are orderly lost paths are_paths l maker room k f v w stage m p at hangs within a shows kind (earlier (eqb_tells m.first k)) calls
           where
             earlier : (((m.first == k) ≡ true) × (m.first ≡ k)) ⊎ (((m.first == k) ≡ false) × (m.first ≡ k → ⊥)) → m.first < k
             earlier (inl same) = let never : true ≡ false = sym same.0 ∙ one in absurd (cc)
@@ -172,59 +167,59 @@ module _ (t : Tree) (members : List Member) (are : AreMembers t 1 false members)
 
         by : (o : Option ℕ) → m.parent ≡ o → (g : ℕ → Option ℕ) × IsStage t members (IsFilled t) (suc k) g w
         by None none_is = let first = (root_place t members are orderly k m at none_is).0 in absurd (omega (arith, first, behind))
-        by (Some p) hangs = by_kind p hangs m.kind refl (m.first == k) refl is.calls
+        by (Some p) hangs = by_kind p hangs m.kind refl (m.first == k) refl is
 
     -- a later stage, and the steps that are left
     record IsLater (count : ℕ) (rest : List Step) (u : Tree) : Type 0 where
       f : ℕ → Option ℕ
       v : Tree
       stage : IsStage t members (IsFilled t) count f v
-      steps : AreSteps s (codes "/") cpu rest v u
+      steps : AreSteps l (codes "/") maker rest v u
 
     all_made : (ms : List Member) (values : List ItemValue) (k : ℕ) → 1 ≤ k → ((j q : ℕ) (m : Member) → q ≡ k + j → slice_get ms j ≡ Some m → slice_get members q ≡ Some m) → map item_of values ≡ items_from t paths k ms → (rest : List Step) (f : ℕ → Option ℕ) (v u : Tree)
-        → IsStage t members (IsFilled t) k f v → AreSteps s (codes "/") cpu (map make values ++ rest) v u → IsLater (k + length ms) rest u
+        → IsStage t members (IsFilled t) k f v → AreSteps l (codes "/") maker (map make values ++ rest) v u → IsLater (k + length ms) rest u
     all_made [] values k behind place_of are_items rest f v u stage steps =
         record {
           f = f;
           v = v;
           stage = subst (λ (n : ℕ). IsStage t members (IsFilled t) n f v) (omega arith) stage;
-          steps = subst (λ (x : List ItemValue). AreSteps s (codes "/") cpu (map make x ++ rest) v u) (no_values values are_items) steps;
+          steps = subst (λ (x : List ItemValue). AreSteps l (codes "/") maker (map make x ++ rest) v u) (no_values values are_items) steps;
         }
     all_made (m ∷ ms) values k behind place_of are_items rest f v u stage steps =
         let at = place_of 0 k m (omega arith) refl in
         let shown = are.each k m at in
         let one : one_item t paths k m ≡ item_at paths k m shown.node ∷ [] = ap (λ (o : Option Node). option_map_or (λ (n : Node). item_at paths k m n ∷ []) o []) shown.shows in
         let x = value_of values (item_at paths k m shown.node) (items_from t paths (suc k) ms) (are_items ∙ ap (λ (l : List Item). l ++ items_from t paths (suc k) ms) one) in
-        let first = one_step s (codes "/") cpu (make x.value) (map make x.others ++ rest) v u (subst (λ (l : List ItemValue). AreSteps s (codes "/") cpu (map make l ++ rest) v u) x.whole steps) in
-        let made = member_made k m shown.node f v first.0 behind at shown.shows stage (for_member s cpu k m shown.node x.value v first.0 x.is (is_make x.value v first.0 first.1)) in
+        let first = one_step l (codes "/") maker (make x.value) (map make x.others ++ rest) v u (subst (λ (xs : List ItemValue). AreSteps l (codes "/") maker (map make xs ++ rest) v u) x.whole steps) in
+        let made = member_made k m shown.node f v first.0 behind at shown.shows stage (for_member l maker k m shown.node x.value v first.0 x.is (is_make x.value v first.0 first.1)) in
         let later = all_made ms x.others (suc k) (omega arith) (λ j q n is there. place_of (suc j) q n (omega (arith, is)) there) x.are rest made.0 first.0 u made.1 first.2 in
         record { f = later.f; v = later.v; stage = subst (λ (n : ℕ). IsStage t members (IsFilled t) n later.f later.v) (omega arith) later.stage; steps = later.steps }
 
     -- ---- the attributes of directories
 
     all_set : (ms : List Member) (values : List ItemValue) (k : ℕ) → ((j q : ℕ) (m : Member) → q ≡ k + j → slice_get ms j ≡ Some m → slice_get members q ≡ Some m) → map item_of values ≡ items_from t paths k ms → (f : ℕ → Option ℕ) (v u : Tree)
-        → IsStage t members (IsSet t members k) (length members) f v → AreSteps s (codes "/") cpu (map set (filter is_directory_item values)) v u → IsStage t members (IsSet t members (k + length ms)) (length members) f u
+        → IsStage t members (IsSet t members k) (length members) f v → AreSteps l (codes "/") maker (map set (filter is_directory_item values)) v u → IsStage t members (IsSet t members (k + length ms)) (length members) f u
     all_set [] values k place_of are_items f v u stage steps =
-        let same = no_steps s (codes "/") cpu v u (subst (λ (x : List ItemValue). AreSteps s (codes "/") cpu (map set (filter is_directory_item x)) v u) (no_values values are_items) steps) in
+        let same = no_steps l (codes "/") maker v u (subst (λ (x : List ItemValue). AreSteps l (codes "/") maker (map set (filter is_directory_item x)) v u) (no_values values are_items) steps) in
         subst (λ (x : Tree). IsStage t members (IsSet t members (k + 0)) (length members) f x) same (subst (λ (n : ℕ). IsStage t members (IsSet t members n) (length members) f v) (omega arith) stage)
     all_set (m ∷ ms) values k place_of are_items f v u stage steps =
         let at = place_of 0 k m (omega arith) refl in
         let shown = are.each k m at in
         let one : one_item t paths k m ≡ item_at paths k m shown.node ∷ [] = ap (λ (o : Option Node). option_map_or (λ (n : Node). item_at paths k m n ∷ []) o []) shown.shows in
         let x = value_of values (item_at paths k m shown.node) (items_from t paths (suc k) ms) (are_items ∙ ap (λ (l : List Item). l ++ items_from t paths (suc k) ms) one) in
-        let these = subst (λ (l : List ItemValue). AreSteps s (codes "/") cpu (map set (filter is_directory_item l)) v u) x.whole steps in
+        let these = subst (λ (xs : List ItemValue). AreSteps l (codes "/") maker (map set (filter is_directory_item xs)) v u) x.whole steps in
         let kind_is : x.value.kind ≡ item_kind m.kind (m.first == k) = ap (λ (i : Item). i.kind) x.is in
         subst (λ (n : ℕ). IsStage t members (IsSet t members n) (length members) f u) (omega arith)
         (by_kind k m shown.node x.value x.others v at shown.shows shown.kind x.is stage m.kind refl (m.first == k) kind_is these
         (λ w stage_now left. all_set ms x.others (suc k) (λ j q n is there. place_of (suc j) q n (omega (arith, is)) there) x.are f w u stage_now left))
       where
         by_kind : (k : ℕ) (m : Member) (a : Node) (value : ItemValue) (others : List ItemValue) (v : Tree) → slice_get members k ≡ Some m → t m.inode ≡ Some a → m.kind ≡ a.kind → item_of value ≡ item_at paths k m a → IsStage t members (IsSet t members k) (length members) f v
-            → (kind : Kind) → m.kind ≡ kind → (first : Bool) → value.kind ≡ item_kind kind first → AreSteps s (codes "/") cpu (map set (filter is_directory_item (value ∷ others))) v u
-            → ((w : Tree) → IsStage t members (IsSet t members (suc k)) (length members) f w → AreSteps s (codes "/") cpu (map set (filter is_directory_item others)) w u → IsStage t members (IsSet t members (suc k + length ms)) (length members) f u)
+            → (kind : Kind) → m.kind ≡ kind → (first : Bool) → value.kind ≡ item_kind kind first → AreSteps l (codes "/") maker (map set (filter is_directory_item (value ∷ others))) v u
+            → ((w : Tree) → IsStage t members (IsSet t members (suc k)) (length members) f w → AreSteps l (codes "/") maker (map set (filter is_directory_item others)) w u → IsStage t members (IsSet t members (suc k + length ms)) (length members) f u)
             → IsStage t members (IsSet t members (suc k + length ms)) (length members) f u
         by_kind k m a value others v at shows node_kind item_is stage kinds.File kind first value_kind steps go =
             let passes : is_directory_item value ≡ false = ap is_directory_kind value_kind ∙ by_first first in
-            let left = subst (λ (b : Bool). AreSteps s (codes "/") cpu (map set (cond b (value ∷ filter is_directory_item others) (filter is_directory_item others))) v u) passes steps in
+            let left = subst (λ (b : Bool). AreSteps l (codes "/") maker (map set (cond b (value ∷ filter is_directory_item others) (filter is_directory_item others))) v u) passes steps in
             go v (file_passed t members are orderly (text t members are orderly lost paths are_paths) (texts t members are orderly lost paths are_paths) (length members) f v k m at (λ d. kind_differs (sym kind ∙ d)) stage) left
           where
             by_first : (b : Bool) → is_directory_kind (item_kind kinds.File b) ≡ false
@@ -232,8 +227,8 @@ module _ (t : Tree) (members : List Member) (are : AreMembers t 1 false members)
             by_first false = refl
         by_kind k m a value others v at shows node_kind item_is stage kinds.Directory kind first value_kind steps go =
             let passes : is_directory_item value ≡ true = ap is_directory_kind value_kind in
-            let left = subst (λ (b : Bool). AreSteps s (codes "/") cpu (map set (cond b (value ∷ filter is_directory_item others) (filter is_directory_item others))) v u) passes steps in
-            let now = one_step s (codes "/") cpu (set value) (map set (filter is_directory_item others)) v u left in
+            let left = subst (λ (b : Bool). AreSteps l (codes "/") maker (map set (cond b (value ∷ filter is_directory_item others) (filter is_directory_item others))) v u) passes steps in
+            let now = one_step l (codes "/") maker (set value) (map set (filter is_directory_item others)) v u left in
             let below = inside members k m at in
             let w = way_at t members are orderly (text t members are orderly lost paths are_paths) (texts t members are orderly lost paths are_paths) (IsSet t members k) (length members) f v stage k m below at in
             let short : length (spelled w.names) ≤ 4096 = (let long = w.long in let fits = (are.each k m at).short in omega (arith, long, fits)) in
@@ -241,16 +236,16 @@ module _ (t : Tree) (members : List Member) (are : AreMembers t 1 false members)
             let item_now : item_of value ≡ item = item_is ∙ ap (λ (x : Kind). item_for t members are orderly lost paths are_paths x (m.first == k) k m a) kind in
             let there : place (codes "/") item.path ≡ path_text w.names = ap (λ (x : List ℕ). place (codes "/") (x ++ codes "/")) w.says ∙ directory_place w.names w.good in
             let step = is_set value v now.0 now.1 in
-            let says : step.all ≡ SetAttributes cpu (path_text w.names) a.mode a.owner a.group a.time ∷ [] =
-            step.are ∙ ap (λ (i : Item). SetAttributes cpu (place (codes "/") i.path) i.mode i.owner i.group i.time ∷ []) item_now ∙ ap (λ (p : List ℕ). SetAttributes cpu p a.mode a.owner a.group a.time ∷ []) there in
-            let x = more_said s (SetAttributes cpu (path_text w.names) a.mode a.owner a.group a.time) [] v now.0 (subst (λ (c : List Said). AreSaid s c v now.0) says step.made) in
+            let says : step.all ≡ SetAttributes step.cpu (path_text w.names) a.mode a.owner a.group a.time ∷ [] =
+            step.are ∙ ap (λ (i : Item). SetAttributes step.cpu (place (codes "/") i.path) i.mode i.owner i.group i.time ∷ []) item_now ∙ ap (λ (p : List ℕ). SetAttributes step.cpu p a.mode a.owner a.group a.time ∷ []) there in
+            let x = more_said l (SetAttributes step.cpu (path_text w.names) a.mode a.owner a.group a.time) [] v now.0 (subst (λ (c : List Said). AreSaid l c v now.0) says step.made) in
             let set = by_names (path_text w.names) w.names (λ r. attributed r a.mode a.owner a.group a.time v) x.0 (path_of_names w.names w.good short) x.1 in
             go now.0 (directory_set t members are orderly (text t members are orderly lost paths are_paths) (texts t members are orderly lost paths are_paths) (length members) f v k m a w.names now.0 below at kind shows (sym node_kind ∙ kind) w.good w.says
-            (same_transitive now.0 x.0 (attributed w.names a.mode a.owner a.group a.time v) (none_said s x.0 now.0 x.2) set) stage) now.2
+            (same_transitive now.0 x.0 (attributed w.names a.mode a.owner a.group a.time v) (none_said l x.0 now.0 x.2) set) stage) now.2
 
     -- ---- all steps
 
-    restored : (values : List ItemValue) (v u : Tree) → IsEmpty v → map item_of values ≡ items_of t paths members → AreSteps s (codes "/") cpu (map make values ++ map set (filter is_directory_item values)) v u → IsRestored t u
+    restored : (values : List ItemValue) (v u : Tree) → IsEmpty v → map item_of values ≡ items_of t paths members → AreSteps l (codes "/") maker (map make values ++ map set (filter is_directory_item values)) v u → IsRestored t u
     restored values v u empty are_items steps =
         let r = are.begins in
         let ms = first_member members r.0 r.1 in
@@ -260,8 +255,8 @@ module _ (t : Tree) (members : List Member) (are : AreMembers t 1 false members)
         let one : one_item t paths 0 r.0 ≡ item_at paths 0 r.0 shown.node ∷ [] = ap (λ (x : Option Node). option_map_or (λ (n : Node). item_at paths 0 r.0 n ∷ []) x []) shown.shows in
         let x = value_of values (item_at paths 0 r.0 shown.node) (items_from t paths 1 ms.0) (are_items ∙ ap (λ (l : List Member). items_from t paths 0 l) ms.1 ∙ ap (λ (l : List Item). l ++ items_from t paths 1 ms.0) one) in
         let behind : List Step = map set (filter is_directory_item values) in
-        let first = one_step s (codes "/") cpu (make x.value) (map make x.others ++ behind) v u (subst (λ (l : List ItemValue). AreSteps s (codes "/") cpu (map make l ++ behind) v u) x.whole steps) in
-        let stays = root_stays s cpu r.0 shown.node v first.0 empty r.1 r.2 kind (for_member s cpu 0 r.0 shown.node x.value v first.0 x.is (is_make x.value v first.0 first.1)) in
+        let first = one_step l (codes "/") maker (make x.value) (map make x.others ++ behind) v u (subst (λ (xs : List ItemValue). AreSteps l (codes "/") maker (map make xs ++ behind) v u) x.whole steps) in
+        let stays = root_stays l maker r.0 shown.node v first.0 empty r.1 r.2 kind (for_member l maker 0 r.0 shown.node x.value v first.0 x.is (is_make x.value v first.0 first.1)) in
         let begun : IsStage t members (IsFilled t) 1 first_table first.0 = stage_alike t members are orderly (IsFilled t) 1 first_table v first.0 (filled_stable t) (same_symmetric first.0 v stays) stays (first_stage t members are orderly v empty) in
         let later = all_made ms.0 x.others 1 (omega arith) (λ j q m is there. let place_is : q ≡ suc j = omega (arith, is) in ap (λ (l : List Member). slice_get l q) ms.1 ∙ ap (slice_get (r.0 ∷ ms.0)) place_is ∙ there) x.are behind first_table first.0 u begun first.2 in
         let count : 1 + length ms.0 ≡ length members = omega (arith, ap (length {A = Member}) ms.1) in
@@ -272,7 +267,7 @@ module _ (t : Tree) (members : List Member) (are : AreMembers t 1 false members)
         record { same = same_by_paths t members are orderly (text t members are orderly lost paths are_paths) (texts t members are orderly lost paths are_paths) (length members) (λ k m at. inside members k m at) later.f u last; reached = all_reached t members are orderly (text t members are orderly lost paths are_paths) (texts t members are orderly lost paths are_paths) (length members) (λ k m at. inside members k m at) later.f u last; links = last.links; within = all_within t members are orderly (text t members are orderly lost paths are_paths) (texts t members are orderly lost paths are_paths) (length members) (λ k m at. inside members k m at) later.f u last }
 
 -- the same, with the steps first
-pub steps_unpacked : (t : Tree) (members : List Member) (are : AreMembers t 1 false members) (orderly : IsOrderly t) (lost : List ℕ) (paths : List (List ℕ)) (are_paths : ArePaths (codes ".") lost members paths) (s : Super) (cpu : ℕ) → HasNumbersFor s cpu (length members)
-    → (values : List ItemValue) (v u : Tree) → IsEmpty v → map item_of values ≡ items_of t paths members → (make set : ItemValue → Step) → AreSteps s (codes "/") cpu (map make values ++ map set (filter is_directory_item values)) v u
-    → ((value : ItemValue) (v w : Tree) → IsStep s (codes "/") cpu (make value) v w → IsMakeStep s cpu value v w) → ((value : ItemValue) (v w : Tree) → IsStep s (codes "/") cpu (set value) v w → IsSetStep s cpu value v w) → IsRestored t u
-steps_unpacked t members are orderly lost paths are_paths s cpu numbers values v u empty is make set steps is_make is_set = restored t members are orderly lost paths are_paths s cpu numbers make set is_make is_set values v u empty is steps
+pub steps_unpacked : (t : Tree) (members : List Member) (are : AreMembers t 1 false members) (orderly : IsOrderly t) (lost : List ℕ) (paths : List (List ℕ)) (are_paths : ArePaths (codes ".") lost members paths) (l : Layout) (maker : Maker) → HasNumbersFor l maker (length members)
+    → (values : List ItemValue) (v u : Tree) → IsEmpty v → map item_of values ≡ items_of t paths members → (make set : ItemValue → Step) → AreSteps l (codes "/") maker (map make values ++ map set (filter is_directory_item values)) v u
+    → ((value : ItemValue) (v w : Tree) → IsStep l (codes "/") maker (make value) v w → IsMakeStep l maker value v w) → ((value : ItemValue) (v w : Tree) → IsStep l (codes "/") maker (set value) v w → IsSetStep l value v w) → IsRestored t u
+steps_unpacked t members are orderly lost paths are_paths l maker numbers values v u empty is make set steps is_make is_set = restored t members are orderly lost paths are_paths l maker numbers make set is_make is_set values v u empty is steps

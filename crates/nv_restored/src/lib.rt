@@ -8,5 +8,6 @@
 mod laws;
 
 pub use laws::{
-    links_are_same, round_trip, shown_trees_are_orderly, tables_have_numbers, unpacked_is_same,
+    all_tables_have_numbers, formatted_trees_are_empty, links_are_same, round_trip,
+    shown_link_counts_are_names, shown_trees_are_orderly, tables_have_numbers, unpacked_is_same,
 };

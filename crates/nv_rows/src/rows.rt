@@ -15,7 +15,7 @@ use nv_names::NameIndex;
 use nv_numbered::{Iter, Numbered};
 use nv_radix::FileIndex;
 use nv_scan::{LogPages, Numbers, Row, RowList};
-use nv_super::{Kind, Super};
+use nv_super::{Kind, Super, WITH_CHAINS};
 use std::alloc::{AllocError, Global};
 use std::marker::Model;
 use std::mem;
@@ -256,6 +256,13 @@ impl Rows {
             Some(held) => mem::swap(held, row),
             None => unreachable!(),
         }
+    }
+
+    /// Makes these the rows of a file system whose version becomes 2. Its numbers are the same.
+    pub fn upgrade(&mut self)
+        ensures { self.new ≡ record self.old { sup = record self.old.sup { version = 2 } } }
+    {
+        self.sup.version = WITH_CHAINS;
     }
 
     /// The lowest number of a CPU's table that no inode in use has, 0 left out. It looks at one word for 64 numbers.

@@ -15,7 +15,7 @@ use Rattle.nv_inode.specs.Chains.{IsLaid}
 use Rattle.nv_inode.specs.SlotBlocks.{slot_blocks, IsIn}
 use Rattle.nv_inode.proofs.BlocksOfSlots.{block_found}
 use Rattle.nv_inode.proofs.TicketsOnce.{tickets_once}
-use Rattle.nv_claimmap.specs.nv_claimcore.Claims.{times, below}
+use Rattle.nv_claimcore.specs.Claims.{times, below}
 use Rattle.nv_scan.specs.Tickets.{ticket_count, number_in, numbers_to, numbers_by, numbers_of}
 use Rattle.nv_scan.specs.Work.{tickets_among, numbers_in}
 

@@ -12,11 +12,11 @@ use Rattle.nv_super.specs.Owners.{MayOwn, pairs}
 use Rattle.nv_super.specs.declared.owners.Owner.{Owner}
 use Rattle.nv_super.specs.declared.owners.Owner.TheVariants as owners
 use Rattle.nv_super.proofs.Rising.{Contains-head, Contains-tail}
-use Rattle.nv_claimmap.specs.nv_claimcore.declared.view.Record.{Record}
-use Rattle.nv_claimmap.specs.nv_claimcore.declared.view.View.{View}
-use Rattle.nv_claimmap.specs.nv_claimcore.Claims.{Settled}
-use Rattle.nv_claimmap.specs.nv_claimcore.Finished.{pair_of}
-use Rattle.nv_claimmap.specs.nv_claimcore.Spans.{Adds}
+use Rattle.nv_claimcore.specs.declared.view.Record.{Record}
+use Rattle.nv_claimcore.specs.declared.view.View.{View}
+use Rattle.nv_claimcore.specs.Claims.{Settled}
+use Rattle.nv_claimcore.specs.Finished.{pair_of}
+use Rattle.nv_claimcore.specs.Spans.{Adds}
 use Rattle.nv_scan.specs.Owners.{Owns, AreClaims}
 use Rattle.nv_scan.specs.ChainBlocks.{table_claims}
 use Rattle.nv_scan.specs.declared.chain_block.ChainBlock.{ChainBlock}

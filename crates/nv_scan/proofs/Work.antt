@@ -14,10 +14,10 @@ use Rattle.nv_super.specs.Layout.{Layout, slot_of}
 use Rattle.nv_inode.specs.declared.blocks.SlotBlock.{SlotBlock}
 use Rattle.nv_inode.specs.Chains.{IsLaid}
 use Rattle.nv_inode.specs.SlotBlocks.{slot_blocks}
-use Rattle.nv_claimmap.specs.nv_claimcore.declared.view.View.{View}
-use Rattle.nv_claimmap.specs.nv_claimcore.Claims.{above, with_number, nothing, both_views}
-use Rattle.nv_claimmap.specs.nv_claimcore.Finished.{pair_of}
-use Rattle.nv_claimmap.specs.nv_claimcore.Spans.{Adds}
+use Rattle.nv_claimcore.specs.declared.view.View.{View}
+use Rattle.nv_claimcore.specs.Claims.{above, with_number, nothing, both_views}
+use Rattle.nv_claimcore.specs.Finished.{pair_of}
+use Rattle.nv_claimcore.specs.Spans.{Adds}
 use Rattle.nv_claimmap.proofs.Seats.{fewer_left}
 use Rattle.nv_scan.specs.Claiming.{IsClaimable}
 use Rattle.nv_scan.specs.Rows.{IsPiece}

@@ -1,6 +1,7 @@
 -- The claims of an inode, by the pages of its log and its file index, and of the block of a chain that is told with it.
 use Rattle.std.specs.Prelude.{◌≡◌, ℕ, ◌+◌, ◌<◌, ◌≤◌, ◌^◌, List, [], ◌∷◌, ◌++◌, Option, Some, slice_get}
 use Rattle.std.specs.List.{flat_map}
+use Rattle.nv_super.specs.Layout.{most_blocks, most_pages}
 use Rattle.nv_super.specs.Owners.{pairs}
 use Rattle.nv_super.specs.declared.owners.Owner.{Owner}
 use Rattle.nv_super.specs.declared.owners.Owner.TheVariants as owners
@@ -39,7 +40,7 @@ IsSmall x = (x.block + x.count ≤ 2 ^ 64) × (x.page + x.count ≤ 2 ^ 64)
 
 -- pages and their blocks have small numbers
 abbrev pub AreSmall : (ℕ → Option ℕ) → Type 0
-AreSmall block = (p b : ℕ) → block p ≡ Some b → (p < 262144) × (b < 262144)
+AreSmall block = (p b : ℕ) → block p ≡ Some b → (p < most_pages) × (b < most_blocks)
 
 -- the claims of the inode of a row, in the order of owners
 abbrev pub AreRowClaims : Row → List (ℕ × Owner) → Type 0

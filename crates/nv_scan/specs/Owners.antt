@@ -3,7 +3,7 @@ use Rattle.std.specs.Prelude.{◌≡◌, ◌↔◌, ℕ, ◌+◌, ◌*◌, ◌<�
 use Rattle.std.specs.List.{Contains}
 use Rattle.nv_region.specs.Region.{Region}
 use Rattle.nv_super.specs.declared.superblock.Super.{Super}
-use Rattle.nv_super.specs.Layout.{Layout, chain_of, system_blocks}
+use Rattle.nv_super.specs.Layout.{Layout, chain_of, system_blocks, most_pages}
 use Rattle.nv_super.specs.Order.{owner_key, Lists}
 use Rattle.nv_super.specs.declared.owners.Owner.{Owner}
 use Rattle.nv_super.specs.declared.owners.Owner.TheVariants as owners
@@ -50,4 +50,4 @@ AreAllClaims R l claims = (b : ℕ) (o : Owner) → Contains claims (b, o) ↔ O
 
 -- a page that a file can have, and a data block
 abbrev pub IsDataPage : Super → ℕ → ℕ → Type 0
-IsDataPage s p b = (p < 262144) × (system_blocks s ≤ b) × (b < s.blocks)
+IsDataPage s p b = (p < most_pages) × (system_blocks s ≤ b) × (b < s.blocks)

@@ -5,10 +5,10 @@ use Rattle.nv_region.specs.Region.{Region}
 use Rattle.nv_super.specs.declared.owners.Owner.{Owner}
 use Rattle.nv_super.specs.declared.faults.Fault.{Fault}
 use Rattle.nv_super.specs.Layout.{Layout}
-use Rattle.nv_claimmap.specs.nv_claimcore.declared.view.View.{View}
-use Rattle.nv_claimmap.specs.nv_claimcore.Claims.{past}
-use Rattle.nv_claimmap.specs.nv_claimcore.Finished.{pair_of}
-use Rattle.nv_claimmap.specs.nv_claimcore.Spans.{Adds}
+use Rattle.nv_claimcore.specs.declared.view.View.{View}
+use Rattle.nv_claimcore.specs.Claims.{past}
+use Rattle.nv_claimcore.specs.Finished.{pair_of}
+use Rattle.nv_claimcore.specs.Spans.{Adds}
 use Rattle.nv_claimmap.specs.Held.{MapId}
 use Rattle.nv_scan.specs.ClaimList.{ClaimList}
 use Rattle.nv_scan.specs.Rows.{IsPiece}

@@ -2,7 +2,7 @@
 
 ghost use Rattle.std.specs.Prelude.{◌≡◌, OnOk};
 ghost use Rattle.std.specs.List.{All};
-ghost use Rattle.nv_claimmap.specs.nv_claimcore.Spans.{Adds};
+ghost use Rattle.nv_claimcore.specs.Spans.{Adds};
 ghost use Rattle.nv_scan.specs.ChainBlocks.{table_claims};
 ghost use Rattle.nv_scan.specs.Claims.{log_claims, data_claims};
 ghost use Rattle.nv_scan.specs.Claiming.{IsClaimable};

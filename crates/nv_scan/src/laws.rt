@@ -16,7 +16,7 @@ ghost use Rattle.nv_scan.specs.Inode.{Log, IsInode, IsInUse};
 ghost use Rattle.nv_scan.specs.Owners.{Owns};
 ghost use Rattle.nv_scan.specs.Scanned.{SameSlot};
 ghost use Rattle.nv_scan.specs.Rows.{IsRow};
-ghost use Rattle.nv_claimmap.specs.nv_claimcore.Claims.{times};
+ghost use Rattle.nv_claimcore.specs.Claims.{times};
 ghost use Rattle.nv_scan.specs.Tickets.{ticket_count, number_in, numbers_of};
 ghost use Rattle.nv_scan.specs.Work.{numbers_in};
 ghost use Rattle.nv_scan.specs.declared.piece.Row.{Row as RowValue};

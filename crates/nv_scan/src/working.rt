@@ -5,7 +5,7 @@ ghost use Rattle.std.specs.List.{All, Contains};
 ghost use Rattle.nv_region.specs.Region.{HasBlocks};
 ghost use Rattle.nv_inode.specs.Chains.{IsLaid};
 ghost use Rattle.nv_inode.specs.SlotBlocks.{slot_blocks};
-ghost use Rattle.nv_claimmap.specs.nv_claimcore.Claims.{nothing};
+ghost use Rattle.nv_claimcore.specs.Claims.{nothing};
 ghost use Rattle.nv_scan.specs.Tickets.{ticket_count, numbers_of, numbers_to};
 ghost use Rattle.nv_scan.specs.Work.{AreNext, IsAllWork, IsDone, Returned, claims_among, tickets_among};
 

@@ -6,14 +6,15 @@ use Rattle.std.proofs.Math.Nat.{ℕ_set}
 use Rattle.std.proofs.Props.{props}
 use Rattle.nv_region.specs.Region.{Region}
 use Rattle.nv_super.specs.declared.superblock.Super.{Super}
+use Rattle.nv_super.specs.Layout.{Layout}
 use Rattle.nv_super.specs.declared.kind.Kind.{Kind}
 use Rattle.nv_journal.specs.Undo.{undone}
-use Rattle.nv_report.specs.nv_outcome.Outcome.{Outcome, IsOutcome}
-use Rattle.nv_report.specs.nv_outcome.Same.{SameOutcome}
-use Rattle.nv_report.proofs.nv_outcome.OnlyOne.{same_outcome}
+use Rattle.nv_outcome.specs.Outcome.{Outcome, IsOutcome}
+use Rattle.nv_outcome.specs.Same.{SameOutcome}
+use Rattle.nv_outcome.proofs.OnlyOne.{same_outcome}
 use Rattle.nv_commit.proofs.Left.{one_held}
-use Rattle.nv_calls.specs.nv_held.Held.{Held, Store}
-use Rattle.nv_calls.specs.nv_held.Mounted.{ShowsSound, faultless_outcome}
+use Rattle.nv_mounted.specs.Held.{Held, Store}
+use Rattle.nv_mounted.specs.Mounted.{ShowsSound, faultless_outcome}
 use Rattle.nv_tree.specs.Tree.{Node, Tree}
 use Rattle.nv_tree.specs.Refusals.{Path, Tests, first_refusal, refusal_word, clean_tests, create_tests, link_tests, rename_tests, rmdir_tests, set_attr_tests, set_size_tests, stat_tests, unlink_tests, write_tests}
 use Rattle.nv_tree.specs.declared.refusal.Refusal.{Refusal}
@@ -66,7 +67,7 @@ module _ {asks : Asks} {R S Q P : Region} {path : List ℕ} (a : Asked asks R S 
   seen_same =
       let here = seen_one S P region a.here b.here a.of_here b.of_here in
       let shown = seen_one R Q mounted a.shown b.shown a.of_shown b.of_shown in
-      record { sup = here.sup; rows = here.rows; pools = here.free; read_only = ap has_faults shown.faults }
+      record { sup = here.sup; layout = λ i. record { sup = here.sup i; chains = here.tables i }; rows = here.rows; pools = here.free; read_only = ap has_faults shown.faults }
 
   -- the same tests hold
   asked_alike : AskedOnce asks → Alike (tree_of S a.here.rows) (tree_of P b.here.rows) → first_refusal b.tests ≡ first_refusal a.tests
@@ -78,7 +79,7 @@ was_done : {A : Type 0} (makes : Makes ⊤) (logs : A → Logs ⊤) (S T : Regio
 was_done makes logs S T m names x left l = record {
   rows = left.after.rows;
   free = left.after.free;
-  shown = subst (λ (s : Super). IsOutcome T (faultless_outcome s left.after.rows left.after.free)) left.sup (faultless_bare T left.after left.shown left.faultless left.own);
+  shown = subst (λ (x : Layout). IsOutcome T (faultless_outcome x left.after.rows left.after.free)) left.layout (faultless_bare T left.after left.shown left.faultless left.own);
   tree = left.tree;
   left = l;
 }
@@ -241,9 +242,9 @@ found_logs x S T m names f i node held h leads sound at =
     let number : f.inode ≡ i = (let both : Some f.inode ≡ Some i = sym led.leads ∙ leads.leads in cc) in
     let store : f.held ≡ held = one_held mine.shows sound.shows in
     let log : f.log ≡ h = (let both : Some f.log ≡ Some h = sym f.is ∙ (λ j. store j (number j)) ∙ at in cc) in
-    subst (λ (g : Held). ShowsCleaned S T m.sup held i g x) log
-    (subst (λ (n : ℕ). ShowsCleaned S T m.sup held n f.log x) number
-    (subst (λ (st : Store). ShowsCleaned S T m.sup st f.inode f.log x) store f.went))
+    subst (λ (g : Held). ShowsCleaned S T m.layout held i g x) log
+    (subst (λ (n : ℕ). ShowsCleaned S T m.layout held n f.log x) number
+    (subst (λ (st : Store). ShowsCleaned S T m.layout st f.inode f.log x) store f.went))
 
 with_logs : (x : Option ℕ) (S T : Region) (m : Mount ⊤) (names : List (List ℕ)) → WasDone makes_no_change (finds_page x) S m names T → ∥ (WasDone makes_no_change (logs_clean x) S m names T) ∥₁
 with_logs x S T m names a = ∥∥₁_map a.left (λ f. record { rows = a.rows; free = a.free; shown = a.shown; tree = a.tree; left = found_logs x S T m names f })

@@ -5,7 +5,7 @@ use Rattle.std.proofs.Math.Logic.{∥∥₁_elim}
 use Rattle.std.proofs.Math.Nat.{ℕ_set}
 use Rattle.std.proofs.Props.{props}
 use Rattle.nv_region.specs.Region.{Region, put, size}
-use Rattle.nv_checking.specs.Workers.{is_worker_count, names_stranger}
+use Rattle.nv_image_check.specs.Workers.{is_worker_count, names_stranger}
 use Rattle.nv_super.specs.declared.superblock.Super.{Super}
 use Rattle.nv_super.specs.declared.superblock.SuperFault.{SuperFault}
 use Rattle.nv_super.specs.declared.kind.Kind.TheVariants.{File, Directory}
@@ -17,10 +17,10 @@ use Rattle.nv_format.specs.Format.{IsFormatted, fresh_super}
 use Rattle.nv_format.specs.declared.formatting.FormatRefusal.{FormatRefusal}
 use Rattle.nv_format.proofs.OneAnswer.{one_refusal, not_prevented}
 use Rattle.nv_format.proofs.Determined.{formatted_only}
-use Rattle.nv_line.specs.Request.{Request, Format, Time, Poke, Cut, Recover, Replay, ListNames, Stat, Read, Create, MakeDirectory, Write, SetSize, SetAttributes, Link, Unlink, RemoveDirectory, Rename, Clean, Tree, Free, Faults, Report, Peek, Stop}
-use Rattle.nv_report.specs.nv_outcome.Outcome.{Outcome, IsOutcome}
-use Rattle.nv_report.specs.nv_outcome.Same.{SameOutcome}
-use Rattle.nv_report.proofs.nv_outcome.OnlyOne.{same_outcome}
+use Rattle.nv_line.specs.Request.{Request, Format, Time, Poke, Cut, Recover, Replay, ListNames, Stat, Read, Create, MakeDirectory, Write, SetSize, SetAttributes, Link, Unlink, RemoveDirectory, Rename, Clean, Upgrade, Tree, Free, Faults, Report, Peek, Stop}
+use Rattle.nv_outcome.specs.Outcome.{Outcome, IsOutcome}
+use Rattle.nv_outcome.specs.Same.{SameOutcome}
+use Rattle.nv_outcome.proofs.OnlyOne.{same_outcome}
 use Rattle.nv_text.specs.Answers.{cleaned_line, ok_line, refused_line}
 use Rattle.nv_report.specs.Last.{how_it_went}
 use Rattle.nv_report.specs.declared.last.Last.TheVariants.{Refused}
@@ -38,6 +38,7 @@ use Rattle.nv_session.specs.Calls.{Asks, asks_create, asks_write, asks_size, ask
 use Rattle.nv_session.specs.Machine.{State, Step, Does, first_state, zeros, front, has_word, CutsRegion, IsRefusedAs, PokesRegion, Replaces, Unmounts, MayStop, StopsFormat, StopsRecovery, Recovers, Replays, ReadsMounted, TellsNames, TellsStat, TellsBytes, RefusesSuper, Mounts, RecoversRegion, ShowsMounted, Formats, Calls, CallsByTwo, file_mode, directory_mode}
 use Rattle.nv_session.proofs.Alike.{stat_one, names_one, bytes_one}
 use Rattle.nv_session.proofs.OneCall.{AskedOnce, clean_one, create_one, write_one, size_one, attributes_one, link_one, unlink_one, remove_one, rename_one}
+use Rattle.nv_session.proofs.UpgradesOnce.{upgrade_alike}
 use Rattle.nv_session.proofs.SeemSame.{left_seem, refused_first, refused_one, refused_second, seen_one, trees_seem}
 use Rattle.nv_session.proofs.AlikeCalls.{AsksToWrite, LeavesOnce, telling_alike, clean_leaves, clean_writes, create_leaves, create_writes, write_leaves, write_writes, size_leaves, size_writes, attributes_leave, attributes_write, link_leaves, link_writes, unlink_leaves, unlink_writes, remove_leaves, remove_writes, rename_leaves, rename_writes}
 
@@ -208,6 +209,7 @@ module _ (old other : State) (states : AlikeStates old other) where
       call_alike_by_two (asks_rename cpu) (makes_rename old.time) (logs_rename cpu old.time) path second (λ r S U m k same alike count. rename_one S U m k same alike cpu r) (rename_writes cpu) (rename_leaves cpu old.time) s t m n p
       (at_time (λ x t n. CallsByTwo false (asks_rename cpu) (makes_rename x) (logs_rename cpu x) path second other t n) t n q)
   does_alike (Clean path) reads s t m n p q = telling_alike cleaned_line asks_clean makes_no_change finds_page path (λ S U m k same alike count. clean_one S U m k same alike) clean_writes clean_leaves old other states logs_page_less logs_page_less m n s t p q
+  does_alike Upgrade reads s t m n p q = upgrade_alike old other states m n s t p q
   does_alike Tree reads s t m n p q = shown_alike old.mounted other.mounted states.mounted parts.Tree s t m n p q
   does_alike Free reads s t m n p q = shown_alike old.mounted other.mounted states.mounted parts.Free s t m n p q
   does_alike Faults reads s t m n p q = shown_alike old.mounted other.mounted states.mounted parts.Faults s t m n p q
@@ -275,6 +277,7 @@ module _ (old : State) (states : AlikeStates old old) where
   does_itself (RemoveDirectory cpu path) s m p = (does_alike old old states (RemoveDirectory cpu path) refl s s m m p p).1
   does_itself (Rename cpu path second) s m p = (does_alike old old states (Rename cpu path second) refl s s m m p p).1
   does_itself (Clean path) s m p = (does_alike old old states (Clean path) refl s s m m p p).1
+  does_itself Upgrade s m p = (does_alike old old states Upgrade refl s s m m p p).1
   does_itself Tree s m p = (does_alike old old states Tree refl s s m m p p).1
   does_itself Free s m p = (does_alike old old states Free refl s s m m p p).1
   does_itself Faults s m p = (does_alike old old states Faults refl s s m m p p).1

@@ -6,13 +6,12 @@ use Rattle.nv_region.specs.Region.{Region}
 use Rattle.nv_region.specs.RegionState.{RegionState}
 use Rattle.nv_super.specs.declared.kind.Kind.{Kind}
 use Rattle.nv_super.specs.declared.owners.Run.{Run}
-use Rattle.nv_super.specs.declared.superblock.Super.{Super}
 use Rattle.nv_journal.specs.Undo.{undone}
-use Rattle.nv_report.specs.nv_scan.declared.piece.Row.{Row}
-use Rattle.nv_super.specs.Layout.{fixed_layout}
-use Rattle.nv_report.specs.nv_scan.State.{block_of}
-use Rattle.nv_calls.specs.nv_held.Held.{Held, Store, good_in}
-use Rattle.nv_calls.specs.nv_held.Mounted.{ShowsSound}
+use Rattle.nv_scan.specs.declared.piece.Row.{Row}
+use Rattle.nv_super.specs.Layout.{Layout}
+use Rattle.nv_scan.specs.State.{block_of}
+use Rattle.nv_mounted.specs.Held.{Held, Store, good_in}
+use Rattle.nv_mounted.specs.Mounted.{ShowsSound}
 use Rattle.nv_entry.specs.declared.entry.Operation.TheVariants.{Add, Remove}
 use Rattle.nv_tree.specs.Path.{IsPath, Says, last_name}
 use Rattle.nv_tree.specs.Tree.{Node, SameTree, Tree, walk}
@@ -33,7 +32,7 @@ use Rattle.nv_calls.specs.RemoveCalls.{ShowsRemoved}
 use Rattle.nv_paths.specs.Seen.{LeadsTo, tree_of}
 use Rattle.nv_calls.specs.SizeCall.{ShowsResizedLog, resized_blocks}
 use Rattle.nv_calls.specs.UnlinkCalls.{unlink_blocks}
-use Rattle.nv_calls.specs.nv_rows.Unused.{unused_number}
+use Rattle.nv_rows.specs.Unused.{unused_number}
 use Rattle.nv_calls.specs.World.{world_of}
 use Rattle.nv_calls.specs.WriteCall.{ShowsLogWrite, WriteNeeds}
 use Rattle.nv_calls.proofs.NeedsExist.{write_needs}
@@ -183,51 +182,51 @@ module _ (m : Mount RegionState) (answer : Result (Unit {0}) Refusal) (cpu : ℕ
 
 module _ (S T : Region) (m : Mount ⊤) (names : List (List ℕ)) where
   pub inode_logged : (kind : Kind) (cpu mode time : ℕ) (answer : Result (Unit {0}) Refusal)
-      → ((d j : ℕ) (held : Store) (h : Held) → walk (tree_of S m.rows) 1 names ≡ Ok d → unused_number (fixed_layout m.sup) m.rows cpu ≡ Some j → ShowsSound S m.sup held → held d ≡ Some h → OnOk answer (ShowsCreated T m.sup m.free.pools cpu held kind mode time j d h (last_name names)))
+      → ((d j : ℕ) (held : Store) (h : Held) → walk (tree_of S m.rows) 1 names ≡ Ok d → unused_number m.layout m.rows cpu ≡ Some j → ShowsSound S m.layout held → held d ≡ Some h → OnOk answer (ShowsCreated T m.layout m.free.pools cpu held kind mode time j d h (last_name names)))
       → OnOk answer (logs_inode kind cpu mode time S m names T)
   inode_logged kind cpu mode time (Ok done) log = log
   inode_logged kind cpu mode time (Err e) log = tt
 
   pub size_logged : (cpu bytes time : ℕ) (answer : Result (Unit {0}) Refusal)
-      → ((i : ℕ) (node : Node) (held : Store) (h : Held) → LeadsTo (tree_of S m.rows) names i node → ShowsSound S m.sup held → held i ≡ Some h → OnOk answer (ShowsResizedLog T m.sup m.free.pools cpu held i h node bytes time))
+      → ((i : ℕ) (node : Node) (held : Store) (h : Held) → LeadsTo (tree_of S m.rows) names i node → ShowsSound S m.layout held → held i ≡ Some h → OnOk answer (ShowsResizedLog T m.layout m.free.pools cpu held i h node bytes time))
       → OnOk answer (logs_size cpu bytes time S m names T)
   size_logged cpu bytes time (Ok done) log = log
   size_logged cpu bytes time (Err e) log = tt
 
   pub attributes_logged : (cpu mode owner group time : ℕ) (answer : Result (Unit {0}) Refusal)
-      → ((i : ℕ) (node : Node) (held : Store) (h : Held) → LeadsTo (tree_of S m.rows) names i node → ShowsSound S m.sup held → held i ≡ Some h → OnOk answer (ShowsGrownLog T m.sup m.free.pools cpu held i h (attributes node.size mode owner group time)))
+      → ((i : ℕ) (node : Node) (held : Store) (h : Held) → LeadsTo (tree_of S m.rows) names i node → ShowsSound S m.layout held → held i ≡ Some h → OnOk answer (ShowsGrownLog T m.layout m.free.pools cpu held i h (attributes node.size mode owner group time)))
       → OnOk answer (logs_attributes cpu mode owner group time S m names T)
   attributes_logged cpu mode owner group time (Ok done) log = log
   attributes_logged cpu mode owner group time (Err e) log = tt
 
   linked_logged : (cpu time : ℕ) (others : List (List ℕ)) (answer : Result (Unit {0}) Refusal)
-      → ((i d : ℕ) (node : Node) (held : Store) (f h : Held) → LeadsTo (tree_of S m.rows) names i node → walk (tree_of S m.rows) 1 others ≡ Ok d → ShowsSound S m.sup held → held i ≡ Some f → held d ≡ Some h
-      → OnOk answer (ShowsBothGrew T m.sup m.free.pools cpu held i f (links_entries (node.links + 1) time) d h (name_entries Add i (last_name others) time)))
+      → ((i d : ℕ) (node : Node) (held : Store) (f h : Held) → LeadsTo (tree_of S m.rows) names i node → walk (tree_of S m.rows) 1 others ≡ Ok d → ShowsSound S m.layout held → held i ≡ Some f → held d ≡ Some h
+      → OnOk answer (ShowsBothGrew T m.layout m.free.pools cpu held i f (links_entries (node.links + 1) time) d h (name_entries Add i (last_name others) time)))
       → OnOk answer (logs_link cpu time (Some others) S m names T)
   linked_logged cpu time others (Ok done) log = log
   linked_logged cpu time others (Err e) log = tt
 
   pub unlink_logged : (cpu time : ℕ) (answer : Result (Unit {0}) Refusal)
-      → ((i d : ℕ) (node : Node) (held : Store) (h f : Held) → LeadsTo (tree_of S m.rows) names i node → walk (tree_of S m.rows) 1 names ≡ Ok d → ShowsSound S m.sup held → held d ≡ Some h → held i ≡ Some f → 1 < node.links
-      → OnOk answer (ShowsBothGrew T m.sup m.free.pools cpu held d h (name_entries Remove i (last_name names) time) i f (links_entries (node.links - 1) time)))
-      → ((i d : ℕ) (node : Node) (held : Store) (h : Held) → LeadsTo (tree_of S m.rows) names i node → walk (tree_of S m.rows) 1 names ≡ Ok d → ShowsSound S m.sup held → held d ≡ Some h → node.links ≤ 1
-      → OnOk answer (ShowsRemoved T m.sup m.free.pools cpu held d h (name_entries Remove i (last_name names) time) i))
+      → ((i d : ℕ) (node : Node) (held : Store) (h f : Held) → LeadsTo (tree_of S m.rows) names i node → walk (tree_of S m.rows) 1 names ≡ Ok d → ShowsSound S m.layout held → held d ≡ Some h → held i ≡ Some f → 1 < node.links
+      → OnOk answer (ShowsBothGrew T m.layout m.free.pools cpu held d h (name_entries Remove i (last_name names) time) i f (links_entries (node.links - 1) time)))
+      → ((i d : ℕ) (node : Node) (held : Store) (h : Held) → LeadsTo (tree_of S m.rows) names i node → walk (tree_of S m.rows) 1 names ≡ Ok d → ShowsSound S m.layout held → held d ≡ Some h → node.links ≤ 1
+      → OnOk answer (ShowsRemoved T m.layout m.free.pools cpu held d h (name_entries Remove i (last_name names) time) i))
       → OnOk answer (LogsUnlink cpu time S m names T)
   unlink_logged cpu time (Ok done) more last = record { more = more; last = last }
   unlink_logged cpu time (Err e) more last = tt
 
   pub removal_logged : (cpu time : ℕ) (answer : Result (Unit {0}) Refusal)
-      → ((i d : ℕ) (node : Node) (held : Store) (h : Held) → LeadsTo (tree_of S m.rows) names i node → walk (tree_of S m.rows) 1 names ≡ Ok d → ShowsSound S m.sup held → held d ≡ Some h
-      → OnOk answer (ShowsRemoved T m.sup m.free.pools cpu held d h (name_entries Remove i (last_name names) time) i))
+      → ((i d : ℕ) (node : Node) (held : Store) (h : Held) → LeadsTo (tree_of S m.rows) names i node → walk (tree_of S m.rows) 1 names ≡ Ok d → ShowsSound S m.layout held → held d ≡ Some h
+      → OnOk answer (ShowsRemoved T m.layout m.free.pools cpu held d h (name_entries Remove i (last_name names) time) i))
       → OnOk answer (logs_removal cpu time S m names T)
   removal_logged cpu time (Ok done) log = log
   removal_logged cpu time (Err e) log = tt
 
   moved_logged : (cpu time : ℕ) (others : List (List ℕ)) (answer : Result (Unit {0}) Refusal)
-      → ((i d e : ℕ) (node : Node) (held : Store) (h k : Held) → LeadsTo (tree_of S m.rows) names i node → walk (tree_of S m.rows) 1 names ≡ Ok d → walk (tree_of S m.rows) 1 others ≡ Ok e → d ≢ e → ShowsSound S m.sup held → held d ≡ Some h → held e ≡ Some k
-      → OnOk answer (ShowsBothGrew T m.sup m.free.pools cpu held d h (name_entries Remove i (last_name names) time) e k (name_entries Add i (last_name others) time)))
-      → ((i d : ℕ) (node : Node) (held : Store) (h : Held) → LeadsTo (tree_of S m.rows) names i node → walk (tree_of S m.rows) 1 names ≡ Ok d → walk (tree_of S m.rows) 1 others ≡ Ok d → ShowsSound S m.sup held → held d ≡ Some h
-      → OnOk answer (ShowsGrownLog T m.sup m.free.pools cpu held d h (move_entries i (last_name names) (last_name others) time)))
+      → ((i d e : ℕ) (node : Node) (held : Store) (h k : Held) → LeadsTo (tree_of S m.rows) names i node → walk (tree_of S m.rows) 1 names ≡ Ok d → walk (tree_of S m.rows) 1 others ≡ Ok e → d ≢ e → ShowsSound S m.layout held → held d ≡ Some h → held e ≡ Some k
+      → OnOk answer (ShowsBothGrew T m.layout m.free.pools cpu held d h (name_entries Remove i (last_name names) time) e k (name_entries Add i (last_name others) time)))
+      → ((i d : ℕ) (node : Node) (held : Store) (h : Held) → LeadsTo (tree_of S m.rows) names i node → walk (tree_of S m.rows) 1 names ≡ Ok d → walk (tree_of S m.rows) 1 others ≡ Ok d → ShowsSound S m.layout held → held d ≡ Some h
+      → OnOk answer (ShowsGrownLog T m.layout m.free.pools cpu held d h (move_entries i (last_name names) (last_name others) time)))
       → OnOk answer (logs_rename cpu time (Some others) S m names T)
   moved_logged cpu time others (Ok done) across within = record { across = across; within = within }
   moved_logged cpu time others (Err e) across within = tt
@@ -238,8 +237,8 @@ write_seen T m cpu held i h plan known = ∥∥₁_map known (λ w. record { run
 
 -- A write, by the mount with its memory.
 pub bytes_logged : (m n : Mount RegionState) (names : List (List ℕ)) (cpu offset bytes time : ℕ) (answer : Result (Unit {0}) Refusal)
-    → ((i : ℕ) (node : Node) (held : Store) (h : Held) → LeadsTo (tree_of m.memory.region m.rows) names i node → ShowsSound m.memory.region m.sup held → held i ≡ Some h → 0 < bytes
-    → OnOk answer (ShowsLogWrite n.memory.region m cpu held i h (plan_of (block_of (good_in (fixed_layout m.sup) h)) node.size offset bytes time)))
+    → ((i : ℕ) (node : Node) (held : Store) (h : Held) → LeadsTo (tree_of m.memory.region m.rows) names i node → ShowsSound m.memory.region m.layout held → held i ≡ Some h → 0 < bytes
+    → OnOk answer (ShowsLogWrite n.memory.region m cpu held i h (plan_of (block_of (good_in m.layout h)) node.size offset bytes time)))
     → (bytes ≡ 0 → OnOk answer (n ≡ m)) → OnOk answer (LogsBytes cpu offset bytes time m.memory.region (seen m) names n.memory.region)
 bytes_logged m n names cpu offset bytes time (Err e) log nothing = tt
 bytes_logged m n names cpu offset bytes time (Ok done) log nothing = record {
@@ -264,8 +263,8 @@ module _ (m n : Mount RegionState) (answer : Result (Unit {0}) Refusal) (cpu tim
   link_changed allowed changed = by_other answer other linking (λ q. SameTree (tree_of n.memory.region n.rows) (makes_link time q m.memory.region (seen m) names)) (no_other (world_of m) cpu _ _ _ (linking None) refl) changed q says allowed
 
   pub link_logged : Allows answer (linking q)
-      → ((others : List (List ℕ)) (i d : ℕ) (node : Node) (held : Store) (f h : Held) → IsPath other others → LeadsTo (tree_of m.memory.region m.rows) names i node → walk (tree_of m.memory.region m.rows) 1 others ≡ Ok d → ShowsSound m.memory.region m.sup held → held i ≡ Some f → held d ≡ Some h
-      → OnOk answer (ShowsBothGrew n.memory.region m.sup m.free.pools cpu held i f (links_entries (node.links + 1) time) d h (name_entries Add i (last_name others) time)))
+      → ((others : List (List ℕ)) (i d : ℕ) (node : Node) (held : Store) (f h : Held) → IsPath other others → LeadsTo (tree_of m.memory.region m.rows) names i node → walk (tree_of m.memory.region m.rows) 1 others ≡ Ok d → ShowsSound m.memory.region m.layout held → held i ≡ Some f → held d ≡ Some h
+      → OnOk answer (ShowsBothGrew n.memory.region m.layout m.free.pools cpu held i f (links_entries (node.links + 1) time) d h (name_entries Add i (last_name others) time)))
       → OnOk answer (logs_link cpu time q m.memory.region (seen m) names n.memory.region)
   link_logged allowed log = by_other answer other linking (λ q. logs_link cpu time q m.memory.region (seen m) names n.memory.region) (no_other (world_of m) cpu _ _ _ (linking None) refl)
       (λ others is. linked_logged m.memory.region n.memory.region (seen m) names cpu time others answer (λ i d node held f h. log others i d node held f h is)) q says allowed
@@ -278,21 +277,21 @@ module _ (m n : Mount RegionState) (answer : Result (Unit {0}) Refusal) (cpu tim
   rename_changed allowed changed = by_other answer other renaming (λ q. SameTree (tree_of n.memory.region n.rows) (makes_rename time q m.memory.region (seen m) names)) (no_other (world_of m) cpu _ _ _ (renaming None) refl) changed q says allowed
 
   pub rename_logged : Allows answer (renaming q)
-      → ((others : List (List ℕ)) (i d e : ℕ) (node : Node) (held : Store) (h k : Held) → IsPath other others → LeadsTo (tree_of m.memory.region m.rows) names i node → walk (tree_of m.memory.region m.rows) 1 names ≡ Ok d → walk (tree_of m.memory.region m.rows) 1 others ≡ Ok e → d ≢ e → ShowsSound m.memory.region m.sup held → held d ≡ Some h → held e ≡ Some k
-      → OnOk answer (ShowsBothGrew n.memory.region m.sup m.free.pools cpu held d h (name_entries Remove i (last_name names) time) e k (name_entries Add i (last_name others) time)))
-      → ((others : List (List ℕ)) (i d : ℕ) (node : Node) (held : Store) (h : Held) → IsPath other others → LeadsTo (tree_of m.memory.region m.rows) names i node → walk (tree_of m.memory.region m.rows) 1 names ≡ Ok d → walk (tree_of m.memory.region m.rows) 1 others ≡ Ok d → ShowsSound m.memory.region m.sup held → held d ≡ Some h
-      → OnOk answer (ShowsGrownLog n.memory.region m.sup m.free.pools cpu held d h (move_entries i (last_name names) (last_name others) time)))
+      → ((others : List (List ℕ)) (i d e : ℕ) (node : Node) (held : Store) (h k : Held) → IsPath other others → LeadsTo (tree_of m.memory.region m.rows) names i node → walk (tree_of m.memory.region m.rows) 1 names ≡ Ok d → walk (tree_of m.memory.region m.rows) 1 others ≡ Ok e → d ≢ e → ShowsSound m.memory.region m.layout held → held d ≡ Some h → held e ≡ Some k
+      → OnOk answer (ShowsBothGrew n.memory.region m.layout m.free.pools cpu held d h (name_entries Remove i (last_name names) time) e k (name_entries Add i (last_name others) time)))
+      → ((others : List (List ℕ)) (i d : ℕ) (node : Node) (held : Store) (h : Held) → IsPath other others → LeadsTo (tree_of m.memory.region m.rows) names i node → walk (tree_of m.memory.region m.rows) 1 names ≡ Ok d → walk (tree_of m.memory.region m.rows) 1 others ≡ Ok d → ShowsSound m.memory.region m.layout held → held d ≡ Some h
+      → OnOk answer (ShowsGrownLog n.memory.region m.layout m.free.pools cpu held d h (move_entries i (last_name names) (last_name others) time)))
       → OnOk answer (logs_rename cpu time q m.memory.region (seen m) names n.memory.region)
   rename_logged allowed across within = by_other answer other renaming (λ q. logs_rename cpu time q m.memory.region (seen m) names n.memory.region) (no_other (world_of m) cpu _ _ _ (renaming None) refl)
       (λ others is. moved_logged m.memory.region n.memory.region (seen m) names cpu time others answer (λ i d e node held h k. across others i d e node held h k is) (λ i d node held h. within others i d node held h is)) q says allowed
 
 -- ---- what a stop may leave, by the mount without its memory
 
-stop_seen : (R : Region) (s : Super) (rows : List Row) (free : List (List Run)) (made : Tree) (First Second : Region → Type 0) → ((T : Region) → First T → Second T) → (left : Region) → StopLeaves R s rows free made First left → StopLeaves R s rows free made Second left
-stop_seen R s rows free made First Second weaker left known = ∥∥₁_map known by where
-  by : IsAsMounted R s rows free left ⊎ IsAsMade s made First left → IsAsMounted R s rows free left ⊎ IsAsMade s made Second left
+stop_seen : (R : Region) (l : Layout) (rows : List Row) (free : List (List Run)) (made : Tree) (First Second : Region → Type 0) → ((T : Region) → First T → Second T) → (left : Region) → StopLeaves R l rows free made First left → StopLeaves R l rows free made Second left
+stop_seen R l rows free made First Second weaker left known = ∥∥₁_map known by where
+  by : IsAsMounted R l rows free left ⊎ IsAsMade l made First left → IsAsMounted R l rows free left ⊎ IsAsMade l made Second left
   by (inl mounted) = inl mounted
-  by (inr made) = inr (record { rows = made.rows; free = made.free; recovers = made.recovers; tree = made.tree; logs = weaker (undone s left) made.logs })
+  by (inr made) = inr (record { rows = made.rows; free = made.free; recovers = made.recovers; tree = made.tree; logs = weaker (undone l.sup left) made.logs })
 
 module _ (m : Mount RegionState) (time : ℕ) (names : List (List ℕ)) where
   abbrev R : Region
@@ -300,11 +299,11 @@ module _ (m : Mount RegionState) (time : ℕ) (names : List (List ℕ)) where
 
   pub write_stops : (cpu offset : ℕ) (bytes : List ℕ) (left : Region) → LeavesCall (makes_bytes offset bytes time) (LogsBytes cpu offset (length bytes) time) R m names left
       → LeavesCall (makes_bytes offset bytes time) (LogsBytes cpu offset (length bytes) time) R (seen m) names left
-  write_stops cpu offset bytes = stop_seen R m.sup m.rows m.free.pools (makes_bytes offset bytes time R m names) (LogsBytes cpu offset (length bytes) time R m names) (LogsBytes cpu offset (length bytes) time R (seen m) names)
+  write_stops cpu offset bytes = stop_seen R m.layout m.rows m.free.pools (makes_bytes offset bytes time R m names) (LogsBytes cpu offset (length bytes) time R m names) (LogsBytes cpu offset (length bytes) time R (seen m) names)
       (λ T logs. record { some = λ i node held h leads sound at pos. write_seen T m cpu held i h _ (logs.some i node held h leads sound at pos); none = logs.none })
 
   pub unlink_stops : (cpu : ℕ) (left : Region) → LeavesCall (makes_unlink time) (LogsUnlink cpu time) R m names left → LeavesCall (makes_unlink time) (LogsUnlink cpu time) R (seen m) names left
-  unlink_stops cpu = stop_seen R m.sup m.rows m.free.pools (makes_unlink time R m names) (LogsUnlink cpu time R m names) (LogsUnlink cpu time R (seen m) names) (λ T logs. record { more = logs.more; last = logs.last })
+  unlink_stops cpu = stop_seen R m.layout m.rows m.free.pools (makes_unlink time R m names) (LogsUnlink cpu time R m names) (LogsUnlink cpu time R (seen m) names) (λ T logs. record { more = logs.more; last = logs.last })
 
   module _ (other : List ℕ) (q : Path) (says : Says other q) (left : Region) where
     -- what holds of each second path holds of what the text says, which is one
@@ -321,5 +320,5 @@ module _ (m : Mount RegionState) (time : ℕ) (names : List (List ℕ)) where
     pub rename_stops : (cpu : ℕ) → (((others : List (List ℕ)) → IsPath other others → ⊥) → ⊥) → ((others : List (List ℕ)) → IsPath other others → LeavesCall (makes_rename time (Some others)) (logs_rename cpu time (Some others)) R m names left)
         → LeavesCall (makes_rename time q) (logs_rename cpu time q) R (seen m) names left
     rename_stops cpu some each = by_path (λ p. LeavesCall (makes_rename time p) (logs_rename cpu time p) R (seen m) names left) some
-        (λ others is. stop_seen R m.sup m.rows m.free.pools (makes_rename time (Some others) R m names) (LogsMove cpu time others R m names) (LogsMove cpu time others R (seen m) names)
+        (λ others is. stop_seen R m.layout m.rows m.free.pools (makes_rename time (Some others) R m names) (LogsMove cpu time others R m names) (LogsMove cpu time others R (seen m) names)
         (λ T logs. record { across = logs.across; within = logs.within }) left (each others is))

@@ -1,21 +1,14 @@
 -- What a file call that writes leaves, for each state that the session stands for.
-use Rattle.std.proofs.Common.{◌≡◌, ◌⊎◌, inl, inr, ℕ, Bool, true, false, not, ◌&&◌, nat_lt, IsTrue, List, [], ◌∷◌, Option, Some, None, Result, Ok, Err, IfErr, IfOk, OnOk, refl, sym, ap, subst, ◌∙◌}
+use Rattle.std.proofs.Common.{◌≡◌, inl, inr, ℕ, Bool, true, false, not, ◌&&◌, nat_lt, IsTrue, List, [], ◌∷◌, Option, Some, None, Result, Ok, Err, IfErr, IfOk, OnOk, refl, sym, ap, subst, ◌∙◌}
 use Rattle.std.specs.Prelude.{⊤, codes}
 use Rattle.std.specs.List.{filter}
-use Rattle.std.proofs.Math.Logic.{∥∥₁_map}
-use Rattle.nv_super.specs.Layout.{fixed_layout}
+use Rattle.nv_super.specs.Layout.{Layout}
 use Rattle.nv_region.specs.Region.{Region, size}
 use Rattle.nv_region.specs.RegionState.{RegionState, fenced_or_last, is_off, is_steady, steady_unburnt}
 use Rattle.nv_region.specs.Stops.{LeavesOnly, MayBeLeft}
 use Rattle.nv_region.specs.declared.memory.Fuse.{Fuse}
 use Rattle.nv_region.specs.declared.memory.Fuse.TheVariants as fuses
-use Rattle.nv_super.specs.declared.superblock.Super.{Super}
-use Rattle.nv_super.specs.declared.owners.Owner.{Owner}
-use Rattle.nv_super.specs.declared.owners.Run.{Run}
-use Rattle.nv_super.specs.declared.faults.Fault.{Fault}
-use Rattle.nv_report.specs.nv_scan.declared.piece.Row.{Row}
-use Rattle.nv_report.specs.nv_outcome.Outcome.{IsOutcome}
-use Rattle.nv_report.specs.nv_outcome.Same.{is_lasting, lasting_outcome}
+use Rattle.nv_outcome.specs.Same.{is_lasting, lasting_outcome}
 use Rattle.nv_tree.specs.Path.{IsPath, Says}
 use Rattle.nv_tree.specs.Tree.{SameTree}
 use Rattle.nv_tree.specs.Refusals.{Path, Tests, World, first_refusal, refusal_word, writing, IsRefusedBy}
@@ -31,17 +24,17 @@ use Rattle.nv_calls.proofs.Mounts.{faultless}
 use Rattle.nv_calls.specs.Effects.{Makes, Logs}
 use Rattle.nv_session.specs.Calls.{Asks, Asked, LeavesTree}
 use Rattle.nv_session.specs.Machine.{State, Calls, CallsByTwo, CallsMounted, CallsTelling, DoesCall, StopsCall, StopsMounted}
-use Rattle.nv_session.specs.Sessions.{StandsFor, Moves, ShowsOutcome, IsMountOf, IsSettled, SettlesCall, TakesMount, PutsMount, region_in, mount_in, memory_in, with_fuse}
+use Rattle.nv_session.specs.Sessions.{StandsFor, Moves, ShowsOutcome, IsMountOf, IsSettled, SettlesCall, TakesMount, PutsMount, mount_in, memory_in, with_fuse}
 use Rattle.nv_session.specs.declared.store.Store.{Store}
 use Rattle.nv_session.specs.declared.store.Store.TheVariants as stores
 use Rattle.nv_session.specs.declared.session.Session.{Session}
 use Rattle.nv_session.proofs.Moved.{can_burn, left_size}
-use Rattle.nv_session.proofs.SameShown.{with_rows}
-use Rattle.nv_session.proofs.Settled.{settled}
+use Rattle.nv_session.proofs.Standing as standing
+use Rattle.nv_session.proofs.Standing.{fused, not_stopped, not_true, shows_own, shows_still}
 
 -- a mount as calls see it
 abbrev pub seen : Mount RegionState → Mount ⊤
-seen m = record { memory = tt; sup = m.sup; rows = m.rows; free = record { sup = m.sup; pools = m.free.pools; room = 0 }; faults = filter is_lasting m.faults; read_only = m.read_only; stopped = false }
+seen m = record { memory = tt; sup = m.sup; layout = m.layout; rows = m.rows; free = record { sup = m.sup; pools = m.free.pools; room = 0 }; faults = filter is_lasting m.faults; read_only = m.read_only; stopped = false }
 
 -- What a call answers, by its tests of a path.
 pub record Answers {A : Type 0} (asks : Asks) (m : Mount RegionState) (answer : Result A Refusal) (p : Path) : Type 0 where
@@ -68,7 +61,7 @@ pub record Called {A : Type 0} (asks : Asks) (makes : Makes ⊤) (logs : A → L
   pub bad_text : ((names : List (List ℕ)) → IsPath path names → ⊥) → SameMount m n
   pub any_stop : (names : List (List ℕ)) → IsPath path names → m.stopped ≡ false → m.read_only ≡ false → IsTrue n.stopped → LeavesOnly n.memory.region (fenced_or_last n.memory) (LeavesCall makes stops m.memory.region (seen m) names)
   pub settled : n.stopped ≡ false → IsSettled n.memory
-  pub kept : IsKept n.memory.region n.sup n.rows n.free n.faults n.read_only n.stopped
+  pub kept : IsKept n.memory.region n.sup n.layout n.rows n.free n.faults n.read_only n.stopped
 
 -- ---- the mount before and after a call
 
@@ -79,57 +72,6 @@ can_write w cpu tests all is none = by (not (nat_lt cpu w.cpus)) w.read_only (ap
   by true read_only none = absurd (cc)
   by false true none = absurd (cc)
   by false false none = refl
-
-pub not_true : (b : Bool) → (IsTrue b → ⊥) → b ≡ false
-not_true true never = absurd (never refl)
-not_true false never = refl
-
--- a call that leaves the mount as it was hasn't been stopped
-pub not_stopped : {m n : Mount RegionState} → SameMount m n → m.stopped ≡ false → IsTrue n.stopped → ⊥
-not_stopped same runs stops = (let no : true ≡ false = sym stops ∙ same.stopped ∙ runs in cc)
-
--- A mount without a fault shows the outcome of its own region.
-shows_own : (n : Mount RegionState) → IsKept n.memory.region n.sup n.rows n.free n.faults n.read_only n.stopped → n.stopped ≡ false → n.faults ≡ [] → ShowsOutcome n.memory.region n
-shows_own n kept runs none =
-    let lasting : filter is_lasting n.faults ≡ [] = ap (filter is_lasting) none in
-    let w = settled n.memory.region n.sup n.rows n.free.pools
-    (∥∥₁_map (kept.shown runs) (λ w. (w.0, subst (λ (fs : List Fault). IsOutcome n.memory.region (record { sup = n.sup; tables = (fixed_layout n.sup).chains; rows = n.rows; free = n.free.pools; doubled = w.0; faults = fs })) lasting w.1))) in
-    record {
-      doubled = w.0;
-      shown = subst (λ (fs : List Fault). IsOutcome n.memory.region (record { sup = n.sup; tables = (fixed_layout n.sup).chains; rows = n.rows; free = n.free.pools; doubled = w.0; faults = fs })) (sym none) w.1;
-      here = subst (λ (fs : List Fault). IsOutcome n.memory.region (record { sup = n.sup; tables = (fixed_layout n.sup).chains; rows = n.rows; free = n.free.pools; doubled = w.0; faults = fs })) (sym lasting) w.1;
-      runs = runs;
-    }
-
--- what shows the same as an outcome, by its parts
-by_parts : (R : Region) (s t : Super) (rows : List Row) (pools others : List (List Run)) (doubled : List (ℕ × Owner)) (faults more : List Fault) → t ≡ s → others ≡ pools → more ≡ faults
-    → IsOutcome R (record { sup = s; tables = (fixed_layout s).chains; rows = rows; free = pools; doubled = doubled; faults = faults }) → IsOutcome R (record { sup = t; tables = (fixed_layout t).chains; rows = rows; free = others; doubled = doubled; faults = more })
-by_parts R s t rows pools others doubled faults more a b c is =
-    subst (λ (x : Super). IsOutcome R (record { sup = x; tables = (fixed_layout x).chains; rows = rows; free = others; doubled = doubled; faults = more })) (sym a)
-    (subst (λ (x : List (List Run)). IsOutcome R (record { sup = s; tables = (fixed_layout s).chains; rows = rows; free = x; doubled = doubled; faults = more })) (sym b)
-    (subst (λ (x : List Fault). IsOutcome R (record { sup = s; tables = (fixed_layout s).chains; rows = rows; free = pools; doubled = doubled; faults = x })) (sym c) is))
-
--- A mount that a refused call left shows what it did.
-shows_still : (R : Region) (m n : Mount RegionState) → SameMount m n → ShowsOutcome R m → ShowsOutcome R n
-shows_still R m n same shows = record {
-  doubled = shows.doubled;
-  shown = by_parts R m.sup n.sup n.rows m.free.pools n.free.pools shows.doubled m.faults n.faults same.sup same.free.pools same.faults (with_rows R (told m.sup m.rows m.free shows.doubled m.faults) n.rows same.rows shows.shown);
-  here = subst (λ (x : RegionState). IsOutcome x.region (lasting_outcome (told n.sup n.rows n.free shows.doubled n.faults))) (sym same.memory)
-      (by_parts m.memory.region m.sup n.sup n.rows m.free.pools n.free.pools shows.doubled (filter is_lasting m.faults) (filter is_lasting n.faults) same.sup same.free.pools (ap (filter is_lasting) same.faults)
-      (with_rows m.memory.region (lasting_outcome (told m.sup m.rows m.free shows.doubled m.faults)) n.rows same.rows shows.here));
-  runs = same.stopped ∙ shows.runs;
-}
-
--- the fuse of a mount is no part of what it shows
-fused : (fuse : Fuse) (R : Region) (m : Mount RegionState) → ShowsOutcome R m → ShowsOutcome R (with_fuse fuse m)
-fused fuse R m shows = record { doubled = shows.doubled; shown = shows.shown; here = shows.here; runs = shows.runs }
-
--- ---- the session before and after a call
-
-region_of_mount : (store : Option Store) (m : Mount RegionState) → mount_in store ≡ Some m → region_in store ≡ Some m.memory.region
-region_of_mount None m at = absurd (cc)
-region_of_mount (Some (stores.Alone memory)) m at = absurd (cc)
-region_of_mount (Some (stores.Mounted n)) m at = (let same : n ≡ m = cc in ap (λ (k : Mount RegionState). Some k.memory.region) same)
 
 module _ {A : Type 0} (line : A → List ℕ) (asks : ℕ → Asks) (makes : ℕ → Makes ⊤) (logs : ℕ → A → Logs ⊤) (stops : ℕ → Logs ⊤) (path : List ℕ) where
   -- the call in a state
@@ -146,60 +88,53 @@ module _ {A : Type 0} (line : A → List ℕ) (asks : ℕ → Asks) (makes : ℕ
 
   module _ (fuse : Fuse) (old mid new : Session) (m n : Mount RegionState) (takes : TakesMount fuse old (Some m) mid) (state : State) (stands : StandsFor old state) where
     here : state.region ≡ Some m.memory.region
-    here = stands.region ∙ region_of_mount old.store takes.0 takes.1 ∙ ap (λ (k : Mount RegionState). Some k.memory.region) (sym takes.2)
+    here = standing.here fuse old mid new m takes state stands
 
     at_time : mid.time ≡ state.time
-    at_time = ap (λ (s : Session). s.time) takes.3 ∙ sym stands.time
+    at_time = standing.at_time fuse old mid new m takes state stands
 
     is_mounted : IsMountOf state.mounted (Some m)
-    is_mounted = subst (λ (k : Mount RegionState). IsMountOf state.mounted (Some k)) (sym takes.2) (by state.mounted (subst (λ (o : Option (Mount RegionState)). IsMountOf state.mounted o) takes.1 stands.mounted)) where
-      by : (mounted : Option Region) → IsMountOf mounted (Some takes.0) → IsMountOf mounted (Some (with_fuse fuse takes.0))
-      by None is = is
-      by (Some R) is = fused fuse R takes.0 is
+    is_mounted = standing.is_mounted fuse old mid new m takes state stands
 
-    -- the session that is left stands for a state, by what it has in store
     stands_with : (store : Store) (next : State) → new ≡ record mid { store = Some store } → next.region ≡ Some (memory_in store).region → IsMountOf next.mounted (mount_in (Some store)) → next.time ≡ state.time → next.last ≡ state.last → next.armed ≡ state.armed → IsSettled (memory_in store) → StandsFor new next
-    stands_with store next is region mounted time last armed settled =
-        subst (λ (s : Session). StandsFor s next) (sym (is ∙ ap (λ (s : Session). record s { store = Some store }) takes.3)) (record {
-          region = region;
-          mounted = mounted;
-          time = time ∙ stands.time;
-          last = last ∙ stands.last;
-          armed = armed ∙ stands.armed;
-          settled = settled;
-        })
+    stands_with = standing.stands_with fuse old mid new m takes state stands
 
     module _ (answer : Result A Refusal) (called : Called (asks state.time) (makes state.time) (logs state.time) (stops state.time) path m n answer) where
       read_only : m.read_only ≡ has_faults m.faults
       read_only = sym called.keeps.read_only ∙ called.kept.writes ∙ ap has_faults called.keeps.faults
 
+      -- the superblock is that of the tables
+      one_sup : m.sup ≡ m.layout.sup
+      one_sup = sym called.keeps.sup ∙ sym called.kept.tables ∙ ap (λ (l : Layout). l.sup) called.keeps.layout
+
+      abbrev seen_here : Mount ⊤
+      seen_here = record (seen m) { sup = m.layout.sup; free = record { sup = m.layout.sup; pools = m.free.pools; room = 0 }; read_only = has_faults m.faults }
+
+      same_seen : seen m ≡ seen_here
+      same_seen = λ i. record (seen m) { sup = one_sup i; free = record { sup = one_sup i; pools = m.free.pools; room = 0 }; read_only = read_only i }
+
       -- what the call is asked
       asked : (R : Region) → ShowsOutcome R m → (p : Path) → Says path p → Asked (asks state.time) R m.memory.region path
       asked R shows p says = (let answers = called.answers p says in record {
-        shown = told m.sup m.rows m.free shows.doubled m.faults;
+        shown = told m.layout m.rows m.free shows.doubled m.faults;
         of_shown = shows.shown;
-        here = lasting_outcome (told m.sup m.rows m.free shows.doubled m.faults);
+        here = lasting_outcome (told m.layout m.rows m.free shows.doubled m.faults);
         of_here = shows.here;
         path_is = p;
         says = says;
         tests = answers.tests;
-        are = subst (λ (b : Bool). asks state.time m.memory.region (record (seen m) { read_only = b }) p answers.tests) read_only answers.are;
+        are = subst (λ (k : Mount ⊤). asks state.time m.memory.region k p answers.tests) same_seen answers.are;
       })
-
-      abbrev seen_here : Mount ⊤
-      seen_here = record (seen m) { read_only = has_faults m.faults }
-
-      same_seen : seen m ≡ seen_here
-      same_seen = λ i. record (seen m) { read_only = read_only i }
 
       -- what the call leaves, where it was done
       leaves : (x : A) → answer ≡ Ok x → n.stopped ≡ false → n.faults ≡ [] → (names : List (List ℕ)) → IsPath path names → LeavesTree m.memory.region n.memory.region seen_here (makes state.time m.memory.region seen_here names)
       leaves x is runs clear names says = (let own = shows_own n called.kept runs clear in record {
         as_long = called.as_long;
-        after = told n.sup n.rows n.free own.doubled n.faults;
+        after = told n.layout n.rows n.free own.doubled n.faults;
         shown = own.shown;
         own = called.kept.own runs;
-        sup = called.keeps.sup;
+        sup = ap (λ (l : Layout). l.sup) called.keeps.layout;
+        layout = called.keeps.layout;
         faultless = clear;
         tree = subst (λ (k : Mount ⊤). SameTree (tree_of n.memory.region n.rows) (makes state.time m.memory.region k names)) same_seen
             (subst (λ r. OnOk r (SameTree (tree_of n.memory.region n.rows) (makes state.time m.memory.region (seen m) names))) is (called.changed names says));

@@ -6,10 +6,10 @@ use Rattle.std.specs.Option.{option_map}
 use Rattle.nv_region.specs.Region.{Region}
 use Rattle.nv_region.specs.RegionState.{RegionState}
 use Rattle.nv_super.proofs.Members.{stands}
-use Rattle.nv_report.specs.nv_scan.declared.piece.Row.{Row}
-use Rattle.nv_calls.specs.nv_held.Held.{Held, Store}
-use Rattle.nv_calls.specs.nv_held.Mounted.{IsMounted, ShowsSound}
-use Rattle.nv_calls.specs.nv_graph.Read.{row_of}
+use Rattle.nv_scan.specs.declared.piece.Row.{Row}
+use Rattle.nv_mounted.specs.Held.{Held, Store}
+use Rattle.nv_mounted.specs.Mounted.{IsMounted, ShowsSound}
+use Rattle.nv_graph.specs.Read.{row_of}
 use Rattle.nv_rows.specs.Rows.{place_in}
 use Rattle.nv_rows.proofs.Places.{at_place, numbered}
 use Rattle.nv_tree.specs.Tree.{Node, Tree, found}
@@ -23,7 +23,8 @@ use Rattle.nv_calls.specs.World.{world_of}
 use Rattle.nv_calls.proofs.Mounts.{mounted_of_kept}
 use Rattle.nv_session.specs.Calls.{FindsPage, asks_clean, finds_page}
 use Rattle.nv_session.proofs.Asking.{Allows, Refuses}
-use Rattle.nv_session.proofs.Calling.{Answers, not_true, seen}
+use Rattle.nv_session.proofs.Calling.{Answers, seen}
+use Rattle.nv_session.proofs.Standing.{not_true}
 use Rattle.nv_calls.proofs.Allowed.{first_passes, later_passes}
 use Rattle.nv_session.proofs.OneCall.{target_there}
 
@@ -75,12 +76,12 @@ module _ (m n : Mount RegionState) (answer : Result (Option ℕ) Refusal) where
   }
 
   -- What is said of whatever the region shows is said of something, since a mount without faults shows something.
-  pub clean_logged : IsKept m.memory.region m.sup m.rows m.free m.faults m.read_only m.stopped → (names : List (List ℕ)) → Allows answer (tests_of_clean (Some names)) → (IsTrue m.stopped → answer ≡ Err Stopped)
-      → ((i : ℕ) (node : Node) (held : Store) (h : Held) → LeadsTo tree names i node → ShowsSound m.memory.region m.sup held → held i ≡ Some h → IfOk answer (ShowsCleaned m.memory.region n.memory.region m.sup held i h))
+  pub clean_logged : IsKept m.memory.region m.sup m.layout m.rows m.free m.faults m.read_only m.stopped → (names : List (List ℕ)) → Allows answer (tests_of_clean (Some names)) → (IsTrue m.stopped → answer ≡ Err Stopped)
+      → ((i : ℕ) (node : Node) (held : Store) (h : Held) → LeadsTo tree names i node → ShowsSound m.memory.region m.layout held → held i ≡ Some h → IfOk answer (ShowsCleaned m.memory.region n.memory.region m.layout held i h))
       → IfOk answer (λ found. finds_page found m.memory.region (seen m) names n.memory.region)
   clean_logged kept names allowed stopped log = by answer refl allowed log where
     by : (r : Result (Option ℕ) Refusal) → answer ≡ r → Allows r (tests_of_clean (Some names))
-        → ((i : ℕ) (node : Node) (held : Store) (h : Held) → LeadsTo tree names i node → ShowsSound m.memory.region m.sup held → held i ≡ Some h → IfOk r (ShowsCleaned m.memory.region n.memory.region m.sup held i h))
+        → ((i : ℕ) (node : Node) (held : Store) (h : Held) → LeadsTo tree names i node → ShowsSound m.memory.region m.layout held → held i ≡ Some h → IfOk r (ShowsCleaned m.memory.region n.memory.region m.layout held i h))
         → IfOk r (λ found. finds_page found m.memory.region (seen m) names n.memory.region)
     by (Err e) is allowed log = tt
     by (Ok found) is allowed log = ∥∥₁_map (mounted_of_kept kept runs passes.0) (λ w. holds w.0 w.1) where
@@ -90,7 +91,7 @@ module _ (m n : Mount RegionState) (answer : Result (Option ℕ) Refusal) where
       passes : (m.read_only ≡ false) × (first_refusal (stat_tests tree (Some names)) ≡ None)
       passes = first_passes (m.read_only, ReadOnly) (stat_tests tree (Some names)) allowed
 
-      holds : (held : Store) → IsMounted m.memory.region m.sup held m.rows m.free.pools → FindsPage found m.memory.region (seen m) names n.memory.region
+      holds : (held : Store) → IsMounted m.memory.region m.layout held m.rows m.free.pools → FindsPage found m.memory.region (seen m) names n.memory.region
       holds held mounted =
           let led = leads_there tree names passes.1 in
           let leads = led.2 in

@@ -5,7 +5,10 @@ pub mod Alike
 pub mod OneStep
 mod SameShown
 pub mod Settled
+mod Standing
 mod Calling
+mod Upgrading
+pub mod UpgradesOnce
 mod Asking
 pub mod Cleaned
 mod OneCall

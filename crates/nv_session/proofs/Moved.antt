@@ -6,22 +6,20 @@ use Rattle.nv_region.specs.Region.{Region, size, put}
 use Rattle.nv_region.specs.RegionState.{RegionState, is_off, fenced_or_last}
 use Rattle.nv_region.specs.declared.memory.Fuse.{Fuse}
 use Rattle.nv_region.specs.Stops.{Choices, MayBeLeft, LeavesOnly}
-use Rattle.nv_super.specs.Layout.{fixed_layout}
 use Rattle.nv_super.specs.Super.{IsSuper}
 use Rattle.nv_super.specs.declared.superblock.Super.{Super}
 use Rattle.nv_super.specs.declared.superblock.SuperFault.TheVariants.{Length}
 use Rattle.nv_journal.specs.Undo.{undone}
 use Rattle.nv_format.specs.Format.{IsFormatRefusal, CanFormat, IsFormatted, FormatLeaves, fresh_super}
 use Rattle.nv_format.specs.Format as formats
-use Rattle.nv_format.specs.declared.formatting.FormatRefusal.{FormatRefusal}
 use Rattle.nv_format.specs.declared.formatting.FormatRefusal.TheVariants.{Stopped}
-use Rattle.nv_report.specs.nv_outcome.Outcome.{Outcome, IsOutcome}
-use Rattle.nv_report.specs.nv_outcome.Same.{lasting_outcome}
-use Rattle.nv_report.proofs.nv_outcome.Again.{rolled_back, stays}
-use Rattle.nv_report.proofs.nv_outcome.SuperOf.{blocks_of_super, is_equal}
-use Rattle.nv_report.specs.nv_outcome.Answer.{outcome_of}
-use Rattle.nv_checking.specs.nv_recover.Errors.{UndoesAsBefore}
-use Rattle.nv_report.specs.nv_outcome.declared.recovered.Recovered.{Recovered}
+use Rattle.nv_outcome.specs.Outcome.{Outcome, IsOutcome}
+use Rattle.nv_outcome.specs.Same.{lasting_outcome}
+use Rattle.nv_outcome.proofs.Again.{rolled_back, stays}
+use Rattle.nv_outcome.proofs.SuperOf.{blocks_of_super, is_equal}
+use Rattle.nv_outcome.specs.Answer.{outcome_of}
+use Rattle.nv_recover.specs.Errors.{UndoesAsBefore}
+use Rattle.nv_outcome.specs.declared.recovered.Recovered.{Recovered}
 use Rattle.nv_text.specs.Answers.{ok_line, refused_line, stopped_line}
 use Rattle.nv_text.specs.declared.refusals.Refusal.{Refusal}
 use Rattle.nv_text.specs.declared.refusals.Refusal.TheVariants as refusals
@@ -32,14 +30,14 @@ use Rattle.nv_tree.specs.Refusals.{Path}
 use Rattle.nv_tree.proofs.Texts.{text_says}
 use Rattle.nv_calls.specs.Mount.{Mount, told}
 use Rattle.nv_paths.specs.Seen.{tree_of}
-use Rattle.nv_checking.specs.Workers.{is_worker_count, names_stranger}
-use Rattle.nv_checking.specs.Answering.{RefusesRecovery, MayEnd, IsOfItsSuper}
+use Rattle.nv_image_check.specs.Workers.{is_worker_count, names_stranger}
+use Rattle.nv_image_check.specs.Answering.{RefusesRecovery, MayEnd, IsOfItsSuper}
 use Rattle.nv_report.specs.Last.{how_it_went}
 use Rattle.nv_report.specs.Texts.{IsPartText}
 use Rattle.nv_report.specs.declared.part.Part.{Part}
 use Rattle.nv_report.specs.declared.last.Last.TheVariants as lasts
-use Rattle.nv_checking.specs.declared.recovery.Answer.{Answer}
-use Rattle.nv_checking.specs.declared.recovery.Answer.TheVariants as answers
+use Rattle.nv_image_check.specs.declared.recovery.Answer.{Answer}
+use Rattle.nv_image_check.specs.declared.recovery.Answer.TheVariants as answers
 use Rattle.nv_report.proofs.TextLemmas.{same_part}
 use Rattle.nv_line.specs.Request.{Request}
 use Rattle.nv_session.specs.Made.{MayMake}
@@ -93,11 +91,6 @@ makes_moves armed cpus blocks tables memory old new text formatted settled is sa
   inl (inr (memory.region, rw stands.time formatted, said, refl)),
   alone_stands memory.region memory old new state stands refl settled is,
 )
-
-pub format_refused_moves : (armed : Bool) (cpus blocks tables : ℕ) (refusal : FormatRefusal) (old new : Session) (text : List ℕ) → IsFormatRefusal (zeros blocks) cpus tables refusal → refusal ≢ Stopped
-    → new ≡ old → text ≡ refused_line (formats.refusal_name refusal) → Moves (MayStop armed (Formats cpus blocks tables) (StopsFormat cpus blocks tables)) old text new
-format_refused_moves armed cpus blocks tables refusal old new text applies unstopped is said = λ state stands.
-    (state, inl (inl (refusal, unstopped, applies, (said, refl))), subst (λ (s : Session). StandsFor s state) (sym is) stands)
 
 pub format_stopped_moves : (armed : Bool) (cpus blocks tables : ℕ) (memory : RegionState) (old new : Session) (text : List ℕ) → MayMake armed cpus blocks tables old.time (made.Stopped memory)
     → new ≡ alone old memory → text ≡ stopped_line → Moves (MayStop armed (Formats cpus blocks tables) (StopsFormat cpus blocks tables)) old text new
@@ -177,7 +170,7 @@ can_mount R S workers schedule (Some (answers.Recovered r)) may lists = (
   lists.2,
 )
 
-shows_outcome : (R S : Region) (r : Recovered) (m : Mount RegionState) → IsOutcome R (outcome_of r) → IsOutcome S (lasting_outcome (outcome_of r)) → m.memory.region ≡ S → told m.sup m.rows m.free r.doubled.items m.faults ≡ outcome_of r → m.stopped ≡ false → ShowsOutcome R m
+shows_outcome : (R S : Region) (r : Recovered) (m : Mount RegionState) → IsOutcome R (outcome_of r) → IsOutcome S (lasting_outcome (outcome_of r)) → m.memory.region ≡ S → told m.layout m.rows m.free r.doubled.items m.faults ≡ outcome_of r → m.stopped ≡ false → ShowsOutcome R m
 shows_outcome R S r m came left here is runs = record {
   doubled = r.doubled.items;
   shown = subst (λ (o : Outcome). IsOutcome R o) (sym is) came;
@@ -248,13 +241,13 @@ pokes_moves R at value memory old new text here word stored settled is said = λ
 -- ---- what is shown
 
 shows_step : (mounted : Option Region) (mount : Option (Mount RegionState)) (part : Part) (state : State) (text : List ℕ) → IsMountOf mounted mount
-    → MatchOption mount (text ≡ refused_line (codes "NotMounted")) (λ m. IsPartText part (record (told m.sup m.rows m.free [] m.faults) { tables = [] }) text) → ShowsMounted mounted part state text state
+    → MatchOption mount (text ≡ refused_line (codes "NotMounted")) (λ m. IsPartText part (record (told m.layout m.rows m.free [] m.faults) { tables = [] }) text) → ShowsMounted mounted part state text state
 shows_step None None part state text shows is = (is, refl)
 shows_step None (Some m) part state text shows is = absurd shows
 shows_step (Some R) None part state text shows is = absurd shows
-shows_step (Some R) (Some m) part state text shows is = (told m.sup m.rows m.free shows.doubled m.faults, shows.shown, same_part part (told m.sup m.rows m.free [] m.faults) [] (fixed_layout m.sup).chains [] shows.doubled text is, refl)
+shows_step (Some R) (Some m) part state text shows is = (told m.layout m.rows m.free shows.doubled m.faults, shows.shown, same_part part (told m.layout m.rows m.free [] m.faults) [] m.layout.chains [] shows.doubled text is, refl)
 
-pub shows_moves : (part : Part) (s : Session) (text : List ℕ) → MatchOption (mount_in s.store) (text ≡ refused_line (codes "NotMounted")) (λ m. IsPartText part (record (told m.sup m.rows m.free [] m.faults) { tables = [] }) text)
+pub shows_moves : (part : Part) (s : Session) (text : List ℕ) → MatchOption (mount_in s.store) (text ≡ refused_line (codes "NotMounted")) (λ m. IsPartText part (record (told m.layout m.rows m.free [] m.faults) { tables = [] }) text)
     → Moves (ShowsPart part) s text s
 shows_moves part s text is = λ state stands. (state, shows_step state.mounted (mount_in s.store) part state text stands.mounted is, stands)
 
@@ -273,7 +266,7 @@ reads_step Tells (Some R) (Some (stores.Alone memory)) path state text shows is 
 reads_step Tells None (Some (stores.Mounted m)) path state text shows is = absurd shows
 reads_step Tells (Some R) (Some (stores.Mounted m)) path state text shows is =
     let w = text_says path in
-    (lasting_outcome (told m.sup m.rows m.free shows.doubled m.faults), shows.here, w.0, w.1, is shows.runs w.0 w.1, refl)
+    (lasting_outcome (told m.layout m.rows m.free shows.doubled m.faults), shows.here, w.0, w.1, is shows.runs w.0 w.1, refl)
 
 pub reads_moves : (Tells : Tree → Path → List ℕ → Type 0) (path : List ℕ) (s : Session) (text : List ℕ) → MatchOption (mount_in s.store) (text ≡ refused_line (codes "NotMounted")) (TellsOf Tells path text)
     → Moves (Reads Tells path) s text s
@@ -282,11 +275,11 @@ reads_moves Tells path s text is = λ state stands.
 
 -- ---- by what is mounted
 
-pub seen_moves : (part : Part) (s : Session) (m : Mount RegionState) (text : List ℕ) → mount_in s.store ≡ Some m → IsPartText part (record (told m.sup m.rows m.free [] m.faults) { tables = [] }) text → Moves (ShowsPart part) s text s
-seen_moves part s m text e is = shows_moves part s text (subst (λ o. MatchOption o (text ≡ refused_line (codes "NotMounted")) (λ (m : Mount RegionState). IsPartText part (record (told m.sup m.rows m.free [] m.faults) { tables = [] }) text)) (sym e) is)
+pub seen_moves : (part : Part) (s : Session) (m : Mount RegionState) (text : List ℕ) → mount_in s.store ≡ Some m → IsPartText part (record (told m.layout m.rows m.free [] m.faults) { tables = [] }) text → Moves (ShowsPart part) s text s
+seen_moves part s m text e is = shows_moves part s text (subst (λ o. MatchOption o (text ≡ refused_line (codes "NotMounted")) (λ (m : Mount RegionState). IsPartText part (record (told m.layout m.rows m.free [] m.faults) { tables = [] }) text)) (sym e) is)
 
 pub unseen_moves : (part : Part) (s : Session) (text : List ℕ) → mount_in s.store ≡ None → text ≡ refused_line (codes "NotMounted") → Moves (ShowsPart part) s text s
-unseen_moves part s text e is = shows_moves part s text (subst (λ o. MatchOption o (text ≡ refused_line (codes "NotMounted")) (λ (m : Mount RegionState). IsPartText part (record (told m.sup m.rows m.free [] m.faults) { tables = [] }) text)) (sym e) is)
+unseen_moves part s text e is = shows_moves part s text (subst (λ o. MatchOption o (text ≡ refused_line (codes "NotMounted")) (λ (m : Mount RegionState). IsPartText part (record (told m.layout m.rows m.free [] m.faults) { tables = [] }) text)) (sym e) is)
 
 pub read_moves : (Tells : Tree → Path → List ℕ → Type 0) (path : List ℕ) (s : Session) (m : Mount RegionState) (text : List ℕ) → mount_in s.store ≡ Some m → TellsOf Tells path text m → Moves (Reads Tells path) s text s
 read_moves Tells path s m text e is = reads_moves Tells path s text (subst (λ o. MatchOption o (text ≡ refused_line (codes "NotMounted")) (TellsOf Tells path text)) (sym e) is)

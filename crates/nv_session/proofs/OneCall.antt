@@ -1,23 +1,21 @@
 -- A call that writes prints one text: its tests are those of the region and of what came to the recovery.
 use Rattle.std.proofs.Common.{◌≡◌, inl, inr, ℕ, ◌+◌, ◌%◌, ◌<◌, Bool, true, false, not, cond, nat_lt, nat_le, nat_eq, ◌&&◌, is_none, is_some, List, [], ◌∷◌, ◌++◌, append_assoc, length, Option, Some, None, Result, Ok, Err, refl, sym, ap, subst, ◌∙◌, arith}
-use Rattle.nv_super.specs.Layout.{fixed_layout}
 use Rattle.std.specs.Prelude.{⊤, eqb}
 use Rattle.std.specs.List.{list_any}
 use Rattle.std.specs.Option.{option_and_then, option_map, option_map_or}
 use Rattle.std.proofs.lemmas.Bool.{cases_lt}
 use Rattle.std.proofs.lemmas.Bool.Decides.{nat_tests}
 use Rattle.nv_region.specs.Region.{Region}
-use Rattle.nv_super.specs.declared.superblock.Super.{Super}
 use Rattle.nv_super.specs.declared.owners.Run.{Run}
 use Rattle.nv_alloc.specs.Taking.{all_blocks}
 use Rattle.nv_alloc.proofs.Singly.{takes_once}
 use Rattle.nv_entry.specs.declared.entry.Operation.TheVariants.{Add}
 use Rattle.nv_entry.specs.declared.entry.Entry.{Entry}
 use Rattle.nv_radix.specs.Pages.{block_at}
-use Rattle.nv_report.specs.nv_scan.declared.piece.Row.{Row}
-use Rattle.nv_report.specs.nv_outcome.Same.{SameRow, SameRows}
-use Rattle.nv_report.proofs.nv_outcome.OnlyOne.{same_outcome}
-use Rattle.nv_calls.specs.nv_graph.Read.{row_of}
+use Rattle.nv_scan.specs.declared.piece.Row.{Row}
+use Rattle.nv_outcome.specs.Same.{SameRow, SameRows}
+use Rattle.nv_outcome.proofs.OnlyOne.{same_outcome}
+use Rattle.nv_graph.specs.Read.{row_of}
 use Rattle.nv_tree.specs.Path.{last_name}
 use Rattle.nv_tree.specs.Calls.{links_at}
 use Rattle.nv_tree.specs.Tree.{Tree, found, in_use, last_in, walk}
@@ -38,7 +36,7 @@ use Rattle.nv_paths.specs.Seen.{node_of, tree_of}
 use Rattle.nv_steps.specs.Sizes.{blocks_from, end_block}
 use Rattle.nv_calls.specs.SizeCall.{resized_blocks, size_blocks}
 use Rattle.nv_calls.specs.UnlinkCalls.{has_more_links, unlink_blocks}
-use Rattle.nv_calls.specs.nv_rows.Unused.{unused_number}
+use Rattle.nv_rows.specs.Unused.{unused_number}
 use Rattle.nv_calls.specs.World.{world_of}
 use Rattle.nv_calls.specs.WriteCall.{WriteNeeds}
 use Rattle.nv_steps.specs.Writes.{NeedsBlocks, data_blocks, data_entries, plan_of}
@@ -53,6 +51,7 @@ use Rattle.nv_calls.proofs.SeenAlike.{Alike, AreSame, alike_here, rows_at, unuse
 -- Two mounts that nobody can tell apart by what the tests of calls look at.
 pub record SameSeen (m k : Mount ⊤) : Type 0 where
   pub sup : k.sup ≡ m.sup
+  pub layout : k.layout ≡ m.layout
   pub rows : SameRows m.rows k.rows
   pub pools : k.free.pools ≡ m.free.pools
   pub read_only : k.read_only ≡ m.read_only
@@ -62,7 +61,7 @@ pub same_seen : (asks : Asks) (R S : Region) (path : List ℕ) (a b : Asked asks
 same_seen asks R S path a b =
     let here = same_outcome S a.here b.here a.of_here b.of_here in
     let shown = same_outcome R a.shown b.shown a.of_shown b.of_shown in
-    record { sup = here.sup; rows = here.rows; pools = here.free; read_only = ap has_faults shown.faults }
+    record { sup = here.sup; layout = λ i. record { sup = here.sup i; chains = here.tables i }; rows = here.rows; pools = here.free; read_only = ap has_faults shown.faults }
 
 -- two tests of the inode that a path leads to
 on_target : (f g : ℕ → Bool) → ((i : ℕ) → g i ≡ f i) → (o : Option ℕ) → option_map_or g o false ≡ option_map_or f o false
@@ -72,8 +71,8 @@ on_target f g same (Some i) = same i
 module _ (S U : Region) (m k : Mount ⊤) (same : SameSeen m k) (alike : Alike (tree_of S m.rows) (tree_of U k.rows)) where
   -- ---- what stands beside the tree
 
-  number_same : (cpu : ℕ) → unused_number (fixed_layout k.sup) k.rows cpu ≡ unused_number (fixed_layout m.sup) m.rows cpu
-  number_same cpu = unused_same m.sup k.sup m.rows k.rows same.sup same.rows cpu
+  number_same : (cpu : ℕ) → unused_number k.layout k.rows cpu ≡ unused_number m.layout m.rows cpu
+  number_same cpu = unused_same m.layout k.layout m.rows k.rows same.layout same.rows cpu
 
   world_same : world_of k ≡ world_of m
   world_same = λ i. record { cpus = (same.sup i).cpus; read_only = same.read_only i; unused = λ cpu. number_same cpu i; free = all_blocks (same.pools i) }

@@ -6,11 +6,11 @@ use Rattle.std.proofs.Props.{props}
 use Rattle.std.specs.Prelude.{⊤}
 use Rattle.std.proofs.lemmas.Bool.{cases_lt}
 use Rattle.nv_region.specs.Region.{Region}
-use Rattle.nv_super.specs.declared.superblock.Super.{Super}
+use Rattle.nv_super.specs.Layout.{Layout}
 use Rattle.nv_commit.proofs.Left.{one_held}
 use Rattle.nv_deadpages.specs.Dead.{IsFirstDead}
-use Rattle.nv_calls.specs.nv_held.Held.{Held, Store}
-use Rattle.nv_calls.specs.nv_held.Mounted.{ShowsSound}
+use Rattle.nv_mounted.specs.Held.{Held, Store}
+use Rattle.nv_mounted.specs.Mounted.{ShowsSound}
 use Rattle.nv_calls.specs.CleanCall.{ShowsCleaned}
 use Rattle.nv_calls.specs.Mount.{Mount}
 use Rattle.nv_paths.specs.Seen.{tree_of}
@@ -26,15 +26,15 @@ found_one S m k same names T U x y p q =
     let first = p.leads in
     let second = q.leads in
     let one = p.sound in
-    let other : ShowsSound S m.sup q.held = subst (λ (s : Super). ShowsSound S s q.held) same.sup q.sound in
+    let other : ShowsSound S m.layout q.held = subst (λ (l : Layout). ShowsSound S l q.held) same.layout q.sound in
     let number : q.inode ≡ p.inode = (let both : Some q.inode ≡ Some p.inode = sym second.leads ∙ found_alike (tree_of S m.rows) (tree_of S k.rows) (alike_here S m.rows k.rows same.rows) names ∙ first.leads in cc) in
     let held : q.held ≡ p.held = one_held other.shows one.shows in
     let log : q.log ≡ p.log = (let both : Some q.log ≡ Some p.log = sym q.is ∙ (λ t. held t (number t)) ∙ p.is in cc) in
-    went_one m.sup p.inode p.log S S T U p.held x y p.went
-    (subst (λ (h : Held). ShowsCleaned S U m.sup p.held p.inode h y) log
-    (subst (λ (i : ℕ). ShowsCleaned S U m.sup p.held i q.log y) number
-    (subst (λ (st : Store). ShowsCleaned S U m.sup st q.inode q.log y) held
-    (subst (λ (s : Super). ShowsCleaned S U s q.held q.inode q.log y) same.sup q.went))))
+    went_one m.layout p.inode p.log S S T U p.held x y p.went
+    (subst (λ (h : Held). ShowsCleaned S U m.layout p.held p.inode h y) log
+    (subst (λ (i : ℕ). ShowsCleaned S U m.layout p.held i q.log y) number
+    (subst (λ (st : Store). ShowsCleaned S U m.layout st q.inode q.log y) held
+    (subst (λ (l : Layout). ShowsCleaned S U l q.held q.inode q.log y) same.layout q.went))))
 
 -- so its line is one
 pub clean_answered : AnsweredOnce cleaned_line finds_page

@@ -9,22 +9,23 @@ use Rattle.nv_calls.proofs.SeenAlike.{Alike, alike_here}
 use Rattle.nv_session.proofs.Alike.{stat_one, names_one, bytes_one}
 use Rattle.nv_session.proofs.OneCall.{AskedOnce, AnsweredOnce, called_text, clean_one, create_one, write_one, size_one, attributes_one, link_one, unlink_one, remove_one, rename_one}
 use Rattle.nv_session.proofs.OneClean.{clean_answered}
+use Rattle.nv_session.proofs.UpgradesOnce.{upgrade_text, upgrade_unarmed}
 use Rattle.std.specs.Prelude.{⊤, MatchBool, codes, replicate}
 use Rattle.nv_region.specs.Region.{Region, size, put}
 use Rattle.nv_region.specs.declared.memory.Fuse.{Fuse}
 use Rattle.nv_region.specs.declared.memory.Keep.{Keep}
-use Rattle.nv_checking.specs.Workers.{is_worker_count, names_stranger}
+use Rattle.nv_image_check.specs.Workers.{is_worker_count, names_stranger}
 use Rattle.nv_super.specs.declared.superblock.SuperFault.{SuperFault}
 use Rattle.nv_journal.specs.Undo.{undone}
 use Rattle.nv_format.specs.Format as formats
 use Rattle.nv_format.specs.declared.formatting.FormatRefusal.{FormatRefusal}
 use Rattle.nv_format.proofs.OneAnswer.{one_refusal, not_prevented}
 use Rattle.nv_format.proofs.Determined.{formatted_only}
-use Rattle.nv_line.specs.Request.{Request, Format, Time, Poke, Cut, Recover, Replay, ListNames, Stat, Read, Create, MakeDirectory, Write, SetSize, SetAttributes, Link, Unlink, RemoveDirectory, Rename, Clean, Tree, Free, Faults, Report, Peek, Stop}
-use Rattle.nv_report.specs.nv_outcome.Outcome.{Outcome}
-use Rattle.nv_report.specs.nv_outcome.Same.{SameOutcome}
-use Rattle.nv_report.proofs.nv_outcome.OnlyOne.{same_outcome}
-use Rattle.nv_report.proofs.nv_outcome.SuperOf.{one_fault}
+use Rattle.nv_line.specs.Request.{Request, Format, Time, Poke, Cut, Recover, Replay, ListNames, Stat, Read, Create, MakeDirectory, Write, SetSize, SetAttributes, Link, Unlink, RemoveDirectory, Rename, Clean, Upgrade, Tree, Free, Faults, Report, Peek, Stop}
+use Rattle.nv_outcome.specs.Outcome.{Outcome}
+use Rattle.nv_outcome.specs.Same.{SameOutcome}
+use Rattle.nv_outcome.proofs.OnlyOne.{same_outcome}
+use Rattle.nv_outcome.proofs.SuperOf.{one_fault}
 use Rattle.nv_super.specs.FaultText.{super_fault_name}
 use Rattle.nv_text.specs.Answers.{cleaned_line, ok_line, refused_line}
 use Rattle.nv_report.specs.Last.{how_it_went}
@@ -133,6 +134,7 @@ does_one old (Unlink cpu path) reads = absurd (cc)
 does_one old (RemoveDirectory cpu path) reads = absurd (cc)
 does_one old (Rename cpu path other) reads = absurd (cc)
 does_one old (Clean path) reads = absurd (cc)
+does_one old Upgrade reads = absurd (cc)
 does_one old Tree reads = mounted_one old.mounted parts.Tree old
 does_one old Free reads = mounted_one old.mounted parts.Free old
 does_one old Faults reads = mounted_one old.mounted parts.Faults old
@@ -170,6 +172,7 @@ does_text old (Unlink cpu path) m n s t p q = call_text (asks_unlink cpu) (makes
 does_text old (RemoveDirectory cpu path) m n s t p q = call_text (asks_remove cpu) (makes_removal old.time) (logs_removal cpu old.time) path (λ S U m k same alike count. remove_one S U m k same alike cpu) old m n s t p q
 does_text old (Rename cpu path other) m n s t p q = call_text_by_two (asks_rename cpu) (makes_rename old.time) (logs_rename cpu old.time) path other (λ r S U m k same alike count. rename_one S U m k same alike cpu r) old m n s t p q
 does_text old (Clean path) m n s t p q = telling_text cleaned_line asks_clean makes_no_change finds_page logs_page_less path (λ S U m k same alike count. clean_one S U m k same alike) clean_answered old m n s t p q
+does_text old Upgrade m n s t p q = upgrade_text old m n s t p q
 does_text old (Format cpus blocks tables) m n s t p q = (does_one old (Format cpus blocks tables) refl s t m n p q).0
 does_text old (Time time) m n s t p q = (does_one old (Time time) refl s t m n p q).0
 does_text old (Poke at value) m n s t p q = (does_one old (Poke at value) refl s t m n p q).0
@@ -280,6 +283,7 @@ does_unarmed a (Unlink cpu path) other old m s h = call_unarmed a (asks_unlink c
 does_unarmed a (RemoveDirectory cpu path) other old m s h = call_unarmed a (asks_remove cpu) (makes_removal old.time) (logs_removal cpu old.time) path old m s h
 does_unarmed a (Rename cpu path new) other old m s h = call_unarmed a (asks_rename cpu h.0) (makes_rename old.time h.0) (logs_rename cpu old.time h.0) path old m s h.2
 does_unarmed a (Clean path) other old m s h = telling_unarmed cleaned_line a asks_clean makes_no_change finds_page logs_page_less path old m s h
+does_unarmed a Upgrade other old m s h = upgrade_unarmed a old m s h
 does_unarmed a Tree other old m s h = shown_unarmed old.mounted parts.Tree old m s h
 does_unarmed a Free other old m s h = shown_unarmed old.mounted parts.Free old m s h
 does_unarmed a Faults other old m s h = shown_unarmed old.mounted parts.Faults old m s h

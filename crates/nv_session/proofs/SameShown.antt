@@ -2,12 +2,12 @@
 use Rattle.std.proofs.Common.{◌+◌, ℕ, List, [], ◌∷◌, sym, ap, ◌∙◌, subst}
 use Rattle.nv_region.specs.Region.{Region, word}
 use Rattle.nv_super.specs.Layout.{Layout}
-use Rattle.nv_report.specs.nv_scan.Inode.{Log, IsInode, good_of}
-use Rattle.nv_report.specs.nv_scan.Rows.{AreNumbers, IsRow}
-use Rattle.nv_report.specs.nv_scan.declared.piece.Row.{Row}
-use Rattle.nv_report.specs.nv_outcome.Outcome.{AreRows, Outcome, IsOutcome}
-use Rattle.nv_report.specs.nv_outcome.Same.{SameRow, SameRows}
-use Rattle.nv_report.proofs.nv_outcome.SameRows.{from_first, from_second, rises_too}
+use Rattle.nv_scan.specs.Inode.{Log, IsInode, good_of}
+use Rattle.nv_scan.specs.Rows.{AreNumbers, IsRow}
+use Rattle.nv_scan.specs.declared.piece.Row.{Row}
+use Rattle.nv_outcome.specs.Outcome.{AreRows, Outcome, IsOutcome}
+use Rattle.nv_outcome.specs.Same.{SameRow, SameRows}
+use Rattle.nv_outcome.proofs.SameRows.{from_first, from_second, rises_too}
 
 module _ {R : Region} {l : Layout} where
   row_too : (a : ℕ) (log : Log) (x y : Row) → SameRow x y → IsRow R l a log x → IsRow R l a log y

@@ -12,12 +12,12 @@ use Rattle.nv_super.specs.declared.faults.Fault.{Fault}
 use Rattle.nv_super.specs.declared.owners.Owner.{Owner}
 use Rattle.nv_super.specs.Super.{IsRefused}
 use Rattle.nv_journal.specs.Undo.{undone}
-use Rattle.nv_report.specs.nv_outcome.Outcome.{Outcome, IsOutcome}
-use Rattle.nv_report.specs.nv_outcome.Same.{SameOutcome, SameRows, is_lasting, lasting_outcome}
-use Rattle.nv_report.proofs.nv_outcome.Again.{rolled_back, stays}
-use Rattle.nv_report.proofs.nv_outcome.OnlyOne.{same_outcome}
-use Rattle.nv_report.proofs.nv_outcome.SuperOf.{one_fault}
-use Rattle.nv_calls.specs.nv_held.Mounted.{faultless_outcome}
+use Rattle.nv_outcome.specs.Outcome.{Outcome, IsOutcome}
+use Rattle.nv_outcome.specs.Same.{SameOutcome, SameRows, is_lasting, lasting_outcome}
+use Rattle.nv_outcome.proofs.Again.{rolled_back, stays}
+use Rattle.nv_outcome.proofs.OnlyOne.{same_outcome}
+use Rattle.nv_outcome.proofs.SuperOf.{one_fault}
+use Rattle.nv_mounted.specs.Mounted.{faultless_outcome}
 use Rattle.nv_calls.specs.Alike.{AreAlike}
 use Rattle.nv_calls.specs.Mount.{has_faults}
 use Rattle.nv_paths.specs.Seen.{tree_of}

@@ -6,10 +6,10 @@ use Rattle.nv_region.specs.RegionState.{RegionState}
 use Rattle.nv_super.specs.declared.owners.Run.{Run}
 use Rattle.nv_alloc.specs.Taking.{all_blocks}
 use Rattle.nv_radix.specs.Pages.{block_at}
-use Rattle.nv_report.specs.nv_scan.declared.piece.Row.{Row}
-use Rattle.nv_calls.specs.nv_graph.Read.{row_of}
+use Rattle.nv_scan.specs.declared.piece.Row.{Row}
+use Rattle.nv_graph.specs.Read.{row_of}
 use Rattle.nv_tree.specs.Tree.{Tree}
-use Rattle.nv_tree.specs.Refusals.{IsRefusedBy, MayWantMemory, Path, Tests, World, first_refusal, has_no_space, is_bad, is_dir, is_missing, is_too_large, stat_tests, target, walk_tests, write_tests, writing}
+use Rattle.nv_tree.specs.Refusals.{MayWantMemory, Path, Tests, World, first_refusal, has_no_space, is_bad, is_dir, is_missing, is_too_large, stat_tests, target, walk_tests, write_tests, writing}
 use Rattle.nv_tree.specs.declared.refusal.Refusal.{Refusal}
 use Rattle.nv_tree.specs.declared.refusal.Refusal.TheVariants.{BadCpu, NoSpace, ReadOnly}
 use Rattle.nv_calls.specs.Mount.{Mount}
@@ -103,10 +103,6 @@ found_target w t cpu p end none =
     let stat = first_passes (is_bad p) (walk_tests t p ++ is_missing t p ∷ []) (all_pass (stat_tests t p) (is_dir t p ∷ is_too_large end ∷ []) two.1) in
     (first_passes (is_missing t p) [] (later_passes (walk_tests t p) (is_missing t p ∷ []) stat.1)).0
 
--- no bytes need no block
-pub no_needs : (S : Region) (m : Mount RegionState) (cpu : ℕ) (p : Path) (offset time : ℕ) → WriteNeeds S m cpu p offset 0 time 0
-no_needs S m cpu p offset time = record { none = λ zero. refl; some = λ pos. absurd (omega (arith, pos)) }
-
 -- Bytes for whose pages there aren't enough blocks are refused for that, where nothing else refuses them.
 pub full : (S : Region) (m : Mount RegionState) (cpu : ℕ) (p : Path) (offset count far time blocks : ℕ) → far ≡ min (offset + count) 18446744073709551615
     → first_refusal (write_tests (world_of m) (tree_of S m.rows) cpu p (far + 0) 0) ≡ None → all_blocks m.free.pools < count / 4096 → WriteNeeds S m cpu p offset count time blocks
@@ -118,10 +114,3 @@ full S m cpu p offset count far time blocks is none few needs =
     let row = row_there S m.rows p (found_target w t cpu p (offset + count) (before_passes w t cpu p offset count far is none)) in
     let hold = needs_hold m.free.pools cpu row.0.tail (block_at row.0.index) row.0.numbers.size offset count time blocks some (needs.some some row.0 row.1) in
     no_space w t cpu p offset count far is blocks none (omega (arith, few, hold))
-
--- What refuses no bytes where these would end refuses these.
-pub told_too : (S : Region) (m : Mount RegionState) (cpu : ℕ) (p : Path) (offset count far blocks : ℕ) (e : Refusal) → far ≡ min (offset + count) 18446744073709551615
-    → IsRefusedBy (first_refusal (write_tests (world_of m) (tree_of S m.rows) cpu p (far + 0) 0)) e → IsRefusedBy (first_refusal (write_tests (world_of m) (tree_of S m.rows) cpu p (offset + count) blocks)) e
-told_too S m cpu p offset count far blocks e is (inl memory) = inl (memory.0, last_too (world_of m) (tree_of S m.rows) cpu p offset count far is blocks memory.1)
-told_too S m cpu p offset count far blocks e is (inr (inl stopped)) = inr (inl stopped)
-told_too S m cpu p offset count far blocks e is (inr (inr first)) = inr (inr (refused_too (world_of m) (tree_of S m.rows) cpu p offset count far is e blocks first))

@@ -2,7 +2,7 @@
 use Rattle.std.specs.Prelude.{◌≡◌, ◌⊎◌, Bool, true, false, ⊤, Option, Some, None}
 use Rattle.nv_region.specs.Region.{Region}
 use Rattle.nv_journal.specs.Undo.{undone}
-use Rattle.nv_report.specs.nv_outcome.Outcome.{Outcome, IsOutcome}
+use Rattle.nv_outcome.specs.Outcome.{Outcome, IsOutcome}
 use Rattle.nv_line.specs.Request.{Request, Poke, Cut, Peek}
 use Rattle.nv_calls.specs.Alike.{AreAlike}
 use Rattle.nv_session.specs.Machine.{State}

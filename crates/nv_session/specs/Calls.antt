@@ -2,9 +2,9 @@
 use Rattle.std.specs.Prelude.{◌≡◌, ℕ, ◌+◌, Bool, false, ⊤, List, [], Option, Some}
 use Rattle.nv_region.specs.Region.{Region, size}
 use Rattle.nv_journal.specs.Undo.{undone}
-use Rattle.nv_calls.specs.nv_held.Held.{Held, Store}
-use Rattle.nv_calls.specs.nv_held.Mounted.{ShowsSound}
-use Rattle.nv_report.specs.nv_outcome.Outcome.{Outcome, IsOutcome}
+use Rattle.nv_mounted.specs.Held.{Held, Store}
+use Rattle.nv_mounted.specs.Mounted.{ShowsSound, outcome_layout}
+use Rattle.nv_outcome.specs.Outcome.{Outcome, IsOutcome}
 use Rattle.nv_tree.specs.Path.{Says}
 use Rattle.nv_tree.specs.Tree.{Node, Tree, SameTree}
 use Rattle.nv_tree.specs.Refusals.{Path, Tests, clean_tests, create_tests, link_tests, rename_tests, rmdir_tests, set_attr_tests, set_size_tests, unlink_tests, write_tests}
@@ -30,7 +30,7 @@ Asks = Region → Mount ⊤ → Path → Tests → Type 0
 -- An outcome as what contracts see of a mounted file system, without its memory: read-only or not, not stopped, and
 -- with no room to give blocks back.
 abbrev pub mounted_as : Outcome → Bool → Mount ⊤
-mounted_as o read_only = record { memory = tt; sup = o.sup; rows = o.rows; free = record { sup = o.sup; pools = o.free; room = 0 }; faults = o.faults; read_only = read_only; stopped = false }
+mounted_as o read_only = record { memory = tt; sup = o.sup; layout = outcome_layout o; rows = o.rows; free = record { sup = o.sup; pools = o.free; room = 0 }; faults = o.faults; read_only = read_only; stopped = false }
 
 -- What a call is asked by a path: the outcomes of the mounted region, which the mount shows, and of the one that there is,
 -- what the path says, and the call's tests. The mounted region is the one that came to the last recovery, or, once a call
@@ -87,13 +87,14 @@ asks_clean S m p tests = tests ≡ clean_tests (world_of m) (tree_of S m.rows) p
 
 -- ---- what is made
 
--- A region that is as long and its own undone region, whose outcome has the same superblock and no fault, and shows this tree.
+-- A region that is as long and its own undone region, whose outcome has the same superblock, the same tables and no fault, and shows this tree.
 pub record LeavesTree (S T : Region) (m : Mount ⊤) (t : Tree) : Type 0 where
   pub as_long : size T ≡ size S
   pub after : Outcome
   pub shown : IsOutcome T after
   pub own : undone after.sup T ≡ T
   pub sup : after.sup ≡ m.sup
+  pub layout : outcome_layout after ≡ m.layout
   pub faultless : after.faults ≡ []
   pub tree : SameTree (tree_of T after.rows) t
 
@@ -107,9 +108,9 @@ pub record FindsPage (found : Option ℕ) (S : Region) (m : Mount ⊤) (names : 
   pub held : Store
   pub log : Held
   pub leads : LeadsTo (tree_of S m.rows) names inode node
-  pub sound : ShowsSound S m.sup held
+  pub sound : ShowsSound S m.layout held
   pub is : held inode ≡ Some log
-  pub went : ShowsCleaned S T m.sup held inode log found
+  pub went : ShowsCleaned S T m.layout held inode log found
 
 -- the same where only that something is shown is known
 abbrev pub finds_page : Option ℕ → Logs ⊤

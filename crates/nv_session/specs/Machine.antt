@@ -7,23 +7,26 @@ use Rattle.nv_region.specs.declared.memory.Fuse.{Fuse}
 use Rattle.nv_super.specs.declared.superblock.SuperFault.{SuperFault}
 use Rattle.nv_super.specs.Super.{IsRefused}
 use Rattle.nv_journal.specs.Undo.{undone}
-use Rattle.nv_report.specs.nv_outcome.Outcome.{Outcome, IsOutcome}
+use Rattle.nv_outcome.specs.Outcome.{Outcome, IsOutcome}
 use Rattle.nv_format.specs.Format.{IsFormatRefusal, CanFormat, IsFormatted, FormatLeaves, fresh_super}
 use Rattle.nv_format.specs.Format as formats
 use Rattle.nv_format.specs.declared.formatting.FormatRefusal.{FormatRefusal}
 use Rattle.nv_format.specs.declared.formatting.FormatRefusal.TheVariants.{Stopped}
 use Rattle.nv_line.specs.Request.{Request, Format, Time, Poke, Cut, Recover, Replay, ListNames, Stat, Read, Create, MakeDirectory, Write, SetSize, SetAttributes, Link, Unlink, RemoveDirectory, Rename}
-use Rattle.nv_line.specs.Request.{Clean, Tree, Free, Faults, Report, Peek, Stop}
+use Rattle.nv_line.specs.Request.{Clean, Upgrade, Tree, Free, Faults, Report, Peek, Stop}
 use Rattle.nv_super.specs.declared.kind.Kind.TheVariants.{File, Directory}
-use Rattle.nv_calls.specs.Mount.{has_faults}
+use Rattle.nv_inode.specs.Upgraded.{IsUpgraded, upgraded, upgraded_layout}
+use Rattle.nv_calls.specs.Mount.{Mount, has_faults}
 use Rattle.nv_calls.specs.Stopped.{LeavesCall}
+use Rattle.nv_calls.specs.Upgrading.{LeavesUpgrade}
+use Rattle.nv_calls.specs.World.{world_of}
 use Rattle.nv_calls.specs.Effects.{logs_page_less, Makes, Logs, LogsBytes, LogsUnlink, makes_inode, makes_bytes, makes_size, makes_attributes, makes_link, makes_unlink, makes_removal, makes_rename}
 use Rattle.nv_calls.specs.Effects.{makes_no_change, logs_inode, logs_size, logs_attributes, logs_link, logs_removal, logs_rename}
-use Rattle.nv_session.specs.Calls.{Asks, Asked, LeavesTree, seen_in, asks_create, asks_write, asks_size, asks_attributes, asks_link, asks_unlink, asks_remove, asks_rename, asks_clean, finds_page}
+use Rattle.nv_session.specs.Calls.{Asks, Asked, LeavesTree, mounted_as, seen_in, asks_create, asks_write, asks_size, asks_attributes, asks_link, asks_unlink, asks_remove, asks_rename, asks_clean, finds_page}
 use Rattle.nv_super.specs.FaultText.{super_fault_name}
 use Rattle.nv_tree.specs.Path.{Says}
 use Rattle.nv_tree.specs.Tree as trees
-use Rattle.nv_tree.specs.Refusals.{Path, Tests, first_refusal, refusal_word, list_tests, stat_tests, read_tests}
+use Rattle.nv_tree.specs.Refusals.{Path, Tests, first_refusal, refusal_word, list_tests, stat_tests, read_tests, upgrade_tests}
 use Rattle.nv_tree.specs.declared.refusal.Refusal.{Refusal}
 use Rattle.nv_paths.specs.Seen.{tree_of}
 use Rattle.nv_calls.specs.Stat.{IsStat}
@@ -35,8 +38,8 @@ use Rattle.nv_text.specs.Names.{list_line, data_line}
 use Rattle.nv_text.specs.Report.{stat_line}
 use Rattle.nv_text.specs.declared.inodes.Attributes.{Attributes}
 use Rattle.nv_report.specs.Texts.{recovered_text, IsPartText}
-use Rattle.nv_checking.specs.nv_recover.Errors.{UndoesAsBefore}
-use Rattle.nv_checking.specs.Workers.{is_worker_count, names_stranger}
+use Rattle.nv_recover.specs.Errors.{UndoesAsBefore}
+use Rattle.nv_image_check.specs.Workers.{is_worker_count, names_stranger}
 use Rattle.nv_report.specs.Last.{how_it_went}
 use Rattle.nv_report.specs.declared.part.Part.{Part}
 use Rattle.nv_report.specs.declared.part.Part.TheVariants as parts
@@ -332,6 +335,56 @@ Renames armed cpu path other old text new = CallsByTwo armed (asks_rename cpu) (
 abbrev pub Cleans : Bool → List ℕ → State → List ℕ → State → Type 0
 Cleans armed path old text new = CallsTelling cleaned_line armed asks_clean makes_no_change finds_page logs_page_less path old text new
 
+-- ---- the upgrade
+
+-- What `upgrade` is asked: the outcomes of the mounted region, which the mount shows, and of the one that there is.
+pub record AskedUpgrade (R S : Region) : Type 0 where
+  pub shown : Outcome
+  pub of_shown : IsOutcome R shown
+  pub here : Outcome
+  pub of_here : IsOutcome S here
+
+-- the mounted file system that it is asked of
+abbrev pub upgrade_in : {R S : Region} → AskedUpgrade R S → Mount ⊤
+upgrade_in a = mounted_as a.here (has_faults a.shown.faults)
+
+-- and its tests
+abbrev pub upgrade_asked : {R S : Region} → AskedUpgrade R S → Tests
+upgrade_asked a = upgrade_tests (world_of (upgrade_in a)) a.here.sup.version
+
+-- it is refused by the first of its tests that holds, and leaves all as it was
+abbrev pub RefusesUpgrade : Region → Region → State → List ℕ → State → Type 0
+RefusesUpgrade R S old text new = (a : AskedUpgrade R S) × TellsRefusal (upgrade_asked a) text × (new ≡ old)
+
+-- the same file system in version 2
+abbrev pub in_version_2 : Mount ⊤ → Mount ⊤
+in_version_2 m = record m { sup = upgraded m.sup; layout = upgraded_layout m.layout }
+
+-- No test holds: the region is upgraded, and what it is then is mounted, with the tree that it had.
+abbrev pub DoesUpgrade : Region → Region → State → List ℕ → State → Type 0
+DoesUpgrade R S old text new = (a : AskedUpgrade R S) × (first_refusal (upgrade_asked a) ≡ None) × (T : Region) × IsUpgraded S a.here.sup.cpus T
+    × LeavesTree S T (in_version_2 (upgrade_in a)) (tree_of S a.here.rows) × (text ≡ ok_line) × (new ≡ record old { region = Some T; mounted = Some T })
+
+-- an upgrade of what is mounted, if something is
+abbrev pub UpgradesMounted : Option Region → Option Region → State → List ℕ → State → Type 0
+UpgradesMounted None region old text new = IsRefusedAs (codes "NotMounted") old text new
+UpgradesMounted (Some R) None old text new = ⊥
+UpgradesMounted (Some R) (Some S) old text new = RefusesUpgrade R S old text new ⊎ DoesUpgrade R S old text new
+
+-- It is stopped, which comes only where no faults were found. Recovery of the region that it leaves finds, without faults, what was
+-- mounted, in the version that it had or in version 2. Nothing is mounted.
+abbrev pub StopsUpgrade : Option Region → Option Region → State → List ℕ → State → Type 0
+StopsUpgrade None region old text new = ⊥
+StopsUpgrade (Some R) None old text new = ⊥
+StopsUpgrade (Some R) (Some S) old text new = (a : AskedUpgrade R S) × (has_faults a.shown.faults ≡ false) × (T : Region) × (size T ≡ size S)
+    × LeavesUpgrade S (upgrade_in a) T × (text ≡ stopped_line) × (new ≡ record old { region = Some T; mounted = None })
+
+-- `upgrade` makes a region of version 1 one of version 2
+abbrev pub Upgrades : Bool → State → List ℕ → State → Type 0
+Upgrades armed old text new = MayStop armed
+    (λ old text new. UpgradesMounted old.mounted old.region old text new)
+    (λ old text new. StopsUpgrade old.mounted old.region old text new) old text new
+
 -- ---- commands
 
 -- What a command may print and leave, where it may be stopped or not.
@@ -355,6 +408,7 @@ Does armed (Unlink cpu path) old text new = Unlinks armed cpu path old text new
 Does armed (RemoveDirectory cpu path) old text new = RemovesDirectory armed cpu path old text new
 Does armed (Rename cpu path other) old text new = Renames armed cpu path other old text new
 Does armed (Clean path) old text new = Cleans armed path old text new
+Does armed Upgrade old text new = Upgrades armed old text new
 Does armed Tree old text new = ShowsPart parts.Tree old text new
 Does armed Free old text new = ShowsPart parts.Free old text new
 Does armed Faults old text new = ShowsPart parts.Faults old text new
@@ -378,4 +432,5 @@ writes (Unlink cpu path) = true
 writes (RemoveDirectory cpu path) = true
 writes (Rename cpu path other) = true
 writes (Clean path) = true
+writes Upgrade = true
 writes _ = false

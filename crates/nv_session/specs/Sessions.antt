@@ -8,10 +8,10 @@ use Rattle.nv_region.specs.declared.memory.Fuse.{Fuse}
 use Rattle.nv_region.specs.declared.memory.Fuse.TheVariants as fuses
 use Rattle.nv_super.specs.declared.owners.Owner.{Owner}
 use Rattle.nv_journal.specs.Undo.{undone}
-use Rattle.nv_report.specs.nv_outcome.Outcome.{IsOutcome}
-use Rattle.nv_report.specs.nv_outcome.Same.{lasting_outcome}
-use Rattle.nv_report.specs.nv_outcome.Answer.{outcome_of}
-use Rattle.nv_report.specs.nv_outcome.declared.recovered.Recovered.{Recovered}
+use Rattle.nv_outcome.specs.Outcome.{IsOutcome}
+use Rattle.nv_outcome.specs.Same.{lasting_outcome}
+use Rattle.nv_outcome.specs.Answer.{outcome_of}
+use Rattle.nv_outcome.specs.declared.recovered.Recovered.{Recovered}
 use Rattle.nv_tree.specs.Refusals.{refusal_word}
 use Rattle.nv_tree.specs.declared.refusal.Refusal.{Refusal as CallRefusal}
 use Rattle.nv_tree.specs.declared.refusal.Refusal.TheVariants as refusals
@@ -19,8 +19,8 @@ use Rattle.nv_text.specs.Answers.{refused_line, stopped_line}
 use Rattle.nv_text.specs.Refusals.{refusal_name}
 use Rattle.nv_report.specs.Last.{how_it_went}
 use Rattle.nv_report.specs.Texts.{recovered_text}
-use Rattle.nv_checking.specs.declared.recovery.Answer.{Answer}
-use Rattle.nv_checking.specs.declared.recovery.Answer.TheVariants as answers
+use Rattle.nv_image_check.specs.declared.recovery.Answer.{Answer}
+use Rattle.nv_image_check.specs.declared.recovery.Answer.TheVariants as answers
 use Rattle.nv_report.specs.declared.last.Last.TheVariants as lasts
 use Rattle.nv_calls.specs.Mount.{Mount, told}
 use Rattle.nv_session.specs.Machine.{State}
@@ -61,8 +61,8 @@ is_armed stop = not (is_off stop.fuse)
 -- What a mount shows is the outcome of the first region. Its own region has the same outcome, but for pending records.
 pub record ShowsOutcome (R : Region) (m : Mount RegionState) : Type 0 where
   pub doubled : List (ℕ × Owner)
-  pub shown : IsOutcome R (told m.sup m.rows m.free doubled m.faults)
-  pub here : IsOutcome m.memory.region (lasting_outcome (told m.sup m.rows m.free doubled m.faults))
+  pub shown : IsOutcome R (told m.layout m.rows m.free doubled m.faults)
+  pub here : IsOutcome m.memory.region (lasting_outcome (told m.layout m.rows m.free doubled m.faults))
   pub runs : m.stopped ≡ false
 
 -- nothing is mounted, or what is mounted shows the outcome of the mounted region
@@ -128,7 +128,7 @@ pub record Mounts (R : Region) (r : Recovered) (old new : Session) : Type 0 wher
   pub store : new.store ≡ Some (stores.Mounted mount)
   pub region : mount.memory.region ≡ R
   pub settled : IsSettled mount.memory
-  pub told : told mount.sup mount.rows mount.free r.doubled.items mount.faults ≡ outcome_of r
+  pub told : told mount.layout mount.rows mount.free r.doubled.items mount.faults ≡ outcome_of r
   pub runs : mount.stopped ≡ false
   pub time : new.time ≡ old.time
   pub last : new.last ≡ how_it_went r.faults.items

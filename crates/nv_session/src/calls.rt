@@ -26,7 +26,7 @@ const DIRECTORY_MODE: u32 = 493;
 impl Session {
     ghost use Rattle.std.specs.Prelude.{string_bytes};
     ghost use Rattle.nv_session.specs.Sessions.{IsSettled, Moves, TakesMount, PutsMount, SettlesCall, is_armed};
-    ghost use Rattle.nv_session.specs.Machine.{Creates, MakesDirectory, Writes, SetsSize, SetsAttributes, Links, Unlinks, RemovesDirectory, Renames, Cleans};
+    ghost use Rattle.nv_session.specs.Machine.{Creates, MakesDirectory, Writes, SetsSize, SetsAttributes, Links, Unlinks, RemovesDirectory, Renames, Cleans, Upgrades};
     ghost use Rattle.nv_text.specs.Answers.{cleaned_line, ok_line};
 
     pub(crate) fn create(
@@ -200,6 +200,18 @@ impl Session {
         self.settle_clean(alloc, mount, answer, stop.keep)
     }
 
+    pub(crate) fn upgrade(&mut self, alloc: Global, stop: Stop) -> Result<String, AllocError>
+        ensures { IfOk result (λ text. Moves (Upgrades (is_armed stop)) self.old (string_bytes text) self.new) }
+    {
+        let Some(mut mount) = self.take_mount(stop.fuse) else {
+            return refused_text(alloc, Refusal::NotMounted);
+        };
+        // What it shows is said by what the mount keeps before the call.
+        mount.keeps();
+        let answer = mount.upgrade();
+        self.settle_call(alloc, mount, answer, stop.keep)
+    }
+
     // Takes out what is mounted, with this fuse for what is stored next.
     fn take_mount(&mut self, fuse: Fuse) -> Option<Fs<MemRegion>>
         ensures { TakesMount fuse self.old result self.new }
@@ -226,7 +238,7 @@ impl Session {
         keep: Keep,
     ) -> Result<String, AllocError>
         ensures settles { IfOk result (λ text. SettlesCall (λ done. ok_line) mount answer self.old (string_bytes text) self.new) }
-        ensures keeps { IsKept mount.memory.region mount.sup mount.rows mount.free mount.faults mount.read_only mount.stopped }
+        ensures keeps { IsKept mount.memory.region mount.sup mount.layout mount.rows mount.free mount.faults mount.read_only mount.stopped }
         ensures settled { mount.stopped ≡ false → IsSettled mount.memory }
     {
         mount.keeps();
@@ -256,7 +268,7 @@ impl Session {
         keep: Keep,
     ) -> Result<String, AllocError>
         ensures settles { IfOk result (λ text. SettlesCall cleaned_line mount answer self.old (string_bytes text) self.new) }
-        ensures keeps { IsKept mount.memory.region mount.sup mount.rows mount.free mount.faults mount.read_only mount.stopped }
+        ensures keeps { IsKept mount.memory.region mount.sup mount.layout mount.rows mount.free mount.faults mount.read_only mount.stopped }
         ensures settled { mount.stopped ≡ false → IsSettled mount.memory }
     {
         mount.keeps();

@@ -16,7 +16,7 @@ use crate::stop::Stop;
 use crate::store::{Store, has_word, keep_all, poked};
 use crate::texts::{ok_text, refused_format_text, stopped_text, word_text};
 use nv_calls::Fs;
-use nv_checking::{Answer, recover_or_stop, replay_or_stop};
+use nv_image_check::{Answer, recover_or_stop, replay_or_stop};
 use nv_line::Command;
 use nv_region::{Keep, MemRegion, Pmem};
 use nv_report::{
@@ -45,7 +45,7 @@ impl Session {
     ghost use Rattle.nv_session.specs.Machine.{first_state, state_with, SetsTime, Formats, Recovers, Replays, Pokes, Cuts, ShowsPart, Peeks, MayStop, StopsFormat, StopsRecovery, Arms, Reads};
     ghost use Rattle.nv_session.specs.Machine.{TellsNames, TellsStat, TellsBytes, Does, Step, front};
     ghost use Rattle.nv_session.specs.Machine.{State};
-    ghost use Rattle.nv_checking.specs.declared.recovery.Answer.TheVariants as answers;
+    ghost use Rattle.nv_image_check.specs.declared.recovery.Answer.TheVariants as answers;
     ghost use Rattle.nv_report.specs.Last.{status_of};
     ghost use Rattle.nv_line.specs.View.{view};
     ghost use Rattle.nv_region.specs.Region.{size};
@@ -233,6 +233,7 @@ impl Session {
             Command::RemoveDirectory { cpu, path } => self.remove_directory(alloc, cpu, path, stop),
             Command::Rename { cpu, old, new } => self.rename(alloc, cpu, old, new, stop),
             Command::Clean { path } => self.clean(alloc, path, stop),
+            Command::Upgrade => self.upgrade(alloc, stop),
             Command::Tree => self.show(alloc, Part::Tree),
             Command::Free => self.show(alloc, Part::Free),
             Command::Faults => self.show(alloc, Part::Faults),
@@ -514,8 +515,10 @@ impl Session {
 
 // What is told of a mounted region.
 fn shown(mount: &Fs<MemRegion>) -> Shown<'_>
-    ensures { shown_of result ≡ record (told mount.now.sup mount.now.rows mount.now.free [] mount.now.faults) { tables = [] } }
+    ensures { shown_of result ≡ record (told mount.now.layout mount.now.rows mount.now.free [] mount.now.faults) { tables = [] } }
 {
+    // The superblock is that of the tables.
+    mount.keeps();
     Shown {
         sup: mount.superblock(),
         rows: mount.rows(),

@@ -6,8 +6,7 @@ use Rattle.nv_region.specs.Region.{Region, size, word}
 use Rattle.nv_region.specs.Stops.{Choices, IsMixed, LeavesOnly, MayBeLeft, NothingPending}
 use Rattle.nv_region.specs.Stored.{StoresOnly}
 use Rattle.nv_region.proofs.Stops.{mixed_left}
-use Rattle.nv_super.specs.declared.superblock.Super.{Super}
-use Rattle.nv_super.specs.Layout.{fixed_layout, slot_address}
+use Rattle.nv_super.specs.Layout.{Layout}
 use Rattle.nv_journal.specs.Undo.{undone}
 use Rattle.nv_journal.specs.InOrder.{FirstIsFirst}
 use Rattle.nv_alloc.specs.FreeValue.{FreeLists}
@@ -16,11 +15,12 @@ use Rattle.nv_entry.specs.Spelling.{entry_length}
 use Rattle.nv_logpage.specs.Reads.{is_next_page}
 use Rattle.nv_logpage.specs.Append.{AreGiven, EndBy, end_of, needed}
 use Rattle.nv_names.specs.Names.{EachOnce, Names, name_at}
-use Rattle.nv_held.specs.nv_outcome.Same.{SameRow}
+use Rattle.nv_outcome.specs.Same.{SameRow}
 use Rattle.nv_radix.specs.Pages.{Pages, block_at}
 use Rattle.nv_scan.specs.declared.piece.Row.{Row}
-use Rattle.nv_held.specs.Held.{Held, Store}
-use Rattle.nv_held.proofs.nv_outcome.SuperOf.{layout_of_super}
+use Rattle.nv_mounted.specs.Held.{Held, Store}
+use Rattle.nv_mounted.proofs.Fronts.{sound_clear}
+use Rattle.nv_outcome.proofs.SuperOf.{layout_of_super}
 use Rattle.nv_commit.specs.declared.together.Extension.{Extension}
 use Rattle.nv_commit.specs.Extends.{with_log}
 use Rattle.nv_commit.specs.Together.{BeforeOrBoth, CanCommit, CanExtendTwo, ShowsIdle, TogetherWords, UndoneShows, with_logs}
@@ -41,6 +41,7 @@ use Rattle.nv_steps.proofs.TwoLogs.{as_extension, can_extend_two, cut_each, row_
 use Rattle.nv_steps.proofs.OtherJournals.{together_front, undone_front}
 use Rattle.nv_steps.specs.Stores.{StoresIn, two_logs}
 use Rattle.nv_steps.proofs.Stores.{two_stores}
+use Rattle.nv_steps.specs.Slots.{slot_in}
 
 -- one entry takes a page at most
 pub needed_one : (offset : ℕ) (es : List Entry) → length es ≡ 1 → needed offset es ≤ 1
@@ -78,8 +79,8 @@ grows_same {old} {mid} {new} {blocks} {fresh} {last} {end} same grown is ends = 
 pub once_still : (old : Row) {mid new : Row} {blocks : List ℕ} {last : ℕ} → NamesOnce old mid → HasGrown mid blocks last new → NamesOnce old new
 once_still old once grown = (once.0, subst EachOnce (sym grown.names) once.1)
 
-module _ {R : Region} {s : Super} {free after : FreeLists} {first second row other : Row} {cpu : ℕ} {items : List ℕ} {entries others : List Entry} {names more_names : ℕ} (ready : ReadiesRow first row entries names) (other_ready : ReadiesRow second other others more_names)
-    (stands : StandsRight R s free first × CanName R s cpu first.inode first) (other_stands : StandsRight R s free second × CanName R s cpu second.inode second) (taken : TakesEach free cpu items after) (counted : length items ≡ needed (first.tail % 4096) entries + needed (second.tail % 4096) others)
+module _ {R : Region} {l : Layout} {free after : FreeLists} {first second row other : Row} {cpu : ℕ} {items : List ℕ} {entries others : List Entry} {names more_names : ℕ} (ready : ReadiesRow first row entries names) (other_ready : ReadiesRow second other others more_names)
+    (stands : StandsRight R l free first × CanName R l cpu first.inode first) (other_stands : StandsRight R l free second × CanName R l cpu second.inode second) (taken : TakesEach free cpu items after) (counted : length items ≡ needed (first.tail % 4096) entries + needed (second.tail % 4096) others)
     (apart : first.inode ≢ second.inode) (given : AreGiven entries) (more_given : AreGiven others) (some : 0 < length entries) (more_some : 0 < length others) where
   abbrev n : ℕ
   n = needed (first.tail % 4096) entries
@@ -105,7 +106,7 @@ module _ {R : Region} {s : Super} {free after : FreeLists} {first second row oth
   more_taken : TakesEach (cut_each fresh more all).0 cpu more after
   more_taken = (cut_each fresh more all).2
 
-  two : StandsRight R s (cut_each fresh more all).0 second
+  two : StandsRight R l (cut_each fresh more all).0 second
   two = stands_after other_stands.0 first_taken
 
   -- The blocks, split where those of the first log end.
@@ -126,22 +127,22 @@ module _ {R : Region} {s : Super} {free after : FreeLists} {first second row oth
     pub second_room : HasRoomFor other.pages (length back)
     second_room = let room = other_ready.room in subst (λ (bs : List ℕ). HasRoomFor other.pages (length bs)) (sym back_more) (omega (arith, room, more_count))
 
-    module _ (x y : Extension) (slot : x.slot ≡ slot_address s row.inode) (tail : x.tail ≡ row.tail) (es : x.entries.now ≡ entries) (x_blocks : x.fresh.now ≡ front)
-        (other_slot : y.slot ≡ slot_address s other.inode) (other_tail : y.tail ≡ other.tail) (other_es : y.entries.now ≡ others) (y_blocks : y.fresh.now ≡ back) where
+    module _ (x y : Extension) (slot : x.slot ≡ slot_in l row.inode) (tail : x.tail ≡ row.tail) (es : x.entries.now ≡ entries) (x_blocks : x.fresh.now ≡ front)
+        (other_slot : y.slot ≡ slot_in l other.inode) (other_tail : y.tail ≡ other.tail) (other_es : y.entries.now ≡ others) (y_blocks : y.fresh.now ≡ back) where
       blocks : x.fresh.now ≡ fresh
       blocks = x_blocks ∙ front_fresh
 
       other_blocks : y.fresh.now ≡ more
       other_blocks = y_blocks ∙ back_more
 
-      slot_is : x.slot ≡ slot_address s first.inode
-      slot_is = let same = ready.same in slot ∙ ap (slot_address s) same.inode
+      slot_is : x.slot ≡ slot_in l first.inode
+      slot_is = let same = ready.same in slot ∙ ap (slot_in l) same.inode
 
       tail_is : x.tail ≡ first.tail
       tail_is = let same = ready.same in tail ∙ same.tail
 
-      other_slot_is : y.slot ≡ slot_address s second.inode
-      other_slot_is = let same = other_ready.same in other_slot ∙ ap (slot_address s) same.inode
+      other_slot_is : y.slot ≡ slot_in l second.inode
+      other_slot_is = let same = other_ready.same in other_slot ∙ ap (slot_in l) same.inode
 
       other_tail_is : y.tail ≡ second.tail
       other_tail_is = let same = other_ready.same in other_tail ∙ same.tail
@@ -152,7 +153,7 @@ module _ {R : Region} {s : Super} {free after : FreeLists} {first second row oth
       pub second_commits : CanCommit R cpu y
       second_commits = row_commits others two other_stands.1 more_taken more_count more_given y other_slot_is other_tail_is other_es other_blocks
 
-      pub extends_two : (held : Store) (f h : Held) → ShowsRow R s held f first free → ShowsRow R s held h second free → CanExtendTwo R s held cpu first.inode f x second.inode h y
+      pub extends_two : (held : Store) (f h : Held) → ShowsRow R l held f first free → ShowsRow R l held h second free → CanExtendTwo R l held cpu first.inode f x second.inode h y
       extends_two held f h shows shows_other = can_extend_two entries others fresh more (let right = stands.0 in right.lists) all count more_count given more_given some more_some shows shows_other (let can = stands.1 in can.cpu_below) apart blocks other_blocks
           (λ w. as_extension entries stands.0 stands.1 first_taken count given x slot_is tail_is es blocks w) (λ w. as_extension others two other_stands.1 more_taken more_count more_given y other_slot_is other_tail_is other_es other_blocks w)
 
@@ -171,7 +172,7 @@ module _ {R : Region} {s : Super} {free after : FreeLists} {first second row oth
 
       -- Both logs have grown, and both rows, in a region that shows it.
       appends_by : {S : Region} {end last : ℕ} {c d : Row} {bs cs : List ℕ} → bs ≡ fresh → cs ≡ more → end ≡ end_of x.fresh.now 0 x.tail x.entries.now → last ≡ end_of y.fresh.now 0 y.tail y.entries.now → HasGrown row bs end c → HasGrown other cs last d
-          → ((held : Store) (h g : Held) → ShowsRow R s held h first free → ShowsRow R s held g second free → ShowsNamed R S s cpu held (with_log (with_log held first.inode h entries fresh) second.inode g others more)) → AppendsLogs R S s free after cpu (first ∷ second ∷ []) (c ∷ d ∷ []) 0 entries 1 others
+          → ((held : Store) (h g : Held) → ShowsRow R l held h first free → ShowsRow R l held g second free → ShowsNamed R S l cpu held (with_log (with_log held first.inode h entries fresh) second.inode g others more)) → AppendsLogs R S l free after cpu (first ∷ second ∷ []) (c ∷ d ∷ []) 0 entries 1 others
       appends_by {S} {end} {last} {c} {d} {bs} {cs} settled other_settled ends other_ends grown other_grown shows = record {
         first = first;
         second = second;
@@ -195,21 +196,21 @@ module _ {R : Region} {s : Super} {free after : FreeLists} {first second row oth
       }
 
       pub appends_logs : {S : Region} {end last : ℕ} {c d : Row} → end ≡ end_of x.fresh.now 0 x.tail x.entries.now → last ≡ end_of y.fresh.now 0 y.tail y.entries.now → HasGrown row front end c → HasGrown other back last d
-          → ((held : Store) (a b : ℕ) (h g : Held) → CanExtendTwo R s held cpu a h x b g y → ShowsIdle S s (with_logs held a h x b g y)) → IsMixed R (TogetherWords cpu x y) S → AppendsLogs R S s free after cpu (first ∷ second ∷ []) (c ∷ d ∷ []) 0 entries 1 others
+          → ((held : Store) (a b : ℕ) (h g : Held) → CanExtendTwo R l held cpu a h x b g y → ShowsIdle S l (with_logs held a h x b g y)) → IsMixed R (TogetherWords cpu x y) S → AppendsLogs R S l free after cpu (first ∷ second ∷ []) (c ∷ d ∷ []) 0 entries 1 others
       appends_logs {S} ends other_ends grown other_grown shows mixed = appends_by front_fresh back_more ends other_ends grown other_grown
           (λ held h g seen seen_other. record {
-            idle = subst (λ (st : Store). ShowsIdle S s st) (λ t. with_log (with_log held first.inode h (es t) (blocks t)) second.inode g (other_es t) (other_blocks t)) (shows held first.inode second.inode h g (extends_two held h g seen seen_other));
+            idle = subst (λ (st : Store). ShowsIdle S l st) (λ t. with_log (with_log held first.inode h (es t) (blocks t)) second.inode g (other_es t) (other_blocks t)) (shows held first.inode second.inode h g (extends_two held h g seen seen_other));
             bytes = together_bytes (extends_two held h g seen seen_other) S mixed;
             front = together_front (extends_two held h g seen seen_other) S mixed;
           })
 
       -- Nothing else is stored.
-      pub logs_store : {S : Region} {held : Store} {h k : Held} → ShowsRow R s held h first free → ShowsRow R s held k second free → IsMixed R (TogetherWords cpu x y) S → StoresIn s held (two_logs s cpu first.inode second.inode) R S
+      pub logs_store : {S : Region} {held : Store} {h k : Held} → ShowsRow R l held h first free → ShowsRow R l held k second free → IsMixed R (TogetherWords cpu x y) S → StoresIn l held (two_logs l cpu first.inode second.inode) R S
       logs_store {S} {held} {h} {k} here there mixed = two_stores (extends_two held h k here there) slot_is other_slot_is mixed
 
       -- The second tail is stored after the first.
-      pub logs_in_order : {S : Region} {held : Store} {h k : Held} → ShowsRow R s held h first free → ShowsRow R s held k second free
-          → ((a b : ℕ) (f g : Held) → CanExtendTwo R s held cpu a f x b g y → FirstIsFirst R (x.slot + 24) (end_of x.fresh.now 0 x.tail x.entries.now) (y.slot + 24) S) → TailIsFirst R S s free.pools cpu first.inode first.tail entries (slot_address s second.inode + 24)
+      pub logs_in_order : {S : Region} {held : Store} {h k : Held} → ShowsRow R l held h first free → ShowsRow R l held k second free
+          → ((a b : ℕ) (f g : Held) → CanExtendTwo R l held cpu a f x b g y → FirstIsFirst R (x.slot + 24) (end_of x.fresh.now 0 x.tail x.entries.now) (y.slot + 24) S) → TailIsFirst R S l free.pools cpu first.inode first.tail entries (slot_in l second.inode + 24)
       logs_in_order {S} {held} {h} {k} here there orders = elim (orders first.inode second.inode h k (extends_two held h k here there)) [
         | inl still ↦ inl (subst (λ (a : ℕ). word S (a + 24) ≡ word R (a + 24)) other_slot_is still)
         | inr stored ↦ inr (record {
@@ -222,12 +223,12 @@ module _ {R : Region} {s : Super} {free after : FreeLists} {first second row oth
       ]
 
       -- What a stop leaves of both.
-      module _ {held : Store} {h k : Held} (here : ShowsRow R s held h first free) (there : ShowsRow R s held k second free) (now : Region) (old new : Choices) (wrote : StoresOnly (TogetherWords cpu x y) R now old new) (settled : NothingPending R old) where
+      module _ {held : Store} {h k : Held} (here : ShowsRow R l held h first free) (there : ShowsRow R l held k second free) (now : Region) (old new : Choices) (wrote : StoresOnly (TogetherWords cpu x y) R now old new) (settled : NothingPending R old) where
         mixed : (left : Region) → MayBeLeft now new left → IsMixed R (TogetherWords cpu x y) left
         mixed left may = let stored = wrote.mixed in mixed_left R now (TogetherWords cpu x y) old new stored.as_long stored.same_rest settled wrote.adds left may
 
-        shows_both : (left : Region) → IsMixed R (TogetherWords cpu x y) left → UndoneShows s (with_logs held first.inode h x second.inode k y) left
-            → (any : Store) (f g : Held) → ShowsRow R s any f first free → ShowsRow R s any g second free → ShowsNamed R (undone s left) s cpu any (with_log (with_log any first.inode f entries fresh) second.inode g others more)
+        shows_both : (left : Region) → IsMixed R (TogetherWords cpu x y) left → UndoneShows l (with_logs held first.inode h x second.inode k y) left
+            → (any : Store) (f g : Held) → ShowsRow R l any f first free → ShowsRow R l any g second free → ShowsNamed R (undone l.sup left) l cpu any (with_log (with_log any first.inode f entries fresh) second.inode g others more)
         shows_both left stored both any f g seen seen_other =
             let a = here.sound in
             let b = seen.sound in
@@ -237,17 +238,17 @@ module _ {R : Region} {s : Super} {free after : FreeLists} {first second row oth
             let one : h ≡ f = cc in
             let two : k ≡ g = cc in
             record {
-              idle = subst (λ (st : Store). ShowsIdle (undone s left) s st) (λ t. with_log (with_log (same t) first.inode (one t) (es t) (blocks t)) second.inode (two t) (other_es t) (other_blocks t)) (undone_idle both);
-              bytes = undone_files both R (together_bytes (extends_two any f g seen seen_other) left stored);
-              front = undone_front s cpu R left (layout_of_super R s b.sup) b.idle (together_front (extends_two any f g seen seen_other) left stored);
+              idle = subst (λ (st : Store). ShowsIdle (undone l.sup left) l st) (λ t. with_log (with_log (same t) first.inode (one t) (es t) (blocks t)) second.inode (two t) (other_es t) (other_blocks t)) (undone_idle both);
+              bytes = undone_files both R (sound_clear b) (together_bytes (extends_two any f g seen seen_other) left stored);
+              front = undone_front l.sup cpu R left (layout_of_super R l.sup b.sup) b.idle (together_front (extends_two any f g seen seen_other) left stored);
             }
 
-        left_by : (left : Region) → IsMixed R (TogetherWords cpu x y) left → BeforeOrBoth s held first.inode h x second.inode k y left → LeavesEither R (fixed_layout s) held (AppendedBoth R s free cpu first entries second others) left
-        left_by left stored (inl before) = inl (undone_recovers before R (together_bytes (extends_two held h k here there) left stored) (let sound = here.sound in sound.faultless))
+        left_by : (left : Region) → IsMixed R (TogetherWords cpu x y) left → BeforeOrBoth l held first.inode h x second.inode k y left → LeavesEither R l held (AppendedBoth R l free cpu first entries second others) left
+        left_by left stored (inl before) = inl (undone_recovers before R (sound_clear here.sound) (together_bytes (extends_two held h k here there) left stored) (let sound = here.sound in sound.faultless))
         left_by left stored (inr both) =
             let end = end_of x.fresh.now 0 x.tail x.entries.now in
             let last = end_of y.fresh.now 0 y.tail y.entries.now in
             inr (undone_can both, (after, grown_row row fresh end, grown_row other more last, appends_by refl refl refl refl (grown_row_has row fresh end) (grown_row_has other more last) (shows_both left stored both)))
 
-        pub left_logs : ((a b : ℕ) (f g : Held) → CanExtendTwo R s held cpu a f x b g y → NothingPending R old → LeavesOnly now new (BeforeOrBoth s held a f x b g y)) → LeavesOnly now new (LeavesEither R (fixed_layout s) held (AppendedBoth R s free cpu first entries second others))
+        pub left_logs : ((a b : ℕ) (f g : Held) → CanExtendTwo R l held cpu a f x b g y → NothingPending R old → LeavesOnly now new (BeforeOrBoth l held a f x b g y)) → LeavesOnly now new (LeavesEither R l held (AppendedBoth R l free cpu first entries second others))
         left_logs stops left may = left_by left (mixed left may) (stops first.inode second.inode h k (extends_two held h k here there) settled left may)

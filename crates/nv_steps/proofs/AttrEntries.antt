@@ -7,14 +7,14 @@ use Rattle.std.proofs.lemmas.Option.{same_Some}
 use Rattle.nv_super.specs.declared.superblock.Super.{Super}
 use Rattle.nv_super.specs.declared.kind.Kind.{Kind}
 use Rattle.nv_super.specs.declared.kind.Kind.TheVariants.{File, Directory}
-use Rattle.nv_super.specs.Layout.{Layout}
+use Rattle.nv_super.specs.Layout.{Layout, most_size}
 use Rattle.nv_super.proofs.Members.{none_in}
 use Rattle.nv_super.proofs.Rising.{Contains-cons}
 use Rattle.nv_entry.specs.declared.entry.AttrEntry.{AttrEntry}
 use Rattle.nv_entry.specs.declared.entry.WriteEntry.{WriteEntry}
 use Rattle.nv_entry.specs.declared.entry.Entry.{Entry}
 use Rattle.nv_entry.specs.declared.entry.Entry.TheVariants.{NextPage, Write, Attr, Name, Links}
-use Rattle.nv_entry.specs.Content.{is_good, is_write_out_of_range, is_attr_out_of_range, most_size}
+use Rattle.nv_entry.specs.Content.{is_good, is_write_out_of_range, is_attr_out_of_range}
 use Rattle.nv_logpage.specs.declared.found.Placed.{Placed}
 use Rattle.nv_logpage.specs.Reads.{placed}
 use Rattle.nv_logpage.specs.Good.{good_entries}
@@ -23,10 +23,10 @@ use Rattle.nv_scan.specs.declared.numbers.Numbers.{Numbers}
 use Rattle.nv_scan.specs.Rows.{AreNumbers}
 use Rattle.nv_scan.proofs.Blocks.{last_word-all, good_is_good, in_range}
 use Rattle.nv_scan.proofs.Sizes.{page_below}
-use Rattle.nv_held.specs.Held.{Held, Store, good_in}
-use Rattle.nv_held.specs.Grows.{NoEntryFault, SameFile, SameNames, grown}
-use Rattle.nv_held.specs.Writes.{WritesData}
-use Rattle.nv_held.proofs.DataGrows.{cut, kept}
+use Rattle.nv_mounted.specs.Held.{Held, Store, good_in}
+use Rattle.nv_mounted.specs.Grows.{NoEntryFault, SameFile, SameNames, grown}
+use Rattle.nv_mounted.specs.Writes.{WritesData}
+use Rattle.nv_mounted.proofs.DataGrows.{cut, kept}
 use Rattle.nv_steps.proofs.SizedEntries.{EndsWith, data_clean, data_names, data_numbers}
 
 write_size : (s : Super) (e : WriteEntry) → is_write_out_of_range s e ≡ false → e.size ≤ most_size

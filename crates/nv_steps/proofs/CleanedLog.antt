@@ -10,7 +10,7 @@ use Rattle.nv_region.proofs.Wordwise.{put_stored}
 use Rattle.nv_super.specs.declared.superblock.Super.{Super}
 use Rattle.nv_super.specs.declared.kind.Kind.{Kind}
 use Rattle.nv_super.specs.declared.owners.Run.{Run}
-use Rattle.nv_super.specs.Layout.{fixed_layout, slot_address, slot_of, system_blocks}
+use Rattle.nv_super.specs.Layout.{slot_of, system_blocks, Layout}
 use Rattle.nv_alloc.specs.FreeValue.{FreeLists}
 use Rattle.nv_alloc.specs.FreeLists.{CanJoin, Joins}
 use Rattle.nv_alloc.specs.Taking.{HasBlock, pool_at, block_run}
@@ -28,12 +28,12 @@ use Rattle.nv_deadpages.specs.declared.in_turn.DeadPages.{DeadPages}
 use Rattle.nv_scan.specs.Rows.{AreNumbers}
 use Rattle.nv_scan.specs.State.{block_of, named}
 use Rattle.nv_scan.specs.declared.piece.Row.{Row}
-use Rattle.nv_held.specs.Held.{Held, Store, HoldsInode, with_inode}
-use Rattle.nv_held.specs.Blocks.{KeepsFree}
-use Rattle.nv_held.specs.Cleaned.{cleaned}
-use Rattle.nv_held.specs.Mounted.{KeepsRow, ShowsSound}
-use Rattle.nv_held.proofs.Cleaned.{bytes_stay, lists_cleaned, row_cleaned, sound_cleaned}
-use Rattle.nv_held.proofs.Shown.{holds_at}
+use Rattle.nv_mounted.specs.Held.{Held, Store, HoldsInode, with_inode}
+use Rattle.nv_mounted.specs.Blocks.{KeepsFree}
+use Rattle.nv_mounted.specs.Cleaned.{cleaned}
+use Rattle.nv_mounted.specs.Mounted.{KeepsRow, ShowsSound}
+use Rattle.nv_mounted.proofs.Cleaned.{bytes_stay, lists_cleaned, row_cleaned, sound_cleaned}
+use Rattle.nv_mounted.proofs.Shown.{holds_at}
 use Rattle.nv_commit.specs.Stopped.{LeavesEither, RollsBackTo}
 use Rattle.nv_commit.proofs.Left.{itself_recovers, made_there, one_held}
 use Rattle.nv_steps.specs.Cleans.{Cleans, HasLess, IsKnownDead, LosesNone, LosesPageAt}
@@ -46,6 +46,7 @@ use Rattle.nv_steps.proofs.LogGrows.{slot_there}
 use Rattle.nv_steps.proofs.RowsAt.{same_row}
 use Rattle.nv_steps.proofs.Stores.{link_stores}
 use Rattle.nv_steps.proofs.WriteStops.{some_kept}
+use Rattle.nv_steps.specs.Slots.{slot_in}
 
 -- One page is the first that a log can do without, or none is.
 pub one_first_dead : (s : Super) (kind : Kind) (i created : ℕ) (es : List Placed) (pages : List ℕ) (o p : Option ℕ) → IsFirstDead s kind i created es pages o → IsFirstDead s kind i created es pages p → o ≡ p
@@ -57,34 +58,34 @@ one_first_dead s kind i created es pages (Some j) (Some k) one other = ap (λ (n
   | inr behind ↦ elim (cases_lt k j) [ inl after ↦ absurd (one.1 k after other.0) | inr same ↦ omega (arith, behind, same) ]
 ])
 
-module _ {R : Region} {s : Super} {held : Store} {h : Held} {row : Row} {free : FreeLists} (shows : ShowsRow R s held h row free) where
-  told : KeepsRow (fixed_layout s) h row
+module _ {R : Region} {l : Layout} {held : Store} {h : Held} {row : Row} {free : FreeLists} (shows : ShowsRow R l held h row free) where
+  told : KeepsRow l h row
   told = shows.told
 
-  at : slot_of (fixed_layout s) row.inode ≡ Some (slot_address s row.inode)
+  at : slot_of l row.inode ≡ Some (slot_in l row.inode)
   at = (let sound = shows.sound in slot_there row.inode h sound.shows shows.holds)
 
-  pub holds : HoldsInode R (fixed_layout s) (slot_address s row.inode) h
-  holds = (let sound = shows.sound in holds_at sound.shows row.inode (slot_address s row.inode) h at shows.holds)
+  pub holds : HoldsInode R l (slot_in l row.inode) h
+  holds = (let sound = shows.sound in holds_at sound.shows row.inode (slot_in l row.inode) h at shows.holds)
 
   -- The row is that of the log.
-  pub said : IsSaidBy R s h.created h.entries row
+  pub said : IsSaidBy R l.sup h.created h.entries row
   said = record {
     reads =
-        subst (λ (a : ℕ). Reads R s a row.tail h.entries row.pages.items None) (sym told.head)
-        (subst (λ (a : ℕ). Reads R s h.head a h.entries row.pages.items None) (sym told.tail)
-        (subst (λ (ps : List ℕ). Reads R s h.head h.tail h.entries ps None) (sym told.pages) holds.reads));
-    numbers = subst (λ (k : Kind). AreNumbers h.created (good_entries s k h.entries) row.numbers) (sym told.kind) told.numbers;
-    index = subst (λ (k : Kind). (p : ℕ) → block_at row.index p ≡ block_of (good_entries s k h.entries) p) (sym told.kind) told.index;
-    names = subst (λ (k : Kind). (q : List ℕ) → name_at row.names q ≡ named (good_entries s k h.entries) q) (sym told.kind) told.names;
+        subst (λ (a : ℕ). Reads R l.sup a row.tail h.entries row.pages.items None) (sym told.head)
+        (subst (λ (a : ℕ). Reads R l.sup h.head a h.entries row.pages.items None) (sym told.tail)
+        (subst (λ (ps : List ℕ). Reads R l.sup h.head h.tail h.entries ps None) (sym told.pages) holds.reads));
+    numbers = subst (λ (k : Kind). AreNumbers h.created (good_entries l.sup k h.entries) row.numbers) (sym told.kind) told.numbers;
+    index = subst (λ (k : Kind). (p : ℕ) → block_at row.index p ≡ block_of (good_entries l.sup k h.entries) p) (sym told.kind) told.index;
+    names = subst (λ (k : Kind). (q : List ℕ) → name_at row.names q ≡ named (good_entries l.sup k h.entries) q) (sym told.kind) told.names;
   }
 
-  module _ (created slot : ℕ) (loaded : created ≡ word R (slot + 32)) (at_slot : slot ≡ slot_address s row.inode) where
+  module _ (created slot : ℕ) (loaded : created ≡ word R (slot + 32)) (at_slot : slot ≡ slot_in l row.inode) where
     same_time : created ≡ h.created
     same_time = loaded ∙ ap (λ (a : ℕ). word R (a + 32)) at_slot ∙ holds.created
 
-    said_then : IsSaidBy R s created h.entries row
-    said_then = subst (λ (c : ℕ). IsSaidBy R s c h.entries row) (sym same_time) said
+    said_then : IsSaidBy R l.sup created h.entries row
+    said_then = subst (λ (c : ℕ). IsSaidBy R l.sup c h.entries row) (sym same_time) said
 
     -- What holds of the row and its log holds of what is held.
     by_row : (Holds : Kind → ℕ → List ℕ → Type 0) → Holds row.kind created row.pages.items → Holds h.kind h.created h.pages
@@ -93,49 +94,49 @@ module _ {R : Region} {s : Super} {held : Store} {h : Held} {row : Row} {free : 
     by_held : (Holds : Kind → ℕ → List ℕ → Type 0) → Holds h.kind h.created h.pages → Holds row.kind created row.pages.items
     by_held Holds here = subst (λ (c : ℕ). Holds row.kind c row.pages.items) (sym same_time) (subst (λ (ps : List ℕ). Holds row.kind h.created ps) (sym told.pages) (subst (λ (k : Kind). Holds k h.created h.pages) (sym told.kind) here))
 
-    -- The first page that it can do without, told by what is held.
-    pub first_held : (known found : Option ℕ) → IsKnownDead s h.kind row.inode h.created h.entries h.pages known
-        → (IsSaidBy R s created h.entries row → IsKnownDead s row.kind row.inode created h.entries row.pages.items known → IsFirstDead s row.kind row.inode created h.entries row.pages.items found)
-        → IsFirstDead s h.kind row.inode h.created h.entries h.pages found
-    first_held known found dead finds = by_row (λ k c ps. IsFirstDead s k row.inode c h.entries ps found) (finds said_then (by_held (λ k c ps. IsKnownDead s k row.inode c h.entries ps known) dead))
+    -- The first page that it can do without, told by what is held, where the same superblock is asked.
+    pub first_held : {t : Super} → t ≡ l.sup → (known found : Option ℕ) → IsKnownDead l.sup h.kind row.inode h.created h.entries h.pages known
+        → (IsSaidBy R t created h.entries row → IsKnownDead t row.kind row.inode created h.entries row.pages.items known → IsFirstDead t row.kind row.inode created h.entries row.pages.items found)
+        → IsFirstDead l.sup h.kind row.inode h.created h.entries h.pages found
+    first_held {t} same known found dead finds = by_row (λ k c ps. IsFirstDead l.sup k row.inode c h.entries ps found) (subst (λ (u : Super). IsSaidBy R u created h.entries row → IsKnownDead u row.kind row.inode created h.entries row.pages.items known → IsFirstDead u row.kind row.inode created h.entries row.pages.items found) same finds said_then (by_held (λ k c ps. IsKnownDead l.sup k row.inode c h.entries ps known) dead))
 
     -- and pages that go one after another
-    pub dead_held : (found : Option DeadPages) → (IsSaidBy R s created h.entries row → IsCleanLog s row.kind row.inode h.entries → AreDeadPages s row.kind row.inode created h.entries row.pages.items found)
-        → AreDeadPages s h.kind row.inode h.created h.entries h.pages found
-    dead_held found finds = by_row (λ k c ps. AreDeadPages s k row.inode c h.entries ps found) (finds said_then clean) where
-      clean : IsCleanLog s row.kind row.inode h.entries
+    pub dead_held : {t : Super} → t ≡ l.sup → (found : Option DeadPages) → (IsSaidBy R t created h.entries row → IsCleanLog t row.kind row.inode h.entries → AreDeadPages t row.kind row.inode created h.entries row.pages.items found)
+        → AreDeadPages l.sup h.kind row.inode h.created h.entries h.pages found
+    dead_held {t} same found finds = by_row (λ k c ps. AreDeadPages l.sup k row.inode c h.entries ps found) (subst (λ (u : Super). IsSaidBy R u created h.entries row → IsCleanLog u row.kind row.inode h.entries → AreDeadPages u row.kind row.inode created h.entries row.pages.items found) same finds said_then clean) where
+      clean : IsCleanLog l.sup row.kind row.inode h.entries
       clean f wrong = (
           let sound = shows.sound in
           let faultless = sound.faultless in
-          faultless.clean row.inode h f shows.holds (subst (λ (k : Kind). IsEntryFault s k row.inode h.entries f) told.kind wrong))
+          faultless.clean row.inode h f shows.holds (subst (λ (k : Kind). IsEntryFault l.sup k row.inode h.entries f) told.kind wrong))
 
   -- What is stored where a page goes.
-  pub page_stores : (S : Region) (slot k new : ℕ) (given : List ℕ) (o : Option ℕ) → slot ≡ slot_address s row.inode → slot_address s row.inode % 128 ≡ 0 → given ≡ row.pages.items
-      → IsFirstDead s h.kind row.inode h.created h.entries h.pages (Some k) → IsFirstDead s h.kind row.inode h.created h.entries h.pages o → IsMixed R (One (word_to (slot + 16) given k) new) S → StoresIn s held (one_page_less s row.inode h.pages o) R S
+  pub page_stores : (S : Region) (slot k new : ℕ) (given : List ℕ) (o : Option ℕ) → slot ≡ slot_in l row.inode → slot_in l row.inode % 128 ≡ 0 → given ≡ row.pages.items
+      → IsFirstDead l.sup h.kind row.inode h.created h.entries h.pages (Some k) → IsFirstDead l.sup h.kind row.inode h.created h.entries h.pages o → IsMixed R (One (word_to (slot + 16) given k) new) S → StoresIn l held (one_page_less l row.inode h.pages o) R S
   page_stores S slot k new given o at_slot whole pages first other mixed =
-      subst (λ (p : Option ℕ). StoresIn s held (one_page_less s row.inode h.pages p) R S) (one_first_dead s h.kind row.inode h.created h.entries h.pages (Some k) o first other) (link_stores s held row.inode slot k new given h.pages at_slot whole (pages ∙ told.pages) mixed)
+      subst (λ (p : Option ℕ). StoresIn l held (one_page_less l row.inode h.pages p) R S) (one_first_dead l.sup h.kind row.inode h.created h.entries h.pages (Some k) o first other) (link_stores l held row.inode slot k new given h.pages at_slot whole (pages ∙ told.pages) mixed)
 
   -- the row without the page is of the log without it
-  told_by : (k : ℕ) (new : Row) → IsFirstDead s h.kind row.inode h.created h.entries h.pages (Some k) → HasLess row k new → KeepsRow (fixed_layout s) (cleaned h k) new
-  told_by k new first less = row_cleaned (fixed_layout s) row.inode h k row new first.0 told less.kind less.numbers
+  told_by : (k : ℕ) (new : Row) → IsFirstDead l.sup h.kind row.inode h.created h.entries h.pages (Some k) → HasLess row k new → KeepsRow l (cleaned h k) new
+  told_by k new first less = row_cleaned l row.inode h k row new first.0 told less.kind less.numbers
       (less.head ∙ ap (λ (a : ℕ). head_without a row.pages.items k) told.head ∙ ap (λ (ps : List ℕ). head_without h.head ps k) told.pages)
       less.tail (less.pages ∙ ap (λ (ps : List ℕ). remove ps k) told.pages) less.index less.names
 
-  module _ (S : Region) (new : Row) (mid after : FreeLists) (k b : ℕ) (first : IsFirstDead s h.kind row.inode h.created h.entries h.pages (Some k)) (stored : Stored R (word_to (slot_address s row.inode + 16) h.pages k) (page_behind h.pages k) S)
-      (less : HasLess row k new) (block : b ≡ get_or h.pages k 0) (pools : mid.pools ≡ free.pools) (lists : mid.sup ≡ s) (joins : Joins mid (block_run b) after) where
-    pub page_lost : LosesPageAt R S s held h row new after k b
+  module _ (S : Region) (new : Row) (mid after : FreeLists) (k b : ℕ) (first : IsFirstDead l.sup h.kind row.inode h.created h.entries h.pages (Some k)) (stored : Stored R (word_to (slot_in l row.inode + 16) h.pages k) (page_behind h.pages k) S)
+      (less : HasLess row k new) (block : b ≡ get_or h.pages k 0) (pools : mid.pools ≡ free.pools) (lists : mid.sup ≡ l.sup) (joins : Joins mid (block_run b) after) where
+    pub page_lost : LosesPageAt R S l held h row new after k b
     page_lost = record {
       block = block;
-      sound = sound_cleaned R S s held row.inode (slot_address s row.inode) h k shows.sound at shows.holds first.0.more stored first.0;
+      sound = sound_cleaned R S l held row.inode (slot_in l row.inode) h k shows.sound at shows.holds first.0.more stored first.0;
       told = told_by k new first less;
       inode = less.inode;
-      lists = lists_cleaned R S s held row.inode (slot_address s row.inode) h k shows.sound at shows.holds first.0.more stored first.0 mid after
-          (subst (KeepsFree (fixed_layout s) held) (sym pools) shows.lists) lists (subst (λ (n : ℕ). Joins mid (block_run n) after) block joins);
-      bytes = bytes_stay R S s held row.inode (slot_address s row.inode) h k shows.sound at shows.holds first.0.more stored;
+      lists = lists_cleaned R S l held row.inode (slot_in l row.inode) h k shows.sound at shows.holds first.0.more stored first.0 mid after
+          (subst (KeepsFree l held) (sym pools) shows.lists) lists (subst (λ (n : ℕ). Joins mid (block_run n) after) block joins);
+      bytes = bytes_stay R S l held row.inode (slot_in l row.inode) h k shows.sound at shows.holds first.0.more stored;
     }
 
   -- The same of a stop: the row is as it was but for the page, and the free lists are those of what is held then.
-  module _ (S : Region) (k : ℕ) (first : IsFirstDead s h.kind row.inode h.created h.entries h.pages (Some k)) (stored : Stored R (word_to (slot_address s row.inode + 16) h.pages k) (page_behind h.pages k) S) where
+  module _ (S : Region) (k : ℕ) (first : IsFirstDead l.sup h.kind row.inode h.created h.entries h.pages (Some k)) (stored : Stored R (word_to (slot_in l row.inode + 16) h.pages k) (page_behind h.pages k) S) where
     abbrev after : Store
     after = with_inode held row.inode (Some (cleaned h k))
 
@@ -145,13 +146,13 @@ module _ {R : Region} {s : Super} {held : Store} {h : Held} {row : Row} {free : 
     less_row_has : HasLess row k less_row
     less_row_has = record { inode = refl; kind = refl; numbers = refl; head = refl; tail = refl; pages = refl; index = refl; names = refl }
 
-    sound_after : ShowsSound S s after
-    sound_after = sound_cleaned R S s held row.inode (slot_address s row.inode) h k shows.sound at shows.holds first.0.more stored first.0
+    sound_after : ShowsSound S l after
+    sound_after = sound_cleaned R S l held row.inode (slot_in l row.inode) h k shows.sound at shows.holds first.0.more stored first.0
 
-    free_after : (free : List (List Run)) × KeepsFree (fixed_layout s) after free
+    free_after : (free : List (List Run)) × KeepsFree l after free
     free_after = let w = some_kept sound_after in let keeps = w.2 in (w.1, keeps.in_lists)
 
-    goes : Cleans R S s held h row less_row free (record free { pools = free_after.0 }) (Some (get_or h.pages k 0))
+    goes : Cleans R S l held h row less_row free (record free { pools = free_after.0 }) (Some (get_or h.pages k 0))
     goes = (
       k,
       first,
@@ -161,12 +162,12 @@ module _ {R : Region} {s : Super} {held : Store} {h : Held} {row : Row} {free : 
         told = told_by k less_row first less_row_has;
         inode = refl;
         lists = free_after.1;
-        bytes = bytes_stay R S s held row.inode (slot_address s row.inode) h k shows.sound at shows.holds first.0.more stored;
+        bytes = bytes_stay R S l held row.inode (slot_in l row.inode) h k shows.sound at shows.holds first.0.more stored;
       },
     )
 
     -- it is so for whatever is held, since that is one thing
-    goes_so : (st : Store) (g : Held) → ShowsRow R s st g row free → Cleans R S s st g row less_row free (record free { pools = free_after.0 }) (Some (get_or h.pages k 0))
+    goes_so : (st : Store) (g : Held) → ShowsRow R l st g row free → Cleans R S l st g row less_row free (record free { pools = free_after.0 }) (Some (get_or h.pages k 0))
     goes_so st g shown =
         let mine = shows.sound in
         let theirs = shown.sound in
@@ -174,22 +175,22 @@ module _ {R : Region} {s : Super} {held : Store} {h : Held} {row : Row} {free : 
         let both : Some h ≡ Some g = sym shows.holds ∙ ap (λ (x : Store). x row.inode) equal ∙ shown.holds in
         let is : h ≡ g = cc in
         let same : (held, h) ≡ (st, g) = λ i. (equal i, is i) in
-        subst (λ (w : Store × Held). Cleans R S s w.0 w.1 row less_row free (record free { pools = free_after.0 }) (Some (get_or h.pages k 0))) same goes
+        subst (λ (w : Store × Held). Cleans R S l w.0 w.1 row less_row free (record free { pools = free_after.0 }) (Some (get_or h.pages k 0))) same goes
 
-    page_less : PageLess R s free row S
+    page_less : PageLess R l free row S
     page_less = (record free { pools = free_after.0 }, less_row, get_or h.pages k 0, goes_so, record { inode = refl; kind = refl; numbers = refl; index = refl; names = refl }, refl)
 
     -- What a stop leaves once the page was taken out.
-    pub left_cleaned : (now : Region) (choices : Choices) → LeavesOnly now choices (λ left. (left ≡ R) ⊎ (left ≡ S)) → LeavesOnly now choices (LeavesEither R (fixed_layout s) held (PageLess R s free row))
+    pub left_cleaned : (now : Region) (choices : Choices) → LeavesOnly now choices (λ left. (left ≡ R) ⊎ (left ≡ S)) → LeavesOnly now choices (LeavesEither R l held (PageLess R l free row))
     left_cleaned now choices leaves left may = elim (leaves left may) [
-      | inl before ↦ inl (subst (λ (Q : Region). RollsBackTo R (fixed_layout s) held held Q) (sym before) (itself_recovers R s held shows.sound))
-      | inr went ↦ subst (λ (Q : Region). LeavesEither R (fixed_layout s) held (PageLess R s free row) Q) (sym went) (inr (made_there (PageLess R s free row) sound_after page_less))
+      | inl before ↦ inl (subst (λ (Q : Region). RollsBackTo R l held held Q) (sym before) (itself_recovers R l held shows.sound))
+      | inr went ↦ subst (λ (Q : Region). LeavesEither R l held (PageLess R l free row) Q) (sym went) (inr (made_there (PageLess R l free row) sound_after page_less))
     ]
 
 -- what was stored, told of the row's pages
-pub word_stored : {R S : Region} {s : Super} {held : Store} {h : Held} {row : Row} {free : FreeLists} (k slot : ℕ) → ShowsRow R s held h row free → slot ≡ slot_address s row.inode → S ≡ put R (word_to (slot + 16) row.pages.items k) (page_behind row.pages.items k)
-    → word_to (slot + 16) row.pages.items k % 8 ≡ 0 → word_to (slot + 16) row.pages.items k + 8 ≤ size R → length R.rest < 8 → Stored R (word_to (slot_address s row.inode + 16) h.pages k) (page_behind h.pages k) S
-word_stored {R} {S} {s} {h = h} {row = row} k slot shows at is whole inside short =
+pub word_stored : {R S : Region} {l : Layout} {held : Store} {h : Held} {row : Row} {free : FreeLists} (k slot : ℕ) → ShowsRow R l held h row free → slot ≡ slot_in l row.inode → S ≡ put R (word_to (slot + 16) row.pages.items k) (page_behind row.pages.items k)
+    → word_to (slot + 16) row.pages.items k % 8 ≡ 0 → word_to (slot + 16) row.pages.items k + 8 ≤ size R → length R.rest < 8 → Stored R (word_to (slot_in l row.inode + 16) h.pages k) (page_behind h.pages k) S
+word_stored {R} {S} {l} {h = h} {row = row} k slot shows at is whole inside short =
     let told = shows.told in
     let stored : Stored R (word_to (slot + 16) row.pages.items k) (page_behind row.pages.items k) S = subst (Stored R (word_to (slot + 16) row.pages.items k) (page_behind row.pages.items k)) (sym is) (put_stored R (word_to (slot + 16) row.pages.items k) (page_behind row.pages.items k) whole inside short) in
     subst (λ (a : ℕ). Stored R (word_to (a + 16) h.pages k) (page_behind h.pages k) S) at (subst (λ (ps : List ℕ). Stored R (word_to (slot + 16) ps k) (page_behind ps k) S) told.pages stored)
@@ -197,16 +198,16 @@ word_stored {R} {S} {s} {h = h} {row = row} k slot shows at is whole inside shor
 -- ---- what is owed
 
 -- the words that are stored lie inside
-pub within_region : {R : Region} {s : Super} {free : FreeLists} {row : Row} (xs : List ℕ) (slot limit : ℕ) → StandsRight R s free row → EndBy row.pages.items (size R) → xs ≡ row.pages.items → slot ≡ slot_address s row.inode → size R ≤ limit → EndBy xs limit × (slot + 16 + 8 ≤ limit)
-within_region {R} {s} {free} {row} xs slot limit stands inside is at long = (
+pub within_region : {R : Region} {l : Layout} {free : FreeLists} {row : Row} (xs : List ℕ) (slot limit : ℕ) → StandsRight R l free row → EndBy row.pages.items (size R) → xs ≡ row.pages.items → slot ≡ slot_in l row.inode → size R ≤ limit → EndBy xs limit × (slot + 16 + 8 ≤ limit)
+within_region {R} {l} {free} {row} xs slot limit stands inside is at long = (
   (λ j below. (let end = inside j (subst (λ (ys : List ℕ). j < length ys) is below) in let same = ap (λ (ys : List ℕ). get_or ys j 0) is in omega (arith, end, same, long))),
   (let slot_inside = stands.inside in omega (arith, slot_inside, at, long)),
 )
 
-pub word_fits : {R : Region} {s : Super} {free : FreeLists} {row : Row} (slot k : ℕ) → StandsRight R s free row → EndBy row.pages.items (size R) → slot ≡ slot_address s row.inode → k + 1 < length row.pages.items
+pub word_fits : {R : Region} {l : Layout} {free : FreeLists} {row : Row} (slot k : ℕ) → StandsRight R l free row → EndBy row.pages.items (size R) → slot ≡ slot_in l row.inode → k + 1 < length row.pages.items
     → (word_to (slot + 16) row.pages.items k % 8 ≡ 0) × (word_to (slot + 16) row.pages.items k + 8 ≤ size R)
-word_fits {R} {s} {free} {row} slot zero stands inside at more = let slot_inside = stands.inside in let whole = stands.whole in (omega (arith, at, whole), omega (arith, slot_inside, at))
-word_fits {R} {s} {free} {row} slot (suc j) stands inside at more =
+word_fits {R} {l} {free} {row} slot zero stands inside at more = let slot_inside = stands.inside in let whole = stands.whole in (omega (arith, at, whole), omega (arith, slot_inside, at))
+word_fits {R} {l} {free} {row} slot (suc j) stands inside at more =
     let some : eqb (suc j) 0 ≡ false = ne_eqb (suc j) 0 (λ q. omega (arith, q)) in
     let one_less : suc j - 1 ≡ j = omega arith in
     let word_is : word_to (slot + 16) row.pages.items (suc j) ≡ 4096 * get_or row.pages.items j 0 + 4064 = rw (some, one_less) refl in

@@ -9,10 +9,9 @@ use Rattle.nv_region.specs.Region.{Region}
 use Rattle.nv_region.specs.Stops.{IsMixed}
 use Rattle.nv_region.proofs.Stops.{mixed_same}
 use Rattle.nv_region.proofs.Wordwise.{mixed_more}
-use Rattle.nv_super.specs.declared.superblock.Super.{Super}
+use Rattle.nv_super.specs.Layout.{Layout}
 use Rattle.nv_super.specs.declared.owners.Run.{Run}
 use Rattle.nv_super.specs.declared.owners.Owner.TheVariants as owners
-use Rattle.nv_super.specs.Layout.{fixed_layout, slot_address}
 use Rattle.nv_super.proofs.Rising.{Contains-cons, Contains-head, Contains-tail}
 use Rattle.nv_alloc.specs.FreeValue.{FreeLists}
 use Rattle.nv_alloc.specs.FreeLists.{Joins}
@@ -29,21 +28,19 @@ use Rattle.nv_radix.specs.Pages.{Pages, block_at, in_run}
 use Rattle.nv_names.specs.Names.{Names, name_at}
 use Rattle.nv_scan.specs.State.{block_of}
 use Rattle.nv_scan.specs.declared.piece.Row.{Row}
-use Rattle.nv_held.specs.Held.{Held, Store, good_in}
-use Rattle.nv_held.specs.Blocks.{IsUnowned, KeepsFree}
-use Rattle.nv_held.specs.Bytes.{byte_in}
-use Rattle.nv_held.specs.Grows.{AreFree}
-use Rattle.nv_held.specs.Lists.{WasTaken}
-use Rattle.nv_held.specs.Loose.{Loose}
-use Rattle.nv_held.specs.Mounted.{KeepsRow, ShowsSound}
-use Rattle.nv_held.specs.Writes.{IsReplaced, WritesData}
-use Rattle.nv_held.proofs.Clear.{slots_clear}
-use Rattle.nv_held.proofs.DataGrows.{cut, kept, written}
-use Rattle.nv_held.proofs.Fronts.{loose_sound}
-use Rattle.nv_held.proofs.Kept.{page_owner, tail_there}
-use Rattle.nv_held.proofs.Shown.{stands_at}
-use Rattle.nv_held.proofs.nv_outcome.SuperOf.{layout_of_super}
-use Rattle.nv_held.proofs.BytesKept.{byte_stays}
+use Rattle.nv_mounted.specs.Held.{Held, Store, good_in}
+use Rattle.nv_mounted.specs.Blocks.{IsUnowned, KeepsFree}
+use Rattle.nv_mounted.specs.Bytes.{byte_in}
+use Rattle.nv_mounted.specs.Grows.{AreFree}
+use Rattle.nv_mounted.specs.Lists.{WasTaken}
+use Rattle.nv_mounted.specs.Loose.{Loose}
+use Rattle.nv_mounted.specs.Mounted.{KeepsRow, ShowsSound}
+use Rattle.nv_mounted.specs.Writes.{IsReplaced, WritesData}
+use Rattle.nv_mounted.proofs.DataGrows.{cut, kept, written}
+use Rattle.nv_mounted.proofs.Fronts.{loose_sound, sound_clear}
+use Rattle.nv_mounted.proofs.Kept.{page_owner, tail_there}
+use Rattle.nv_mounted.proofs.Shown.{stands_at}
+use Rattle.nv_mounted.proofs.BytesKept.{byte_stays}
 use Rattle.nv_commit.specs.Extends.{CanExtend, ExtendWords, ShowsMoved, extended, with_log}
 use Rattle.nv_bytes.specs.Bytes.{byte_after}
 use Rattle.nv_bytes.specs.Storing.{HoldsPage, InBlocks}
@@ -61,6 +58,7 @@ use Rattle.nv_steps.proofs.TakenBlocks.{all_differ, are_free, is_taken, taken_ap
 use Rattle.nv_steps.proofs.OneByOne.{single_takes, by_rule, takes_of}
 use Rattle.nv_steps.proofs.Zeros.{one_page_zeros, zero_after}
 use Rattle.nv_steps.specs.Zeros.{ZerosFrom}
+use Rattle.nv_steps.specs.Slots.{slot_in}
 
 -- What a file that ends in a page with a block, and gets longer, has there.
 pub record EndsIn (m : Pages) (old new from : ℕ) : Type 0 where
@@ -76,7 +74,7 @@ ends_in m old new from e = by (nat_lt old new) (nat_eq (old % 4096) 0) refl e wh
 
 -- A page that was copied, and then a log that was extended.
 pub copies_end : {E : Type 0} {R M S : Region} (from to size : ℕ) {slot tail : ℕ} {entries : List Entry} {fresh : List ℕ} (r : Result ℕ E) → HoldsPage M (byte_after 0 [] size (byte_in R (Some from))) to (size / 4096) → IsMixed R (InBlocks (λ b. b ≡ to)) M
-    → ((s : Super) (held : Store) (i : ℕ) (h : Held) → CanExtend M s held i h slot tail entries fresh → OnOk r (ShowsMoved M s (with_log held i h entries fresh) S)) → IsMixed M (ExtendWords slot tail entries fresh) S
+    → ((l : Layout) (held : Store) (i : ℕ) (h : Held) → CanExtend M l held i h slot tail entries fresh → OnOk r (ShowsMoved M l (with_log held i h entries fresh) S)) → IsMixed M (ExtendWords slot tail entries fresh) S
     → OnOk r (CopiesEnd R S from to size slot tail entries fresh)
 copies_end {E} {R} {M} {S} from to size (Ok a) page wrote moved extends = record { mid = M; page = page; wrote = wrote; moved = moved; extends = extends }
 copies_end from to size (Err e) page wrote moved extends = tt
@@ -87,9 +85,9 @@ run_of_one p q same = grind (arith, nat_tests)
 pub not_in_run : (p q : ℕ) → (p ≡ q → ⊥) → in_run q 1 p ≡ false
 not_in_run p q differs = grind (arith, nat_tests)
 
-module _ {R S : Region} {s : Super} {free mid : FreeLists} {cpu : ℕ} {row grown new : Row} {fresh : List ℕ} (x : AttrEntry) (can : CanResize R s free row x) (from to end : ℕ)
+module _ {R S : Region} {l : Layout} {free mid : FreeLists} {cpu : ℕ} {row grown new : Row} {fresh : List ℕ} (x : AttrEntry) (can : CanResize R l free row x) (from to end : ℕ)
     (ends : end_block (block_at row.index) row.numbers.size x.size ≡ Some from) (taken : TakesEach free cpu (to ∷ fresh) mid) (enough : length fresh ≡ needed (row.tail % 4096) (resizing row.numbers.size x (Some to)))
-    (copies : CopiesEnd R S from to row.numbers.size (slot_address s row.inode) row.tail (resizing row.numbers.size x (Some to)) fresh)
+    (copies : CopiesEnd R S from to row.numbers.size (slot_in l row.inode) row.tail (resizing row.numbers.size x (Some to)) fresh)
     (ending : end ≡ end_of fresh 0 row.tail (resizing row.numbers.size x (Some to))) (has_grown : HasGrown row fresh end grown)
     (settled : Settled grown x new) (index : (p : ℕ) → block_at new.index p ≡ cond (in_run (row.numbers.size / 4096) 1 p) (Some (to + (p - row.numbers.size / 4096))) (block_at grown.index p)) where
   abbrev entries : List Entry
@@ -112,14 +110,14 @@ module _ {R S : Region} {s : Super} {free mid : FreeLists} {cpu : ℕ} {row grow
   taken_then : TakesSingly between cpu fresh mid.pools
   taken_then = (by_rule taken).2
 
-  module _ {held : Store} {h : Held} (shows : ShowsRow R s held h row free) where
-    lists : free.sup ≡ s
+  module _ {held : Store} {h : Held} (shows : ShowsRow R l held h row free) where
+    lists : free.sup ≡ l.sup
     lists = let stands = can.stands in stands.lists
 
-    all_free : AreFree (fixed_layout s) held (to ∷ fresh)
-    all_free = are_free taken (fixed_layout s) held shows.lists lists
+    all_free : AreFree l held (to ∷ fresh)
+    all_free = are_free taken l held shows.lists lists
 
-    pub to_free : IsUnowned (fixed_layout s) held to
+    pub to_free : IsUnowned l held to
     to_free = all_free to (Contains-head to fresh)
 
     to_apart : Contains fresh to → ⊥
@@ -131,13 +129,13 @@ module _ {R S : Region} {s : Super} {free mid : FreeLists} {cpu : ℕ} {row grow
     count : length fresh ≡ needed (h.tail % 4096) entries
     count = enough ∙ ap (λ (t : ℕ). needed (t % 4096) entries) tails
 
-    stored : IsMixed R (Loose (fixed_layout s) held) copies.mid
-    stored = mixed_more (Loose (fixed_layout s) held) (InBlocks (λ b. b ≡ to)) R R copies.mid (λ k v here. inl (subst (IsUnowned (fixed_layout s) held) (sym here) to_free)) (mixed_same R (Loose (fixed_layout s) held)) copies.wrote
+    stored : IsMixed R (Loose l held) copies.mid
+    stored = mixed_more (Loose l held) (InBlocks (λ b. b ≡ to)) R R copies.mid (λ k v here. inl (subst (IsUnowned l held) (sym here) to_free)) (mixed_same R (Loose l held)) copies.wrote
 
-    sound_mid : ShowsSound copies.mid s held
-    sound_mid = loose_sound R copies.mid s held shows.sound stored
+    sound_mid : ShowsSound copies.mid l held
+    sound_mid = loose_sound R copies.mid l held shows.sound stored
 
-    extends : CanExtend copies.mid s held row.inode h (slot_address s row.inode) row.tail entries fresh
+    extends : CanExtend copies.mid l held row.inode h (slot_in l row.inode) row.tail entries fresh
     extends = record {
       sound = sound_mid;
       at = (let sound = shows.sound in slot_there row.inode h sound.shows shows.holds);
@@ -150,8 +148,8 @@ module _ {R S : Region} {s : Super} {free mid : FreeLists} {cpu : ℕ} {row grow
       some = omega arith;
     }
 
-    moved : ShowsMoved copies.mid s (with_log held row.inode h entries fresh) S
-    moved = copies.moved s held row.inode h extends
+    moved : ShowsMoved copies.mid l (with_log held row.inode h entries fresh) S
+    moved = copies.moved l held row.inode h extends
 
     abbrev pages : List ℕ
     pages = take (needed (h.tail % 4096) entries) fresh
@@ -174,10 +172,10 @@ module _ {R S : Region} {s : Super} {free mid : FreeLists} {cpu : ℕ} {row grow
     whole : pages ≡ fresh
     whole = take_all (needed (h.tail % 4096) entries) fresh (omega (arith, count))
 
-    writes : WritesData (fixed_layout s) held h more pages x.size
-    writes = copy_writes (fixed_layout s) held h x (file_held x can shows) (mode_held x can shows) can.most pages row.numbers.size to at then (let e = ending_in in e.longer) to_free (λ c. to_apart (subst (λ (blocks : List ℕ). Contains blocks to) whole c))
+    writes : WritesData l held h more pages x.size
+    writes = copy_writes l held h x (file_held x can shows) (mode_held x can shows) can.most pages row.numbers.size to at then (let e = ending_in in e.longer) to_free (λ c. to_apart (subst (λ (blocks : List ℕ). Contains blocks to) whole c))
 
-    same_index : (p : ℕ) → block_at grown.index p ≡ block_of (good_in (fixed_layout s) h) p
+    same_index : (p : ℕ) → block_at grown.index p ≡ block_of (good_in l h) p
     same_index p = let told = shows.told in ap (λ (m : Pages). block_at m p) has_grown.index ∙ told.index p
 
     -- the page that was copied, and no other, is written
@@ -187,32 +185,32 @@ module _ {R S : Region} {s : Super} {free mid : FreeLists} {cpu : ℕ} {row grow
     page_in : HasBlock (record { start = row.numbers.size / 4096; count = 1 } ∷ []) (row.numbers.size / 4096)
     page_in = (record { start = row.numbers.size / 4096; count = 1 }, Contains-head (record { start = row.numbers.size / 4096; count = 1 }) [], omega arith, omega arith)
 
-    unmapped_past : (p : ℕ) → x.size ≤ p * 4096 → (o : Option ℕ) → block_of (good_in (fixed_layout s) h) p ≡ o → o ≡ None
+    unmapped_past : (p : ℕ) → x.size ≤ p * 4096 → (o : Option ℕ) → block_of (good_in l h) p ≡ o → o ≡ None
     unmapped_past p past None e = refl
     unmapped_past p past (Some b) e = absurd (let told = shows.told in let below = maps_below x can shows p b (told.index p ∙ e) in let ending_here = ending_in in let less = ending_here.longer in omega (arith, below, less, past))
 
     -- what a page has then
-    page_now : (p : ℕ) → block_at new.index p ≡ block_of (good_in (fixed_layout s) (extended h entries fresh)) p
+    page_now : (p : ℕ) → block_at new.index p ≡ block_of (good_in l (extended h entries fresh)) p
     page_now p = index p ∙ (elim (cases_eq p (row.numbers.size / 4096)) [
       | inl same ↦ (
           let on : in_run (row.numbers.size / 4096) 1 p ≡ true = run_of_one p (row.numbers.size / 4096) same in
-          ap (λ (t : Bool). cond t (Some (to + (p - row.numbers.size / 4096))) (block_at grown.index p)) on ∙ sym (written (fixed_layout s) held h tail_now more pages x.size writes (placed at (Write w)) w p (Contains-head (placed at (Write w)) (placed then (Attr x) ∷ [])) refl on))
+          ap (λ (t : Bool). cond t (Some (to + (p - row.numbers.size / 4096))) (block_at grown.index p)) on ∙ sym (written l held h tail_now more pages x.size writes (placed at (Write w)) w p (Contains-head (placed at (Write w)) (placed then (Attr x) ∷ [])) refl on))
       | inr differs ↦ (
           let off : in_run (row.numbers.size / 4096) 1 p ≡ false = not_in_run p (row.numbers.size / 4096) differs in
           ap (λ (t : Bool). cond t (Some (to + (p - row.numbers.size / 4096))) (block_at grown.index p)) off ∙ same_index p ∙ (elim (cases_lt (p * 4096) x.size) [
-            | inl below ↦ sym (kept (fixed_layout s) held h tail_now more pages x.size writes p (λ here. differs (page_is p here)) below)
-            | inr past ↦ unmapped_past p past (block_of (good_in (fixed_layout s) h) p) refl ∙ sym (cut (fixed_layout s) held h tail_now more pages x.size writes p (omega arith) (λ here. differs (page_is p here)) past)
+            | inl below ↦ sym (kept l held h tail_now more pages x.size writes p (λ here. differs (page_is p here)) below)
+            | inr past ↦ unmapped_past p past (block_of (good_in l h) p) refl ∙ sym (cut l held h tail_now more pages x.size writes p (omega arith) (λ here. differs (page_is p here)) past)
           ]))
     ])
 
-    told_now : KeepsRow (fixed_layout s) (extended h entries fresh) new
+    told_now : KeepsRow l (extended h entries fresh) new
     told_now =
         let told = shows.told in
         let has = settled.has in
-        let stays_named = data_names (fixed_layout s) held h tail_now more pages x.size writes in
+        let stays_named = data_names l held h tail_now more pages x.size writes in
         record {
           kind = has.kind ∙ has_grown.kind ∙ told.kind;
-          numbers = (let sized = since has_grown has in data_numbers (fixed_layout s) held h tail_now more pages x.size writes x (two_end at then w x) row.numbers new.numbers told.numbers sized.size sized.mode sized.owner sized.group sized.links sized.time);
+          numbers = (let sized = since has_grown has in data_numbers l held h tail_now more pages x.size writes x (two_end at then w x) row.numbers new.numbers told.numbers sized.size sized.mode sized.owner sized.group sized.links sized.time);
           head = settled.head ∙ has_grown.head ∙ told.head;
           tail = settled.tail ∙ has_grown.tail ∙ ending ∙ ap (λ (t : ℕ). end_of fresh 0 t entries) tails;
           pages = settled.pages ∙ has_grown.pages ∙ ap (λ (ps : List ℕ). ps ++ fresh) told.pages ∙ ap (λ (ps : List ℕ). h.pages ++ ps) (sym whole);
@@ -221,7 +219,7 @@ module _ {R S : Region} {s : Super} {free mid : FreeLists} {cpu : ℕ} {row grow
         }
 
     -- the block that is given back is that of the page that was copied
-    gave : (b : ℕ) → HasBlock (block_run from ∷ []) b ↔ IsReplaced (fixed_layout s) h more x.size b
+    gave : (b : ℕ) → HasBlock (block_run from ∷ []) b ↔ IsReplaced l h more x.size b
     gave b = (
       (λ has. (row.numbers.size / 4096, (let told = shows.told in let e = ending_in in sym (told.index (row.numbers.size / 4096)) ∙ e.maps ∙ ap Some (sym (single_is from b has))), inl page_in)),
       (λ v. elim v.2 [
@@ -230,7 +228,7 @@ module _ {R S : Region} {s : Super} {free mid : FreeLists} {cpu : ℕ} {row grow
             let e = ending_in in
             let same : from ≡ b = same_Some from b (sym e.maps ∙ ap (block_at row.index) (sym (page_is v.0 here)) ∙ told.index v.0 ∙ v.1) in
             (block_run from, Contains-head (block_run from) [], omega (arith, same), omega (arith, same)))
-        | inr past ↦ absurd (none-some b (sym (unmapped_past v.0 past (block_of (good_in (fixed_layout s) h) v.0) refl) ∙ v.1))
+        | inr past ↦ absurd (none-some b (sym (unmapped_past v.0 past (block_of (good_in l h) v.0) refl) ∙ v.1))
       ]),
     )
 
@@ -240,37 +238,37 @@ module _ {R S : Region} {s : Super} {free mid : FreeLists} {cpu : ℕ} {row grow
       (λ either. was_taken (to ∷ fresh) b (elim either [ inl c ↦ Contains-tail to fresh b c | inr here ↦ subst (λ (n : ℕ). Contains (to ∷ fresh) n) (sym (single_is to b here)) (Contains-head to fresh) ])),
     )
 
-    lists_now : {after : FreeLists} → Joins mid (block_run from) after → KeepsFree (fixed_layout s) (with_log held row.inode h entries fresh) after.pools
+    lists_now : {after : FreeLists} → Joins mid (block_run from) after → KeepsFree l (with_log held row.inode h entries fresh) after.pools
     lists_now {after} joins =
         let from_same = taken.same in
         let kept_lists = shows.lists in
         data_lists entries x.size count shows stored extends moved copies.extends writes taken.from mid after (single_takes (to ∷ fresh)) (block_run from ∷ [])
-        (subst (λ (pools : List (List Run)). KeepsFree (fixed_layout s) held pools) (sym from_same.pools) kept_lists) (from_same.sup ∙ lists) (takes_of taken) (after, joins, refl) (omega arith) took gave
+        (subst (λ (pools : List (List Run)). KeepsFree l held pools) (sym from_same.pools) kept_lists) (from_same.sup ∙ lists) (takes_of taken) (after, joins, refl) (omega arith) took gave
 
-    pub copy_follows : (after : FreeLists) → KeepsFree (fixed_layout s) (with_log held row.inode h entries fresh) after.pools → LogFollows R S s held h entries between cpu row new after
+    pub copy_follows : (after : FreeLists) → KeepsFree l (with_log held row.inode h entries fresh) after.pools → LogFollows R S l held h entries between cpu row new after
     copy_follows after lists_then = let has = settled.has in data_follows entries x.size count shows stored extends moved copies.extends writes between mid.pools cpu taken_then new after (has.inode ∙ has_grown.inode) told_now lists_then
 
     -- ---- the bytes
 
     -- no word of the block that was copied to is stored again
-    away : (k v : ℕ) → 8 * k / 4096 ≡ to → ExtendWords (slot_address s row.inode) row.tail entries fresh k v → ⊥
+    away : (k v : ℕ) → 8 * k / 4096 ≡ to → ExtendWords (slot_in l row.inode) row.tail entries fresh k v → ⊥
     away k v block (inl (inl tail)) =
         let there = (let sound = shows.sound in stands_at sound.shows row.inode h shows.holds) in
         let same : h.tail / 4096 ≡ to = ap (λ (t : ℕ). t / 4096) (sym tails) ∙ sym tail.0 ∙ block in
-        let o = page_owner (fixed_layout s) held row.inode to h shows.holds (subst (λ (b : ℕ). Contains h.pages b) same (tail_there there.is.right there.is.reads)) in
+        let o = page_owner l held row.inode to h shows.holds (subst (λ (b : ℕ). Contains h.pages b) same (tail_there there.is.right there.is.reads)) in
         let f = to_free in
         f.unowned (owners.Log row.inode o.0) o.1
     away k v block (inl (inr one)) = to_apart (one.0, one.1, get_or_default fresh one.0 to 0 one.1 ∙ sym one.2 ∙ block)
     away k v block (inr one) =
         let sound = shows.sound in
-        let slots = slots_clear R s held (layout_of_super R s sound.sup) sound.shows in
+        let slots = sound_clear sound in
         let at_slot = slot_there row.inode h sound.shows shows.holds in
-        let aligned = slots.whole row.inode (slot_address s row.inode) at_slot in
-        let word_is : k ≡ (slot_address s row.inode + 24) / 8 = one.0 in
-        slots.unfree to to_free row.inode (slot_address s row.inode) at_slot (omega (arith, block, word_is, aligned))
+        let aligned = slots.whole row.inode (slot_in l row.inode) at_slot in
+        let word_is : k ≡ (slot_in l row.inode + 24) / 8 = one.0 in
+        slots.unfree to to_free row.inode (slot_in l row.inode) at_slot (omega (arith, block, word_is, aligned))
 
     page_stays : (y : ℕ) → byte_in S (Some to) y ≡ byte_in copies.mid (Some to) y
-    page_stays y = byte_stays copies.mid S (ExtendWords (slot_address s row.inode) row.tail entries fresh) (Some to) y copies.extends (λ b is k v at here. away k v (at ∙ sym (same_Some to b is)) here)
+    page_stays y = byte_stays copies.mid S (ExtendWords (slot_in l row.inode) row.tail entries fresh) (Some to) y copies.extends (λ b is k v at here. away k v (at ∙ sym (same_Some to b is)) here)
 
     -- the copied page has zeros behind the old end
     pub copy_zeros : ZerosFrom S row.numbers.size entries
@@ -308,21 +306,21 @@ module _ {R S : Region} {s : Super} {free mid : FreeLists} {cpu : ℕ} {row grow
       zeros y past differs (Some b) at = absurd (let begins = maps_below x can shows (y / 4096) b at in omega (arith, begins, past, differs))
 
   -- What the call makes of the file.
-  pub copy_resizes : {after : FreeLists} → Joins mid (block_run from) after → Resizes R S s free cpu row x new after
+  pub copy_resizes : {after : FreeLists} → Joins mid (block_run from) after → Resizes R S l free cpu row x new after
   copy_resizes {after} joins = record {
     to = Some to;
     copied = ap is_some (sym ends);
     between = between;
     taken = taken_first;
     numbers = since has_grown settled.has;
-    fresh = λ held h shows b at. subst (IsUnowned (fixed_layout s) held) (same_Some to b at) (to_free shows);
+    fresh = λ held h shows b at. subst (IsUnowned l held) (same_Some to b at) (to_free shows);
     follows = λ held h shows. copy_follows shows after (lists_now shows joins);
     bytes = λ held h shows. copy_bytes shows;
     zeros = λ held h shows. copy_zeros shows;
   }
 
   -- There are free lists for it, whatever was given back.
-  pub copy_some : {held : Store} {h : Held} → ShowsRow R s held h row free → (after : FreeLists) × Resizes R S s free cpu row x new after × (after.sup ≡ free.sup)
+  pub copy_some : {held : Store} {h : Held} → ShowsRow R l held h row free → (after : FreeLists) × Resizes R S l free cpu row x new after × (after.sup ≡ free.sup)
   copy_some {held} {h} shows =
       let w = some_kept (data_sound entries x.size (count shows) shows (stored shows) (extends shows) (moved shows) copies.extends (writes shows)) in
       let keeps = w.2 in (
@@ -333,7 +331,7 @@ module _ {R S : Region} {s : Super} {free mid : FreeLists} {cpu : ℕ} {row grow
           between = between;
           taken = taken_first;
           numbers = since has_grown settled.has;
-          fresh = λ st g seen b at. subst (IsUnowned (fixed_layout s) st) (same_Some to b at) (to_free seen);
+          fresh = λ st g seen b at. subst (IsUnowned l st) (same_Some to b at) (to_free seen);
           follows = λ st g seen. copy_follows seen (record free { pools = w.1 }) (lists_any shows seen entries fresh w.1 keeps.in_lists);
           bytes = λ st g seen. copy_bytes seen;
           zeros = λ st g seen. copy_zeros seen;

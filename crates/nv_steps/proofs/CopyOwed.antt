@@ -6,6 +6,7 @@ use Rattle.std.proofs.lemmas.Option.{none-some}
 use Rattle.nv_region.specs.Region.{Region, size}
 use Rattle.nv_super.specs.declared.superblock.Super.{Super}
 use Rattle.nv_super.proofs.Rising.{Contains-head, Contains-tail}
+use Rattle.nv_super.specs.Layout.{Layout}
 use Rattle.nv_alloc.specs.FreeValue.{FreeLists}
 use Rattle.nv_alloc.specs.FreeLists.{CanJoin}
 use Rattle.nv_alloc.specs.Taking.{block_run}
@@ -29,13 +30,13 @@ mapped_ready (y ∷ m) p b at = by (y.0 == p) (mapped_ready m p b) at where
   by true rest at = refl
   by false rest at = rest at
 
-module _ {R : Region} {s : Super} {free mid : FreeLists} {cpu : ℕ} {row : Row} {x : AttrEntry} {to : ℕ} {fresh : List ℕ} (can : CanResize R s free row x) (taken : TakesEach free cpu (to ∷ fresh) mid) where
+module _ {R : Region} {l : Layout} {free mid : FreeLists} {cpu : ℕ} {row : Row} {x : AttrEntry} {to : ℕ} {fresh : List ℕ} (can : CanResize R l free row x) (taken : TakesEach free cpu (to ∷ fresh) mid) where
   data_end : (b : ℕ) → Contains (to ∷ fresh) b → b * 4096 + 4096 ≤ size R
   data_end b c =
       let stands = can.stands in
       let blocks = stands.blocks in
       let below = (each_in_data taken b c).1 in
-      let lists : free.sup.blocks ≡ s.blocks = ap (λ (t : Super). t.blocks) stands.lists in
+      let lists : free.sup.blocks ≡ l.sup.blocks = ap (λ (t : Super). t.blocks) stands.lists in
       omega (arith, below, blocks, lists)
 
   -- The entries can be written behind the tail.

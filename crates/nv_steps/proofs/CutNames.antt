@@ -1,13 +1,12 @@
 -- The removal of a name and its inode, once the directory's log has grown without the inode and the row is settled.
 use Rattle.std.proofs.Common.{ℕ, inl, inr, List}
 use Rattle.nv_region.specs.Region.{Region}
-use Rattle.nv_super.specs.declared.superblock.Super.{Super}
-use Rattle.nv_super.specs.Layout.{fixed_layout}
+use Rattle.nv_super.specs.Layout.{Layout}
 use Rattle.nv_alloc.specs.FreeValue.{FreeLists}
 use Rattle.nv_entry.specs.declared.entry.Operation.TheVariants.{Remove}
 use Rattle.nv_names.specs.Names.{EachOnce}
 use Rattle.nv_scan.specs.declared.piece.Row.{Row}
-use Rattle.nv_held.specs.Held.{Store}
+use Rattle.nv_mounted.specs.Held.{Store}
 use Rattle.nv_commit.specs.Stopped.{LeavesEither}
 use Rattle.nv_steps.specs.LessNames.{CutsName}
 use Rattle.nv_steps.specs.NameEntries.{name_entries}
@@ -18,8 +17,8 @@ use Rattle.nv_steps.proofs.LessName.{once_without}
 use Rattle.nv_steps.proofs.Took.{drops_one, less_row}
 use Rattle.nv_steps.proofs.UnlinkedAt.{drops_after}
 
-pub cuts_name : {R S : Region} {s : Super} {free after : FreeLists} {cpu : ℕ} {old grown new : Row} (j : ℕ) (name : List ℕ) (time : ℕ) → AppendsLess R S s free after cpu old grown j (name_entries Remove j name time) → DropsName grown name time new → EachOnce new.names
-    → CutsName R S s free after cpu old new j time name
+pub cuts_name : {R S : Region} {l : Layout} {free after : FreeLists} {cpu : ℕ} {old grown new : Row} (j : ℕ) (name : List ℕ) (time : ℕ) → AppendsLess R S l free after cpu old grown j (name_entries Remove j name time) → DropsName grown name time new → EachOnce new.names
+    → CutsName R S l free after cpu old new j time name
 cuts_name j name time grew drops once_new =
     let once = grew.once in
     record {
@@ -33,8 +32,8 @@ cuts_name j name time grew drops once_new =
     }
 
 -- What a stop leaves of it, by what it leaves of the log.
-pub left_cut : {R : Region} {s : Super} {free : FreeLists} {cpu : ℕ} {held : Store} (old : Row) (j : ℕ) (name : List ℕ) (time : ℕ) (left : Region)
-    → LeavesEither R (fixed_layout s) held (AppendedLess R s free cpu old j (name_entries Remove j name time)) left → LeavesEither R (fixed_layout s) held (Cut R s free cpu old j time name) left
+pub left_cut : {R : Region} {l : Layout} {free : FreeLists} {cpu : ℕ} {held : Store} (old : Row) (j : ℕ) (name : List ℕ) (time : ℕ) (left : Region)
+    → LeavesEither R l held (AppendedLess R l free cpu old j (name_entries Remove j name time)) left → LeavesEither R l held (Cut R l free cpu old j time name) left
 left_cut old j name time left (inl same) = inl same
 left_cut old j name time left (inr w) =
     let made = w.1 in

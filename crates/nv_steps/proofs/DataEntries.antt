@@ -15,7 +15,7 @@ use Rattle.nv_entry.specs.declared.entry.WriteEntry.{WriteEntry}
 use Rattle.nv_entry.specs.declared.entry.Entry.{Entry}
 use Rattle.nv_entry.specs.declared.entry.Entry.TheVariants.{Write}
 use Rattle.nv_logpage.specs.Append.{AreGiven}
-use Rattle.nv_held.specs.Writes.{blocks_in_entry, pages_in_entry}
+use Rattle.nv_mounted.specs.Writes.{blocks_in_entry, pages_in_entry}
 use Rattle.nv_steps.specs.Writes.{data_blocks, data_entries, ended_entries, run_entries}
 use Rattle.nv_steps.specs.Written.{entry_blocks, entry_pages}
 use Rattle.nv_steps.specs.declared.planning.Plan.{Plan}

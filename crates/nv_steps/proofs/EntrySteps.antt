@@ -7,7 +7,6 @@ use Rattle.nv_super.specs.declared.owners.Run.{Run}
 use Rattle.nv_super.specs.declared.superblock.Super.{Super}
 use Rattle.nv_super.specs.Layout.{system_blocks}
 use Rattle.nv_super.specs.Runs.{InRun}
-use Rattle.nv_super.proofs.Members.{none_in}
 use Rattle.nv_super.proofs.Rising.{Contains-cons, Contains-tail}
 use Rattle.nv_alloc.specs.FreeValue.{FreeLists}
 use Rattle.nv_alloc.specs.FreeLists.{CanJoin, Joins}
@@ -18,7 +17,7 @@ use Rattle.nv_entry.specs.declared.entry.WriteEntry.{WriteEntry}
 use Rattle.nv_entry.specs.declared.entry.Entry.{Entry}
 use Rattle.nv_entry.specs.declared.entry.Entry.TheVariants.{Write}
 use Rattle.nv_radix.specs.Pages.{Pages, block_at, in_run, is_ready}
-use Rattle.nv_held.proofs.DataGrows.{in_run_from}
+use Rattle.nv_mounted.proofs.DataGrows.{in_run_from}
 use Rattle.nv_steps.specs.Writes.{CanGive, page_blocks}
 use Rattle.nv_steps.specs.Written.{AreSettled, MapsEntries, entry_pages}
 use Rattle.nv_steps.proofs.StoredEntries.{no_pages, some_write}
@@ -67,10 +66,6 @@ maps_step old mid final w rest once step maps = record {
 
 pub settled_step : (old mid : Pages) (w : WriteEntry) (rest : List Entry) → AreSettled old (Write w ∷ rest) → ((p : ℕ) → is_ready mid p ≡ is_ready old p) → AreSettled mid rest
 settled_step old mid w rest settled same v c = (let s = settled v (Contains-tail (Write w) rest (Write v) c) in ((λ p low high. same p ∙ s.0 p low high), s.1))
-
--- where no entries are left
-pub maps_none : (m : Pages) → MapsEntries m [] m
-maps_none m = record { here = λ w c. absurd (none_in (Write w) c); others = λ p away. refl }
 
 -- an entry that isn't a write entry is passed over
 pub maps_skip : (old final : Pages) (e : Entry) (rest : List Entry) → ((w : WriteEntry) → e ≡ Write w → ⊥) → MapsEntries old rest final → MapsEntries old (e ∷ rest) final

@@ -5,7 +5,7 @@ use Rattle.std.proofs.lemmas.Bool.Decides.{nat_tests}
 use Rattle.nv_super.proofs.Rising.{Contains-cons, Contains-head, Contains-tail}
 use Rattle.nv_super.proofs.Members.{none_in}
 use Rattle.nv_scan.specs.declared.piece.Row.{Row}
-use Rattle.nv_held.specs.nv_graph.Read.{row_of}
+use Rattle.nv_graph.specs.Read.{row_of}
 
 -- each row is one of before or the new one
 pub from_inserted : (rows : List Row) (k : ℕ) (x r : Row) → Contains (insert rows k x) r → Contains rows r ⊎ (r ≡ x)

@@ -2,15 +2,14 @@
 use Rattle.std.proofs.Common.{◌≡◌, ◌≢◌, ℕ, ◌-◌, inl, inr, List, set, slice_get, refl, ap, sym, ◌∙◌, subst, arith, Some}
 use Rattle.std.proofs.lemmas.Option.{same_Some}
 use Rattle.nv_region.specs.Region.{Region}
-use Rattle.nv_super.specs.declared.superblock.Super.{Super}
-use Rattle.nv_super.specs.Layout.{fixed_layout}
+use Rattle.nv_super.specs.Layout.{Layout}
 use Rattle.nv_alloc.specs.FreeValue.{FreeLists}
 use Rattle.nv_entry.specs.declared.entry.Entry.TheVariants.{Name}
 use Rattle.nv_entry.specs.declared.entry.Operation.TheVariants.{Add}
 use Rattle.nv_entry.specs.Spelling.{entry_length}
 use Rattle.nv_names.specs.Names.{EachOnce}
 use Rattle.nv_scan.specs.declared.piece.Row.{Row}
-use Rattle.nv_held.specs.Held.{Store}
+use Rattle.nv_mounted.specs.Held.{Store}
 use Rattle.nv_commit.specs.Stopped.{LeavesEither}
 use Rattle.nv_steps.specs.NameEntries.{links_entries}
 use Rattle.nv_steps.specs.MoreNames.{AddsName, AppendsLogs, CountsLinks}
@@ -26,10 +25,10 @@ use Rattle.nv_steps.proofs.SetRows.{both_twice}
 use Rattle.nv_steps.proofs.Took.{drops_one, gone_name, less_row, taken_place, took_after}
 use Rattle.nv_steps.proofs.UnlinkedAt.{at_first, first_there, grown_rows, second_there}
 
-module _ {R S : Region} {s : Super} {free after : FreeLists} {cpu : ℕ} {rows mid : List Row} {d j i time : ℕ} {name other : List ℕ} (read : Row) (grew : AppendsLogs R S s free after cpu rows mid d (take_entries i read.inode name other time) j (links_entries (read.numbers.links - 1) time)) (read_at : slice_get rows j ≡ Some read) (differ : d ≢ j) where
+module _ {R S : Region} {l : Layout} {free after : FreeLists} {cpu : ℕ} {rows mid : List Row} {d j i time : ℕ} {name other : List ℕ} (read : Row) (grew : AppendsLogs R S l free after cpu rows mid d (take_entries i read.inode name other time) j (links_entries (read.numbers.links - 1) time)) (read_at : slice_get rows j ≡ Some read) (differ : d ≢ j) where
   -- Both rows are settled.
   pub lessens_at_places : {less bare c e : Row} (a b : Row) (len : ℕ) → slice_get mid d ≡ Some a → len ≡ entry_length (Name (record { operation = Add; inode = i; time = time; name = other })) → DropsName a name time less → EachOnce less.names → DropsName less other time bare
-      → AddsName bare other i (a.tail - len) time c → EachOnce c.names → slice_get (set mid d c) j ≡ Some b → CountsLinks b (read.numbers.links - 1) time e → LessensAt R S s free after cpu rows (set (set mid d c) j e) d j i name other time
+      → AddsName bare other i (a.tail - len) time c → EachOnce c.names → slice_get (set mid d c) j ≡ Some b → CountsLinks b (read.numbers.links - 1) time e → LessensAt R S l free after cpu rows (set (set mid d c) j e) d j i name other time
   lessens_at_places {less} {bare} {c} {e} a b len a_at length_is drops once_less cuts adds once_c b_at counts =
       let step = grown_rows read grew read_at differ in
       let first = grew.first in
@@ -63,10 +62,10 @@ module _ {R S : Region} {s : Super} {free after : FreeLists} {cpu : ℕ} {rows m
 -- ---- a stop
 
 -- What a stop leaves of a name that is given so and a link less, by what it leaves of both logs.
-pub left_lessened : {R : Region} {s : Super} {free : FreeLists} {cpu : ℕ} {held : Store} (directory file : Row) (i : ℕ) (name other : List ℕ) (time : ℕ)
-    → (left : Region) → LeavesEither R (fixed_layout s) held (AppendedBoth R s free cpu directory (take_entries i file.inode name other time) file (links_entries (file.numbers.links - 1) time)) left → LeavesEither R (fixed_layout s) held (Lessened R s free cpu directory file i name other time) left
+pub left_lessened : {R : Region} {l : Layout} {free : FreeLists} {cpu : ℕ} {held : Store} (directory file : Row) (i : ℕ) (name other : List ℕ) (time : ℕ)
+    → (left : Region) → LeavesEither R l held (AppendedBoth R l free cpu directory (take_entries i file.inode name other time) file (links_entries (file.numbers.links - 1) time)) left → LeavesEither R l held (Lessened R l free cpu directory file i name other time) left
 left_lessened directory file i name other time left (inl same) = inl same
-left_lessened {R} {s} {free} directory file i name other time left (inr w) =
+left_lessened {R} {l} {free} directory file i name other time left (inr w) =
     let made = w.1 in
     let one = made.1 in
     let two = made.2 in

@@ -1,3 +1,5 @@
+pub mod SlotPlaces
+pub mod FixedSlots
 pub mod CleanedLog
 pub mod RowOf
 pub mod Refusals

@@ -1,10 +1,9 @@
 -- A link count and a name, once both logs have grown and the rows are settled.
 use Rattle.std.proofs.Common.{◌≡◌, ◌≢◌, ℕ, ◌+◌, ◌-◌, cond, nat_eq, inl, inr, List, [], ◌∷◌, set, slice_get, refl, ap, sym, ◌∙◌, subst, arith, Some, None}
-use Rattle.nv_super.specs.Layout.{fixed_layout}
+use Rattle.nv_super.specs.Layout.{Layout}
 use Rattle.std.specs.Cmp.Lexicographic.{pointwise}
 use Rattle.std.proofs.lemmas.Option.{same_Some}
 use Rattle.nv_region.specs.Region.{Region}
-use Rattle.nv_super.specs.declared.superblock.Super.{Super}
 use Rattle.nv_alloc.specs.FreeValue.{FreeLists}
 use Rattle.nv_entry.specs.declared.entry.Entry.{Entry}
 use Rattle.nv_entry.specs.declared.entry.Entry.TheVariants.{Name}
@@ -15,7 +14,7 @@ use Rattle.nv_names.specs.Names.{EachOnce, name_at}
 use Rattle.nv_radix.specs.Pages.{block_at}
 use Rattle.nv_scan.specs.declared.numbers.Numbers.{Numbers}
 use Rattle.nv_scan.specs.declared.piece.Row.{Row}
-use Rattle.nv_held.specs.Held.{Store}
+use Rattle.nv_mounted.specs.Held.{Store}
 use Rattle.nv_commit.specs.Stopped.{LeavesEither}
 use Rattle.nv_steps.specs.NameEntries.{links_entries, name_entries}
 use Rattle.nv_steps.specs.MoreNames.{AddsName, AppendsLogs, CountsLinks, GrowsSame, GrowsTwo, HasCounted, LinksAt}
@@ -53,7 +52,7 @@ adds_after {old} {mid} {new} {more} {end} {place} {spot} name j time grew adds a
       names = λ q. adds.names q ∙ (λ t. cond (pointwise nat_eq q name) (Some (j, at t)) (grew.names q t));
     }
 
-module _ {R S : Region} {s : Super} {free after : FreeLists} {cpu : ℕ} {rows mid : List Row} {i j time : ℕ} {name : List ℕ} (read : Row) (grew : AppendsLogs R S s free after cpu rows mid i (links_entries (read.numbers.links + 1) time) j (name_entries Add read.inode name time)) (read_at : slice_get rows i ≡ Some read) (differ : i ≢ j) where
+module _ {R S : Region} {l : Layout} {free after : FreeLists} {cpu : ℕ} {rows mid : List Row} {i j time : ℕ} {name : List ℕ} (read : Row) (grew : AppendsLogs R S l free after cpu rows mid i (links_entries (read.numbers.links + 1) time) j (name_entries Add read.inode name time)) (read_at : slice_get rows i ≡ Some read) (differ : i ≢ j) where
   abbrev entries : List Entry
   entries = links_entries (read.numbers.links + 1) time
 
@@ -63,10 +62,10 @@ module _ {R S : Region} {s : Super} {free after : FreeLists} {cpu : ℕ} {rows m
   abbrev second : Row
   second = grew.second
 
-  grown_file : GrowsTwo R S s free after cpu rows mid i read entries j second others (λ fresh now. GrowsSame read fresh (end_of fresh 0 read.tail entries) now) (λ more now. GrowsSame second more (end_of more 0 second.tail others) now)
+  grown_file : GrowsTwo R S l free after cpu rows mid i read entries j second others (λ fresh now. GrowsSame read fresh (end_of fresh 0 read.tail entries) now) (λ more now. GrowsSame second more (end_of more 0 second.tail others) now)
   grown_file =
       let step = grew.step in
-      subst (λ (r : Row). GrowsTwo R S s free after cpu rows mid i r entries j second others (λ fresh now. GrowsSame r fresh (end_of fresh 0 r.tail entries) now) (λ more now. GrowsSame second more (end_of more 0 second.tail others) now)) (same_Some _ _ (sym step.at ∙ read_at)) grew.step
+      subst (λ (r : Row). GrowsTwo R S l free after cpu rows mid i r entries j second others (λ fresh now. GrowsSame r fresh (end_of fresh 0 r.tail entries) now) (λ more now. GrowsSame second more (end_of more 0 second.tail others) now)) (same_Some _ _ (sym step.at ∙ read_at)) grew.step
 
   file_there : slice_get mid i ≡ Some grown_file.first_now
   file_there = ap (λ (rs : List Row). slice_get rs i) grown_file.put ∙ first_set rows i j read second grown_file.first_now grown_file.second_now grown_file.at grown_file.other_at differ
@@ -76,7 +75,7 @@ module _ {R S : Region} {s : Super} {free after : FreeLists} {cpu : ℕ} {rows m
 
   -- Both rows are settled.
   pub links_at_places : {c d : Row} (a b told : Row) (len : ℕ) → slice_get mid i ≡ Some a → CountsLinks a (read.numbers.links + 1) time c → slice_get (set mid i c) j ≡ Some told → len ≡ entry_length (Name (record { operation = Add; inode = read.inode; time = time; name = name })) → slice_get (set mid i c) j ≡ Some b
-      → AddsName b name read.inode (told.tail - len) time d → EachOnce d.names → LinksAt R S s free after cpu rows (set (set mid i c) j d) i j name time
+      → AddsName b name read.inode (told.tail - len) time d → EachOnce d.names → LinksAt R S l free after cpu rows (set (set mid i c) j d) i j name time
   links_at_places {c} {d} a b told len a_at counts told_at length_is b_at adds once_d =
       let step = grown_file in
       let first_is : a ≡ step.first_now = same_Some _ _ (sym a_at ∙ file_there) in
@@ -119,10 +118,10 @@ abbrev pub added_row : Row → List ℕ → ℕ → ℕ → ℕ → Row
 added_row row name j place time = record row { numbers = record row.numbers { time = time }; names = record row.names { names = (name, j, place) ∷ row.names.names } }
 
 -- What a stop leaves of a link and a name, by what it leaves of both logs.
-pub left_linked : {R : Region} {s : Super} {free : FreeLists} {cpu : ℕ} {held : Store} (file directory : Row) (name : List ℕ) (time : ℕ) → name_at directory.names name ≡ None
-    → (left : Region) → LeavesEither R (fixed_layout s) held (AppendedBoth R s free cpu file (links_entries (file.numbers.links + 1) time) directory (name_entries Add file.inode name time)) left → LeavesEither R (fixed_layout s) held (Linked R s free cpu file directory name time) left
+pub left_linked : {R : Region} {l : Layout} {free : FreeLists} {cpu : ℕ} {held : Store} (file directory : Row) (name : List ℕ) (time : ℕ) → name_at directory.names name ≡ None
+    → (left : Region) → LeavesEither R l held (AppendedBoth R l free cpu file (links_entries (file.numbers.links + 1) time) directory (name_entries Add file.inode name time)) left → LeavesEither R l held (Linked R l free cpu file directory name time) left
 left_linked file directory name time absent left (inl same) = inl same
-left_linked {R} {s} {free} file directory name time absent left (inr w) =
+left_linked {R} {l} {free} file directory name time absent left (inr w) =
     let made = w.1 in
     let one = made.1 in
     let two = made.2 in

@@ -10,10 +10,10 @@ use Rattle.nv_scan.specs.State.{named, says_group, says_links, says_mode, says_n
 use Rattle.nv_scan.specs.declared.numbers.Numbers.{Numbers}
 use Rattle.nv_scan.specs.Rows.{AreNumbers}
 use Rattle.nv_scan.proofs.Words.{good_entries-more, last_word-more}
-use Rattle.nv_held.specs.Held.{Held, good_in}
-use Rattle.nv_held.specs.Grows.{SameFile, grown}
-use Rattle.nv_held.specs.nv_graph.Step.{links_entry}
-use Rattle.nv_held.proofs.nv_graph.GoodEntries.{good_links}
+use Rattle.nv_mounted.specs.Held.{Held, good_in}
+use Rattle.nv_mounted.specs.Grows.{SameFile, grown}
+use Rattle.nv_graph.specs.Step.{links_entry}
+use Rattle.nv_graph.proofs.GoodEntries.{good_links}
 use Rattle.nv_commit.specs.Pages.{SaysNoPage}
 use Rattle.nv_commit.proofs.BlocksOf.{same_file}
 

@@ -7,8 +7,7 @@ use Rattle.nv_region.specs.Stops.{IsMixed, One}
 use Rattle.nv_region.proofs.Stops.{mixed_same}
 use Rattle.nv_region.proofs.Wordwise.{mixed_more}
 use Rattle.nv_super.specs.declared.superblock.Super.{Super}
-use Rattle.nv_super.specs.Layout.{Layout, fixed_layout, slot_of, slot_address}
-use Rattle.nv_super.proofs.Slots.{slot_is}
+use Rattle.nv_super.specs.Layout.{Layout, slot_of}
 use Rattle.nv_alloc.specs.FreeValue.{FreeLists}
 use Rattle.nv_entry.specs.declared.entry.Entry.{Entry}
 use Rattle.nv_logpage.specs.Append.{AreGiven, CanAppend, EndBy, appended, end_of, needed}
@@ -16,19 +15,19 @@ use Rattle.nv_logpage.proofs.DataBlocks.{one_page, pages_are}
 use Rattle.nv_logpage.proofs.RightLogs.{head_starts}
 use Rattle.nv_scan.specs.State.{block_of}
 use Rattle.nv_scan.specs.declared.piece.Row.{Row}
-use Rattle.nv_held.specs.Held.{Held, Store, Shows, good_in}
-use Rattle.nv_held.specs.Blocks.{NoneDoubled}
-use Rattle.nv_held.specs.Bytes.{byte_of}
-use Rattle.nv_held.specs.Grows.{AreFree, NoEntryFault, SameFile, SameNames}
-use Rattle.nv_held.specs.Loose.{Loose}
-use Rattle.nv_held.specs.Mounted.{IsFaultless, KeepsRow, ShowsSound}
-use Rattle.nv_held.specs.Slots.{SlotsClear}
-use Rattle.nv_held.proofs.BytesKept.{data_stays, no_loose_data}
-use Rattle.nv_held.proofs.Faultless.{still_faultless}
-use Rattle.nv_held.proofs.Fronts.{sound_moves}
-use Rattle.nv_held.proofs.Growing.{grown_owns, free_but}
-use Rattle.nv_held.proofs.Owning.{same_held}
-use Rattle.nv_held.proofs.Shown.{stands_at}
+use Rattle.nv_mounted.specs.Held.{Held, Store, Shows, good_in}
+use Rattle.nv_mounted.specs.Blocks.{NoneDoubled}
+use Rattle.nv_mounted.specs.Bytes.{byte_of}
+use Rattle.nv_mounted.specs.Grows.{AreFree, NoEntryFault, SameFile, SameNames}
+use Rattle.nv_mounted.specs.Loose.{Loose}
+use Rattle.nv_mounted.specs.Mounted.{IsFaultless, KeepsRow, ShowsSound}
+use Rattle.nv_mounted.specs.Slots.{SlotsClear}
+use Rattle.nv_mounted.proofs.BytesKept.{data_stays, no_loose_data}
+use Rattle.nv_mounted.proofs.Faultless.{still_faultless}
+use Rattle.nv_mounted.proofs.Fronts.{sound_moves}
+use Rattle.nv_mounted.proofs.Growing.{grown_owns, free_but}
+use Rattle.nv_mounted.proofs.Owning.{same_held}
+use Rattle.nv_mounted.proofs.Shown.{stands_at}
 use Rattle.nv_commit.specs.Extends.{CanExtend, ExtendWords, ShowsMoved, extended, with_log}
 use Rattle.nv_commit.proofs.Extends.{loose_there, slots}
 use Rattle.nv_steps.specs.Grown.{HasGrown, StandsRight}
@@ -36,13 +35,15 @@ use Rattle.nv_steps.specs.Steps.{AppendsLog, LogFollows, ShowsRow}
 use Rattle.nv_steps.specs.Taken.{TakesEach}
 use Rattle.nv_steps.proofs.TakenBlocks.{all_differ, are_free, differ_with, each_in_data, lists_without}
 use Rattle.nv_steps.proofs.OneByOne.{by_rule}
+use Rattle.nv_steps.proofs.SlotPlaces.{slot_known}
+use Rattle.nv_steps.specs.Slots.{slot_in}
 
 -- ---- what is owed
 
 -- Entries can be written behind the tail of a row's log.
-pub can_append : {R : Region} {s : Super} {free after : FreeLists} {cpu : ℕ} {row : Row} {fresh : List ℕ} (entries : List Entry) → StandsRight R s free row → TakesEach free cpu fresh after → length fresh ≡ needed (row.tail % 4096) entries → AreGiven entries
+pub can_append : {R : Region} {l : Layout} {free after : FreeLists} {cpu : ℕ} {row : Row} {fresh : List ℕ} (entries : List Entry) → StandsRight R l free row → TakesEach free cpu fresh after → length fresh ≡ needed (row.tail % 4096) entries → AreGiven entries
     → CanAppend R row.tail entries fresh
-can_append {R} {s} {free} {after} {cpu} {row} {fresh} entries stands taken count given = record {
+can_append {R} {l} {free} {after} {cpu} {row} {fresh} entries stands taken count given = record {
   whole = stands.aligned;
   offset = stands.offset;
   given = given;
@@ -56,25 +57,22 @@ can_append {R} {s} {free} {after} {cpu} {row} {fresh} entries stands taken count
       let data_block = each_in_data taken (get_or fresh j 0) (j, omega (arith, below), get_or_default fresh j (get_or fresh j 0) 0 (omega (arith, below))) in
       let under = data_block.1 in
       let blocks = stands.blocks in
-      let lists : free.sup.blocks ≡ s.blocks = ap (λ (t : Super). t.blocks) stands.lists in
+      let lists : free.sup.blocks ≡ l.sup.blocks = ap (λ (t : Super). t.blocks) stands.lists in
       omega (arith, under, blocks, lists)
 
 -- the slot of a row's inode
-pub slot_there : {R : Region} {s : Super} {held : Store} (i : ℕ) (h : Held) → Shows R (fixed_layout s) held → held i ≡ Some h → slot_of (fixed_layout s) i ≡ Some (slot_address s i)
-slot_there {R} {s} {held} i h shows is = let v = stands_at shows i h is in v.at ∙ ap (λ (a : ℕ). Some a) (slot_is s i v.a v.at).is
+pub slot_there : {R : Region} {l : Layout} {held : Store} (i : ℕ) (h : Held) → Shows R l held → held i ≡ Some h → slot_of l i ≡ Some (slot_in l i)
+slot_there {R} {l} {held} i h shows is = let v = stands_at shows i h is in v.at ∙ ap (λ (a : ℕ). Some a) (slot_known l i v.a v.at)
 
-module _ {R : Region} {s : Super} {held : Store} {h : Held} {row : Row} {free after : FreeLists} {cpu : ℕ} {fresh : List ℕ} (entries : List Entry)
-    (shows : ShowsRow R s held h row free) (lists : free.sup ≡ s) (taken : TakesEach free cpu fresh after) (count : length fresh ≡ needed (row.tail % 4096) entries) (given : AreGiven entries) (some : 0 < length entries) where
-  l : Layout
-  l = fixed_layout s
-
+module _ {R : Region} {l : Layout} {held : Store} {h : Held} {row : Row} {free after : FreeLists} {cpu : ℕ} {fresh : List ℕ} (entries : List Entry)
+    (shows : ShowsRow R l held h row free) (lists : free.sup ≡ l.sup) (taken : TakesEach free cpu fresh after) (count : length fresh ≡ needed (row.tail % 4096) entries) (given : AreGiven entries) (some : 0 < length entries) where
   tails : h.tail ≡ row.tail
   tails = (let kept = shows.told in sym kept.tail)
 
-  pub fresh_free : AreFree (fixed_layout s) held fresh
-  fresh_free = are_free taken (fixed_layout s) held shows.lists lists
+  pub fresh_free : AreFree l held fresh
+  fresh_free = are_free taken l held shows.lists lists
 
-  pub can_extend : CanExtend R s held row.inode h (slot_address s row.inode) row.tail entries fresh
+  pub can_extend : CanExtend R l held row.inode h (slot_in l row.inode) row.tail entries fresh
   can_extend = record {
     sound = shows.sound;
     at = (let sound = shows.sound in slot_there row.inode h sound.shows shows.holds);
@@ -115,45 +113,45 @@ bytes_stay l held R S j slot new slots undoubled shows at mixed i h is = data_st
   | inr one ↦ no_slot_data l held j slot new slots at i p b h is maps k v block one
 ])
 
-module _ {R S : Region} {s : Super} {held : Store} {i : ℕ} {h : Held} {slot tail : ℕ} {entries : List Entry} {fresh : List ℕ} (can : CanExtend R s held i h slot tail entries fresh) where
+module _ {R S : Region} {l : Layout} {held : Store} {i : ℕ} {h : Held} {slot tail : ℕ} {entries : List Entry} {fresh : List ℕ} (can : CanExtend R l held i h slot tail entries fresh) where
   -- The words that an extension stores.
-  pub extend_mixed : IsMixed R (ExtendWords slot tail entries fresh) S → IsMixed R (λ k v. Loose (fixed_layout s) held k v ⊎ One (slot + 24) (end_of fresh 0 tail entries) k v) S
-  extend_mixed mixed = mixed_more (λ k v. Loose (fixed_layout s) held k v ⊎ One (slot + 24) (end_of fresh 0 tail entries) k v) (ExtendWords slot tail entries fresh) R R S
+  pub extend_mixed : IsMixed R (ExtendWords slot tail entries fresh) S → IsMixed R (λ k v. Loose l held k v ⊎ One (slot + 24) (end_of fresh 0 tail entries) k v) S
+  extend_mixed mixed = mixed_more (λ k v. Loose l held k v ⊎ One (slot + 24) (end_of fresh 0 tail entries) k v) (ExtendWords slot tail entries fresh) R R S
       (λ k v w. elim w [ inl appended ↦ inl (loose_there can k v appended) | inr moved ↦ inr moved ])
-      (mixed_same R (λ k v. Loose (fixed_layout s) held k v ⊎ One (slot + 24) (end_of fresh 0 tail entries) k v)) mixed
+      (mixed_same R (λ k v. Loose l held k v ⊎ One (slot + 24) (end_of fresh 0 tail entries) k v)) mixed
 
-  pub extended_bytes : IsMixed R (ExtendWords slot tail entries fresh) S → (j : ℕ) (g : Held) → held j ≡ Some g → (x : ℕ) → byte_of S (fixed_layout s) g x ≡ byte_of R (fixed_layout s) g x
-  extended_bytes mixed = let sound = can.sound in let faultless = sound.faultless in bytes_stay (fixed_layout s) held R S i slot (end_of fresh 0 tail entries) (slots can) faultless.undoubled sound.shows can.at (extend_mixed mixed)
+  pub extended_bytes : IsMixed R (ExtendWords slot tail entries fresh) S → (j : ℕ) (g : Held) → held j ≡ Some g → (x : ℕ) → byte_of S l g x ≡ byte_of R l g x
+  extended_bytes mixed = let sound = can.sound in let faultless = sound.faultless in bytes_stay l held R S i slot (end_of fresh 0 tail entries) (slots can) faultless.undoubled sound.shows can.at (extend_mixed mixed)
 
   -- No page of the log stands twice.
-  pub pages_once : ShowsMoved R s (with_log held i h entries fresh) S → IsDistinct eqb (extended h entries fresh).pages
+  pub pages_once : ShowsMoved R l (with_log held i h entries fresh) S → IsDistinct eqb (extended h entries fresh).pages
   pages_once moved =
       let at = stands_at moved.shows i (extended h entries fresh) (same_held held i (Some (extended h entries fresh))) in
-      let pages = pages_are (one_page s h.head (head_starts s h.head (extended h entries fresh).tail at.is.right)) at.is.reads in
+      let pages = pages_are (one_page l.sup h.head (head_starts l.sup h.head (extended h entries fresh).tail at.is.right)) at.is.reads in
       pages.once
 
 -- ---- where names and blocks stay
 
-module _ {R S : Region} {s : Super} {held : Store} {h : Held} {row : Row} {free after : FreeLists} {cpu : ℕ} {fresh : List ℕ} (entries : List Entry)
-    (shows : ShowsRow R s held h row free) (lists : free.sup ≡ s) (taken : TakesEach free cpu fresh after) (count : length fresh ≡ needed (row.tail % 4096) entries) (given : AreGiven entries) (some : 0 < length entries)
-    (moved : ShowsMoved R s (with_log held row.inode h entries fresh) S) (mixed : IsMixed R (ExtendWords (slot_address s row.inode) row.tail entries fresh) S)
-    (names : SameNames (fixed_layout s) h (extended h entries fresh)) (file : SameFile (fixed_layout s) h (extended h entries fresh))
-    (clean : NoEntryFault s h.kind row.inode (extended h entries fresh).entries) where
-  can : CanExtend R s held row.inode h (slot_address s row.inode) row.tail entries fresh
+module _ {R S : Region} {l : Layout} {held : Store} {h : Held} {row : Row} {free after : FreeLists} {cpu : ℕ} {fresh : List ℕ} (entries : List Entry)
+    (shows : ShowsRow R l held h row free) (lists : free.sup ≡ l.sup) (taken : TakesEach free cpu fresh after) (count : length fresh ≡ needed (row.tail % 4096) entries) (given : AreGiven entries) (some : 0 < length entries)
+    (moved : ShowsMoved R l (with_log held row.inode h entries fresh) S) (mixed : IsMixed R (ExtendWords (slot_in l row.inode) row.tail entries fresh) S)
+    (names : SameNames l h (extended h entries fresh)) (file : SameFile l h (extended h entries fresh))
+    (clean : NoEntryFault l.sup h.kind row.inode (extended h entries fresh).entries) where
+  can : CanExtend R l held row.inode h (slot_in l row.inode) row.tail entries fresh
   can = can_extend entries shows lists taken count given some
 
-  faultless : IsFaultless (fixed_layout s) (with_log held row.inode h entries fresh)
+  faultless : IsFaultless l (with_log held row.inode h entries fresh)
   faultless =
       let sound = shows.sound in
       let right = sound.faultless in
-      still_faultless (fixed_layout s) held row.inode h (extended h entries fresh) shows.holds names clean
-      (grown_owns (fixed_layout s) held row.inode h (extended h entries fresh) shows.holds fresh (pages_now entries shows lists taken count given some) (fresh_free entries shows lists taken count given some) file right.undoubled (pages_once {S = S} can moved)) right
+      still_faultless l held row.inode h (extended h entries fresh) shows.holds names clean
+      (grown_owns l held row.inode h (extended h entries fresh) shows.holds fresh (pages_now entries shows lists taken count given some) (fresh_free entries shows lists taken count given some) file right.undoubled (pages_once {S = S} can moved)) right
 
-  sound : ShowsSound S s (with_log held row.inode h entries fresh)
-  sound = sound_moves R S s held (with_log held row.inode h entries fresh) shows.sound moved.front moved.shows faultless
+  sound : ShowsSound S l (with_log held row.inode h entries fresh)
+  sound = sound_moves R S l held (with_log held row.inode h entries fresh) shows.sound moved.front moved.shows faultless
 
   -- The log has grown, and nothing else has changed.
-  pub log_follows : (new : Row) → new.inode ≡ row.inode → KeepsRow (fixed_layout s) (extended h entries fresh) new → LogFollows R S s held h entries free.pools cpu row new after
+  pub log_follows : (new : Row) → new.inode ≡ row.inode → KeepsRow l (extended h entries fresh) new → LogFollows R S l held h entries free.pools cpu row new after
   log_follows new same kept = record {
     fresh = fresh;
     rest = after.pools;
@@ -163,32 +161,32 @@ module _ {R S : Region} {s : Super} {held : Store} {h : Held} {row : Row} {free 
     sound = sound;
     told = kept;
     inode = same;
-    lists = lists_without taken (fixed_layout s) held shows.lists lists (with_log held row.inode h entries fresh)
-        (free_but (fixed_layout s) held row.inode h (extended h entries fresh) shows.holds fresh (pages_now entries shows lists taken count given some) (fresh_free entries shows lists taken count given some) file);
+    lists = lists_without taken l held shows.lists lists (with_log held row.inode h entries fresh)
+        (free_but l held row.inode h (extended h entries fresh) shows.holds fresh (pages_now entries shows lists taken count given some) (fresh_free entries shows lists taken count given some) file);
     bytes = extended_bytes can mixed;
   }
 
 -- ---- what an appended log is made of
 
 -- An extension of a log that was prepared, and its row settled.
-pub appends_log : {R S : Region} {s : Super} {free after : FreeLists} {cpu : ℕ} {old new : Row} (entries : List Entry) (fresh given : List ℕ) (slot end : ℕ) → given ≡ fresh → slot ≡ slot_address s old.inode → TakesEach free cpu fresh after → length fresh ≡ needed (old.tail % 4096) entries
+pub appends_log : {R S : Region} {l : Layout} {free after : FreeLists} {cpu : ℕ} {old new : Row} (entries : List Entry) (fresh given : List ℕ) (slot end : ℕ) → given ≡ fresh → slot ≡ slot_in l old.inode → TakesEach free cpu fresh after → length fresh ≡ needed (old.tail % 4096) entries
     → end ≡ end_of given 0 old.tail entries → HasGrown old fresh end new
-    → ((held : Store) (h : Held) → CanExtend R s held old.inode h slot old.tail entries given → ShowsMoved R s (with_log held old.inode h entries given) S) → IsMixed R (ExtendWords slot old.tail entries given) S
-    → AppendsLog R S s free after cpu old new entries
-appends_log {R} {S} {s} {free} {after} {cpu} {old} {new} entries fresh given slot end same at taken count ends grown shows mixed = record {
+    → ((held : Store) (h : Held) → CanExtend R l held old.inode h slot old.tail entries given → ShowsMoved R l (with_log held old.inode h entries given) S) → IsMixed R (ExtendWords slot old.tail entries given) S
+    → AppendsLog R S l free after cpu old new entries
+appends_log {R} {S} {l} {free} {after} {cpu} {old} {new} entries fresh given slot end same at taken count ends grown shows mixed = record {
   fresh = fresh;
   taken = taken;
   count = count;
   row = subst (λ (n : ℕ). HasGrown old fresh n new) (ends ∙ ap (λ (blocks : List ℕ). end_of blocks 0 old.tail entries) same) grown;
-  moved = λ held h can. subst (λ (blocks : List ℕ). ShowsMoved R s (with_log held old.inode h entries blocks) S) same
-      (shows held h (subst (λ (blocks : List ℕ). CanExtend R s held old.inode h slot old.tail entries blocks) (sym same) (subst (λ (a : ℕ). CanExtend R s held old.inode h a old.tail entries fresh) (sym at) can)));
-  mixed = subst (λ (blocks : List ℕ). IsMixed R (ExtendWords (slot_address s old.inode) old.tail entries blocks) S) same (subst (λ (a : ℕ). IsMixed R (ExtendWords a old.tail entries given) S) at mixed);
+  moved = λ held h can. subst (λ (blocks : List ℕ). ShowsMoved R l (with_log held old.inode h entries blocks) S) same
+      (shows held h (subst (λ (blocks : List ℕ). CanExtend R l held old.inode h slot old.tail entries blocks) (sym same) (subst (λ (a : ℕ). CanExtend R l held old.inode h a old.tail entries fresh) (sym at) can)));
+  mixed = subst (λ (blocks : List ℕ). IsMixed R (ExtendWords (slot_in l old.inode) old.tail entries blocks) S) same (subst (λ (a : ℕ). IsMixed R (ExtendWords a old.tail entries given) S) at mixed);
 }
 
 -- Memory that is open past the region is open past all that is stored.
-pub stores_within_region : {R : Region} {s : Super} {free after : FreeLists} {cpu : ℕ} {row : Row} {fresh : List ℕ} (entries : List Entry) (given : List ℕ) (slot : ℕ) → StandsRight R s free row → TakesEach free cpu fresh after → length fresh ≡ needed (row.tail % 4096) entries → AreGiven entries → given ≡ fresh → slot ≡ slot_address s row.inode
+pub stores_within_region : {R : Region} {l : Layout} {free after : FreeLists} {cpu : ℕ} {row : Row} {fresh : List ℕ} (entries : List Entry) (given : List ℕ) (slot : ℕ) → StandsRight R l free row → TakesEach free cpu fresh after → length fresh ≡ needed (row.tail % 4096) entries → AreGiven entries → given ≡ fresh → slot ≡ slot_in l row.inode
     → (limit : ℕ) → size R ≤ limit → EndBy (row.tail / 4096 ∷ given) limit × (slot + 32 ≤ limit)
-stores_within_region {R} {s} {free} {after} {cpu} {row} {fresh} entries given slot stands taken count allowed same at limit past = (
+stores_within_region {R} {l} {free} {after} {cpu} {row} {fresh} entries given slot stands taken count allowed same at limit past = (
   subst (λ (blocks : List ℕ). EndBy (row.tail / 4096 ∷ blocks) limit) (sym same) (λ j below. (let can = can_append entries stands taken count allowed in let inside = can.inside j below in omega (arith, inside, past))),
   (let inside = stands.inside in omega (arith, inside, at, past)),
 )

@@ -7,9 +7,8 @@ use Rattle.nv_region.specs.Region.{Region, size}
 use Rattle.nv_region.specs.Stops.{Choices, IsMixed, LeavesOnly, NothingPending}
 use Rattle.nv_region.specs.Stored.{StoresOnly}
 use Rattle.nv_region.proofs.Stops.{mixed_left}
-use Rattle.nv_super.specs.declared.superblock.Super.{Super}
+use Rattle.nv_super.specs.Layout.{Layout}
 use Rattle.nv_super.specs.declared.kind.Kind.{Kind}
-use Rattle.nv_super.specs.Layout.{fixed_layout, slot_address}
 use Rattle.nv_journal.specs.Undo.{undone}
 use Rattle.nv_journal.specs.InOrder.{FirstIsFirst}
 use Rattle.nv_alloc.specs.FreeValue.{FreeLists}
@@ -21,10 +20,11 @@ use Rattle.nv_logpage.specs.Append.{EndBy, appended, end_of, needed}
 use Rattle.nv_names.specs.Names.{EachOnce, found_in, name_at, names_of}
 use Rattle.nv_scan.specs.declared.numbers.Numbers.{Numbers}
 use Rattle.nv_scan.specs.declared.piece.Row.{Row}
-use Rattle.nv_held.specs.nv_outcome.Same.{SameRow}
-use Rattle.nv_held.specs.Held.{Held, Store, with_inode}
-use Rattle.nv_held.specs.Bytes.{byte_of}
-use Rattle.nv_held.proofs.nv_outcome.SuperOf.{layout_of_super, version_of_super}
+use Rattle.nv_outcome.specs.Same.{SameRow}
+use Rattle.nv_mounted.specs.Held.{Held, Store, with_inode}
+use Rattle.nv_mounted.specs.Bytes.{byte_of}
+use Rattle.nv_mounted.proofs.Fronts.{sound_clear}
+use Rattle.nv_outcome.proofs.SuperOf.{layout_of_super}
 use Rattle.nv_commit.specs.declared.together.Extension.{Extension}
 use Rattle.nv_commit.specs.declared.making.NewInode.{NewInode}
 use Rattle.nv_commit.specs.Extends.{with_log}
@@ -33,7 +33,7 @@ use Rattle.nv_commit.specs.Makes.{BeforeOrMade, CanBegin, CanMake, MakeWords, be
 use Rattle.nv_commit.specs.Stopped.{LeavesEither}
 use Rattle.nv_commit.proofs.BytesStay.{made_bytes}
 use Rattle.nv_commit.proofs.Left.{one_held}
-use Rattle.nv_commit.proofs.LeftUndone.{undone_bytes, undone_can, undone_idle, undone_recovers}
+use Rattle.nv_commit.proofs.LeftUndone.{undone_can, undone_files, undone_idle, undone_recovers}
 use Rattle.nv_steps.specs.Grown.{StandsRight}
 use Rattle.nv_steps.specs.NameEntries.{first_entries, name_entries, new_held, with_named}
 use Rattle.nv_steps.specs.NewNames.{CanName, HasNamed, IsNewRow, MakesNamed, place_named}
@@ -45,6 +45,7 @@ use Rattle.nv_steps.specs.Fronts.{SameFrontBut}
 use Rattle.nv_steps.proofs.OtherJournals.{made_front, undone_front}
 use Rattle.nv_steps.specs.Stores.{StoresIn, one_more}
 use Rattle.nv_steps.proofs.Stores.{more_stores}
+use Rattle.nv_steps.specs.Slots.{slot_in}
 
 -- ---- rows that a stop keeps from being settled
 
@@ -137,7 +138,7 @@ named_after {old} {mid} {new} {fresh} {others} {end} {last} {place} {spot} name 
 pub new_row_as : {p page t tail : ℕ} {row : Row} (j : ℕ) (kind : Kind) (mode time : ℕ) → p ≡ page → t ≡ tail → IsNewRow j kind mode time p t row → IsNewRow j kind mode time page tail row
 new_row_as {p} {page} {t} {tail} {row} j kind mode time same ends is = subst (λ (m : ℕ). IsNewRow j kind mode time page m row) ends (subst (λ (m : ℕ). IsNewRow j kind mode time m t row) same is)
 
-module _ {R : Region} {s : Super} {free after : FreeLists} {old mid : Row} {cpu j : ℕ} {items : List ℕ} (stands : StandsRight R s free old) (can : CanName R s cpu j old) (taken : TakesEach free cpu items after) (name : List ℕ) (time : ℕ)
+module _ {R : Region} {l : Layout} {free after : FreeLists} {old mid : Row} {cpu j : ℕ} {items : List ℕ} (stands : StandsRight R l free old) (can : CanName R l cpu j old) (taken : TakesEach free cpu items after) (name : List ℕ) (time : ℕ)
     (counted : length items ≡ 1 + needed (old.tail % 4096) (name_entries Add j name time)) (same : SameRow old mid) where
   abbrev entries : List Entry
   entries = name_entries Add j name time
@@ -157,12 +158,12 @@ module _ {R : Region} {s : Super} {free after : FreeLists} {old mid : Row} {cpu 
   count : length fresh ≡ needed (old.tail % 4096) entries
   count = others_count items (needed (old.tail % 4096) entries) counted
 
-  pub begins : (mode : ℕ) {n : NewInode} → n.slot ≡ slot_address s j → n.page ≡ page → n.entries.now ≡ first_entries mode time → CanBegin R cpu n
+  pub begins : (mode : ℕ) {n : NewInode} → n.slot ≡ slot_in l j → n.page ≡ page → n.entries.now ≡ first_entries mode time → CanBegin R cpu n
   begins mode slot page_is first = can_begin entries stands can both_taken count (refl, tt) mode time slot page_is first
 
-  module _ (x : Extension) (slot : x.slot ≡ slot_address s mid.inode) (tail : x.tail ≡ mid.tail) (more : x.entries.now ≡ entries) (blocks : x.fresh.now ≡ fresh) where
-    old_slot : x.slot ≡ slot_address s old.inode
-    old_slot = slot ∙ ap (slot_address s) same.inode
+  module _ (x : Extension) (slot : x.slot ≡ slot_in l mid.inode) (tail : x.tail ≡ mid.tail) (more : x.entries.now ≡ entries) (blocks : x.fresh.now ≡ fresh) where
+    old_slot : x.slot ≡ slot_in l old.inode
+    old_slot = slot ∙ ap (slot_in l) same.inode
 
     old_tail : x.tail ≡ old.tail
     old_tail = tail ∙ same.tail
@@ -170,16 +171,16 @@ module _ {R : Region} {s : Super} {free after : FreeLists} {old mid : Row} {cpu 
     pub commits : CanCommit R cpu x
     commits = can_commit entries stands can both_taken count (refl, tt) old_slot old_tail more blocks
 
-    module _ (kind : Kind) (mode : ℕ) (n : NewInode) (new_slot : n.slot ≡ slot_address s j) (of_kind : n.kind ≡ kind) (created : n.created ≡ time) (page_is : n.page ≡ page) (first : n.entries.now ≡ first_entries mode time) where
-      pub can_make_it : (held : Store) (h : Held) → ShowsRow R s held h old free → held j ≡ None → CanMake R s held cpu j n mid.inode h x
-      can_make_it held h shows unused = subst (λ (d : ℕ). CanMake R s held cpu j n d h x) (sym same.inode) (can_make entries stands can both_taken count (refl, tt) shows unused (omega arith) mode time new_slot page_is first old_slot old_tail more blocks)
+    module _ (kind : Kind) (mode : ℕ) (n : NewInode) (new_slot : n.slot ≡ slot_in l j) (of_kind : n.kind ≡ kind) (created : n.created ≡ time) (page_is : n.page ≡ page) (first : n.entries.now ≡ first_entries mode time) where
+      pub can_make_it : (held : Store) (h : Held) → ShowsRow R l held h old free → held j ≡ None → CanMake R l held cpu j n mid.inode h x
+      can_make_it held h shows unused = subst (λ (d : ℕ). CanMake R l held cpu j n d h x) (sym same.inode) (can_make entries stands can both_taken count (refl, tt) shows unused (omega arith) mode time new_slot page_is first old_slot old_tail more blocks)
 
       pub makes_named_by : {S : Region} {new row : Row} (end tail_now place first_page : ℕ) (bs : List ℕ) → bs ≡ fresh → tail_now ≡ tail_of n → end ≡ end_of x.fresh.now 0 x.tail x.entries.now → HasNamed mid bs end name j place time new → place ≡ place_named fresh old.tail j name time
           → EachOnce old.names → EachOnce new.names → first_page ≡ page → IsNewRow j kind mode time first_page tail_now row
-          → ((held : Store) (h : Held) → CanMake R s held cpu j n mid.inode h x → ShowsIdle S s (with_made held j n mid.inode h x))
-          → ((held : Store) (h : Held) → CanMake R s held cpu j n mid.inode h x → (i : ℕ) (g : Held) → held i ≡ Some g → (y : ℕ) → byte_of S (fixed_layout s) g y ≡ byte_of R (fixed_layout s) g y)
-          → ((held : Store) (h : Held) → CanMake R s held cpu j n mid.inode h x → SameFrontBut s.cpus cpu R S)
-          → MakesNamed R S s free after cpu old new kind mode time j name row
+          → ((held : Store) (h : Held) → CanMake R l held cpu j n mid.inode h x → ShowsIdle S l (with_made held j n mid.inode h x))
+          → ((held : Store) (h : Held) → CanMake R l held cpu j n mid.inode h x → (i : ℕ) (g : Held) → held i ≡ Some g → (y : ℕ) → byte_of S l g y ≡ byte_of R l g y)
+          → ((held : Store) (h : Held) → CanMake R l held cpu j n mid.inode h x → SameFrontBut l.sup.cpus cpu R S)
+          → MakesNamed R S l free after cpu old new kind mode time j name row
       makes_named_by {S} {new} {row} end tail_now place first_page bs others tails ends named at once once_now paged made shows bytes front = record {
         page = page;
         fresh = fresh;
@@ -190,7 +191,7 @@ module _ {R : Region} {s : Super} {free after : FreeLists} {old mid : Row} {cpu 
         once_now = once_now;
         row = new_row_as j kind mode time paged (tails ∙ (λ t. end_of [] 0 (4096 * page_is t) (first t))) made;
         shows = λ held h seen unused. record {
-          idle = subst (λ (st : Store). ShowsIdle S s st) (made_store held n x kind mode time j old.inode h name page fresh of_kind created page_is first more blocks) (subst (λ (d : ℕ). ShowsIdle S s (with_made held j n d h x)) same.inode (shows held h (can_make_it held h seen unused)));
+          idle = subst (λ (st : Store). ShowsIdle S l st) (made_store held n x kind mode time j old.inode h name page fresh of_kind created page_is first more blocks) (subst (λ (d : ℕ). ShowsIdle S l (with_made held j n d h x)) same.inode (shows held h (can_make_it held h seen unused)));
           bytes = bytes held h (can_make_it held h seen unused);
           front = front held h (can_make_it held h seen unused);
         };
@@ -198,37 +199,37 @@ module _ {R : Region} {s : Super} {free after : FreeLists} {old mid : Row} {cpu 
 
       pub makes_named : {S : Region} {new row : Row} (end tail_now place first_page : ℕ) (bs : List ℕ) → bs ≡ fresh → tail_now ≡ tail_of n → end ≡ end_of x.fresh.now 0 x.tail x.entries.now → HasNamed mid bs end name j place time new → place ≡ place_named fresh old.tail j name time
           → EachOnce old.names → EachOnce new.names → first_page ≡ page → IsNewRow j kind mode time first_page tail_now row
-          → ((held : Store) (h : Held) → CanMake R s held cpu j n mid.inode h x → ShowsIdle S s (with_made held j n mid.inode h x)) → IsMixed R (MakeWords cpu n x) S
-          → MakesNamed R S s free after cpu old new kind mode time j name row
+          → ((held : Store) (h : Held) → CanMake R l held cpu j n mid.inode h x → ShowsIdle S l (with_made held j n mid.inode h x)) → IsMixed R (MakeWords cpu n x) S
+          → MakesNamed R S l free after cpu old new kind mode time j name row
       makes_named {S} end tail_now place first_page bs others tails ends named at once once_now paged made shows mixed =
           makes_named_by end tail_now place first_page bs others tails ends named at once once_now paged made shows (λ held h can. made_bytes can S mixed) (λ held h can. made_front can S mixed)
 
       -- What a stop leaves: the row that the directory would have is as it was but for the name, the time and the log.
       -- Nothing else is stored than what the new inode and its name take.
-      named_stores : (S : Region) {held : Store} {h : Held} → ShowsRow R s held h old free → held j ≡ None → IsMixed R (MakeWords cpu n x) S → StoresIn s held (one_more s cpu j old.inode) R S
-      named_stores S {held} {h} shows unused mixed = subst (λ (d : ℕ). StoresIn s held (one_more s cpu j d) R S) same.inode (more_stores (can_make_it held h shows unused) new_slot slot mixed)
+      named_stores : (S : Region) {held : Store} {h : Held} → ShowsRow R l held h old free → held j ≡ None → IsMixed R (MakeWords cpu n x) S → StoresIn l held (one_more l cpu j old.inode) R S
+      named_stores S {held} {h} shows unused mixed = subst (λ (d : ℕ). StoresIn l held (one_more l cpu j d) R S) same.inode (more_stores (can_make_it held h shows unused) new_slot slot mixed)
 
       -- The directory's tail is stored after the valid word.
-      named_in_order : (S : Region) {held : Store} {h : Held} → ShowsRow R s held h old free → held j ≡ None → (CanMake R s held cpu j n mid.inode h x → FirstIsFirst R n.slot 1 (x.slot + 24) S) → FirstIsFirst R (slot_address s j) 1 (slot_address s old.inode + 24) S
+      named_in_order : (S : Region) {held : Store} {h : Held} → ShowsRow R l held h old free → held j ≡ None → (CanMake R l held cpu j n mid.inode h x → FirstIsFirst R n.slot 1 (x.slot + 24) S) → FirstIsFirst R (slot_in l j) 1 (slot_in l old.inode + 24) S
       named_in_order S {held} {h} shows unused orders =
-          subst (λ (a : ℕ). FirstIsFirst R a 1 (slot_address s old.inode + 24) S) new_slot
+          subst (λ (a : ℕ). FirstIsFirst R a 1 (slot_in l old.inode + 24) S) new_slot
           (subst (λ (a : ℕ). FirstIsFirst R n.slot 1 (a + 24) S) old_slot (orders (can_make_it held h shows unused)))
 
       -- Both.
-      pub named_told : (S : Region) {held : Store} {h : Held} → ShowsRow R s held h old free → held j ≡ None → (CanMake R s held cpu j n mid.inode h x → FirstIsFirst R n.slot 1 (x.slot + 24) S) → IsMixed R (MakeWords cpu n x) S
-          → FirstIsFirst R (slot_address s j) 1 (slot_address s old.inode + 24) S × StoresIn s held (one_more s cpu j old.inode) R S
+      pub named_told : (S : Region) {held : Store} {h : Held} → ShowsRow R l held h old free → held j ≡ None → (CanMake R l held cpu j n mid.inode h x → FirstIsFirst R n.slot 1 (x.slot + 24) S) → IsMixed R (MakeWords cpu n x) S
+          → FirstIsFirst R (slot_in l j) 1 (slot_in l old.inode + 24) S × StoresIn l held (one_more l cpu j old.inode) R S
       named_told S shows unused orders mixed = (named_in_order S shows unused orders, named_stores S shows unused mixed)
 
-      pub left_named : {held : Store} {h : Held} → ShowsRow R s held h old free → held j ≡ None → EachOnce old.names → name_at old.names name ≡ None → (now : Region) (first_may last_may : Choices) → StoresOnly (MakeWords cpu n x) R now first_may last_may → NothingPending R first_may
-          → (CanMake R s held cpu j n mid.inode h x → NothingPending R first_may → LeavesOnly now last_may (BeforeOrMade s held j n mid.inode h x)) → LeavesOnly now last_may (LeavesEither R (fixed_layout s) held (Named R s free cpu old kind mode time j name))
+      pub left_named : {held : Store} {h : Held} → ShowsRow R l held h old free → held j ≡ None → EachOnce old.names → name_at old.names name ≡ None → (now : Region) (first_may last_may : Choices) → StoresOnly (MakeWords cpu n x) R now first_may last_may → NothingPending R first_may
+          → (CanMake R l held cpu j n mid.inode h x → NothingPending R first_may → LeavesOnly now last_may (BeforeOrMade l held j n mid.inode h x)) → LeavesOnly now last_may (LeavesEither R l held (Named R l free cpu old kind mode time j name))
       left_named {held} {h} shows out once absent now first_may last_may wrote settled stops left may = by (stops made_can settled left may) where
-        made_can : CanMake R s held cpu j n mid.inode h x
+        made_can : CanMake R l held cpu j n mid.inode h x
         made_can = can_make_it held h shows out
 
         mixed : IsMixed R (MakeWords cpu n x) left
         mixed = let stored = wrote.mixed in mixed_left R now (MakeWords cpu n x) first_may last_may stored.as_long stored.same_rest settled wrote.adds left may
 
-        any_idle : (w : UndoneShows s (with_made held j n mid.inode h x) left) (other : Store) (g : Held) → CanMake R s other cpu j n mid.inode g x → ShowsIdle (undone s left) s (with_made other j n mid.inode g x)
+        any_idle : (w : UndoneShows l (with_made held j n mid.inode h x) left) (other : Store) (g : Held) → CanMake R l other cpu j n mid.inode g x → ShowsIdle (undone l.sup left) l (with_made other j n mid.inode g x)
         any_idle w other g there =
             let parent = there.parent in
             let one = shows.sound in
@@ -236,29 +237,29 @@ module _ {R : Region} {s : Super} {free after : FreeLists} {old mid : Row} {cpu 
             let equal : held ≡ other = one_held one.shows two.shows in
             let both : Some h ≡ Some g = sym shows.holds ∙ ap held (sym same.inode) ∙ ap (λ (st : Store). st mid.inode) equal ∙ parent.holds in
             let is : h ≡ g = cc in
-            subst (λ (k : Held). ShowsIdle (undone s left) s (with_made other j n mid.inode k x)) is (subst (λ (st : Store). ShowsIdle (undone s left) s (with_made st j n mid.inode h x)) equal (undone_idle w))
+            subst (λ (k : Held). ShowsIdle (undone l.sup left) l (with_made other j n mid.inode k x)) is (subst (λ (st : Store). ShowsIdle (undone l.sup left) l (with_made st j n mid.inode h x)) equal (undone_idle w))
 
-        any_bytes : (other : Store) (g : Held) → CanMake R s other cpu j n mid.inode g x → (i : ℕ) (f : Held) → other i ≡ Some f → (y : ℕ) → byte_of (undone s left) (fixed_layout s) f y ≡ byte_of R (fixed_layout s) f y
-        any_bytes other g there i f is y = let parent = there.parent in let sound = parent.sound in undone_bytes s left f (layout_of_super R s sound.sup) (version_of_super R s sound.sup) y ∙ made_bytes there left mixed i f is y
+        any_bytes : (w : UndoneShows l (with_made held j n mid.inode h x) left) (other : Store) (g : Held) → CanMake R l other cpu j n mid.inode g x → (i : ℕ) (f : Held) → other i ≡ Some f → (y : ℕ) → byte_of (undone l.sup left) l f y ≡ byte_of R l f y
+        any_bytes w other g there = let parent = there.parent in undone_files w R (sound_clear parent.sound) (made_bytes there left mixed)
 
-        any_front : (other : Store) (g : Held) → CanMake R s other cpu j n mid.inode g x → SameFrontBut s.cpus cpu R (undone s left)
-        any_front other g there = let parent = there.parent in let sound = parent.sound in undone_front s cpu R left (layout_of_super R s sound.sup) sound.idle (made_front there left mixed)
+        any_front : (other : Store) (g : Held) → CanMake R l other cpu j n mid.inode g x → SameFrontBut l.sup.cpus cpu R (undone l.sup left)
+        any_front other g there = let parent = there.parent in let sound = parent.sound in undone_front l.sup cpu R left (layout_of_super R l.sup sound.sup) sound.idle (made_front there left mixed)
 
-        by : BeforeOrMade s held j n mid.inode h x left → LeavesEither R (fixed_layout s) held (Named R s free cpu old kind mode time j name) left
-        by (inl w) = inl (undone_recovers w R (made_bytes made_can left mixed) (let sound = shows.sound in sound.faultless))
+        by : BeforeOrMade l held j n mid.inode h x left → LeavesEither R l held (Named R l free cpu old kind mode time j name) left
+        by (inl w) = inl (undone_recovers w R (sound_clear shows.sound) (made_bytes made_can left mixed) (let sound = shows.sound in sound.faultless))
         by (inr w) = inr (
           undone_can w,
           (
             after,
             named_row old mid fresh (end_of x.fresh.now 0 x.tail x.entries.now) name j (place_named fresh old.tail j name time) time,
             new_row j kind mode time page (tail_of n),
-            makes_named_by {S = undone s left} (end_of x.fresh.now 0 x.tail x.entries.now) (tail_of n) (place_named fresh old.tail j name time) page fresh refl refl refl (named_row_has old mid fresh (end_of x.fresh.now 0 x.tail x.entries.now) name j (place_named fresh old.tail j name time) time same) refl
-                once (named_once old name j (place_named fresh old.tail j name time) once absent) refl (new_row_is j kind mode time page (tail_of n)) (any_idle w) any_bytes any_front,
+            makes_named_by {S = undone l.sup left} (end_of x.fresh.now 0 x.tail x.entries.now) (tail_of n) (place_named fresh old.tail j name time) page fresh refl refl refl (named_row_has old mid fresh (end_of x.fresh.now 0 x.tail x.entries.now) name j (place_named fresh old.tail j name time) time same) refl
+                once (named_once old name j (place_named fresh old.tail j name time) once absent) refl (new_row_is j kind mode time page (tail_of n)) (any_idle w) (any_bytes w) any_front,
           ),
         )
 
   -- Memory that is open past the region is open past all that is stored.
-  pub makes_within : (p a b t : ℕ) (bs : List ℕ) → p ≡ page → a ≡ slot_address s j → b ≡ slot_address s mid.inode → t ≡ mid.tail → bs ≡ fresh → (limit : ℕ) → size R ≤ limit
+  pub makes_within : (p a b t : ℕ) (bs : List ℕ) → p ≡ page → a ≡ slot_in l j → b ≡ slot_in l mid.inode → t ≡ mid.tail → bs ≡ fresh → (limit : ℕ) → size R ≤ limit
       → EndBy (p ∷ []) limit × EndBy (t / 4096 ∷ bs) limit × (a + 40 ≤ limit) × (b + 32 ≤ limit)
   makes_within p a b t bs page_is new_slot slot tail blocks limit past =
       let first = first_append entries stands can both_taken count (refl, tt) 0 0 in
@@ -269,7 +270,7 @@ module _ {R : Region} {s : Super} {free after : FreeLists} {old mid : Row} {cpu 
         (λ k below. one k below (page_in 0 (omega arith))),
         (λ k below. (let in_region = pages_in k below in omega (arith, in_region, past))),
         omega (arith, new_inside, new_slot, past),
-        (let inside = stands.inside in let here : b ≡ slot_address s old.inode = slot ∙ ap (slot_address s) same.inode in omega (arith, inside, here, past)),
+        (let inside = stands.inside in let here : b ≡ slot_in l old.inode = slot ∙ ap (slot_in l) same.inode in omega (arith, inside, here, past)),
       )
     where
       one : (k : ℕ) → k < 1 → 4096 * (4096 * page / 4096) + 4096 ≤ size R → 4096 * get_or (p ∷ []) k 0 + 4096 ≤ limit

@@ -1,9 +1,8 @@
 -- A name that went from one directory to another, once both logs have grown and the rows are settled.
 use Rattle.std.proofs.Common.{◌≡◌, ℕ, ◌-◌, inl, inr, List, [], ◌∷◌, slice_get, refl, ap, sym, ◌∙◌, subst, None}
-use Rattle.nv_super.specs.Layout.{fixed_layout}
+use Rattle.nv_super.specs.Layout.{Layout}
 use Rattle.std.proofs.lemmas.Option.{same_Some}
 use Rattle.nv_region.specs.Region.{Region}
-use Rattle.nv_super.specs.declared.superblock.Super.{Super}
 use Rattle.nv_alloc.specs.FreeValue.{FreeLists}
 use Rattle.nv_entry.specs.declared.entry.Entry.{Entry}
 use Rattle.nv_entry.specs.declared.entry.Entry.TheVariants.{Name}
@@ -11,7 +10,7 @@ use Rattle.nv_entry.specs.declared.entry.Operation.TheVariants.{Add, Remove}
 use Rattle.nv_entry.specs.Spelling.{entry_length}
 use Rattle.nv_logpage.specs.Append.{end_of}
 use Rattle.nv_names.specs.Names.{EachOnce, name_at}
-use Rattle.nv_held.specs.Held.{Store}
+use Rattle.nv_mounted.specs.Held.{Store}
 use Rattle.nv_commit.specs.Stopped.{LeavesEither}
 use Rattle.nv_scan.specs.declared.piece.Row.{Row}
 use Rattle.nv_steps.specs.MoreNames.{AddsName, AppendsLogs, GetsName, GrowsSame, GrowsTwo}
@@ -23,8 +22,8 @@ use Rattle.nv_steps.proofs.LinkedAt.{added_row, adds_after}
 use Rattle.nv_steps.proofs.MadeNamed.{named_once, place_is}
 use Rattle.nv_steps.proofs.UnlinkedAt.{dropped_row, drops_after}
 
-module _ {R S : Region} {s : Super} {free after : FreeLists} {cpu : ℕ} {from to a b : Row} {i time : ℕ} {name other : List ℕ}
-    (grew : AppendsLogs R S s free after cpu (from ∷ to ∷ []) (a ∷ b ∷ []) 0 (name_entries Remove i name time) 1 (name_entries Add i other time)) where
+module _ {R S : Region} {l : Layout} {free after : FreeLists} {cpu : ℕ} {from to a b : Row} {i time : ℕ} {name other : List ℕ}
+    (grew : AppendsLogs R S l free after cpu (from ∷ to ∷ []) (a ∷ b ∷ []) 0 (name_entries Remove i name time) 1 (name_entries Add i other time)) where
   abbrev cut : List Entry
   cut = name_entries Remove i name time
 
@@ -32,17 +31,17 @@ module _ {R S : Region} {s : Super} {free after : FreeLists} {cpu : ℕ} {from t
   put = name_entries Add i other time
 
   -- by the rows that were there
-  grown : GrowsTwo R S s free after cpu (from ∷ to ∷ []) (a ∷ b ∷ []) 0 from cut 1 to put (λ fresh now. GrowsSame from fresh (end_of fresh 0 from.tail cut) now) (λ more now. GrowsSame to more (end_of more 0 to.tail put) now)
+  grown : GrowsTwo R S l free after cpu (from ∷ to ∷ []) (a ∷ b ∷ []) 0 from cut 1 to put (λ fresh now. GrowsSame from fresh (end_of fresh 0 from.tail cut) now) (λ more now. GrowsSame to more (end_of more 0 to.tail put) now)
   grown =
       let step = grew.step in
       let first_is : from ≡ grew.first = same_Some _ _ step.at in
       let second_is : to ≡ grew.second = same_Some _ _ step.other_at in
-      subst (λ (r : Row). GrowsTwo R S s free after cpu (from ∷ to ∷ []) (a ∷ b ∷ []) 0 r cut 1 to put (λ fresh now. GrowsSame r fresh (end_of fresh 0 r.tail cut) now) (λ more now. GrowsSame to more (end_of more 0 to.tail put) now)) (sym first_is)
-      (subst (λ (r : Row). GrowsTwo R S s free after cpu (from ∷ to ∷ []) (a ∷ b ∷ []) 0 grew.first cut 1 r put (λ fresh now. GrowsSame grew.first fresh (end_of fresh 0 grew.first.tail cut) now) (λ more now. GrowsSame r more (end_of more 0 r.tail put) now)) (sym second_is) grew.step)
+      subst (λ (r : Row). GrowsTwo R S l free after cpu (from ∷ to ∷ []) (a ∷ b ∷ []) 0 r cut 1 to put (λ fresh now. GrowsSame r fresh (end_of fresh 0 r.tail cut) now) (λ more now. GrowsSame to more (end_of more 0 to.tail put) now)) (sym first_is)
+      (subst (λ (r : Row). GrowsTwo R S l free after cpu (from ∷ to ∷ []) (a ∷ b ∷ []) 0 grew.first cut 1 r put (λ fresh now. GrowsSame grew.first fresh (end_of fresh 0 grew.first.tail cut) now) (λ more now. GrowsSame r more (end_of more 0 r.tail put) now)) (sym second_is) grew.step)
 
   -- Both rows are settled.
   pub moves_both : {c d : Row} (len : ℕ) → DropsName a name time c → EachOnce c.names → len ≡ entry_length (Name (record { operation = Add; inode = i; time = time; name = other })) → AddsName b other i (b.tail - len) time d → EachOnce d.names
-      → GrowsTwo R S s free after cpu (from ∷ to ∷ []) (c ∷ d ∷ []) 0 from cut 1 to put (λ fresh now. LosesName from name i time fresh now) (λ more now. GetsName to other i time more now)
+      → GrowsTwo R S l free after cpu (from ∷ to ∷ []) (c ∷ d ∷ []) 0 from cut 1 to put (λ fresh now. LosesName from name i time fresh now) (λ more now. GetsName to other i time more now)
   moves_both {c} {d} len drops once_c length_is adds once_d =
       let step = grown in
       let first_is : a ≡ step.first_now = (let e = step.put in cc) in
@@ -71,10 +70,10 @@ module _ {R S : Region} {s : Super} {free after : FreeLists} {cpu : ℕ} {from t
 -- ---- a stop
 
 -- What a stop leaves of a name that goes over, by what it leaves of both logs.
-pub left_over : {R : Region} {s : Super} {free : FreeLists} {cpu : ℕ} {held : Store} (from to : Row) (i : ℕ) (name other : List ℕ) (time : ℕ) → name_at to.names other ≡ None
-    → (left : Region) → LeavesEither R (fixed_layout s) held (AppendedBoth R s free cpu from (name_entries Remove i name time) to (name_entries Add i other time)) left → LeavesEither R (fixed_layout s) held (MovedOver R s free cpu from to i name other time) left
+pub left_over : {R : Region} {l : Layout} {free : FreeLists} {cpu : ℕ} {held : Store} (from to : Row) (i : ℕ) (name other : List ℕ) (time : ℕ) → name_at to.names other ≡ None
+    → (left : Region) → LeavesEither R l held (AppendedBoth R l free cpu from (name_entries Remove i name time) to (name_entries Add i other time)) left → LeavesEither R l held (MovedOver R l free cpu from to i name other time) left
 left_over from to i name other time absent left (inl same) = inl same
-left_over {R} {s} {free} from to i name other time absent left (inr w) =
+left_over {R} {l} {free} from to i name other time absent left (inr w) =
     let made = w.1 in
     let a = made.1 in
     let b = made.2 in

@@ -1,10 +1,11 @@
 -- A name that became another in its directory, once its log has grown and its row is settled.
 use Rattle.std.proofs.Common.{◌≡◌, ℕ, ◌+◌, ◌-◌, ◌/◌, ◌%◌, ◌≤◌, cond, nat_eq, inl, inr, Option, List, ◌++◌, refl, ap, sym, ◌∙◌, subst, arith, Some, None}
 use Rattle.std.specs.Cmp.Lexicographic.{pointwise}
+use Rattle.std.specs.Prelude.{IsTrue}
 use Rattle.nv_region.specs.Region.{Region, size}
 use Rattle.nv_region.specs.Stops.{IsMixed}
-use Rattle.nv_super.specs.declared.superblock.Super.{Super}
-use Rattle.nv_super.specs.Layout.{fixed_layout, slot_address}
+use Rattle.nv_super.specs.Layout.{Layout}
+use Rattle.nv_inode.specs.Numbers.{has_slot}
 use Rattle.nv_alloc.specs.FreeValue.{FreeLists}
 use Rattle.nv_alloc.specs.FreeLists.{IsFreeIn}
 use Rattle.nv_entry.specs.declared.entry.Entry.{Entry}
@@ -13,11 +14,11 @@ use Rattle.nv_entry.specs.declared.entry.Operation.TheVariants.{Add}
 use Rattle.nv_entry.specs.Spelling.{entry_length}
 use Rattle.nv_logpage.specs.Append.{end_of, needed}
 use Rattle.nv_names.specs.Names.{EachOnce, Names, name_at}
-use Rattle.nv_held.specs.nv_outcome.Same.{SameRow}
+use Rattle.nv_outcome.specs.Same.{SameRow}
 use Rattle.nv_radix.specs.Pages.{Pages, block_at}
 use Rattle.nv_scan.specs.declared.numbers.Numbers.{Numbers}
 use Rattle.nv_scan.specs.declared.piece.Row.{Row}
-use Rattle.nv_held.specs.Held.{Held, Store, good_in}
+use Rattle.nv_mounted.specs.Held.{Held, Store, good_in}
 use Rattle.nv_commit.specs.Stopped.{LeavesEither}
 use Rattle.nv_commit.specs.Extends.{CanExtend, ExtendWords, ShowsMoved, with_log}
 use Rattle.nv_scan.specs.Rows.{AreNumbers}
@@ -30,19 +31,20 @@ use Rattle.nv_steps.specs.Unlinks.{DropsName}
 use Rattle.nv_steps.proofs.LessName.{absent_without, found_without, once_without, without}
 use Rattle.nv_steps.proofs.LinkedAt.{added_row}
 use Rattle.nv_steps.proofs.MadeNamed.{named_once}
+use Rattle.nv_steps.specs.Slots.{slot_in}
 
 -- a row with more room for names is the same
 pub more_names : (row : Row) (names : Names) → ((q : List ℕ) → name_at names q ≡ name_at row.names q) → SameRow row (record row { names = names })
 more_names row names same = record { inode = refl; kind = refl; numbers = refl; head = refl; tail = refl; pages = refl; index = λ p. refl; names = same }
 
 -- what is known of a row is known of it with more room
-pub stands_same : {R : Region} {s : Super} {free : FreeLists} {old new : Row} → SameRow old new → StandsRight R s free old → StandsRight R s free new
-stands_same {R} {s} {free} {old} {new} same stands = record {
-  layout = stands.layout;
+pub stands_same : {R : Region} {l : Layout} {free : FreeLists} {old new : Row} → SameRow old new → StandsRight R l free old → StandsRight R l free new
+stands_same {R} {l} {free} {old} {new} same stands = record {
+  laid = stands.laid;
   lists = stands.lists;
-  number = (let number = stands.number in let is = same.inode in omega (arith, number, is));
-  whole = (let whole = stands.whole in subst (λ (i : ℕ). slot_address s i % 128 ≡ 0) (sym same.inode) whole);
-  inside = (let inside = stands.inside in subst (λ (i : ℕ). slot_address s i + 128 ≤ size R) (sym same.inode) inside);
+  number = (let number = stands.number in subst (λ (i : ℕ). IsTrue (has_slot l i)) (sym same.inode) number);
+  whole = (let whole = stands.whole in subst (λ (i : ℕ). slot_in l i % 128 ≡ 0) (sym same.inode) whole);
+  inside = (let inside = stands.inside in subst (λ (i : ℕ). slot_in l i + 128 ≤ size R) (sym same.inode) inside);
   aligned = (let aligned = stands.aligned in let is = same.tail in omega (arith, aligned, is));
   offset = (let offset = stands.offset in let is = same.tail in omega (arith, offset, is));
   blocks = stands.blocks;
@@ -68,7 +70,7 @@ leaves_after {P} {memory} {now} {free} {after} {old} {mid} {new} same left =
       };
     }
 
-module _ {R S : Region} {s : Super} {free after : FreeLists} {cpu : ℕ} {old mid grown : Row} (i : ℕ) (name other : List ℕ) (time : ℕ) (same : SameRow old mid) (grew : AppendsLog R S s free after cpu mid grown (move_entries i name other time)) where
+module _ {R S : Region} {l : Layout} {free after : FreeLists} {cpu : ℕ} {old mid grown : Row} (i : ℕ) (name other : List ℕ) (time : ℕ) (same : SameRow old mid) (grew : AppendsLog R S l free after cpu mid grown (move_entries i name other time)) where
   abbrev entries : List Entry
   entries = move_entries i name other time
 
@@ -79,7 +81,7 @@ module _ {R S : Region} {s : Super} {free after : FreeLists} {cpu : ℕ} {old mi
       omega (arith, ends, is)
 
   -- The row is settled.
-  pub moves_within : {less new : Row} (len : ℕ) → len ≡ entry_length (Name (record { operation = Add; inode = i; time = time; name = other })) → DropsName grown name time less → EachOnce less.names → AddsName less other i (grown.tail - len) time new → EachOnce new.names → EachOnce old.names → MovesWithin R S s free after cpu old new i name other time
+  pub moves_within : {less new : Row} (len : ℕ) → len ≡ entry_length (Name (record { operation = Add; inode = i; time = time; name = other })) → DropsName grown name time less → EachOnce less.names → AddsName less other i (grown.tail - len) time new → EachOnce new.names → EachOnce old.names → MovesWithin R S l free after cpu old new i name other time
   moves_within {less} {new} len length_is drops once_less adds once_new once_old =
       let row = grew.row in
       let lost = drops.rest in
@@ -103,23 +105,23 @@ module _ {R S : Region} {s : Super} {free after : FreeLists} {cpu : ℕ} {old mi
           once_between = once_less;
           once_now = once_new;
         };
-        moved = λ held h can. subst (λ (n : ℕ). ShowsMoved R s (with_log held n h entries grew.fresh) S) same.inode
-            (grew.moved held h (subst (λ (n : ℕ). CanExtend R s held n h (slot_address s n) mid.tail entries grew.fresh) (sym same.inode) (subst (λ (t : ℕ). CanExtend R s held old.inode h (slot_address s old.inode) t entries grew.fresh) (sym same.tail) can)));
-        mixed = subst (λ (n : ℕ). IsMixed R (ExtendWords (slot_address s n) old.tail entries grew.fresh) S) same.inode (subst (λ (t : ℕ). IsMixed R (ExtendWords (slot_address s mid.inode) t entries grew.fresh) S) same.tail grew.mixed);
+        moved = λ held h can. subst (λ (n : ℕ). ShowsMoved R l (with_log held n h entries grew.fresh) S) same.inode
+            (grew.moved held h (subst (λ (n : ℕ). CanExtend R l held n h (slot_in l n) mid.tail entries grew.fresh) (sym same.inode) (subst (λ (t : ℕ). CanExtend R l held old.inode h (slot_in l old.inode) t entries grew.fresh) (sym same.tail) can)));
+        mixed = subst (λ (n : ℕ). IsMixed R (ExtendWords (slot_in l n) old.tail entries grew.fresh) S) same.inode (subst (λ (t : ℕ). IsMixed R (ExtendWords (slot_in l mid.inode) t entries grew.fresh) S) same.tail grew.mixed);
       }
 
 -- ---- a stop
 
 -- what a region shows of a row it shows of it with more room
-pub shows_same : {R : Region} {s : Super} {held : Store} {h : Held} {free : FreeLists} {old new : Row} → SameRow old new → ShowsRow R s held h old free → ShowsRow R s held h new free
-shows_same {s = s} {held = held} {h = h} same shows =
+pub shows_same : {R : Region} {l : Layout} {held : Store} {h : Held} {free : FreeLists} {old new : Row} → SameRow old new → ShowsRow R l held h old free → ShowsRow R l held h new free
+shows_same {l = l} {held = held} {h = h} same shows =
     let told = shows.told in
     record {
       sound = shows.sound;
       holds = ap held same.inode ∙ shows.holds;
       told = record {
         kind = same.kind ∙ told.kind;
-        numbers = subst (λ (n : Numbers). AreNumbers h.created (good_in (fixed_layout s) h) n) (sym same.numbers) told.numbers;
+        numbers = subst (λ (n : Numbers). AreNumbers h.created (good_in l h) n) (sym same.numbers) told.numbers;
         head = same.head ∙ told.head;
         tail = same.tail ∙ told.tail;
         pages = same.pages ∙ told.pages;
@@ -134,8 +136,8 @@ abbrev less_row : Row → Row → List ℕ → ℕ → Row
 less_row old grown name time = record grown { numbers = record grown.numbers { time = time }; names = record old.names { names = without name old.names.names } }
 
 -- What a stop leaves of another name in the same directory, by what it leaves of its log.
-pub left_here : {R : Region} {s : Super} {free : FreeLists} {cpu : ℕ} {held : Store} (old mid : Row) (i : ℕ) (name other : List ℕ) (time : ℕ) → SameRow old mid → EachOnce old.names → name_at old.names other ≡ None
-    → (left : Region) → LeavesEither R (fixed_layout s) held (Appended R s free cpu mid (move_entries i name other time)) left → LeavesEither R (fixed_layout s) held (MovedHere R s free cpu old i name other time) left
+pub left_here : {R : Region} {l : Layout} {free : FreeLists} {cpu : ℕ} {held : Store} (old mid : Row) (i : ℕ) (name other : List ℕ) (time : ℕ) → SameRow old mid → EachOnce old.names → name_at old.names other ≡ None
+    → (left : Region) → LeavesEither R l held (Appended R l free cpu mid (move_entries i name other time)) left → LeavesEither R l held (MovedHere R l free cpu old i name other time) left
 left_here old mid i name other time same once absent left (inl stays) = inl stays
 left_here old mid i name other time same once absent left (inr w) =
     let made = w.1 in

@@ -19,9 +19,9 @@ use Rattle.nv_scan.specs.declared.numbers.Numbers.{Numbers}
 use Rattle.nv_scan.specs.Rows.{AreNumbers}
 use Rattle.nv_scan.proofs.Blocks.{in_range}
 use Rattle.nv_scan.proofs.Words.{good_entries-more, last_word-more}
-use Rattle.nv_held.specs.Held.{Held, good_in}
-use Rattle.nv_held.specs.Grows.{SameFile, grown}
-use Rattle.nv_held.specs.nv_graph.Step.{IsGoodName, name_entry}
+use Rattle.nv_mounted.specs.Held.{Held, good_in}
+use Rattle.nv_mounted.specs.Grows.{SameFile, grown}
+use Rattle.nv_graph.specs.Step.{IsGoodName, name_entry}
 use Rattle.nv_commit.specs.Pages.{MapsNothing, SaysNoPage}
 use Rattle.nv_commit.proofs.BlocksOf.{attributes_map_nothing, same_file}
 use Rattle.nv_steps.specs.NameEntries.{new_held}

@@ -4,17 +4,15 @@ use Rattle.std.specs.List.{Contains}
 use Rattle.std.proofs.lemmas.List.{get_or_default}
 use Rattle.nv_region.specs.Region.{Region, size}
 use Rattle.nv_super.specs.declared.superblock.Super.{Super}
-use Rattle.nv_super.specs.Layout.{fixed_layout, slot_address, slot_of, system_blocks}
+use Rattle.nv_super.specs.Layout.{slot_of, system_blocks, Layout}
 use Rattle.nv_super.proofs.Rising.{Contains-head, Contains-tail}
-use Rattle.nv_super.proofs.Slots.{slots_apart}
-use Rattle.nv_scan.proofs.Pieces.{slot_is}
 use Rattle.nv_journal.specs.Undo.{journal}
 use Rattle.nv_alloc.specs.FreeValue.{FreeLists}
 use Rattle.nv_entry.specs.declared.entry.Entry.{Entry}
 use Rattle.nv_logpage.specs.Append.{AllDiffer, AreGiven, CanAppend, EndBy, needed}
 use Rattle.nv_scan.specs.declared.piece.Row.{Row}
-use Rattle.nv_held.specs.Held.{Held, Store}
-use Rattle.nv_held.specs.Blocks.{IsUnowned}
+use Rattle.nv_mounted.specs.Held.{Held, Store}
+use Rattle.nv_mounted.specs.Blocks.{IsUnowned}
 use Rattle.nv_commit.specs.declared.together.Extension.{Extension}
 use Rattle.nv_commit.specs.declared.making.NewInode.{NewInode}
 use Rattle.nv_commit.specs.Together.{BeginFrom, CanCommit}
@@ -26,7 +24,9 @@ use Rattle.nv_steps.specs.NewNames.{CanName}
 use Rattle.nv_steps.specs.Steps.{ShowsRow}
 use Rattle.nv_steps.specs.Taken.{TakesEach}
 use Rattle.nv_steps.proofs.LogGrows.{slot_there}
+use Rattle.nv_steps.proofs.SlotPlaces.{behind_there, inside_there, slot_there_is, whole_there}
 use Rattle.nv_steps.proofs.TakenBlocks.{all_differ, are_free, differ_rest, differ_with, each_in_data}
+use Rattle.nv_steps.specs.Slots.{slot_in}
 
 differ_tail : (a : ℕ) (xs : List ℕ) → AllDiffer (a ∷ xs) → AllDiffer xs
 differ_tail a xs differ i j less inside = differ (suc i) (suc j) (omega (arith, less)) (omega (arith, inside))
@@ -35,44 +35,37 @@ differ_tail a xs differ i j less inside = differ (suc i) (suc j) (omega (arith, 
 pub fits_alone : (mode time : ℕ) → needed 0 (first_entries mode time) ≡ 0
 fits_alone mode time = refl
 
-module _ {R : Region} {s : Super} {free after : FreeLists} {row : Row} {cpu j page : ℕ} {fresh : List ℕ} (entries : List Entry) (stands : StandsRight R s free row) (can : CanName R s cpu j row)
+module _ {R : Region} {l : Layout} {free after : FreeLists} {row : Row} {cpu j page : ℕ} {fresh : List ℕ} (entries : List Entry) (stands : StandsRight R l free row) (can : CanName R l cpu j row)
     (taken : TakesEach free cpu (page ∷ fresh) after) (count : length fresh ≡ needed (row.tail % 4096) entries) (given : AreGiven entries) where
-  lists : free.sup ≡ s
+  lists : free.sup ≡ l.sup
   lists = stands.lists
 
-  pub block_in : (b : ℕ) → Contains (page ∷ fresh) b → (system_blocks s ≤ b) × (b < s.blocks)
+  pub block_in : (b : ℕ) → Contains (page ∷ fresh) b → (system_blocks l.sup ≤ b) × (b < l.sup.blocks)
   block_in b c = subst (λ (t : Super). (system_blocks t ≤ b) × (b < t.blocks)) lists (each_in_data taken b c)
 
-  pub page_in : (system_blocks s ≤ page) × (page < s.blocks)
+  pub page_in : (system_blocks l.sup ≤ page) × (page < l.sup.blocks)
   page_in = block_in page (Contains-head page fresh)
 
-  fresh_in : (k : ℕ) → k < length fresh → (system_blocks s ≤ get_or fresh k 0) × (get_or fresh k 0 < s.blocks)
+  fresh_in : (k : ℕ) → k < length fresh → (system_blocks l.sup ≤ get_or fresh k 0) × (get_or fresh k 0 < l.sup.blocks)
   fresh_in k below = block_in (get_or fresh k 0) (Contains-tail page fresh (get_or fresh k 0) (k, below, get_or_default fresh k (get_or fresh k 0) 0 below))
 
   -- the new slot
-  pub new_slot : slot_of (fixed_layout s) j ≡ Some (slot_address s j)
-  new_slot = slot_is s j stands.layout can.number
+  pub new_slot : slot_of l j ≡ Some (slot_in l j)
+  new_slot = slot_there_is l j can.number
 
-  slot_whole : slot_address s j % 128 ≡ 0
-  slot_whole = let apart = slots_apart s stands.layout in apart.whole j (slot_address s j) new_slot
+  slot_whole : slot_in l j % 128 ≡ 0
+  slot_whole = whole_there l j stands.laid can.number
 
-  slot_behind : (1 + s.cpus) * 4096 ≤ slot_address s j
-  slot_behind = let apart = slots_apart s stands.layout in apart.behind j (slot_address s j) new_slot
+  slot_behind : (1 + l.sup.cpus) * 4096 ≤ slot_in l j
+  slot_behind = behind_there l j stands.laid can.number
 
-  pub slot_inside : slot_address s j + 128 ≤ size R
-  slot_inside =
-      let apart = slots_apart s stands.layout in
-      let before = apart.before j (slot_address s j) new_slot in
-      let layout = stands.layout in
-      let areas = layout.areas in
-      let room = areas.room in
-      let blocks = stands.blocks in
-      omega (arith, before, room, blocks)
+  pub slot_inside : slot_in l j + 128 ≤ size R
+  slot_inside = let inside = inside_there l j stands.laid can.number in let blocks = stands.blocks in omega (arith, inside, blocks)
 
-  journal_before : journal cpu + 4096 ≤ (1 + s.cpus) * 4096
+  journal_before : journal cpu + 4096 ≤ (1 + l.sup.cpus) * 4096
   journal_before = let below = can.cpu_below in omega (arith, below)
 
-  data_behind : (1 + s.cpus) * 4096 ≤ 4096 * system_blocks s
+  data_behind : (1 + l.sup.cpus) * 4096 ≤ 4096 * system_blocks l.sup
   data_behind = omega arith
 
   -- a new inode can begin on the first block
@@ -89,7 +82,7 @@ module _ {R : Region} {s : Super} {free after : FreeLists} {row : Row} {cpu j pa
     inside zero below = (let under = page_in.1 in let blocks = stands.blocks in omega (arith, under, blocks))
     inside (suc k) below = absurd (omega (arith, below))
 
-  module _ (mode time : ℕ) {n : NewInode} (slot : n.slot ≡ slot_address s j) (page_is : n.page ≡ page) (first : n.entries.now ≡ first_entries mode time) where
+  module _ (mode time : ℕ) {n : NewInode} (slot : n.slot ≡ slot_in l j) (page_is : n.page ≡ page) (first : n.entries.now ≡ first_entries mode time) where
     pub can_begin : CanBegin R cpu n
     can_begin = record {
       append = subst (λ (b : ℕ). CanAppend R (4096 * b) n.entries.now []) (sym page_is) (subst (λ (es : List Entry). CanAppend R (4096 * page) es []) (sym first) (first_append mode time));
@@ -120,10 +113,10 @@ module _ {R : Region} {s : Super} {free after : FreeLists} {row : Row} {cpu j pa
   pages_behind zero below = (let from = can.in_data in omega (arith, from, journal_before, data_behind))
   pages_behind (suc k) below = (let from = (fresh_in k (omega (arith, below))).0 in omega (arith, from, journal_before, data_behind))
 
-  row_slot_behind : (1 + s.cpus) * 4096 ≤ slot_address s row.inode
-  row_slot_behind = omega arith
+  row_slot_behind : (1 + l.sup.cpus) * 4096 ≤ slot_in l row.inode
+  row_slot_behind = behind_there l row.inode stands.laid stands.number
 
-  module _ {x : Extension} (slot : x.slot ≡ slot_address s row.inode) (tail : x.tail ≡ row.tail) (more : x.entries.now ≡ entries) (blocks : x.fresh.now ≡ fresh) where
+  module _ {x : Extension} (slot : x.slot ≡ slot_in l row.inode) (tail : x.tail ≡ row.tail) (more : x.entries.now ≡ entries) (blocks : x.fresh.now ≡ fresh) where
     pub can_commit : CanCommit R cpu x
     can_commit = record {
       append = subst (λ (t : ℕ). CanAppend R t x.entries.now x.fresh.now) (sym tail) (subst (λ (es : List Entry). CanAppend R row.tail es x.fresh.now) (sym more) (subst (λ (bs : List ℕ). CanAppend R row.tail entries bs) (sym blocks) second_append));
@@ -137,14 +130,14 @@ module _ {R : Region} {s : Super} {free after : FreeLists} {row : Row} {cpu j pa
   fresh_apart c = all_differ taken zero (suc c.0) (omega arith) (omega (arith, c.1)) (sym (get_or_default fresh c.0 0 page c.1 ∙ c.2))
 
   -- what is held can have both
-  module _ {held : Store} {h : Held} (shows : ShowsRow R s held h row free) (unused : held j ≡ None) (some : 0 < length entries) where
+  module _ {held : Store} {h : Held} (shows : ShowsRow R l held h row free) (unused : held j ≡ None) (some : 0 < length entries) where
     tails : h.tail ≡ row.tail
     tails = (let kept = shows.told in sym kept.tail)
 
-    all_free : (b : ℕ) → Contains (page ∷ fresh) b → IsUnowned (fixed_layout s) held b
-    all_free = are_free taken (fixed_layout s) held shows.lists lists
+    all_free : (b : ℕ) → Contains (page ∷ fresh) b → IsUnowned l held b
+    all_free = are_free taken l held shows.lists lists
 
-    extend : CanExtend R s held row.inode h (slot_address s row.inode) row.tail entries fresh
+    extend : CanExtend R l held row.inode h (slot_in l row.inode) row.tail entries fresh
     extend = record {
       sound = shows.sound;
       at = (let sound = shows.sound in slot_there row.inode h sound.shows shows.holds);
@@ -157,18 +150,18 @@ module _ {R : Region} {s : Super} {free after : FreeLists} {row : Row} {cpu j pa
       some = some;
     }
 
-    module _ (mode time : ℕ) {n : NewInode} (new_slot_is : n.slot ≡ slot_address s j) (page_is : n.page ≡ page) (first : n.entries.now ≡ first_entries mode time)
-        {x : Extension} (slot : x.slot ≡ slot_address s row.inode) (tail : x.tail ≡ row.tail) (more : x.entries.now ≡ entries) (blocks : x.fresh.now ≡ fresh) where
-      pub can_make : CanMake R s held cpu j n row.inode h x
+    module _ (mode time : ℕ) {n : NewInode} (new_slot_is : n.slot ≡ slot_in l j) (page_is : n.page ≡ page) (first : n.entries.now ≡ first_entries mode time)
+        {x : Extension} (slot : x.slot ≡ slot_in l row.inode) (tail : x.tail ≡ row.tail) (more : x.entries.now ≡ entries) (blocks : x.fresh.now ≡ fresh) where
+      pub can_make : CanMake R l held cpu j n row.inode h x
       can_make = record {
         journals = can.cpu_below;
-        parent = subst (λ (a : ℕ). CanExtend R s held row.inode h a x.tail x.entries.now x.fresh.now) (sym slot)
-            (subst (λ (t : ℕ). CanExtend R s held row.inode h (slot_address s row.inode) t x.entries.now x.fresh.now) (sym tail)
-            (subst (λ (es : List Entry). CanExtend R s held row.inode h (slot_address s row.inode) row.tail es x.fresh.now) (sym more)
-            (subst (λ (bs : List ℕ). CanExtend R s held row.inode h (slot_address s row.inode) row.tail entries bs) (sym blocks) extend)));
+        parent = subst (λ (a : ℕ). CanExtend R l held row.inode h a x.tail x.entries.now x.fresh.now) (sym slot)
+            (subst (λ (t : ℕ). CanExtend R l held row.inode h (slot_in l row.inode) t x.entries.now x.fresh.now) (sym tail)
+            (subst (λ (es : List Entry). CanExtend R l held row.inode h (slot_in l row.inode) row.tail es x.fresh.now) (sym more)
+            (subst (λ (bs : List ℕ). CanExtend R l held row.inode h (slot_in l row.inode) row.tail entries bs) (sym blocks) extend)));
         at = new_slot ∙ ap (λ (a : ℕ). Some a) (sym new_slot_is);
         unused = unused;
-        page = subst (λ (b : ℕ). IsUnowned (fixed_layout s) held b) (sym page_is) (all_free page (Contains-head page fresh));
+        page = subst (λ (b : ℕ). IsUnowned l held b) (sym page_is) (all_free page (Contains-head page fresh));
         apart = λ c. fresh_apart (subst (λ (b : ℕ). Contains fresh b) page_is (subst (λ (bs : List ℕ). Contains bs n.page) blocks c));
         fits = ap (λ (es : List Entry). needed 0 es) first ∙ fits_alone mode time;
         some = subst (λ (es : List Entry). 0 < length es) (sym first) (omega arith);

@@ -1,14 +1,8 @@
 -- Numbers that calls owe, apart from all else that is known there.
-use Rattle.std.proofs.Common.{ℕ, ◌≡◌, ◌+◌, ◌%◌, ◌<◌, ◌≤◌, List, [], ◌∷◌, ap, drop, length, length-drop, arith, IsTrue}
-use Rattle.std.proofs.lemmas.Bool.Decides.{nat_tests}
-use Rattle.nv_super.specs.declared.superblock.Super.{Super}
-use Rattle.nv_super.specs.Layout.{inode_limit, is_number}
+use Rattle.std.proofs.Common.{ℕ, ◌≡◌, ◌+◌, ◌%◌, ◌<◌, ◌≤◌, List, [], ◌∷◌, ap, drop, length, length-drop, arith}
 use Rattle.nv_entry.specs.declared.entry.Entry.{Entry}
 use Rattle.nv_entry.specs.Spelling.{entry_length}
 use Rattle.nv_logpage.specs.Append.{end_of}
-
-pub number_below : (s : Super) (j : ℕ) → IsTrue (is_number s j) → j < inode_limit s
-number_below s j number = grind (arith, nat_tests)
 
 -- there is a first one of some blocks
 pub has_one : (xs : List ℕ) (n : ℕ) → length xs ≡ 1 + n → 1 ≤ length xs

@@ -3,7 +3,7 @@ use Rattle.std.proofs.Common.{ℕ, List, [], ◌∷◌, ap, map, subst}
 use Rattle.nv_super.specs.declared.owners.Run.{Run}
 use Rattle.nv_alloc.specs.FreeValue.{FreeLists}
 use Rattle.nv_alloc.specs.Taking.{TakesSingly, block_run}
-use Rattle.nv_held.specs.Lists.{TakeAll}
+use Rattle.nv_mounted.specs.Lists.{TakeAll}
 use Rattle.nv_steps.specs.Taken.{TakesEach, TakesInTurn}
 
 -- what takes of one block each give

@@ -7,7 +7,7 @@ use Rattle.nv_region.specs.Region.{Region, word}
 use Rattle.nv_region.specs.Stops.{Choices, IsMixed}
 use Rattle.nv_region.proofs.Wordwise.{mixed_word}
 use Rattle.nv_super.specs.declared.superblock.Super.{Super}
-use Rattle.nv_super.specs.Layout.{IsLayout, fixed_layout, slot_of}
+use Rattle.nv_super.specs.Layout.{IsLayout, slot_of, Layout}
 use Rattle.nv_inode.specs.Chains.{layout_of}
 use Rattle.nv_inode.specs.Permitted.{is_permitted_by}
 use Rattle.nv_entry.specs.declared.entry.Entry.{Entry}
@@ -15,13 +15,13 @@ use Rattle.nv_journal.specs.Undo.{dequeue, enqueue, is_sound, journal, settled_w
 use Rattle.nv_journal.proofs.AnyLength.{undone_size}
 use Rattle.nv_journal.proofs.KeptLinks.{own_rule}
 use Rattle.nv_journal.proofs.Undone.{all_low, length_undo, word_undo}
-use Rattle.nv_held.specs.Held.{Held, Store}
-use Rattle.nv_held.specs.Loose.{Loose}
-use Rattle.nv_held.specs.Mounted.{AreIdle}
-use Rattle.nv_held.specs.Slots.{SlotsClear}
-use Rattle.nv_held.proofs.BytesKept.{mixed_size}
-use Rattle.nv_held.proofs.Kept.{pages_data, tail_there}
-use Rattle.nv_held.proofs.Shown.{stands_at}
+use Rattle.nv_mounted.specs.Held.{Held, Store}
+use Rattle.nv_mounted.specs.Loose.{Loose}
+use Rattle.nv_mounted.specs.Mounted.{AreIdle}
+use Rattle.nv_mounted.specs.Slots.{SlotsClear}
+use Rattle.nv_mounted.proofs.BytesKept.{mixed_size}
+use Rattle.nv_mounted.proofs.Kept.{pages_data, tail_there}
+use Rattle.nv_mounted.proofs.Shown.{stands_at}
 use Rattle.nv_commit.specs.declared.together.Extension.{Extension}
 use Rattle.nv_commit.specs.declared.making.NewInode.{NewInode}
 use Rattle.nv_commit.specs.Extends.{CanExtend, ExtendWords}
@@ -41,9 +41,9 @@ stored_front R S cpus cpu these mixed here = record {
   words = λ at whole low other. mixed_word R S these at whole mixed (λ v one. other (let there = here (at / 8) v one (omega (arith, whole, low)) in omega (arith, whole, there)));
 }
 
-module _ {R : Region} {s : Super} {held : Store} {d : ℕ} {g : Held} {slot tail : ℕ} {entries : List Entry} {fresh : List ℕ} (can : CanExtend R s held d g slot tail entries fresh) (k v : ℕ) (low : 8 * k < (1 + s.cpus) * 4096) where
+module _ {R : Region} {l : Layout} {held : Store} {d : ℕ} {g : Held} {slot tail : ℕ} {entries : List Entry} {fresh : List ℕ} (can : CanExtend R l held d g slot tail entries fresh) (k v : ℕ) (low : 8 * k < (1 + l.sup.cpus) * 4096) where
   -- no loose word stands there
-  pub off_loose : Loose (fixed_layout s) held k v → ⊥
+  pub off_loose : Loose l held k v → ⊥
   off_loose (inl free) = let from = free.from in omega (arith, from, low)
   off_loose (inr (inl w)) =
       let sound = can.sound in
@@ -52,15 +52,15 @@ module _ {R : Region} {s : Super} {held : Store} {d : ℕ} {g : Held} {slot tail
       let page = w.3 in
       omega (arith, system, page, low)
   off_loose (inr (inr w)) =
-      let clear : SlotsClear (fixed_layout s) held = slots can in
+      let clear : SlotsClear l held = slots can in
       let behind = clear.behind w.0 w.1 w.2 in
       let from = w.4 in
       omega (arith, behind, from, low)
 
   -- nor one of a slot
-  pub off_slot : (m a at : ℕ) → slot_of (fixed_layout s) m ≡ Some a → a ≤ at → k ≡ at / 8 → ⊥
+  pub off_slot : (m a at : ℕ) → slot_of l m ≡ Some a → a ≤ at → k ≡ at / 8 → ⊥
   off_slot m a at there from here =
-      let clear : SlotsClear (fixed_layout s) held = slots can in
+      let clear : SlotsClear l held = slots can in
       let whole = clear.whole m a there in
       let behind = clear.behind m a there in
       omega (arith, here, from, whole, behind, low)
@@ -69,8 +69,8 @@ module _ {R : Region} {s : Super} {held : Store} {d : ℕ} {g : Held} {slot tail
 pub in_block : (cpu k : ℕ) → journal cpu ≤ 8 * k → 8 * k < journal cpu + 4096 → 8 * k / 4096 ≡ 1 + cpu
 in_block cpu k from below = omega (arith, from, below)
 
-module _ {R : Region} {s : Super} {held : Store} {cpu d e : ℕ} {g f : Held} {x y : Extension} (can : CanExtendTwo R s held cpu d g x e f y) where
-  in_both : (k v : ℕ) → TogetherWords cpu x y k v → 8 * k < (1 + s.cpus) * 4096 → 8 * k / 4096 ≡ 1 + cpu
+module _ {R : Region} {l : Layout} {held : Store} {cpu d e : ℕ} {g f : Held} {x y : Extension} (can : CanExtendTwo R l held cpu d g x e f y) where
+  in_both : (k v : ℕ) → TogetherWords cpu x y k v → 8 * k < (1 + l.sup.cpus) * 4096 → 8 * k / 4096 ≡ 1 + cpu
   in_both k v (inl (inl w)) low = absurd (off_loose can.first k v low (loose_there can.first k v w))
   in_both k v (inl (inr w)) low = absurd (off_loose can.second k v low (loose_there can.second k v w))
   in_both k v (inr (inl w)) low = in_block cpu k w.0 w.1
@@ -78,39 +78,39 @@ module _ {R : Region} {s : Super} {held : Store} {cpu d e : ℕ} {g f : Held} {x
   in_both k v (inr (inr (inr w))) low = absurd (off_slot can.first k v low e y.slot (y.slot + 24) can.second.at (omega arith) w.0)
 
   -- where two logs grow together
-  pub together_front : (S : Region) → IsMixed R (TogetherWords cpu x y) S → SameFrontBut s.cpus cpu R S
-  together_front S mixed = stored_front R S s.cpus cpu (TogetherWords cpu x y) mixed in_both
+  pub together_front : (S : Region) → IsMixed R (TogetherWords cpu x y) S → SameFrontBut l.sup.cpus cpu R S
+  together_front S mixed = stored_front R S l.sup.cpus cpu (TogetherWords cpu x y) mixed in_both
 
-module _ {R : Region} {s : Super} {held : Store} {cpu j : ℕ} {n : NewInode} {d : ℕ} {g : Held} {x : Extension} (can : CanMake R s held cpu j n d g x) where
-  in_made : (k v : ℕ) → MakeWords cpu n x k v → 8 * k < (1 + s.cpus) * 4096 → 8 * k / 4096 ≡ 1 + cpu
+module _ {R : Region} {l : Layout} {held : Store} {cpu j : ℕ} {n : NewInode} {d : ℕ} {g : Held} {x : Extension} (can : CanMake R l held cpu j n d g x) where
+  in_made : (k v : ℕ) → MakeWords cpu n x k v → 8 * k < (1 + l.sup.cpus) * 4096 → 8 * k / 4096 ≡ 1 + cpu
   in_made k v (inl w) low = absurd (off_loose can.parent k v low (prepared_loose can k v w))
   in_made k v (inr (inl w)) low = in_block cpu k w.0 w.1
   in_made k v (inr (inr (inl w))) low = absurd (off_slot can.parent k v low j n.slot n.slot can.at (omega arith) w.0)
   in_made k v (inr (inr (inr w))) low = absurd (off_slot can.parent k v low d x.slot (x.slot + 24) can.parent.at (omega arith) w.0)
 
   -- where an inode is made
-  pub made_front : (S : Region) → IsMixed R (MakeWords cpu n x) S → SameFrontBut s.cpus cpu R S
-  made_front S mixed = stored_front R S s.cpus cpu (MakeWords cpu n x) mixed in_made
+  pub made_front : (S : Region) → IsMixed R (MakeWords cpu n x) S → SameFrontBut l.sup.cpus cpu R S
+  made_front S mixed = stored_front R S l.sup.cpus cpu (MakeWords cpu n x) mixed in_made
 
-module _ {R : Region} {s : Super} {held : Store} {cpu d : ℕ} {g : Held} {x : Extension} {j slot : ℕ} (can : CanRemove R s held cpu d g x j slot) where
-  in_removed : (k v : ℕ) → RemoveWords cpu x slot k v → 8 * k < (1 + s.cpus) * 4096 → 8 * k / 4096 ≡ 1 + cpu
+module _ {R : Region} {l : Layout} {held : Store} {cpu d : ℕ} {g : Held} {x : Extension} {j slot : ℕ} (can : CanRemove R l held cpu d g x j slot) where
+  in_removed : (k v : ℕ) → RemoveWords cpu x slot k v → 8 * k < (1 + l.sup.cpus) * 4096 → 8 * k / 4096 ≡ 1 + cpu
   in_removed k v (inl w) low = absurd (off_loose can.parent k v low (loose_there can.parent k v w))
   in_removed k v (inr (inl w)) low = in_block cpu k w.0 w.1
   in_removed k v (inr (inr (inl w))) low = absurd (off_slot can.parent k v low d x.slot (x.slot + 24) can.parent.at (omega arith) w.0)
   in_removed k v (inr (inr (inr w))) low = absurd (off_slot can.parent k v low j slot slot can.at (omega arith) w.0)
 
   -- where one goes
-  pub removed_front : (S : Region) → IsMixed R (RemoveWords cpu x slot) S → SameFrontBut s.cpus cpu R S
-  removed_front S mixed = stored_front R S s.cpus cpu (RemoveWords cpu x slot) mixed in_removed
+  pub removed_front : (S : Region) → IsMixed R (RemoveWords cpu x slot) S → SameFrontBut l.sup.cpus cpu R S
+  removed_front S mixed = stored_front R S l.sup.cpus cpu (RemoveWords cpu x slot) mixed in_removed
 
 -- Where one log grows, no journal is used at all.
-module _ {R : Region} {s : Super} {held : Store} {d : ℕ} {g : Held} {slot tail : ℕ} {entries : List Entry} {fresh : List ℕ} (can : CanExtend R s held d g slot tail entries fresh) (cpu : ℕ) where
-  in_one : (k v : ℕ) → ExtendWords slot tail entries fresh k v → 8 * k < (1 + s.cpus) * 4096 → 8 * k / 4096 ≡ 1 + cpu
+module _ {R : Region} {l : Layout} {held : Store} {d : ℕ} {g : Held} {slot tail : ℕ} {entries : List Entry} {fresh : List ℕ} (can : CanExtend R l held d g slot tail entries fresh) (cpu : ℕ) where
+  in_one : (k v : ℕ) → ExtendWords slot tail entries fresh k v → 8 * k < (1 + l.sup.cpus) * 4096 → 8 * k / 4096 ≡ 1 + cpu
   in_one k v (inl w) low = absurd (off_loose can k v low (loose_there can k v w))
   in_one k v (inr w) low = absurd (off_slot can k v low d slot (slot + 24) can.at (omega arith) w.0)
 
-  pub extended_front : (S : Region) → IsMixed R (ExtendWords slot tail entries fresh) S → SameFrontBut s.cpus cpu R S
-  extended_front S mixed = stored_front R S s.cpus cpu (ExtendWords slot tail entries fresh) mixed in_one
+  pub extended_front : (S : Region) → IsMixed R (ExtendWords slot tail entries fresh) S → SameFrontBut l.sup.cpus cpu R S
+  extended_front S mixed = stored_front R S l.sup.cpus cpu (ExtendWords slot tail entries fresh) mixed in_one
 
 -- ---- what is recovered
 

@@ -6,14 +6,13 @@ use Rattle.std.proofs.lemmas.List.{append_assoc, length-drop, length-take-le, ta
 use Rattle.std.proofs.lemmas.List.Elements.{Contains-append_left, Contains-append_right}
 use Rattle.smallvec.specs.SmallVec.{HasRoomFor}
 use Rattle.nv_region.specs.Region.{Region, size, word}
-use Rattle.nv_super.specs.declared.superblock.Super.{Super}
-use Rattle.nv_super.specs.Layout.{fixed_layout, slot_address}
+use Rattle.nv_super.specs.Layout.{Layout}
 use Rattle.nv_journal.specs.InOrder.{FirstIsFirst}
 use Rattle.nv_alloc.specs.FreeValue.{FreeLists}
 use Rattle.nv_entry.specs.declared.entry.Entry.{Entry}
 use Rattle.nv_logpage.specs.Append.{EndBy, end_of, needed}
 use Rattle.nv_scan.specs.declared.piece.Row.{Row}
-use Rattle.nv_held.specs.Held.{Held, Store}
+use Rattle.nv_mounted.specs.Held.{Held, Store}
 use Rattle.nv_commit.specs.declared.together.Extension.{Extension}
 use Rattle.nv_commit.specs.Extends.{CanExtend}
 use Rattle.nv_commit.specs.Together.{CanCommit, CanExtendTwo}
@@ -30,25 +29,26 @@ use Rattle.nv_steps.proofs.OneByOne.{by_rule}
 use Rattle.nv_steps.proofs.LogGrows.{slot_there}
 use Rattle.nv_steps.proofs.TakenBlocks.{all_differ, are_free}
 use Rattle.nv_steps.proofs.TwoLogs.{as_extension, cut_each, row_commits, stands_after, taken_apart}
+use Rattle.nv_steps.specs.Slots.{slot_in}
 
 -- ---- one of them
 
 -- A row that was made ready for entries, and these behind its log's tail, over blocks that were taken for them.
-pub record Owes (R : Region) (s : Super) (free after : FreeLists) (cpu : ℕ) (old mid : Row) (entries : List Entry) (names : ℕ) (fresh : List ℕ) (x : Extension) : Type 0 where
-  pub stands : StandsRight R s free old
-  pub can : CanName R s cpu old.inode old
+pub record Owes (R : Region) (l : Layout) (free after : FreeLists) (cpu : ℕ) (old mid : Row) (entries : List Entry) (names : ℕ) (fresh : List ℕ) (x : Extension) : Type 0 where
+  pub stands : StandsRight R l free old
+  pub can : CanName R l cpu old.inode old
   pub taken : TakesEach free cpu fresh after
   pub count : length fresh ≡ needed (old.tail % 4096) entries
   pub few : AreFew entries
   pub ready : ReadiesRow old mid entries names
-  pub slot : x.slot ≡ slot_address s mid.inode
+  pub slot : x.slot ≡ slot_in l mid.inode
   pub tail : x.tail ≡ mid.tail
   pub said : x.entries.now ≡ entries
   pub blocks : x.fresh.now ≡ fresh
 
-module _ {R : Region} {s : Super} {free after : FreeLists} {cpu : ℕ} {old mid : Row} {entries : List Entry} {names : ℕ} {fresh : List ℕ} {x : Extension} (o : Owes R s free after cpu old mid entries names fresh x) where
-  pub slot_is : x.slot ≡ slot_address s old.inode
-  slot_is = let ready = o.ready in let same = ready.same in o.slot ∙ ap (slot_address s) same.inode
+module _ {R : Region} {l : Layout} {free after : FreeLists} {cpu : ℕ} {old mid : Row} {entries : List Entry} {names : ℕ} {fresh : List ℕ} {x : Extension} (o : Owes R l free after cpu old mid entries names fresh x) where
+  pub slot_is : x.slot ≡ slot_in l old.inode
+  slot_is = let ready = o.ready in let same = ready.same in o.slot ∙ ap (slot_in l) same.inode
 
   tail_is : x.tail ≡ old.tail
   tail_is = let ready = o.ready in let same = ready.same in o.tail ∙ same.tail
@@ -78,7 +78,7 @@ module _ {R : Region} {s : Super} {free after : FreeLists} {cpu : ℕ} {old mid 
   lengthens grown same ends = let ready = o.ready in (grows_same ready.same grown (sym same ∙ o.blocks) (ends ∙ end_is), once_still old ready.once grown)
 
   -- where what is held shows the row
-  pub extends : {first last : FreeLists} {all : List ℕ} → TakesEach first cpu all last → first.sup ≡ s → ((b : ℕ) → Contains fresh b → Contains all b) → {held : Store} {h : Held} → ShowsRow R s held h old first → CanExtend R s held old.inode h x.slot x.tail x.entries.now x.fresh.now
+  pub extends : {first last : FreeLists} {all : List ℕ} → TakesEach first cpu all last → first.sup ≡ l.sup → ((b : ℕ) → Contains fresh b → Contains all b) → {held : Store} {h : Held} → ShowsRow R l held h old first → CanExtend R l held old.inode h x.slot x.tail x.entries.now x.fresh.now
   extends taken lists among {held} {h} shows =
       let few = o.few in
       as_extension entries o.stands o.can o.taken o.count few.given x slot_is tail_is o.said o.blocks (record {
@@ -86,7 +86,7 @@ module _ {R : Region} {s : Super} {free after : FreeLists} {cpu : ℕ} {old mid 
         at = (let sound = shows.sound in slot_there old.inode h sound.shows shows.holds);
         holds = shows.holds;
         tail_is = (let kept = shows.told in sym kept.tail);
-        free = λ b c. are_free taken (fixed_layout s) held shows.lists lists b (among b c);
+        free = λ b c. are_free taken l held shows.lists lists b (among b c);
         differ = all_differ o.taken;
         enough = (let count = o.count in omega (arith, count));
         given = few.given;
@@ -95,25 +95,25 @@ module _ {R : Region} {s : Super} {free after : FreeLists} {cpu : ℕ} {old mid 
 
 -- ---- two of them
 
-pub record OwesTwo (R : Region) (s : Super) (free after : FreeLists) (cpu : ℕ) (first row : Row) (entries : List Entry) (names : ℕ) (second other : Row) (others : List Entry) (more_names : ℕ) (x y : Extension) : Type 0 where
+pub record OwesTwo (R : Region) (l : Layout) (free after : FreeLists) (cpu : ℕ) (first row : Row) (entries : List Entry) (names : ℕ) (second other : Row) (others : List Entry) (more_names : ℕ) (x y : Extension) : Type 0 where
   pub fresh : List ℕ
   pub more : List ℕ
   pub mid : FreeLists
   pub all : TakesEach free cpu (fresh ++ more) after
-  pub one : Owes R s free mid cpu first row entries names fresh x
-  pub two : Owes R s mid after cpu second other others more_names more y
-  pub lists : free.sup ≡ s
-  pub journals : cpu < s.cpus
+  pub one : Owes R l free mid cpu first row entries names fresh x
+  pub two : Owes R l mid after cpu second other others more_names more y
+  pub lists : free.sup ≡ l.sup
+  pub journals : cpu < l.sup.cpus
   pub differ : first.inode ≢ second.inode
   pub apart : (b : ℕ) → Contains fresh b → Contains more b → ⊥
 
 -- over blocks that were taken in one go, and split where those of the first log end
-pub owes_two : {R : Region} {s : Super} {free after : FreeLists} {first second row other : Row} {cpu : ℕ} {items : List ℕ} {entries others : List Entry} {names more_names : ℕ} → ReadiesRow first row entries names → ReadiesRow second other others more_names
-    → StandsRight R s free first × CanName R s cpu first.inode first → StandsRight R s free second × CanName R s cpu second.inode second → TakesEach free cpu items after → length items ≡ needed (first.tail % 4096) entries + needed (second.tail % 4096) others
+pub owes_two : {R : Region} {l : Layout} {free after : FreeLists} {first second row other : Row} {cpu : ℕ} {items : List ℕ} {entries others : List Entry} {names more_names : ℕ} → ReadiesRow first row entries names → ReadiesRow second other others more_names
+    → StandsRight R l free first × CanName R l cpu first.inode first → StandsRight R l free second × CanName R l cpu second.inode second → TakesEach free cpu items after → length items ≡ needed (first.tail % 4096) entries + needed (second.tail % 4096) others
     → first.inode ≢ second.inode → AreFew entries → AreFew others → {m : ℕ} {given front back : List ℕ} → m ≡ needed (row.tail % 4096) entries → given ≡ items → front ≡ take m given → back ≡ drop m given
-    → (x y : Extension) → x.slot ≡ slot_address s row.inode → x.tail ≡ row.tail → x.entries.now ≡ entries → x.fresh.now ≡ front → y.slot ≡ slot_address s other.inode → y.tail ≡ other.tail → y.entries.now ≡ others → y.fresh.now ≡ back
-    → OwesTwo R s free after cpu first row entries names second other others more_names x y
-owes_two {R} {s} {free} {after} {first} {second} {row} {other} {cpu} {items} {entries} {others} ready more_ready stands more_stands taken counted differ few more_few {m} m_is value front_is back_is x y slot tail said blocks more_slot more_tail more_said more_blocks =
+    → (x y : Extension) → x.slot ≡ slot_in l row.inode → x.tail ≡ row.tail → x.entries.now ≡ entries → x.fresh.now ≡ front → y.slot ≡ slot_in l other.inode → y.tail ≡ other.tail → y.entries.now ≡ others → y.fresh.now ≡ back
+    → OwesTwo R l free after cpu first row entries names second other others more_names x y
+owes_two {R} {l} {free} {after} {first} {second} {row} {other} {cpu} {items} {entries} {others} ready more_ready stands more_stands taken counted differ few more_few {m} m_is value front_is back_is x y slot tail said blocks more_slot more_tail more_said more_blocks =
     let n = needed (first.tail % 4096) entries in
     let so_many : m ≡ n = (let same = ready.same in m_is ∙ ap (λ (t : ℕ). needed (t % 4096) entries) same.tail) in
     let all : TakesEach free cpu (take n items ++ drop n items) after = subst (λ (xs : List ℕ). TakesEach free cpu xs after) (sym (take-append-drop n items)) taken in
@@ -153,8 +153,8 @@ owes_two {R} {s} {free} {after} {first} {second} {row} {other} {cpu} {items} {en
       apart = taken_apart cut.1 cut.2;
     }
 
-module _ {R : Region} {s : Super} {free after : FreeLists} {cpu : ℕ} {first row : Row} {entries : List Entry} {names : ℕ} {second other : Row} {others : List Entry} {more_names : ℕ} {x y : Extension} (o : OwesTwo R s free after cpu first row entries names second other others more_names x y) where
-  pub two_extend : {held : Store} {h g : Held} → ShowsRow R s held h first free → ShowsRow R s held g second free → CanExtendTwo R s held cpu first.inode h x second.inode g y
+module _ {R : Region} {l : Layout} {free after : FreeLists} {cpu : ℕ} {first row : Row} {entries : List Entry} {names : ℕ} {second other : Row} {others : List Entry} {more_names : ℕ} {x y : Extension} (o : OwesTwo R l free after cpu first row entries names second other others more_names x y) where
+  pub two_extend : {held : Store} {h g : Held} → ShowsRow R l held h first free → ShowsRow R l held g second free → CanExtendTwo R l held cpu first.inode h x second.inode g y
   two_extend here there = record {
     journals = o.journals;
     first = extends o.one o.all o.lists (λ b c. Contains-append_left o.fresh o.more b c) here;
@@ -164,7 +164,7 @@ module _ {R : Region} {s : Super} {free after : FreeLists} {cpu : ℕ} {first ro
   }
 
   -- The second tail is stored after the first, and a further word after the second.
-  pub first_tail : {S : Region} {at place : ℕ} → at ≡ place → FirstIsFirst R (x.slot + 24) (end_of x.fresh.now 0 x.tail x.entries.now) at S → TailIsFirst R S s free.pools cpu first.inode first.tail entries place
+  pub first_tail : {S : Region} {at place : ℕ} → at ≡ place → FirstIsFirst R (x.slot + 24) (end_of x.fresh.now 0 x.tail x.entries.now) at S → TailIsFirst R S l free.pools cpu first.inode first.tail entries place
   first_tail {S} same (inl still) = inl (subst (λ (a : ℕ). word S a ≡ word R a) same still)
   first_tail {S} same (inr stored) =
       let one = o.one in
@@ -176,7 +176,7 @@ module _ {R : Region} {s : Super} {free after : FreeLists} {cpu : ℕ} {first ro
         moved = subst (λ (a : ℕ). word S (a + 24) ≡ end_of o.fresh 0 first.tail entries) (slot_is one) (stored ∙ end_is one);
       })
 
-  pub second_tail : {S : Region} {at place : ℕ} → at ≡ place → FirstIsFirst R (y.slot + 24) (end_of y.fresh.now 0 y.tail y.entries.now) at S → TailIsNext R S s free.pools cpu (needed (first.tail % 4096) entries) second.inode second.tail others place
+  pub second_tail : {S : Region} {at place : ℕ} → at ≡ place → FirstIsFirst R (y.slot + 24) (end_of y.fresh.now 0 y.tail y.entries.now) at S → TailIsNext R S l free.pools cpu (needed (first.tail % 4096) entries) second.inode second.tail others place
   second_tail {S} same (inl still) = inl (subst (λ (a : ℕ). word S a ≡ word R a) same still)
   second_tail {S} same (inr stored) =
       let one = o.one in
@@ -193,19 +193,19 @@ module _ {R : Region} {s : Super} {free after : FreeLists} {cpu : ℕ} {first ro
 
 -- ---- three of them
 
-pub record OwesThree (R : Region) (s : Super) (free after : FreeLists) (cpu : ℕ) (first row : Row) (entries : List Entry) (names : ℕ) (second other : Row) (others : List Entry) (more_names : ℕ) (third last : Row) (lasts : List Entry) (last_names : ℕ) (x y z : Extension) : Type 0 where
+pub record OwesThree (R : Region) (l : Layout) (free after : FreeLists) (cpu : ℕ) (first row : Row) (entries : List Entry) (names : ℕ) (second other : Row) (others : List Entry) (more_names : ℕ) (third last : Row) (lasts : List Entry) (last_names : ℕ) (x y z : Extension) : Type 0 where
   pub next : FreeLists
-  pub both : OwesTwo R s free next cpu first row entries names second other others more_names x y
+  pub both : OwesTwo R l free next cpu first row entries names second other others more_names x y
   pub rest : List ℕ
   pub all : TakesEach free cpu ((both.fresh ++ both.more) ++ rest) after
-  pub three : Owes R s next after cpu third last lasts last_names rest z
+  pub three : Owes R l next after cpu third last lasts last_names rest z
   pub first_differs : first.inode ≢ third.inode
   pub second_differs : second.inode ≢ third.inode
   pub apart : (b : ℕ) → Contains (both.fresh ++ both.more) b → Contains rest b → ⊥
 
-module _ {R : Region} {s : Super} {free after : FreeLists} {cpu : ℕ} {first row : Row} {entries : List Entry} {names : ℕ} {second other : Row} {others : List Entry} {more_names : ℕ} {third last : Row} {lasts : List Entry} {last_names : ℕ} {x y z : Extension}
-    (o : OwesThree R s free after cpu first row entries names second other others more_names third last lasts last_names x y z) where
-  pub three_extend : {held : Store} {h g f : Held} → ShowsRow R s held h first free → ShowsRow R s held g second free → ShowsRow R s held f third free → CanExtendThree R s held cpu first.inode h x second.inode g y third.inode f z
+module _ {R : Region} {l : Layout} {free after : FreeLists} {cpu : ℕ} {first row : Row} {entries : List Entry} {names : ℕ} {second other : Row} {others : List Entry} {more_names : ℕ} {third last : Row} {lasts : List Entry} {last_names : ℕ} {x y z : Extension}
+    (o : OwesThree R l free after cpu first row entries names second other others more_names third last lasts last_names x y z) where
+  pub three_extend : {held : Store} {h g f : Held} → ShowsRow R l held h first free → ShowsRow R l held g second free → ShowsRow R l held f third free → CanExtendThree R l held cpu first.inode h x second.inode g y third.inode f z
   three_extend here there also =
       let both = o.both in
       let one = both.one in
@@ -222,13 +222,13 @@ module _ {R : Region} {s : Super} {free after : FreeLists} {cpu : ℕ} {first ro
       }
 
 -- over blocks that were taken in one go, and split where those of the first log end and then where those of the second do
-pub owes_three : {R : Region} {s : Super} {free after : FreeLists} {first second third row other last : Row} {cpu : ℕ} {items : List ℕ} {entries others lasts : List Entry} {names more_names last_names : ℕ} → ReadiesRow first row entries names → ReadiesRow second other others more_names → ReadiesRow third last lasts last_names
-    → StandsRight R s free first × CanName R s cpu first.inode first → StandsRight R s free second × CanName R s cpu second.inode second → StandsRight R s free third × CanName R s cpu third.inode third → TakesEach free cpu items after
+pub owes_three : {R : Region} {l : Layout} {free after : FreeLists} {first second third row other last : Row} {cpu : ℕ} {items : List ℕ} {entries others lasts : List Entry} {names more_names last_names : ℕ} → ReadiesRow first row entries names → ReadiesRow second other others more_names → ReadiesRow third last lasts last_names
+    → StandsRight R l free first × CanName R l cpu first.inode first → StandsRight R l free second × CanName R l cpu second.inode second → StandsRight R l free third × CanName R l cpu third.inode third → TakesEach free cpu items after
     → length items ≡ needed (first.tail % 4096) entries + needed (second.tail % 4096) others + needed (third.tail % 4096) lasts → (first.inode ≢ second.inode) × (first.inode ≢ third.inode) × (second.inode ≢ third.inode) → AreFew entries → AreFew others → AreFew lasts
     → {m : ℕ} {given front later : List ℕ} → m ≡ needed (row.tail % 4096) entries → given ≡ items → front ≡ take m given → later ≡ drop m given → {n : ℕ} {middle back : List ℕ} → n ≡ needed (other.tail % 4096) others → middle ≡ take n later → back ≡ drop n later
-    → (x y z : Extension) → x.slot ≡ slot_address s row.inode → x.tail ≡ row.tail → x.entries.now ≡ entries → x.fresh.now ≡ front → y.slot ≡ slot_address s other.inode → y.tail ≡ other.tail → y.entries.now ≡ others → y.fresh.now ≡ middle → z.slot ≡ slot_address s last.inode → z.tail ≡ last.tail → z.entries.now ≡ lasts → z.fresh.now ≡ back
-    → OwesThree R s free after cpu first row entries names second other others more_names third last lasts last_names x y z
-owes_three {R} {s} {free} {after} {first} {second} {third} {row} {other} {last} {cpu} {items} {entries} {others} {lasts} ready more_ready last_ready stands more_stands last_stands taken counted differ few more_few last_few {m} m_is value front_is later_is {n} n_is middle_is back_is x y z slot tail said blocks more_slot more_tail more_said more_blocks last_slot last_tail last_said last_blocks =
+    → (x y z : Extension) → x.slot ≡ slot_in l row.inode → x.tail ≡ row.tail → x.entries.now ≡ entries → x.fresh.now ≡ front → y.slot ≡ slot_in l other.inode → y.tail ≡ other.tail → y.entries.now ≡ others → y.fresh.now ≡ middle → z.slot ≡ slot_in l last.inode → z.tail ≡ last.tail → z.entries.now ≡ lasts → z.fresh.now ≡ back
+    → OwesThree R l free after cpu first row entries names second other others more_names third last lasts last_names x y z
+owes_three {R} {l} {free} {after} {first} {second} {third} {row} {other} {last} {cpu} {items} {entries} {others} {lasts} ready more_ready last_ready stands more_stands last_stands taken counted differ few more_few last_few {m} m_is value front_is later_is {n} n_is middle_is back_is x y z slot tail said blocks more_slot more_tail more_said more_blocks last_slot last_tail last_said last_blocks =
     let a = needed (first.tail % 4096) entries in
     let b = needed (second.tail % 4096) others in
     let so_many : m ≡ a = (let same = ready.same in m_is ∙ ap (λ (t : ℕ). needed (t % 4096) entries) same.tail) in

@@ -9,10 +9,10 @@ use Rattle.nv_alloc.specs.FreeLists.{IsFreeIn, Leave}
 use Rattle.nv_alloc.specs.Taking.{HasBlock, pool_at}
 use Rattle.nv_alloc.proofs.Sound.{data_block, free_within}
 use Rattle.nv_entry.specs.declared.entry.Entry.{Entry}
-use Rattle.nv_held.specs.Held.{Store}
-use Rattle.nv_held.specs.Blocks.{KeepsFree}
-use Rattle.nv_held.specs.Blocks as blocks
-use Rattle.nv_held.specs.Lists.{TakeAll}
+use Rattle.nv_mounted.specs.Held.{Store}
+use Rattle.nv_mounted.specs.Blocks.{KeepsFree}
+use Rattle.nv_mounted.specs.Blocks as blocks
+use Rattle.nv_mounted.specs.Lists.{TakeAll}
 use Rattle.nv_steps.specs.Writes.{data_blocks}
 use Rattle.nv_steps.specs.Written.{Prepared}
 use Rattle.nv_steps.specs.declared.planning.Plan.{Plan}

@@ -6,23 +6,23 @@ use Rattle.std.proofs.lemmas.Option.{same_Some}
 use Rattle.nv_super.specs.declared.superblock.Super.{Super}
 use Rattle.nv_super.specs.declared.kind.Kind.{Kind}
 use Rattle.nv_super.specs.declared.kind.Kind.TheVariants.{File, Directory}
-use Rattle.nv_super.specs.Layout.{Layout, system_blocks}
+use Rattle.nv_super.specs.Layout.{Layout, system_blocks, most_size}
 use Rattle.nv_super.proofs.Members.{none_in}
 use Rattle.nv_super.proofs.Rising.{Contains-cons}
 use Rattle.nv_entry.specs.declared.entry.AttrEntry.{AttrEntry}
 use Rattle.nv_entry.specs.declared.entry.WriteEntry.{WriteEntry}
 use Rattle.nv_entry.specs.declared.entry.Entry.{Entry}
 use Rattle.nv_entry.specs.declared.entry.Entry.TheVariants.{NextPage, Write, Attr, Name, Links}
-use Rattle.nv_entry.specs.Content.{is_attr_out_of_range, is_good, most_size}
+use Rattle.nv_entry.specs.Content.{is_attr_out_of_range, is_good}
 use Rattle.nv_alloc.proofs.Singly.{single_is}
 use Rattle.nv_logpage.specs.declared.found.Placed.{Placed}
 use Rattle.nv_logpage.specs.Reads.{placed}
 use Rattle.nv_logpage.specs.Good.{good_entries}
 use Rattle.nv_scan.specs.State.{mode_in, mode_of, says_mode, says_size}
 use Rattle.nv_scan.proofs.Blocks.{good_is_good, in_range, last_word-all}
-use Rattle.nv_held.specs.Held.{Held, Store}
-use Rattle.nv_held.specs.Blocks.{IsUnowned}
-use Rattle.nv_held.specs.Writes.{WritesData}
+use Rattle.nv_mounted.specs.Held.{Held, Store}
+use Rattle.nv_mounted.specs.Blocks.{IsUnowned}
+use Rattle.nv_mounted.specs.Writes.{WritesData}
 use Rattle.nv_steps.proofs.AttrEntries.{Allows, attr_allowed, one_there}
 use Rattle.nv_steps.proofs.SizedEntries.{EndsWith}
 

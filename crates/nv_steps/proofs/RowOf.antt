@@ -4,10 +4,10 @@ use Rattle.std.specs.List.{Contains}
 use Rattle.std.proofs.lemmas.Bool.Decides.{nat_tests}
 use Rattle.nv_super.specs.Order.{Rises}
 use Rattle.nv_super.proofs.Rising.{head_least, tail_rises, Contains-head, Contains-tail}
-use Rattle.nv_held.specs.nv_check.Cross.{row_key}
+use Rattle.nv_cross_check.specs.Cross.{row_key}
 use Rattle.nv_scan.proofs.RowKeys.{key_less}
 use Rattle.nv_scan.specs.declared.piece.Row.{Row}
-use Rattle.nv_held.specs.nv_graph.Read.{row_of}
+use Rattle.nv_graph.specs.Read.{row_of}
 use Rattle.nv_super.proofs.Members.{stands}
 
 -- a row at a place is the row of its number

@@ -1,6 +1,6 @@
 -- Rows of which one was replaced.
 use Rattle.std.proofs.Common.{◌≡◌, ℕ, zero, suc, ◌<◌, List, [], ◌∷◌, length, set, slice_get, refl, sym, subst, arith, Some, ◌≢◌, ap}
-use Rattle.nv_held.specs.nv_outcome.Same.{SameRow, SameRows}
+use Rattle.nv_outcome.specs.Same.{SameRow, SameRows}
 use Rattle.nv_scan.specs.declared.piece.Row.{Row}
 
 pub at_set : (rows : List Row) (place : ℕ) (new : Row) → place < length rows → slice_get (set rows place new) place ≡ Some new

@@ -96,13 +96,6 @@ pub entries_count : (plan : Plan) (page : ℕ) (runs : List Run) → length (run
 entries_count plan page [] = refl
 entries_count plan page (r ∷ runs) = (let rest = entries_count plan (page + r.count) runs in omega (arith, rest))
 
-pub entries_more : (plan : Plan) (page : ℕ) (xs ys : List Run) → run_entries plan page (xs ++ ys) ≡ run_entries plan page xs ++ run_entries plan (page + blocks_in xs) ys
-entries_more plan page [] ys = ap (λ (p : ℕ). run_entries plan p ys) (let none : page ≡ page + 0 = omega arith in none)
-entries_more plan page (r ∷ xs) ys =
-    let e : Entry = Write (record { count = r.count; offset = page; block = r.start; size = plan.size; time = plan.time }) in
-    let place : page + r.count + blocks_in xs ≡ page + blocks_in (r ∷ xs) = (let sum = blocks_cons r xs in omega (arith, sum)) in
-    ap (λ (rest : List Entry). e ∷ rest) (entries_more plan (page + r.count) xs ys ∙ ap (λ (p : ℕ). run_entries plan (page + r.count) xs ++ run_entries plan p ys) place)
-
 -- ---- the first block by itself
 
 -- The first block, and the rest of the runs: where the first run has more blocks, its others.

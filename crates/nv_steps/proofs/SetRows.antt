@@ -2,7 +2,7 @@
 use Rattle.std.proofs.Common.{◌≡◌, ◌≢◌, ℕ, zero, suc, ◌<◌, List, [], ◌∷◌, length, set, slice_get, refl, ap, sym, ◌∙◌, subst, Some}
 use Rattle.std.proofs.lemmas.Option.{slice_get_within}
 use Rattle.nv_scan.specs.declared.piece.Row.{Row}
-use Rattle.nv_held.specs.nv_outcome.Same.{SameRow, SameRows}
+use Rattle.nv_outcome.specs.Same.{SameRow, SameRows}
 use Rattle.nv_steps.proofs.RowsAt.{at_set, same_rows, set_same_rows, other_set}
 
 -- what is put at a place again stands there alone

@@ -20,10 +20,10 @@ use Rattle.nv_scan.specs.State.{group_of, links_of, mode_of, named, owner_of, sa
 use Rattle.nv_scan.specs.Rows.{AreNumbers}
 use Rattle.nv_scan.specs.declared.numbers.Numbers.{Numbers}
 use Rattle.nv_scan.proofs.Words.{good_entries-more, last_word-append, last_word-cons}
-use Rattle.nv_held.specs.Held.{Held, Store, good_in}
-use Rattle.nv_held.specs.Grows.{NoEntryFault, SameNames, grown}
-use Rattle.nv_held.specs.Writes.{WritesData}
-use Rattle.nv_held.proofs.Faultless.{clean_more}
+use Rattle.nv_mounted.specs.Held.{Held, Store, good_in}
+use Rattle.nv_mounted.specs.Grows.{NoEntryFault, SameNames, grown}
+use Rattle.nv_mounted.specs.Writes.{WritesData}
+use Rattle.nv_mounted.proofs.Faultless.{clean_more}
 
 -- good entries behind others count with them
 pub good_more : (s : Super) (k : Kind) (es more : List Placed) → ((x : Placed) → Contains more x → is_good s k x.entry ≡ true) → good_entries s k (es ++ more) ≡ good_entries s k es ++ more

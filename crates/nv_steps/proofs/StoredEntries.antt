@@ -18,7 +18,7 @@ use Rattle.nv_entry.specs.declared.entry.Entry.TheVariants.{NextPage, Write, Att
 use Rattle.nv_radix.specs.Pages.{Pages}
 use Rattle.nv_bytes.specs.Storing.{AreFresh, HoldPages, HoldsPage, InBlocks, block_given}
 use Rattle.nv_bytes.proofs.StoredPages.{page_stays}
-use Rattle.nv_held.specs.Writes.{blocks_in_entry, pages_in_entry}
+use Rattle.nv_mounted.specs.Writes.{blocks_in_entry, pages_in_entry}
 use Rattle.nv_steps.specs.Written.{HoldEntries, entry_blocks}
 
 -- the first of them is a write entry
@@ -47,12 +47,6 @@ pub record Storing (R0 : Region) (m : Pages) (bytes : ℕ → ℕ) (entries : Li
   pub fresh : AreFresh R0 m (entry_blocks left)
   pub within : (b : ℕ) → HasBlock (entry_blocks left) b → HasBlock (entry_blocks entries) b
   pub among : (w : WriteEntry) → Contains left (Write w) → Contains entries (Write w)
-
-pub storing_starts : (R : Region) (m : Pages) (bytes : ℕ → ℕ) (entries : List Entry) → AreFresh R m (entry_blocks entries) → Storing R m bytes entries R entries
-storing_starts R m bytes entries fresh = record { told = λ S mixed holds. holds; fresh = fresh; within = λ b w. w; among = λ w c. c }
-
-pub storing_ends : (R0 : Region) (m : Pages) (bytes : ℕ → ℕ) (entries : List Entry) (R : Region) (left : List Entry) → left ≡ [] → Storing R0 m bytes entries R left → HoldEntries R bytes entries
-storing_ends R0 m bytes entries R left none s = s.told R (mixed_same R (InBlocks (HasBlock (entry_blocks left)))) (subst (λ (l : List Entry). HoldEntries R bytes l) (sym none) (λ w c. absurd (none_in (Write w) c)))
 
 pub some_write : (w v : WriteEntry) → Write w ≡ Write v → w ≡ v
 some_write w v e = cc

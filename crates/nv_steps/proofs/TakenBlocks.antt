@@ -13,12 +13,12 @@ use Rattle.nv_alloc.specs.Taking.{HasBlock, pool_at, block_run}
 use Rattle.nv_alloc.proofs.Sound.{data_block, free_within}
 use Rattle.nv_alloc.proofs.Singly.{in_single, single_is}
 use Rattle.nv_logpage.specs.Append.{AllDiffer}
-use Rattle.nv_held.specs.Held.{Store}
-use Rattle.nv_held.specs.Blocks.{KeepsFree}
-use Rattle.nv_held.specs.Blocks as blocks
-use Rattle.nv_held.specs.Grows.{AreFree}
-use Rattle.nv_held.specs.Lists.{TakeAll, WasTaken}
-use Rattle.nv_held.proofs.ListsKept.{pools_all_taken, pools_same}
+use Rattle.nv_mounted.specs.Held.{Store}
+use Rattle.nv_mounted.specs.Blocks.{KeepsFree}
+use Rattle.nv_mounted.specs.Blocks as blocks
+use Rattle.nv_mounted.specs.Grows.{AreFree}
+use Rattle.nv_mounted.specs.Lists.{TakeAll, WasTaken}
+use Rattle.nv_mounted.proofs.ListsKept.{pools_all_taken, pools_same}
 use Rattle.nv_steps.specs.Taken.{TakesEach}
 use Rattle.nv_steps.proofs.OneByOne.{single_takes, takes_of}
 

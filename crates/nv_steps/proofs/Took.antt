@@ -2,8 +2,7 @@
 use Rattle.std.proofs.Common.{◌≡◌, ℕ, ◌-◌, ◌%◌, Bool, true, false, cond, nat_eq, inl, inr, List, ◌++◌, refl, ap, ◌∙◌, subst, arith, Some, None}
 use Rattle.std.specs.Cmp.Lexicographic.{pointwise, bytes_decides}
 use Rattle.nv_region.specs.Region.{Region}
-use Rattle.nv_super.specs.declared.superblock.Super.{Super}
-use Rattle.nv_super.specs.Layout.{fixed_layout}
+use Rattle.nv_super.specs.Layout.{Layout}
 use Rattle.nv_alloc.specs.FreeValue.{FreeLists}
 use Rattle.nv_entry.specs.declared.entry.Entry.{Entry}
 use Rattle.nv_entry.specs.declared.entry.Entry.TheVariants.{Name}
@@ -14,8 +13,8 @@ use Rattle.nv_names.specs.Names.{EachOnce, name_at}
 use Rattle.nv_scan.specs.declared.numbers.Numbers.{Numbers}
 use Rattle.nv_scan.specs.declared.piece.Row.{Row}
 use Rattle.nv_radix.specs.Pages.{block_at}
-use Rattle.nv_held.specs.nv_outcome.Same.{SameRow}
-use Rattle.nv_held.specs.Held.{Held, Store}
+use Rattle.nv_outcome.specs.Same.{SameRow}
+use Rattle.nv_mounted.specs.Held.{Held, Store}
 use Rattle.nv_commit.specs.Stopped.{LeavesEither}
 use Rattle.nv_steps.specs.MoreNames.{AddsName, GrowsSame}
 use Rattle.nv_steps.specs.Moves.{HasMoved}
@@ -61,7 +60,7 @@ took_after {old} {grown} {less} {bare} {new} {fresh} {end} {place} {spot} i name
 pub taken_place : (end len : ℕ) (fresh : List ℕ) (tail i j : ℕ) (name other : List ℕ) (time : ℕ) → end ≡ end_of fresh 0 tail (take_entries i j name other time) → len ≡ entry_length (Name (record { operation = Add; inode = i; time = time; name = other })) → end - len ≡ take_place fresh tail i j name other time
 taken_place end len fresh tail i j name other time ends is = omega (arith, ends, is)
 
-module _ {R S : Region} {s : Super} {free after : FreeLists} {cpu : ℕ} {old mid grown : Row} (i j : ℕ) (name other : List ℕ) (time : ℕ) (same : SameRow old mid) (grew : AppendsLess R S s free after cpu mid grown j (take_entries i j name other time)) where
+module _ {R S : Region} {l : Layout} {free after : FreeLists} {cpu : ℕ} {old mid grown : Row} (i j : ℕ) (name other : List ℕ) (time : ℕ) (same : SameRow old mid) (grew : AppendsLess R S l free after cpu mid grown j (take_entries i j name other time)) where
   abbrev entries : List Entry
   entries = take_entries i j name other time
 
@@ -78,12 +77,12 @@ module _ {R S : Region} {s : Super} {free after : FreeLists} {cpu : ℕ} {old mi
         names = λ q. row.names q ∙ same.names q;
       }
 
-  shows_old : (held : Store) (h : Held) → ShowsRow R s held h old free → ShowsNamed R S s cpu held (with_gone held old.inode h entries grew.fresh j)
-  shows_old held h seen = subst (λ (d : ℕ). ShowsNamed R S s cpu held (with_gone held d h entries grew.fresh j)) same.inode (grew.shows held h (shows_same same seen))
+  shows_old : (held : Store) (h : Held) → ShowsRow R l held h old free → ShowsNamed R S l cpu held (with_gone held old.inode h entries grew.fresh j)
+  shows_old held h seen = subst (λ (d : ℕ). ShowsNamed R S l cpu held (with_gone held d h entries grew.fresh j)) same.inode (grew.shows held h (shows_same same seen))
 
   -- The row is settled.
   pub takes_within : {less bare new : Row} (len : ℕ) → len ≡ entry_length (Name (record { operation = Add; inode = i; time = time; name = other })) → DropsName grown name time less → EachOnce less.names → DropsName less other time bare
-      → AddsName bare other i (grown.tail - len) time new → EachOnce new.names → EachOnce old.names → TakesWithin R S s free after cpu old new i j name other time
+      → AddsName bare other i (grown.tail - len) time new → EachOnce new.names → EachOnce old.names → TakesWithin R S l free after cpu old new i j name other time
   takes_within {less} {bare} {new} len length_is drops once_less cuts adds once_new once_old = record {
     fresh = grew.fresh;
     taken = grew.taken;
@@ -106,8 +105,8 @@ pub gone_name : (grown : Row) (name : List ℕ) (time : ℕ) → name_at (less_r
 gone_name grown name time = found_without grown.names.names name name ∙ ap (λ (b : Bool). cond b None (name_at grown.names name)) ((bytes_decides name name).1 refl)
 
 -- What a stop leaves of a name that is given so, by what it leaves of the log.
-pub left_taken : {R : Region} {s : Super} {free : FreeLists} {cpu : ℕ} {held : Store} (old mid : Row) (i j : ℕ) (name other : List ℕ) (time : ℕ) → SameRow old mid → EachOnce old.names
-    → (left : Region) → LeavesEither R (fixed_layout s) held (AppendedLess R s free cpu mid j (take_entries i j name other time)) left → LeavesEither R (fixed_layout s) held (TookWithin R s free cpu old i j name other time) left
+pub left_taken : {R : Region} {l : Layout} {free : FreeLists} {cpu : ℕ} {held : Store} (old mid : Row) (i j : ℕ) (name other : List ℕ) (time : ℕ) → SameRow old mid → EachOnce old.names
+    → (left : Region) → LeavesEither R l held (AppendedLess R l free cpu mid j (take_entries i j name other time)) left → LeavesEither R l held (TookWithin R l free cpu old i j name other time) left
 left_taken old mid i j name other time same once left (inl stays) = inl stays
 left_taken old mid i j name other time same once left (inr w) =
     let made = w.1 in

@@ -2,8 +2,7 @@
 use Rattle.std.proofs.Common.{◌≡◌, ℕ, ◌-◌, Bool, false, cond, nat_eq, inl, inr, List, [], ◌∷◌, refl, ap, ◌∙◌, subst, arith, Some, None}
 use Rattle.std.specs.Cmp.Lexicographic.{pointwise, bytes_decides}
 use Rattle.nv_region.specs.Region.{Region}
-use Rattle.nv_super.specs.declared.superblock.Super.{Super}
-use Rattle.nv_super.specs.Layout.{fixed_layout}
+use Rattle.nv_super.specs.Layout.{Layout}
 use Rattle.nv_alloc.specs.FreeValue.{FreeLists}
 use Rattle.nv_entry.specs.declared.entry.Entry.{Entry}
 use Rattle.nv_entry.specs.declared.entry.Entry.TheVariants.{Name}
@@ -15,7 +14,7 @@ use Rattle.nv_names.specs.Names.{EachOnce, name_at}
 use Rattle.nv_radix.specs.Pages.{block_at}
 use Rattle.nv_scan.specs.declared.numbers.Numbers.{Numbers}
 use Rattle.nv_scan.specs.declared.piece.Row.{Row}
-use Rattle.nv_held.specs.Held.{Store}
+use Rattle.nv_mounted.specs.Held.{Store}
 use Rattle.nv_commit.specs.Stopped.{LeavesEither}
 use Rattle.nv_steps.specs.Across.{AppendedLogsLess, AppendsLogsLess, IsHanded, IsLeft, Lengthens, TakesAcross, TookAcross, handed_entries, handed_place}
 use Rattle.nv_steps.specs.MoreNames.{AddsName, AreFew}
@@ -68,9 +67,9 @@ handed_row {old} {grown} {bare} {new} {more} i j name time len grew length_is cu
 
 -- ---- both rows
 
-pub takes_across : {R S : Region} {s : Super} {free after : FreeLists} {cpu : ℕ} {from to a b c bare d : Row} (i j : ℕ) (name other : List ℕ) (time len : ℕ) → AppendsLogsLess R S s free after cpu from a (name_entries Remove i name time) to b (handed_entries i j other time) j
+pub takes_across : {R S : Region} {l : Layout} {free after : FreeLists} {cpu : ℕ} {from to a b c bare d : Row} (i j : ℕ) (name other : List ℕ) (time len : ℕ) → AppendsLogsLess R S l free after cpu from a (name_entries Remove i name time) to b (handed_entries i j other time) j
     → len ≡ entry_length (Name (record { operation = Add; inode = i; time = time; name = other })) → DropsName a name time c → EachOnce c.names → DropsName b other time bare → EachOnce bare.names → AddsName bare other i (b.tail - len) time d → EachOnce d.names
-    → TakesAcross R S s free after cpu from c to d i j name other time
+    → TakesAcross R S l free after cpu from c to d i j name other time
 takes_across i j name other time len grew length_is drops once_c cuts once_bare adds once_d = record {
   fresh = grew.fresh;
   more = grew.more;
@@ -102,8 +101,8 @@ pub once_handed : (b : Row) (i : ℕ) (name : List ℕ) (time : ℕ) → EachOnc
 once_handed b i name time once = named_once (dropped_row b name time) name i (b.tail - entry_length (Name (record { operation = Add; inode = i; time = time; name = name }))) (once_without b.names.names name once) (gone_name b name time)
 
 -- What a stop leaves of a name that is given so, by what it leaves of both logs.
-pub left_across : {R : Region} {s : Super} {free : FreeLists} {cpu : ℕ} {held : Store} (from to : Row) (i j : ℕ) (name other : List ℕ) (time : ℕ)
-    → (left : Region) → LeavesEither R (fixed_layout s) held (AppendedLogsLess R s free cpu from (name_entries Remove i name time) to (handed_entries i j other time) j) left → LeavesEither R (fixed_layout s) held (TookAcross R s free cpu from to i j name other time) left
+pub left_across : {R : Region} {l : Layout} {free : FreeLists} {cpu : ℕ} {held : Store} (from to : Row) (i j : ℕ) (name other : List ℕ) (time : ℕ)
+    → (left : Region) → LeavesEither R l held (AppendedLogsLess R l free cpu from (name_entries Remove i name time) to (handed_entries i j other time) j) left → LeavesEither R l held (TookAcross R l free cpu from to i j name other time) left
 left_across from to i j name other time left (inl stays) = inl stays
 left_across from to i j name other time left (inr w) =
     let made = w.1 in

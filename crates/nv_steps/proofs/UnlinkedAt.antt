@@ -1,10 +1,9 @@
 -- A name less and a link less, once both logs have grown and the rows are settled.
 use Rattle.std.proofs.Common.{◌≡◌, ◌≢◌, ℕ, ◌-◌, cond, nat_eq, inl, inr, List, [], ◌∷◌, set, slice_get, refl, ap, sym, ◌∙◌, subst, arith, Some, None}
-use Rattle.nv_super.specs.Layout.{fixed_layout}
+use Rattle.nv_super.specs.Layout.{Layout}
 use Rattle.std.specs.Cmp.Lexicographic.{pointwise}
 use Rattle.std.proofs.lemmas.Option.{same_Some}
 use Rattle.nv_region.specs.Region.{Region}
-use Rattle.nv_super.specs.declared.superblock.Super.{Super}
 use Rattle.nv_alloc.specs.FreeValue.{FreeLists}
 use Rattle.nv_entry.specs.declared.entry.Entry.{Entry}
 use Rattle.nv_entry.specs.declared.entry.Operation.TheVariants.{Remove}
@@ -13,7 +12,7 @@ use Rattle.nv_names.specs.Names.{EachOnce}
 use Rattle.nv_radix.specs.Pages.{block_at}
 use Rattle.nv_scan.specs.declared.numbers.Numbers.{Numbers}
 use Rattle.nv_scan.specs.declared.piece.Row.{Row}
-use Rattle.nv_held.specs.Held.{Store}
+use Rattle.nv_mounted.specs.Held.{Store}
 use Rattle.nv_commit.specs.Stopped.{LeavesEither}
 use Rattle.nv_steps.specs.Stopped.{AppendedBoth, Unlinked}
 use Rattle.nv_steps.specs.LessNames.{HasLost}
@@ -40,14 +39,14 @@ drops_after {old} {mid} {new} {fresh} {end} name time grew drops =
     }
 
 -- Of two logs that grew, the second one's row was read before.
-module _ {R S : Region} {s : Super} {free after : FreeLists} {cpu : ℕ} {rows mid : List Row} {i j : ℕ} {entries others : List Entry} (read : Row) (grew : AppendsLogs R S s free after cpu rows mid i entries j others) (read_at : slice_get rows j ≡ Some read) (differ : i ≢ j) where
+module _ {R S : Region} {l : Layout} {free after : FreeLists} {cpu : ℕ} {rows mid : List Row} {i j : ℕ} {entries others : List Entry} (read : Row) (grew : AppendsLogs R S l free after cpu rows mid i entries j others) (read_at : slice_get rows j ≡ Some read) (differ : i ≢ j) where
   abbrev first : Row
   first = grew.first
 
-  pub grown_rows : GrowsTwo R S s free after cpu rows mid i grew.first entries j read others (λ fresh now. GrowsSame grew.first fresh (end_of fresh 0 first.tail entries) now) (λ more now. GrowsSame read more (end_of more 0 read.tail others) now)
+  pub grown_rows : GrowsTwo R S l free after cpu rows mid i grew.first entries j read others (λ fresh now. GrowsSame grew.first fresh (end_of fresh 0 first.tail entries) now) (λ more now. GrowsSame read more (end_of more 0 read.tail others) now)
   grown_rows =
       let step = grew.step in
-      subst (λ (r : Row). GrowsTwo R S s free after cpu rows mid i first entries j r others (λ fresh now. GrowsSame first fresh (end_of fresh 0 first.tail entries) now) (λ more now. GrowsSame r more (end_of more 0 r.tail others) now)) (same_Some _ _ (sym step.other_at ∙ read_at)) grew.step
+      subst (λ (r : Row). GrowsTwo R S l free after cpu rows mid i first entries j r others (λ fresh now. GrowsSame first fresh (end_of fresh 0 first.tail entries) now) (λ more now. GrowsSame r more (end_of more 0 r.tail others) now)) (same_Some _ _ (sym step.other_at ∙ read_at)) grew.step
 
   pub first_there : slice_get mid i ≡ Some grown_rows.first_now
   first_there = ap (λ (rs : List Row). slice_get rs i) grown_rows.put ∙ first_set rows i j first read grown_rows.first_now grown_rows.second_now grown_rows.at grown_rows.other_at differ
@@ -55,9 +54,9 @@ module _ {R S : Region} {s : Super} {free after : FreeLists} {cpu : ℕ} {rows m
   pub second_there : slice_get mid j ≡ Some grown_rows.second_now
   second_there = ap (λ (rs : List Row). slice_get rs j) grown_rows.put ∙ second_set rows i j first read grown_rows.first_now grown_rows.second_now grown_rows.at grown_rows.other_at differ
 
-module _ {R S : Region} {s : Super} {free after : FreeLists} {cpu : ℕ} {rows mid : List Row} {i j time : ℕ} {name : List ℕ} (read : Row) (grew : AppendsLogs R S s free after cpu rows mid i (name_entries Remove read.inode name time) j (links_entries (read.numbers.links - 1) time)) (read_at : slice_get rows j ≡ Some read) (differ : i ≢ j) where
+module _ {R S : Region} {l : Layout} {free after : FreeLists} {cpu : ℕ} {rows mid : List Row} {i j time : ℕ} {name : List ℕ} (read : Row) (grew : AppendsLogs R S l free after cpu rows mid i (name_entries Remove read.inode name time) j (links_entries (read.numbers.links - 1) time)) (read_at : slice_get rows j ≡ Some read) (differ : i ≢ j) where
   -- Both rows are settled.
-  pub unlinks_at_places : {c d : Row} (a b : Row) → slice_get mid i ≡ Some a → DropsName a name time c → EachOnce c.names → slice_get (set mid i c) j ≡ Some b → CountsLinks b (read.numbers.links - 1) time d → UnlinksAt R S s free after cpu rows (set (set mid i c) j d) i j name time
+  pub unlinks_at_places : {c d : Row} (a b : Row) → slice_get mid i ≡ Some a → DropsName a name time c → EachOnce c.names → slice_get (set mid i c) j ≡ Some b → CountsLinks b (read.numbers.links - 1) time d → UnlinksAt R S l free after cpu rows (set (set mid i c) j d) i j name time
   unlinks_at_places {c} {d} a b a_at drops once_c b_at counts =
       let step = grown_rows read grew read_at differ in
       let first_is : a ≡ step.first_now = same_Some _ _ (sym a_at ∙ first_there read grew read_at differ) in
@@ -97,10 +96,10 @@ abbrev pub dropped_row : Row → List ℕ → ℕ → Row
 dropped_row row name time = record row { numbers = record row.numbers { time = time }; names = record row.names { names = without name row.names.names } }
 
 -- What a stop leaves of a name less and a link less, by what it leaves of both logs.
-pub left_unlinked : {R : Region} {s : Super} {free : FreeLists} {cpu : ℕ} {held : Store} (directory file : Row) (name : List ℕ) (time : ℕ)
-    → (left : Region) → LeavesEither R (fixed_layout s) held (AppendedBoth R s free cpu directory (name_entries Remove file.inode name time) file (links_entries (file.numbers.links - 1) time)) left → LeavesEither R (fixed_layout s) held (Unlinked R s free cpu directory file name time) left
+pub left_unlinked : {R : Region} {l : Layout} {free : FreeLists} {cpu : ℕ} {held : Store} (directory file : Row) (name : List ℕ) (time : ℕ)
+    → (left : Region) → LeavesEither R l held (AppendedBoth R l free cpu directory (name_entries Remove file.inode name time) file (links_entries (file.numbers.links - 1) time)) left → LeavesEither R l held (Unlinked R l free cpu directory file name time) left
 left_unlinked directory file name time left (inl same) = inl same
-left_unlinked {R} {s} {free} directory file name time left (inr w) =
+left_unlinked {R} {l} {free} directory file name time left (inr w) =
     let made = w.1 in
     let one = made.1 in
     let two = made.2 in

@@ -5,11 +5,10 @@ use Rattle.nv_region.specs.Region.{Region}
 use Rattle.nv_region.specs.Stops.{IsMixed}
 use Rattle.nv_region.proofs.Stops.{mixed_same}
 use Rattle.nv_region.proofs.Wordwise.{mixed_more}
-use Rattle.nv_super.specs.declared.superblock.Super.{Super}
 use Rattle.nv_super.specs.declared.owners.Run.{Run}
 use Rattle.nv_super.specs.declared.kind.Kind.{Kind}
 use Rattle.nv_super.specs.declared.kind.Kind.TheVariants.{File}
-use Rattle.nv_super.specs.Layout.{Layout, fixed_layout, slot_address}
+use Rattle.nv_super.specs.Layout.{Layout}
 use Rattle.nv_alloc.specs.FreeValue.{FreeLists}
 use Rattle.nv_alloc.specs.FreeLists.{JoinAll}
 use Rattle.nv_alloc.specs.Taking.{HasBlock, pool_at}
@@ -24,24 +23,22 @@ use Rattle.nv_scan.specs.Rows.{AreNumbers}
 use Rattle.nv_scan.specs.State.{block_of, size_of}
 use Rattle.nv_scan.specs.declared.piece.Row.{Row}
 use Rattle.nv_scan.proofs.Sizes.{page_below}
-use Rattle.nv_held.specs.Held.{Held, Store, good_in}
-use Rattle.nv_held.specs.Blocks.{IsUnowned, KeepsFree, NoneDoubled}
-use Rattle.nv_held.specs.Bytes.{byte_of}
-use Rattle.nv_held.specs.Grows.{AreFree, LetsGo, NoEntryFault, SameNames}
-use Rattle.nv_held.specs.Lists.{WasTaken}
-use Rattle.nv_held.specs.Loose.{Loose}
-use Rattle.nv_held.specs.Mounted.{IsFaultless, ShowsSound}
-use Rattle.nv_held.specs.Writes.{WritesData, written_blocks, written_pages}
-use Rattle.nv_held.proofs.BytesKept.{loose_data}
-use Rattle.nv_held.proofs.Clear.{slots_clear}
-use Rattle.nv_held.proofs.DataGrows.{free_then, gone_is, grows}
-use Rattle.nv_held.proofs.Faultless.{still_faultless}
-use Rattle.nv_held.proofs.Fronts.{loose_sound, sound_moves}
-use Rattle.nv_held.proofs.Graphs.{quiet_grown}
-use Rattle.nv_held.proofs.Growing.{data_owns}
-use Rattle.nv_held.proofs.ListsKept.{lists_change}
+use Rattle.nv_mounted.specs.Held.{Held, Store, good_in}
+use Rattle.nv_mounted.specs.Blocks.{IsUnowned, KeepsFree, NoneDoubled}
+use Rattle.nv_mounted.specs.Bytes.{byte_of}
+use Rattle.nv_mounted.specs.Grows.{AreFree, LetsGo, NoEntryFault, SameNames}
+use Rattle.nv_mounted.specs.Lists.{WasTaken}
+use Rattle.nv_mounted.specs.Loose.{Loose}
+use Rattle.nv_mounted.specs.Mounted.{IsFaultless, ShowsSound}
+use Rattle.nv_mounted.specs.Writes.{WritesData, written_blocks, written_pages}
+use Rattle.nv_mounted.proofs.BytesKept.{loose_data}
+use Rattle.nv_mounted.proofs.DataGrows.{free_then, gone_is, grows}
+use Rattle.nv_mounted.proofs.Faultless.{still_faultless}
+use Rattle.nv_mounted.proofs.Fronts.{loose_sound, sound_clear, sound_moves}
+use Rattle.nv_mounted.proofs.Graphs.{quiet_grown}
+use Rattle.nv_mounted.proofs.Growing.{data_owns}
+use Rattle.nv_mounted.proofs.ListsKept.{lists_change}
 use Rattle.nv_commit.specs.Extends.{CanExtend, ShowsMoved, extended, with_log}
-use Rattle.nv_held.proofs.nv_outcome.SuperOf.{layout_of_super}
 use Rattle.nv_steps.specs.Steps.{ShowsRow}
 use Rattle.nv_steps.specs.Writes.{replaced_blocks}
 use Rattle.nv_steps.specs.Written.{Commits, MapsEntries, Prepared, entry_blocks}
@@ -55,6 +52,7 @@ use Rattle.nv_steps.proofs.TakenBlocks.{all_differ, is_taken, was_taken}
 use Rattle.nv_steps.proofs.WriteGood.{all_clean, all_quiet, good_writes, placed_blocks, placed_count, placed_pages, timed, writes_data}
 use Rattle.nv_steps.proofs.WrittenRow.{written_index, written_numbers}
 use Rattle.nv_steps.proofs.OneByOne.{single_takes}
+use Rattle.nv_steps.specs.Slots.{slot_in}
 
 -- a block is free in a pool
 abbrev pub IsFreeAt : FreeLists → ℕ → ℕ → Type 0
@@ -69,12 +67,9 @@ pub record IsRight (row : Row) (plan : Plan) : Type 0 where
   pub last : (plan.first + plan.pages - 1) * 4096 < plan.size
   pub grows : row.numbers.size ≤ plan.size
 
-module _ {R S : Region} {s : Super} {held : Store} {h : Held} {row : Row} {free after : FreeLists} {cpu : ℕ} {plan : Plan} {entries : List Entry} {fresh : List ℕ} {bytes : ℕ → ℕ}
-    (shows : ShowsRow R s held h row free) (lists : free.sup ≡ s) (file : row.kind ≡ File) (below : cpu < free.sup.cpus) (right : IsRight row plan)
-    (p : Prepared free cpu row.tail plan entries fresh after) (c : Commits R S s row.inode (slot_address s row.inode) row.tail bytes entries fresh) where
-  abbrev pub l : Layout
-  l = fixed_layout s
-
+module _ {R S : Region} {l : Layout} {held : Store} {h : Held} {row : Row} {free after : FreeLists} {cpu : ℕ} {plan : Plan} {entries : List Entry} {fresh : List ℕ} {bytes : ℕ → ℕ}
+    (shows : ShowsRow R l held h row free) (lists : free.sup ≡ l.sup) (file : row.kind ≡ File) (below : cpu < free.sup.cpus) (right : IsRight row plan)
+    (p : Prepared free cpu row.tail plan entries fresh after) (c : Commits R S l row.inode (slot_in l row.inode) row.tail bytes entries fresh) where
   pub described : Describes plan p.runs entries
   described = subst (Describes plan p.runs) (sym p.says) (describes plan p.runs (fits p below right.some right.before))
 
@@ -100,10 +95,10 @@ module _ {R S : Region} {s : Super} {held : Store} {h : Held} {row : Row} {free 
   loose : IsMixed R (Loose l held) c.mid
   loose = mixed_more (Loose l held) (InBlocks (HasBlock (entry_blocks entries))) R R c.mid (λ k v w. inl (runs_free (8 * k / 4096) ((described.blocks (8 * k / 4096)).0 w))) (mixed_same R (Loose l held)) c.data
 
-  mid_sound : ShowsSound c.mid s held
-  mid_sound = loose_sound R c.mid s held shows.sound loose
+  mid_sound : ShowsSound c.mid l held
+  mid_sound = loose_sound R c.mid l held shows.sound loose
 
-  pub can : CanExtend c.mid s held row.inode h (slot_address s row.inode) row.tail entries fresh
+  pub can : CanExtend c.mid l held row.inode h (slot_in l row.inode) row.tail entries fresh
   can = record {
     sound = mid_sound;
     at = (let sound = shows.sound in slot_there row.inode h sound.shows shows.holds);
@@ -116,7 +111,7 @@ module _ {R S : Region} {s : Super} {held : Store} {h : Held} {row : Row} {free 
     some = described.there;
   }
 
-  pub moved : ShowsMoved c.mid s (with_log held row.inode h entries fresh) S
+  pub moved : ShowsMoved c.mid l (with_log held row.inode h entries fresh) S
   moved = c.moved held h can
 
   -- ---- the log
@@ -143,7 +138,7 @@ module _ {R S : Region} {s : Super} {held : Store} {h : Held} {row : Row} {free 
   writes = writes_data l held h kind plan p.runs entries described fresh others runs_free others_apart right.small right.top right.last h.tail
 
   pub names : SameNames l h new
-  names = quiet_grown l h (end_of fresh 0 h.tail entries) more others (all_quiet s more (good_writes l held h kind plan p.runs entries described fresh others runs_free others_apart right.small right.top right.last h.tail))
+  names = quiet_grown l h (end_of fresh 0 h.tail entries) more others (all_quiet l.sup more (good_writes l held h kind plan p.runs entries described fresh others runs_free others_apart right.small right.top right.last h.tail))
 
   pub some_placed : 0 < length more
   some_placed = (let count = placed_count fresh 0 h.tail entries in let there = described.there in omega (arith, count, there))
@@ -169,13 +164,13 @@ module _ {R S : Region} {s : Super} {held : Store} {h : Held} {row : Row} {free 
   pub index_held : (old now : Pages) → ((q : ℕ) → block_at old q ≡ block_of (good_in l h) q) → MapsEntries old entries now → (q : ℕ) → block_at now q ≡ block_of (good_in l new) q
   index_held old now was maps = written_index l held h (end_of fresh 0 h.tail entries) fresh entries others plan.size writes some_placed old now was below_size maps
 
-  clean : NoEntryFault s h.kind row.inode new.entries
+  clean : NoEntryFault l.sup h.kind row.inode new.entries
   clean =
       let sound = shows.sound in
       let faultless = sound.faultless in
-      subst (λ (k : Kind). NoEntryFault s k row.inode new.entries) (sym kind)
-      (all_clean s row.inode h.entries more (good_writes l held h kind plan p.runs entries described fresh others runs_free others_apart right.small right.top right.last h.tail)
-      (subst (λ (k : Kind). NoEntryFault s k row.inode h.entries) kind (λ f fault. faultless.clean row.inode h f shows.holds fault)))
+      subst (λ (k : Kind). NoEntryFault l.sup k row.inode new.entries) (sym kind)
+      (all_clean l.sup row.inode h.entries more (good_writes l held h kind plan p.runs entries described fresh others runs_free others_apart right.small right.top right.last h.tail)
+      (subst (λ (k : Kind). NoEntryFault l.sup k row.inode h.entries) kind (λ f fault. faultless.clean row.inode h f shows.holds fault)))
 
   faultless : IsFaultless l (with_log held row.inode h entries fresh)
   faultless =
@@ -183,8 +178,8 @@ module _ {R S : Region} {s : Super} {held : Store} {h : Held} {row : Row} {free 
       still_faultless l held row.inode h new shows.holds names clean
       (data_owns l held row.inode h new shows.holds others (grows l held h (end_of fresh 0 h.tail entries) more others plan.size writes row.inode shows.holds others_free) undoubled (pages_once {S = S} can moved)) sound.faultless
 
-  pub sound_after : ShowsSound S s (with_log held row.inode h entries fresh)
-  sound_after = sound_moves c.mid S s held (with_log held row.inode h entries fresh) mid_sound moved.front moved.shows faultless
+  pub sound_after : ShowsSound S l (with_log held row.inode h entries fresh)
+  sound_after = sound_moves c.mid S l held (with_log held row.inode h entries fresh) mid_sound moved.front moved.shows faultless
 
   -- the pages that were written
   abbrev pub pages_there : List Run
@@ -204,7 +199,7 @@ module _ {R S : Region} {s : Super} {held : Store} {h : Held} {row : Row} {free 
   pub bytes_before : (i : ℕ) (g : Held) → held i ≡ Some g → (x : ℕ) → byte_of S l g x ≡ byte_of R l g x
   bytes_before i g is x =
       let sound = shows.sound in
-      extended_bytes can c.mixed i g is x ∙ loose_data l held R c.mid i g (slots_clear R s held (layout_of_super R s sound.sup) sound.shows) undoubled sound.shows loose is x
+      extended_bytes can c.mixed i g is x ∙ loose_data l held R c.mid i g (sound_clear sound) undoubled sound.shows loose is x
 
   -- ---- the free lists
 

@@ -22,12 +22,12 @@ use Rattle.nv_logpage.specs.Append.{appended, pages_after, place_of}
 use Rattle.nv_logpage.specs.Reads.{placed}
 use Rattle.nv_scan.specs.State.{says_size, says_time}
 use Rattle.nv_scan.proofs.Blocks.{in_range}
-use Rattle.nv_held.specs.nv_graph.Step.{IsQuiet}
-use Rattle.nv_held.specs.Held.{Held, Store}
-use Rattle.nv_held.specs.Blocks.{IsUnowned}
-use Rattle.nv_held.specs.Grows.{NoEntryFault}
-use Rattle.nv_held.specs.Writes.{WritesData, blocks_in_entry, pages_in_entry, written_blocks, written_pages}
-use Rattle.nv_held.proofs.Faultless.{clean_more}
+use Rattle.nv_graph.specs.Step.{IsQuiet}
+use Rattle.nv_mounted.specs.Held.{Held, Store}
+use Rattle.nv_mounted.specs.Blocks.{IsUnowned}
+use Rattle.nv_mounted.specs.Grows.{NoEntryFault}
+use Rattle.nv_mounted.specs.Writes.{WritesData, blocks_in_entry, pages_in_entry, written_blocks, written_pages}
+use Rattle.nv_mounted.proofs.Faultless.{clean_more}
 use Rattle.nv_steps.specs.Written.{entry_blocks, entry_pages}
 use Rattle.nv_steps.specs.declared.planning.Plan.{Plan}
 use Rattle.nv_steps.proofs.DataEntries.{Describes}

@@ -3,7 +3,7 @@ use Rattle.std.proofs.Common.{◌≡◌, ℕ, ◌+◌, ◌-◌, ◌/◌, ◌<◌
 use Rattle.std.specs.List.{Contains}
 use Rattle.nv_region.specs.Region.{Region}
 use Rattle.nv_super.specs.declared.superblock.Super.{Super}
-use Rattle.nv_super.specs.Layout.{system_blocks}
+use Rattle.nv_super.specs.Layout.{system_blocks, Layout}
 use Rattle.nv_super.specs.Runs.{InRun}
 use Rattle.nv_super.proofs.Members.{none_in}
 use Rattle.nv_super.proofs.Rising.{Contains-cons}
@@ -44,12 +44,12 @@ page_among (e ∷ entries) w q c here = elim (Contains-cons e entries (Write w) 
   over (Name v) there = there
   over (Links v) there = there
 
-module _ {R : Region} {s : Super} {free after : FreeLists} {row : Row} {cpu : ℕ} {plan : Plan} {entries : List Entry} {fresh : List ℕ}
-    (stands : StandsRight R s free row) (file : FileStands R s free row) (right : IsRight row plan) (below : cpu < free.sup.cpus) (p : Prepared free cpu row.tail plan entries fresh after) where
+module _ {R : Region} {l : Layout} {free after : FreeLists} {row : Row} {cpu : ℕ} {plan : Plan} {entries : List Entry} {fresh : List ℕ}
+    (stands : StandsRight R l free row) (file : FileStands R l.sup free row) (right : IsRight row plan) (below : cpu < free.sup.cpus) (p : Prepared free cpu row.tail plan entries fresh after) where
   pub told : Describes plan p.runs entries
   told = subst (Describes plan p.runs) (sym p.says) (describes plan p.runs (fits p below right.some right.before))
 
-  in_data : (b : ℕ) → HasBlock (entry_blocks entries) b → (system_blocks s ≤ b) × (b < s.blocks)
+  in_data : (b : ℕ) → HasBlock (entry_blocks entries) b → (system_blocks l.sup ≤ b) × (b < l.sup.blocks)
   in_data b w = subst (λ (t : Super). (system_blocks t ≤ b) × (b < t.blocks)) stands.lists (runs_in_data p b ((told.blocks b).0 w))
 
   -- ---- what storing asks for
@@ -71,9 +71,9 @@ module _ {R : Region} {s : Super} {free after : FreeLists} {row : Row} {cpu : �
       let high = v.3 in
       omega (arith, page, count, top, high)
 
-  stands_between : StandsRight R s p.mid row
+  stands_between : StandsRight R l p.mid row
   stands_between = record {
-    layout = stands.layout;
+    laid = stands.laid;
     lists = p.took.sup ∙ p.same.sup ∙ stands.lists;
     number = stands.number;
     whole = stands.whole;
@@ -100,8 +100,8 @@ module _ {R : Region} {s : Super} {free after : FreeLists} {row : Row} {cpu : �
       let count : w.count ≡ v.0.count = ap (λ (x : WriteEntry). x.count) same in
       let some = v.2 in
       let place = runs_in_data p (v.0.block + v.0.count - 1) (v.6 (v.0.block + v.0.count - 1) (omega (arith, some)) (omega (arith, some))) in
-      let few = stands.layout.areas.blocks_to in
-      let blocks : free.sup.blocks ≡ s.blocks = ap (λ (t : Super). t.blocks) stands.lists in
+      let few = stands.laid.layout.areas.blocks_to in
+      let blocks : free.sup.blocks ≡ l.sup.blocks = ap (λ (t : Super). t.blocks) stands.lists in
       (λ q low high. ready_page q ((told.pages q).0 (page_among entries w q c (low, high))), omega (arith, block, count, place.1, few, blocks))
     where
       ready_ending : (o : Option ℕ) (q : ℕ) → o ≡ Some q → IfSome o (λ k. AreReady index k 1) → is_ready index q ≡ true
@@ -117,7 +117,7 @@ module _ {R : Region} {s : Super} {free after : FreeLists} {row : Row} {cpu : �
   pub can_give_replaced : CanGive after (replaced_blocks row.index plan)
   can_give_replaced =
       let known = are_replaced row.index plan in
-      let sups : after.sup ≡ s = prepared_sup p ∙ stands.lists in
+      let sups : after.sup ≡ l.sup = prepared_sup p ∙ stands.lists in
       record {
         «data» = λ b w. (let v = known.each b w in subst (λ (t : Super). (system_blocks t ≤ b) × (b < t.blocks)) (sym sups) (file.data v.0 b v.1));
         used = λ c b w there. (let v = known.each b w in file.used v.0 b c v.1 (free_before p c b there));

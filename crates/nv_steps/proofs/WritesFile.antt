@@ -4,10 +4,9 @@ use Rattle.std.specs.List.{Contains}
 use Rattle.std.proofs.lemmas.List.{get_or_default}
 use Rattle.std.proofs.lemmas.Option.{same_Some}
 use Rattle.nv_region.specs.Region.{Region}
-use Rattle.nv_super.specs.declared.superblock.Super.{Super}
+use Rattle.nv_super.specs.Layout.{Layout}
 use Rattle.nv_super.specs.declared.owners.Run.{Run}
 use Rattle.nv_super.specs.declared.kind.Kind.TheVariants.{File}
-use Rattle.nv_super.specs.Layout.{fixed_layout, slot_address}
 use Rattle.nv_alloc.specs.FreeValue.{FreeLists}
 use Rattle.nv_alloc.specs.FreeLists.{JoinAll}
 use Rattle.nv_alloc.specs.Taking.{HasBlock, Takes}
@@ -15,18 +14,18 @@ use Rattle.nv_entry.specs.declared.entry.Entry.{Entry}
 use Rattle.nv_entry.specs.declared.entry.Entry.TheVariants.{Write}
 use Rattle.nv_logpage.specs.Append.{appended, end_of, needed}
 use Rattle.nv_bytes.specs.Bytes.{LieInside, byte_after, file_byte}
-use Rattle.nv_held.specs.nv_outcome.Same.{SameRow}
+use Rattle.nv_outcome.specs.Same.{SameRow}
 use Rattle.nv_names.specs.Names.{Names, name_at}
 use Rattle.nv_radix.specs.Pages.{Pages, block_at}
 use Rattle.nv_scan.specs.declared.numbers.Numbers.{Numbers}
 use Rattle.nv_scan.specs.declared.piece.Row.{Row}
 use Rattle.nv_scan.specs.Rows.{AreNumbers}
-use Rattle.nv_held.specs.Held.{Held, Store, good_in}
-use Rattle.nv_held.specs.Blocks.{KeepsFree}
-use Rattle.nv_held.specs.Bytes.{byte_in}
-use Rattle.nv_held.specs.Mounted.{KeepsRow}
-use Rattle.nv_held.proofs.Written.{EntryOf, in_runs, page_entry}
-use Rattle.nv_held.proofs.BytesKept.{byte_stays}
+use Rattle.nv_mounted.specs.Held.{Held, Store, good_in}
+use Rattle.nv_mounted.specs.Blocks.{KeepsFree}
+use Rattle.nv_mounted.specs.Bytes.{byte_in}
+use Rattle.nv_mounted.specs.Mounted.{KeepsRow}
+use Rattle.nv_mounted.proofs.Written.{EntryOf, in_runs, page_entry}
+use Rattle.nv_mounted.proofs.BytesKept.{byte_stays}
 use Rattle.nv_commit.specs.Extends.{ExtendWords, extended, with_log}
 use Rattle.nv_commit.proofs.Extends.{slots}
 use Rattle.nv_steps.specs.Grown.{StandsRight}
@@ -43,22 +42,23 @@ use Rattle.nv_steps.proofs.WriteGood.{placed_entry, placed_pages}
 use Rattle.nv_steps.proofs.WrittenBytes.{unwritten_byte}
 use Rattle.nv_steps.proofs.OneByOne.{by_rule}
 use Rattle.nv_steps.proofs.Zeros.{zero_after}
+use Rattle.nv_steps.specs.Slots.{slot_in}
 
-module _ {R S : Region} {s : Super} {row now : Row} {free after : FreeLists} {cpu : ℕ} {plan : Plan} {entries : List Entry} {fresh : List ℕ} {bytes : ℕ → ℕ}
-    (stands : StandsRight R s free row) (is_file : row.kind ≡ File) (file : FileStands R s free row) (below : cpu < free.sup.cpus) (right : IsRight row plan)
-    (p : Prepared free cpu row.tail plan entries fresh after) (c : Commits R S s row.inode (slot_address s row.inode) row.tail bytes entries fresh)
+module _ {R S : Region} {l : Layout} {row now : Row} {free after : FreeLists} {cpu : ℕ} {plan : Plan} {entries : List Entry} {fresh : List ℕ} {bytes : ℕ → ℕ}
+    (stands : StandsRight R l free row) (is_file : row.kind ≡ File) (file : FileStands R l.sup free row) (below : cpu < free.sup.cpus) (right : IsRight row plan)
+    (p : Prepared free cpu row.tail plan entries fresh after) (c : Commits R S l row.inode (slot_in l row.inode) row.tail bytes entries fresh)
     (has : HasWritten row plan entries fresh (end_of fresh 0 row.tail entries) now) where
-  module _ {held : Store} {h : Held} (shows : ShowsRow R s held h row free) where
+  module _ {held : Store} {h : Held} (shows : ShowsRow R l held h row free) where
     tails : row.tail ≡ h.tail
     tails = (let told = shows.told in told.tail)
 
-    kept : KeepsRow (fixed_layout s) (extended h entries fresh) now
+    kept : KeepsRow l (extended h entries fresh) now
     kept =
         let told = shows.told in
         let names = made.names shows stands.lists is_file below right p c in
         record {
           kind = has.kind ∙ told.kind;
-          numbers = subst (AreNumbers h.created (good_in (fixed_layout s) (extended h entries fresh))) (sym has.numbers) (made.numbers_held shows stands.lists is_file below right p c);
+          numbers = subst (AreNumbers h.created (good_in l (extended h entries fresh))) (sym has.numbers) (made.numbers_held shows stands.lists is_file below right p c);
           head = has.head ∙ told.head;
           tail = has.tail ∙ ap (λ (t : ℕ). end_of fresh 0 t entries) tails;
           pages = has.pages ∙ ap (λ (ps : List ℕ). ps ++ fresh) told.pages ∙ ap (λ (ps : List ℕ). h.pages ++ ps) (sym (made.all_fresh shows stands.lists is_file below right p c));
@@ -66,7 +66,7 @@ module _ {R S : Region} {s : Super} {row now : Row} {free after : FreeLists} {cp
           names = λ q. ap (λ (n : Names). name_at n q) has.names ∙ told.names q ∙ sym (names.names q);
         }
 
-    log : (given : FreeLists) → KeepsFree (fixed_layout s) (with_log held row.inode h entries fresh) given.pools → LogFollows R S s held h entries p.mid.pools cpu row now given
+    log : (given : FreeLists) → KeepsFree l (with_log held row.inode h entries fresh) given.pools → LogFollows R S l held h entries p.mid.pools cpu row now given
     log given in_lists = record {
       fresh = fresh;
       rest = after.pools;
@@ -81,16 +81,16 @@ module _ {R S : Region} {s : Super} {row now : Row} {free after : FreeLists} {cp
     }
 
     -- a block that was taken isn't stored to by the commit
-    untouched : (b : ℕ) → HasBlock p.runs b → (i v : ℕ) → 8 * i / 4096 ≡ b → ExtendWords (slot_address s row.inode) row.tail entries fresh i v → ⊥
+    untouched : (b : ℕ) → HasBlock p.runs b → (i v : ℕ) → 8 * i / 4096 ≡ b → ExtendWords (slot_in l row.inode) row.tail entries fresh i v → ⊥
     untouched b w i v at (inl (inl behind)) = (let f = runs_were_free p b w in stands.used f.0 (subst (λ (k : ℕ). made.IsFreeAt free f.0 k) (sym at ∙ behind.0) f.1))
     untouched b w i v at (inl (inr page)) = fresh_apart p b w (page.0, page.1, get_or_default fresh page.0 b 0 page.1 ∙ sym page.2 ∙ at)
     untouched b w i v at (inr one) =
         let can = made.can shows stands.lists is_file below right p c in
         let clear = slots can in
-        let whole = clear.whole row.inode (slot_address s row.inode) can.at in
-        let word_is : i ≡ (slot_address s row.inode + 24) / 8 = one.0 in
-        let same : slot_address s row.inode / 4096 ≡ b = omega (arith, at, word_is, whole) in
-        clear.unfree b (made.runs_free shows stands.lists is_file below right p c b w) row.inode (slot_address s row.inode) can.at same
+        let whole = clear.whole row.inode (slot_in l row.inode) can.at in
+        let word_is : i ≡ (slot_in l row.inode + 24) / 8 = one.0 in
+        let same : slot_in l row.inode / 4096 ≡ b = omega (arith, at, word_is, whole) in
+        clear.unfree b (made.runs_free shows stands.lists is_file below right p c b w) row.inode (slot_in l row.inode) can.at same
 
     -- the byte of a page that an entry wrote
     written_byte : (x : ℕ) → EntryOf (appended fresh 0 h.tail entries) (λ e. record { start = e.offset; count = e.count }) (x / 4096) → file_byte S now.index x ≡ bytes x
@@ -107,7 +107,7 @@ module _ {R S : Region} {s : Super} {row now : Row} {free after : FreeLists} {cp
         let d = told.each (Write e) there in
         let taken = made.entry_block_taken shows stands.lists is_file below right p c e there k low in
         ap (λ (o : Option ℕ). byte_in S o x) maps
-        ∙ byte_stays c.mid S (ExtendWords (slot_address s row.inode) row.tail entries fresh) (Some (e.block + k)) x c.mixed (λ b is i v at w. untouched (e.block + k) taken i v (at ∙ sym (same_Some _ _ is)) w)
+        ∙ byte_stays c.mid S (ExtendWords (slot_in l row.inode) row.tail entries fresh) (Some (e.block + k)) x c.mixed (λ b is i v at w. untouched (e.block + k) taken i v (at ∙ sym (same_Some _ _ is)) w)
         ∙ c.holds e there k low x (sym page)
 
     -- any other byte
@@ -124,7 +124,7 @@ module _ {R S : Region} {s : Super} {row now : Row} {free after : FreeLists} {cp
     all_zeros offset time new planned after_is e there k x low page past =
         let taken = made.entry_block_taken shows stands.lists is_file below right p c e there k low in
         let behind : max row.numbers.size (offset + length new) ≤ x = subst (λ (q : Plan). q.size ≤ x) planned past in
-        byte_stays c.mid S (ExtendWords (slot_address s row.inode) row.tail entries fresh) (Some (e.block + k)) x c.mixed (λ b is i v at w. untouched (e.block + k) taken i v (at ∙ sym (same_Some _ _ is)) w)
+        byte_stays c.mid S (ExtendWords (slot_in l row.inode) row.tail entries fresh) (Some (e.block + k)) x c.mixed (λ b is i v at w. untouched (e.block + k) taken i v (at ∙ sym (same_Some _ _ is)) w)
         ∙ c.holds e there k low x page ∙ after_is x ∙ zero_after offset new row.numbers.size (file_byte R row.index) x (omega (arith, behind)) (omega (arith, behind))
 
     all_bytes : (offset time : ℕ) (new : List ℕ) → 0 < length new → plan ≡ plan_of (block_at row.index) row.numbers.size offset (length new) time → ((x : ℕ) → bytes x ≡ byte_after offset new row.numbers.size (file_byte R row.index) x)
@@ -141,13 +141,13 @@ module _ {R S : Region} {s : Super} {row now : Row} {free after : FreeLists} {cp
     ]
 
   -- All of it, over these free lists.
-  pub writes_file_by : (given : FreeLists) → ((held : Store) (h : Held) → ShowsRow R s held h row free → KeepsFree (fixed_layout s) (with_log held row.inode h entries fresh) given.pools) → (offset time : ℕ) (new : List ℕ) → 0 < length new → plan ≡ plan_of (block_at row.index) row.numbers.size offset (length new) time → ((x : ℕ) → bytes x ≡ byte_after offset new row.numbers.size (file_byte R row.index) x)
-      → WritesFile R S s free given cpu plan offset new row now
+  pub writes_file_by : (given : FreeLists) → ((held : Store) (h : Held) → ShowsRow R l held h row free → KeepsFree l (with_log held row.inode h entries fresh) given.pools) → (offset time : ℕ) (new : List ℕ) → 0 < length new → plan ≡ plan_of (block_at row.index) row.numbers.size offset (length new) time → ((x : ℕ) → bytes x ≡ byte_after offset new row.numbers.size (file_byte R row.index) x)
+      → WritesFile R S l free given cpu plan offset new row now
   writes_file_by given in_lists offset time new some planned after_is = record {
     runs = p.runs;
     rest = p.mid.pools;
     taken = subst (λ (pools : List (List Run)). Takes pools cpu (data_blocks plan) p.runs p.mid.pools) p.same.pools p.took.takes;
-    follows = λ held h shows. subst (λ (es : List Entry). LogFollows R S s held h es p.mid.pools cpu row now given) p.says (log shows given (in_lists held h shows));
+    follows = λ held h shows. subst (λ (es : List Entry). LogFollows R S l held h es p.mid.pools cpu row now given) p.says (log shows given (in_lists held h shows));
     inode = has.inode;
     kind = has.kind;
     numbers = has.numbers;
@@ -158,7 +158,7 @@ module _ {R S : Region} {s : Super} {row now : Row} {free after : FreeLists} {cp
 
   -- The same where the blocks that were replaced are given back.
   pub writes_file : (given : FreeLists) → JoinAll after (replaced_blocks row.index plan) given → (offset time : ℕ) (new : List ℕ) → 0 < length new → plan ≡ plan_of (block_at row.index) row.numbers.size offset (length new) time → ((x : ℕ) → bytes x ≡ byte_after offset new row.numbers.size (file_byte R row.index) x)
-      → WritesFile R S s free given cpu plan offset new row now
+      → WritesFile R S l free given cpu plan offset new row now
   writes_file given joins = writes_file_by given (λ held h shows. made.lists_after shows stands.lists is_file below right p c given joins)
 
 -- ---- what the steps did, told of the row before
@@ -170,10 +170,10 @@ pub bytes_as : (R : Region) (m n : Pages) (offset given old : ℕ) (new : List �
 bytes_as R m n offset given old new same size x =
     ap (λ (z : ℕ). byte_after offset new z (file_byte R n) x) size ∙ ap (λ (b : ℕ). byte_after offset new old (λ y. b) x) (ap (λ (o : Option ℕ). byte_in R o x) (same (x / 4096)))
 
-pub commits_as : (R S : Region) (s : Super) (inode other slot tail end : ℕ) (bytes : ℕ → ℕ) (entries : List Entry) (fresh : List ℕ) → other ≡ inode → end ≡ tail → slot ≡ slot_address s other → Commits R S s inode slot end bytes entries fresh
-    → Commits R S s inode (slot_address s inode) tail bytes entries fresh
-commits_as R S s inode other slot tail end bytes entries fresh number tails at done =
-    subst (λ (t : ℕ). Commits R S s inode (slot_address s inode) t bytes entries fresh) tails (subst (λ (a : ℕ). Commits R S s inode a end bytes entries fresh) (at ∙ ap (slot_address s) number) done)
+pub commits_as : (R S : Region) (l : Layout) (inode other slot tail end : ℕ) (bytes : ℕ → ℕ) (entries : List Entry) (fresh : List ℕ) → other ≡ inode → end ≡ tail → slot ≡ slot_in l other → Commits R S l inode slot end bytes entries fresh
+    → Commits R S l inode (slot_in l inode) tail bytes entries fresh
+commits_as R S l inode other slot tail end bytes entries fresh number tails at done =
+    subst (λ (t : ℕ). Commits R S l inode (slot_in l inode) t bytes entries fresh) tails (subst (λ (a : ℕ). Commits R S l inode a end bytes entries fresh) (at ∙ ap (slot_in l) number) done)
 
 pub has_written : (old mid new : Row) (plan : Plan) (entries : List Entry) (fresh : List ℕ) (end : ℕ) → SameRow old mid → mid.names ≡ old.names → end ≡ end_of fresh 0 mid.tail entries → HasWritten mid plan entries fresh end new
     → HasWritten old plan entries fresh (end_of fresh 0 old.tail entries) new

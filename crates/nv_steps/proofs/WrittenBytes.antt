@@ -4,7 +4,7 @@ use Rattle.std.proofs.lemmas.Bool.{cases_lt, le-ltb, lt-leb, lt-ltb}
 use Rattle.std.proofs.lemmas.Bool.Decides.{nat_tests}
 use Rattle.nv_region.specs.Region.{Region}
 use Rattle.nv_radix.specs.Pages.{Pages, block_at}
-use Rattle.nv_held.specs.Bytes.{byte_in}
+use Rattle.nv_mounted.specs.Bytes.{byte_in}
 use Rattle.nv_bytes.specs.Bytes.{byte_after, file_byte}
 use Rattle.nv_steps.specs.Writes.{ending_page, plan_of}
 use Rattle.nv_steps.proofs.DataEntries.{IsWritten}

@@ -18,12 +18,12 @@ use Rattle.nv_scan.specs.State.{block_of, says_group, says_mode, says_owner, say
 use Rattle.nv_scan.specs.Rows.{AreNumbers}
 use Rattle.nv_scan.specs.declared.numbers.Numbers.{Numbers}
 use Rattle.nv_scan.proofs.Words.{last_word-cons, words-more}
-use Rattle.nv_held.proofs.nv_graph.MoreEntries.{quiet_entries}
-use Rattle.nv_held.specs.Held.{Held, Store, good_in}
-use Rattle.nv_held.specs.Grows.{SameNames, grown}
-use Rattle.nv_held.specs.Writes.{WritesData, written_pages}
-use Rattle.nv_held.proofs.DataGrows.{all_count, cut, in_run_from, kept, written}
-use Rattle.nv_held.proofs.Written.{EntryOf, in_runs, page_entry}
+use Rattle.nv_graph.proofs.MoreEntries.{quiet_entries}
+use Rattle.nv_mounted.specs.Held.{Held, Store, good_in}
+use Rattle.nv_mounted.specs.Grows.{SameNames, grown}
+use Rattle.nv_mounted.specs.Writes.{WritesData, written_pages}
+use Rattle.nv_mounted.proofs.DataGrows.{all_count, cut, in_run_from, kept, written}
+use Rattle.nv_mounted.proofs.Written.{EntryOf, in_runs, page_entry}
 use Rattle.nv_steps.specs.Written.{MapsEntries}
 use Rattle.nv_steps.proofs.WriteGood.{placed_entry, placed_pages}
 

@@ -6,7 +6,7 @@ use Rattle.nv_super.proofs.Rising.{Contains-cons}
 use Rattle.nv_entry.specs.declared.entry.AttrEntry.{AttrEntry}
 use Rattle.nv_entry.specs.declared.entry.WriteEntry.{WriteEntry}
 use Rattle.nv_entry.specs.declared.entry.Entry.TheVariants.{Attr, Write}
-use Rattle.nv_held.specs.Bytes.{byte_in}
+use Rattle.nv_mounted.specs.Bytes.{byte_in}
 use Rattle.nv_bytes.specs.Bytes.{byte_after}
 use Rattle.nv_steps.specs.Zeros.{ZerosFrom}
 

@@ -2,7 +2,7 @@
 -- them; and the logs that grow so.
 use Rattle.std.specs.Prelude.{◌≡◌, ℕ, ◌+◌, ◌-◌, ◌%◌, List, [], ◌∷◌, ◌++◌, length, None}
 use Rattle.nv_region.specs.Region.{Region}
-use Rattle.nv_super.specs.declared.superblock.Super.{Super}
+use Rattle.nv_super.specs.Layout.{Layout}
 use Rattle.nv_alloc.specs.FreeValue.{FreeLists}
 use Rattle.nv_entry.specs.declared.entry.Operation.TheVariants.{Add, Remove}
 use Rattle.nv_entry.specs.declared.entry.Entry.{Entry}
@@ -10,7 +10,7 @@ use Rattle.nv_entry.specs.declared.entry.Entry.TheVariants.{Name}
 use Rattle.nv_entry.specs.Spelling.{entry_length}
 use Rattle.nv_logpage.specs.Append.{end_of, needed, pages_after, place_of}
 use Rattle.nv_scan.specs.declared.piece.Row.{Row}
-use Rattle.nv_held.specs.Held.{Held, Store, with_inode}
+use Rattle.nv_mounted.specs.Held.{Held, Store, with_inode}
 use Rattle.nv_commit.specs.Extends.{with_log}
 use Rattle.nv_steps.specs.MoreNames.{GetsCount, GrowsSame, NamesOnce}
 use Rattle.nv_steps.specs.Moves.{HasMoved}
@@ -28,7 +28,7 @@ with_two_gone held i h entries fresh e g others more j = with_inode (with_log (w
 
 -- Entries were put behind the logs of two rows, over blocks that a CPU took one by one, the first log's first, and another inode
 -- is gone. What each row has become is said by its blocks.
-pub record GrowsLess (R S : Region) (s : Super) (free after : FreeLists) (cpu : ℕ) (first : Row) (entries : List Entry) (second : Row) (others : List Entry) (j : ℕ) (Becomes Other : List ℕ
+pub record GrowsLess (R S : Region) (l : Layout) (free after : FreeLists) (cpu : ℕ) (first : Row) (entries : List Entry) (second : Row) (others : List Entry) (j : ℕ) (Becomes Other : List ℕ
     → Type 0) : Type 0 where
   pub fresh : List ℕ
   pub more : List ℕ
@@ -37,21 +37,21 @@ pub record GrowsLess (R S : Region) (s : Super) (free after : FreeLists) (cpu : 
   pub more_count : length more ≡ needed (second.tail % 4096) others
   pub is : Becomes fresh
   pub other_is : Other more
-  pub shows : (held : Store) (h g : Held) → ShowsRow R s held h first free → ShowsRow R s held g second free
-      → ShowsNamed R S s cpu held (with_two_gone held first.inode h entries fresh second.inode g others more j)
+  pub shows : (held : Store) (h g : Held) → ShowsRow R l held h first free → ShowsRow R l held g second free
+      → ShowsNamed R S l cpu held (with_two_gone held first.inode h entries fresh second.inode g others more j)
 
 -- what a row becomes whose log has grown, and nothing else
 abbrev pub Lengthens : Row → Row → List Entry → List ℕ → Type 0
 Lengthens old new entries fresh = GrowsSame old fresh (end_of fresh 0 old.tail entries) new × NamesOnce old new
 
 -- both rows have their new tails and pages
-abbrev pub AppendsLogsLess : Region → Region → Super → FreeLists → FreeLists → ℕ → Row → Row → List Entry → Row → Row → List Entry → ℕ → Type 0
-AppendsLogsLess R S s free after cpu first first_now entries second second_now others j = GrowsLess R S s free after cpu first entries second others j (λ fresh. Lengthens first first_now entries
+abbrev pub AppendsLogsLess : Region → Region → Layout → FreeLists → FreeLists → ℕ → Row → Row → List Entry → Row → Row → List Entry → ℕ → Type 0
+AppendsLogsLess R S l free after cpu first first_now entries second second_now others j = GrowsLess R S l free after cpu first entries second others j (λ fresh. Lengthens first first_now entries
     fresh) (λ more. Lengthens second second_now others more)
 
 -- such a step, whatever the rows and the free lists become
-abbrev pub AppendedLogsLess : Region → Super → FreeLists → ℕ → Row → List Entry → Row → List Entry → ℕ → Region → Type 0
-AppendedLogsLess R s free cpu first entries second others j S = (after : FreeLists) × (one : Row) × (two : Row) × AppendsLogsLess R S s free after cpu first one entries second two others j
+abbrev pub AppendedLogsLess : Region → Layout → FreeLists → ℕ → Row → List Entry → Row → List Entry → ℕ → Region → Type 0
+AppendedLogsLess R l free cpu first entries second others j S = (after : FreeLists) × (one : Row) × (two : Row) × AppendsLogsLess R S l free after cpu first one entries second two others j
 
 -- ---- three logs that grow together
 
@@ -61,7 +61,7 @@ with_three_logs held i h entries fresh e g others more j f lasts rest = with_log
 
 -- Entries were put behind the logs of three rows, over blocks that a CPU took one by one, log after log. What each row has become
 -- is said by its blocks.
-pub record GrowsThree (R S : Region) (s : Super) (free after : FreeLists) (cpu : ℕ) (first : Row) (entries : List Entry) (second : Row) (others : List Entry) (third : Row) (lasts : List
+pub record GrowsThree (R S : Region) (l : Layout) (free after : FreeLists) (cpu : ℕ) (first : Row) (entries : List Entry) (second : Row) (others : List Entry) (third : Row) (lasts : List
     Entry) (Becomes Other Third : List ℕ → Type 0) : Type 0 where
   pub fresh : List ℕ
   pub more : List ℕ
@@ -73,18 +73,18 @@ pub record GrowsThree (R S : Region) (s : Super) (free after : FreeLists) (cpu :
   pub is : Becomes fresh
   pub other_is : Other more
   pub third_is : Third rest
-  pub shows : (held : Store) (h g f : Held) → ShowsRow R s held h first free → ShowsRow R s held g second free → ShowsRow R s held f third free
-      → ShowsNamed R S s cpu held (with_three_logs held first.inode h entries fresh second.inode g others more third.inode f lasts rest)
+  pub shows : (held : Store) (h g f : Held) → ShowsRow R l held h first free → ShowsRow R l held g second free → ShowsRow R l held f third free
+      → ShowsNamed R S l cpu held (with_three_logs held first.inode h entries fresh second.inode g others more third.inode f lasts rest)
 
 -- all rows have their new tails and pages
-abbrev pub AppendsThreeLogs : Region → Region → Super → FreeLists → FreeLists → ℕ → Row → Row → List Entry → Row → Row → List Entry → Row → Row → List Entry → Type 0
-AppendsThreeLogs R S s free after cpu first first_now entries second second_now others third third_now lasts = GrowsThree R S s free after cpu first entries second others third lasts (λ
+abbrev pub AppendsThreeLogs : Region → Region → Layout → FreeLists → FreeLists → ℕ → Row → Row → List Entry → Row → Row → List Entry → Row → Row → List Entry → Type 0
+AppendsThreeLogs R S l free after cpu first first_now entries second second_now others third third_now lasts = GrowsThree R S l free after cpu first entries second others third lasts (λ
     fresh. Lengthens first first_now entries fresh) (λ more. Lengthens second second_now others more) (λ rest. Lengthens third third_now lasts rest)
 
 -- such a step, whatever the rows and the free lists become
-abbrev pub AppendedThreeLogs : Region → Super → FreeLists → ℕ → Row → List Entry → Row → List Entry → Row → List Entry → Region → Type 0
-AppendedThreeLogs R s free cpu first entries second others third lasts S = (after : FreeLists) × (one : Row) × (two : Row) × (three : Row)
-    × AppendsThreeLogs R S s free after cpu first one entries second two others third three lasts
+abbrev pub AppendedThreeLogs : Region → Layout → FreeLists → ℕ → Row → List Entry → Row → List Entry → Row → List Entry → Region → Type 0
+AppendedThreeLogs R l free cpu first entries second others third lasts S = (after : FreeLists) × (one : Row) × (two : Row) × (three : Row)
+    × AppendsThreeLogs R S l free after cpu first one entries second two others third three lasts
 
 -- ---- a name that is given to another inode
 
@@ -111,22 +111,22 @@ abbrev pub LosesLink : Row → Row → ℕ → List ℕ → Type 0
 LosesLink file now time rest = GetsCount file (file.numbers.links - 1) time rest now × NamesOnce file now
 
 -- Inode i has a name less in one directory, and in another the name of inode j, which is gone.
-abbrev pub TakesAcross : Region → Region → Super → FreeLists → FreeLists → ℕ → Row → Row → Row → Row → ℕ → ℕ → List ℕ → List ℕ → ℕ → Type 0
-TakesAcross R S s free after cpu from from_now to to_now i j name other time =
-    GrowsLess R S s free after cpu from (name_entries Remove i name time) to (handed_entries i j other time) j (λ fresh. IsLeft from from_now i name time fresh) (λ more. IsHanded to to_now i j other
+abbrev pub TakesAcross : Region → Region → Layout → FreeLists → FreeLists → ℕ → Row → Row → Row → Row → ℕ → ℕ → List ℕ → List ℕ → ℕ → Type 0
+TakesAcross R S l free after cpu from from_now to to_now i j name other time =
+    GrowsLess R S l free after cpu from (name_entries Remove i name time) to (handed_entries i j other time) j (λ fresh. IsLeft from from_now i name time fresh) (λ more. IsHanded to to_now i j other
     time more)
 
 -- such a step from two rows
-abbrev pub TookAcross : Region → Super → FreeLists → ℕ → Row → Row → ℕ → ℕ → List ℕ → List ℕ → ℕ → Region → Type 0
-TookAcross R s free cpu from to i j name other time S = (after : FreeLists) × (one : Row) × (two : Row) × TakesAcross R S s free after cpu from one to two i j name other time
+abbrev pub TookAcross : Region → Layout → FreeLists → ℕ → Row → Row → ℕ → ℕ → List ℕ → List ℕ → ℕ → Region → Type 0
+TookAcross R l free cpu from to i j name other time S = (after : FreeLists) × (one : Row) × (two : Row) × TakesAcross R S l free after cpu from one to two i j name other time
 
 -- Inode i has a name less in one directory, and in another the name of a file, which counts a link less.
-abbrev pub LessensAcross : Region → Region → Super → FreeLists → FreeLists → ℕ → Row → Row → Row → Row → Row → Row → ℕ → List ℕ → List ℕ → ℕ → Type 0
-LessensAcross R S s free after cpu from from_now to to_now file file_now i name other time =
-    GrowsThree R S s free after cpu from (name_entries Remove i name time) to (handed_entries i file.inode other time) file (links_entries (file.numbers.links - 1) time)
+abbrev pub LessensAcross : Region → Region → Layout → FreeLists → FreeLists → ℕ → Row → Row → Row → Row → Row → Row → ℕ → List ℕ → List ℕ → ℕ → Type 0
+LessensAcross R S l free after cpu from from_now to to_now file file_now i name other time =
+    GrowsThree R S l free after cpu from (name_entries Remove i name time) to (handed_entries i file.inode other time) file (links_entries (file.numbers.links - 1) time)
     (λ fresh. IsLeft from from_now i name time fresh) (λ more. IsHanded to to_now i file.inode other time more) (λ rest. LosesLink file file_now time rest)
 
 -- such a step from three rows
-abbrev pub LessenedAcross : Region → Super → FreeLists → ℕ → Row → Row → Row → ℕ → List ℕ → List ℕ → ℕ → Region → Type 0
-LessenedAcross R s free cpu from to file i name other time S = (after : FreeLists) × (one : Row) × (two : Row) × (three : Row)
-    × LessensAcross R S s free after cpu from one to two file three i name other time
+abbrev pub LessenedAcross : Region → Layout → FreeLists → ℕ → Row → Row → Row → ℕ → List ℕ → List ℕ → ℕ → Region → Type 0
+LessenedAcross R l free cpu from to file i name other time S = (after : FreeLists) × (one : Row) × (two : Row) × (three : Row)
+    × LessensAcross R S l free after cpu from one to two file three i name other time

@@ -4,18 +4,18 @@ use Rattle.std.specs.List.{remove}
 use Rattle.nv_region.specs.Region.{Region}
 use Rattle.nv_super.specs.declared.superblock.Super.{Super}
 use Rattle.nv_super.specs.declared.kind.Kind.{Kind}
-use Rattle.nv_super.specs.Layout.{fixed_layout}
+use Rattle.nv_super.specs.Layout.{Layout}
 use Rattle.nv_alloc.specs.FreeValue.{FreeLists}
 use Rattle.nv_logpage.specs.declared.found.Placed.{Placed}
 use Rattle.nv_logpage.specs.Unlinked.{head_without}
 use Rattle.nv_scan.specs.declared.piece.Row.{Row}
 use Rattle.nv_deadpages.specs.Dead.{IsFirstDead}
-use Rattle.nv_held.specs.Held.{Held, Store, with_inode}
-use Rattle.nv_held.specs.Blocks.{KeepsFree}
-use Rattle.nv_held.specs.Bytes.{byte_of}
-use Rattle.nv_held.specs.Cleaned.{cleaned}
-use Rattle.nv_held.specs.Mounted.{KeepsRow, ShowsSound}
-use Rattle.nv_held.specs.nv_outcome.Same.{SameRow}
+use Rattle.nv_mounted.specs.Held.{Held, Store, with_inode}
+use Rattle.nv_mounted.specs.Blocks.{KeepsFree}
+use Rattle.nv_mounted.specs.Bytes.{byte_of}
+use Rattle.nv_mounted.specs.Cleaned.{cleaned}
+use Rattle.nv_mounted.specs.Mounted.{KeepsRow, ShowsSound}
+use Rattle.nv_outcome.specs.Same.{SameRow}
 use Rattle.nv_steps.specs.Taken.{SamePools}
 
 -- what is known of the first page that a log can do without: nothing, or its place
@@ -44,13 +44,13 @@ pub record KeepsFile (old new : Row) : Type 0 where
 
 -- The page of this place went, which is the first that the log can do without: the region shows the log without it, its block is
 -- free, the row and the free lists are of what is held, and each byte of each file is where it was.
-pub record LosesPageAt (R S : Region) (s : Super) (held : Store) (h : Held) (old new : Row) (free : FreeLists) (k b : ℕ) : Type 0 where
+pub record LosesPageAt (R S : Region) (l : Layout) (held : Store) (h : Held) (old new : Row) (free : FreeLists) (k b : ℕ) : Type 0 where
   pub block : b ≡ get_or h.pages k 0
-  pub sound : ShowsSound S s (with_inode held old.inode (Some (cleaned h k)))
-  pub told : KeepsRow (fixed_layout s) (cleaned h k) new
+  pub sound : ShowsSound S l (with_inode held old.inode (Some (cleaned h k)))
+  pub told : KeepsRow l (cleaned h k) new
   pub inode : new.inode ≡ old.inode
-  pub lists : KeepsFree (fixed_layout s) (with_inode held old.inode (Some (cleaned h k))) free.pools
-  pub bytes : (i : ℕ) (g : Held) → held i ≡ Some g → (x : ℕ) → byte_of S (fixed_layout s) g x ≡ byte_of R (fixed_layout s) g x
+  pub lists : KeepsFree l (with_inode held old.inode (Some (cleaned h k))) free.pools
+  pub bytes : (i : ℕ) (g : Held) → held i ≡ Some g → (x : ℕ) → byte_of S l g x ≡ byte_of R l g x
 
 -- Nothing went, since the log needs each of its pages.
 pub record LosesNone (R S : Region) (old new : Row) (before after : FreeLists) : Type 0 where
@@ -59,6 +59,6 @@ pub record LosesNone (R S : Region) (old new : Row) (before after : FreeLists) :
   pub free : SamePools before after
 
 -- the answer: the block of the page that went, or none
-abbrev pub Cleans : Region → Region → Super → Store → Held → Row → Row → FreeLists → FreeLists → Option ℕ → Type 0
-Cleans R S s held h old new before after None = IsFirstDead s h.kind old.inode h.created h.entries h.pages None × LosesNone R S old new before after
-Cleans R S s held h old new before after (Some b) = (k : ℕ) × IsFirstDead s h.kind old.inode h.created h.entries h.pages (Some k) × LosesPageAt R S s held h old new after k b
+abbrev pub Cleans : Region → Region → Layout → Store → Held → Row → Row → FreeLists → FreeLists → Option ℕ → Type 0
+Cleans R S l held h old new before after None = IsFirstDead l.sup h.kind old.inode h.created h.entries h.pages None × LosesNone R S old new before after
+Cleans R S l held h old new before after (Some b) = (k : ℕ) × IsFirstDead l.sup h.kind old.inode h.created h.entries h.pages (Some k) × LosesPageAt R S l held h old new after k b

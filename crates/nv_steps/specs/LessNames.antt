@@ -3,9 +3,8 @@ use Rattle.std.specs.Prelude.{◌≡◌, ◌⊎◌, ◌↔◌, ℕ, ◌*◌, ◌
 use Rattle.std.specs.Cmp.Lexicographic.{pointwise}
 use Rattle.std.specs.List.{Contains}
 use Rattle.nv_region.specs.Region.{Region}
-use Rattle.nv_super.specs.declared.superblock.Super.{Super}
 use Rattle.nv_super.specs.declared.owners.Run.{Run}
-use Rattle.nv_super.specs.Layout.{system_blocks}
+use Rattle.nv_super.specs.Layout.{system_blocks, Layout}
 use Rattle.nv_alloc.specs.FreeValue.{FreeLists}
 use Rattle.nv_alloc.specs.FreeLists.{IsFreeIn, JoinAll}
 use Rattle.nv_alloc.specs.Taking.{HasBlock, block_run}
@@ -14,7 +13,7 @@ use Rattle.nv_logpage.specs.Append.{AllDiffer, end_of, needed}
 use Rattle.nv_names.specs.Names.{EachOnce, name_at}
 use Rattle.nv_radix.specs.Pages.{block_at}
 use Rattle.nv_scan.specs.declared.piece.Row.{Row}
-use Rattle.nv_held.specs.Held.{Held, Store}
+use Rattle.nv_mounted.specs.Held.{Held, Store}
 use Rattle.nv_steps.specs.Given.{MapsOwn}
 use Rattle.nv_steps.specs.NameEntries.{name_entries, with_gone}
 use Rattle.nv_steps.specs.NewNames.{ShowsNamed}
@@ -63,11 +62,11 @@ pub record GivesRow (old : FreeLists) (row : Row) (new : FreeLists) : Type 0 whe
 
 -- The removal of a name was put behind the log of its directory's row, over blocks that a CPU took one by one, and the inode
 -- that it stood for is gone.
-pub record CutsName (R S : Region) (s : Super) (free after : FreeLists) (cpu : ℕ) (old new : Row) (j time : ℕ) (name : List ℕ) : Type 0 where
+pub record CutsName (R S : Region) (l : Layout) (free after : FreeLists) (cpu : ℕ) (old new : Row) (j time : ℕ) (name : List ℕ) : Type 0 where
   pub fresh : List ℕ
   pub taken : TakesEach free cpu fresh after
   pub count : length fresh ≡ needed (old.tail % 4096) (name_entries Remove j name time)
   pub directory : HasLost old fresh (end_of fresh 0 old.tail (name_entries Remove j name time)) name time new
   pub once : EachOnce old.names
   pub once_now : EachOnce new.names
-  pub shows : (held : Store) (h : Held) → ShowsRow R s held h old free → ShowsNamed R S s cpu held (with_gone held old.inode h (name_entries Remove j name time) fresh j)
+  pub shows : (held : Store) (h : Held) → ShowsRow R l held h old free → ShowsNamed R S l cpu held (with_gone held old.inode h (name_entries Remove j name time) fresh j)

@@ -1,7 +1,7 @@
 -- A name that is given to another inode of its directory, where the file that had it keeps others, by the rows that stand for both.
 use Rattle.std.specs.Prelude.{ℕ, ◌-◌, List, [], ◌∷◌}
 use Rattle.nv_region.specs.Region.{Region}
-use Rattle.nv_super.specs.declared.superblock.Super.{Super}
+use Rattle.nv_super.specs.Layout.{Layout}
 use Rattle.nv_alloc.specs.FreeValue.{FreeLists}
 use Rattle.nv_logpage.specs.Append.{end_of}
 use Rattle.nv_scan.specs.declared.piece.Row.{Row}
@@ -16,13 +16,13 @@ TakesName directory i j name other time fresh now = HasMoved directory fresh (en
     (take_entries i j name other time)) name other i (take_place fresh directory.tail i j name other time) time now
 
 -- The directory of one row has the name for inode i in place of another, and the file of another row, which had it, counts a link less.
-pub record LessensAt (R S : Region) (s : Super) (free after : FreeLists) (cpu : ℕ) (rows news : List Row) (place target i : ℕ) (name other : List ℕ) (time : ℕ) : Type 0 where
+pub record LessensAt (R S : Region) (l : Layout) (free after : FreeLists) (cpu : ℕ) (rows news : List Row) (place target i : ℕ) (name other : List ℕ) (time : ℕ) : Type 0 where
   pub directory : Row
   pub file : Row
-  pub step : GrowsTwo R S s free after cpu rows news place directory (take_entries i file.inode name other time) target file (links_entries
+  pub step : GrowsTwo R S l free after cpu rows news place directory (take_entries i file.inode name other time) target file (links_entries
       (file.numbers.links - 1) time) (λ fresh now. TakesName directory i file.inode name other time fresh now) (λ more now. GetsCount file (file.numbers.links - 1) time more now)
 
 -- such a step from two rows
-abbrev pub Lessened : Region → Super → FreeLists → ℕ → Row → Row → ℕ → List ℕ → List ℕ → ℕ → Region → Type 0
-Lessened R s free cpu directory file i name other time S = (after : FreeLists) × (one : Row) × (two : Row)
-    × LessensAt R S s free after cpu (directory ∷ file ∷ []) (one ∷ two ∷ []) 0 1 i name other time
+abbrev pub Lessened : Region → Layout → FreeLists → ℕ → Row → Row → ℕ → List ℕ → List ℕ → ℕ → Region → Type 0
+Lessened R l free cpu directory file i name other time S = (after : FreeLists) × (one : Row) × (two : Row)
+    × LessensAt R S l free after cpu (directory ∷ file ∷ []) (one ∷ two ∷ []) 0 1 i name other time

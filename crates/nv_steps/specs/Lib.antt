@@ -1,4 +1,5 @@
 pub mod Taken
+pub mod Slots
 pub mod Grown
 pub mod Steps
 pub mod Keeping

@@ -3,16 +3,16 @@ use Rattle.std.specs.Prelude.{◌≡◌, ℕ, ◌+◌, ◌%◌, ◌<◌, ◌≤�
 use Rattle.std.specs.Cmp.Lexicographic.{pointwise}
 use Rattle.smallvec.specs.SmallVec.{HasRoomFor}
 use Rattle.nv_region.specs.Region.{Region}
-use Rattle.nv_super.specs.declared.superblock.Super.{Super}
+use Rattle.nv_super.specs.Layout.{Layout}
 use Rattle.nv_alloc.specs.FreeValue.{FreeLists}
 use Rattle.nv_entry.specs.declared.entry.Operation.TheVariants.{Add}
 use Rattle.nv_entry.specs.declared.entry.Entry.{Entry}
 use Rattle.nv_logpage.specs.Append.{AreGiven, end_of, needed}
 use Rattle.nv_names.specs.Names.{EachOnce, name_at}
-use Rattle.nv_held.specs.nv_outcome.Same.{SameRow}
+use Rattle.nv_outcome.specs.Same.{SameRow}
 use Rattle.nv_radix.specs.Pages.{block_at}
 use Rattle.nv_scan.specs.declared.piece.Row.{Row}
-use Rattle.nv_held.specs.Held.{Held, Store}
+use Rattle.nv_mounted.specs.Held.{Held, Store}
 use Rattle.nv_commit.specs.Extends.{with_log}
 use Rattle.nv_steps.specs.NameEntries.{links_entries, name_entries}
 use Rattle.nv_steps.specs.NewNames.{HasNamed, ShowsNamed, place_named}
@@ -87,7 +87,7 @@ pub record ReadiesRow (old new : Row) (entries : List Entry) (names : ℕ) : Typ
 
 -- Entries were written behind the logs of the rows at two places, over blocks that a CPU took one by one, the first log's
 -- first. What each row has become is said by its blocks.
-pub record GrowsTwo (R S : Region) (s : Super) (free after : FreeLists) (cpu : ℕ) (rows news : List Row) (i : ℕ) (first : Row) (entries : List Entry) (j : ℕ) (second : Row) (others : List
+pub record GrowsTwo (R S : Region) (l : Layout) (free after : FreeLists) (cpu : ℕ) (rows news : List Row) (i : ℕ) (first : Row) (entries : List Entry) (j : ℕ) (second : Row) (others : List
     Entry) (Becomes Other : List ℕ → Row → Type 0) : Type 0 where
   pub first_now : Row
   pub second_now : Row
@@ -103,14 +103,14 @@ pub record GrowsTwo (R S : Region) (s : Super) (free after : FreeLists) (cpu : �
   pub once : NamesOnce first first_now
   pub other_once : NamesOnce second second_now
   pub put : news ≡ set (set rows i first_now) j second_now
-  pub shows : (held : Store) (h g : Held) → ShowsRow R s held h first free → ShowsRow R s held g second free
-      → ShowsNamed R S s cpu held (with_log (with_log held first.inode h entries fresh) second.inode g others more)
+  pub shows : (held : Store) (h g : Held) → ShowsRow R l held h first free → ShowsRow R l held g second free
+      → ShowsNamed R S l cpu held (with_log (with_log held first.inode h entries fresh) second.inode g others more)
 
 -- Both rows have their new tails and pages.
-pub record AppendsLogs (R S : Region) (s : Super) (free after : FreeLists) (cpu : ℕ) (rows news : List Row) (i : ℕ) (entries : List Entry) (j : ℕ) (others : List Entry) : Type 0 where
+pub record AppendsLogs (R S : Region) (l : Layout) (free after : FreeLists) (cpu : ℕ) (rows news : List Row) (i : ℕ) (entries : List Entry) (j : ℕ) (others : List Entry) : Type 0 where
   pub first : Row
   pub second : Row
-  pub step : GrowsTwo R S s free after cpu rows news i first entries j second others (λ fresh now. GrowsSame first fresh (end_of fresh 0 first.tail entries) now) (λ more now. GrowsSame second more
+  pub step : GrowsTwo R S l free after cpu rows news i first entries j second others (λ fresh now. GrowsSame first fresh (end_of fresh 0 first.tail entries) now) (λ more now. GrowsSame second more
       (end_of more 0 second.tail others) now)
 
 -- what a file's row becomes that counts so many links
@@ -122,8 +122,8 @@ abbrev pub GetsName : Row → List ℕ → ℕ → ℕ → List ℕ → Row → 
 GetsName directory name j time more now = HasNamed directory more (end_of more 0 directory.tail (name_entries Add j name time)) name j (place_named more directory.tail j name time) time now
 
 -- The file of a row counts a link more, and the directory of another has a name more for it.
-pub record LinksAt (R S : Region) (s : Super) (free after : FreeLists) (cpu : ℕ) (rows news : List Row) (target place : ℕ) (name : List ℕ) (time : ℕ) : Type 0 where
+pub record LinksAt (R S : Region) (l : Layout) (free after : FreeLists) (cpu : ℕ) (rows news : List Row) (target place : ℕ) (name : List ℕ) (time : ℕ) : Type 0 where
   pub file : Row
   pub directory : Row
-  pub step : GrowsTwo R S s free after cpu rows news target file (links_entries (file.numbers.links + 1) time) place directory (name_entries Add file.inode name time) (λ fresh now. GetsCount file
+  pub step : GrowsTwo R S l free after cpu rows news target file (links_entries (file.numbers.links + 1) time) place directory (name_entries Add file.inode name time) (λ fresh now. GetsCount file
       (file.numbers.links + 1) time fresh now) (λ more now. GetsName directory name file.inode time more now)

@@ -3,8 +3,7 @@ use Rattle.std.specs.Prelude.{◌≡◌, ℕ, ◌+◌, ◌%◌, nat_eq, if◌the
 use Rattle.std.specs.Cmp.Lexicographic.{pointwise}
 use Rattle.nv_region.specs.Region.{Region}
 use Rattle.nv_region.specs.Stops.{IsMixed}
-use Rattle.nv_super.specs.declared.superblock.Super.{Super}
-use Rattle.nv_super.specs.Layout.{slot_address}
+use Rattle.nv_super.specs.Layout.{Layout}
 use Rattle.nv_alloc.specs.FreeValue.{FreeLists}
 use Rattle.nv_entry.specs.declared.entry.Operation.TheVariants.{Add, Remove}
 use Rattle.nv_entry.specs.declared.entry.Entry.{Entry}
@@ -14,9 +13,10 @@ use Rattle.nv_logpage.specs.Append.{end_of, needed, pages_after, place_of}
 use Rattle.nv_names.specs.Names.{EachOnce, Names, name_at}
 use Rattle.nv_radix.specs.Pages.{block_at}
 use Rattle.nv_scan.specs.declared.piece.Row.{Row}
-use Rattle.nv_held.specs.Held.{Held, Store}
+use Rattle.nv_mounted.specs.Held.{Held, Store}
 use Rattle.nv_commit.specs.Extends.{CanExtend, ExtendWords, ShowsMoved, with_log}
 use Rattle.nv_steps.specs.Taken.{TakesEach}
+use Rattle.nv_steps.specs.Slots.{slot_in}
 
 -- the entries of an inode that gets another name in its directory
 abbrev pub move_entries : ℕ → List ℕ → List ℕ → ℕ → List Entry
@@ -46,11 +46,11 @@ pub record HasMoved (old : Row) (fresh : List ℕ) (end : ℕ) (name other : Lis
   pub once_now : EachOnce new.names
 
 -- Both entries were written behind the log of a directory's row, over blocks that a CPU took for them one by one.
-pub record MovesWithin (R S : Region) (s : Super) (free after : FreeLists) (cpu : ℕ) (old new : Row) (i : ℕ) (name other : List ℕ) (time : ℕ) : Type 0 where
+pub record MovesWithin (R S : Region) (l : Layout) (free after : FreeLists) (cpu : ℕ) (old new : Row) (i : ℕ) (name other : List ℕ) (time : ℕ) : Type 0 where
   pub fresh : List ℕ
   pub taken : TakesEach free cpu fresh after
   pub count : length fresh ≡ needed (old.tail % 4096) (move_entries i name other time)
   pub row : HasMoved old fresh (end_of fresh 0 old.tail (move_entries i name other time)) name other i (move_place fresh old.tail i name other time) time new
-  pub moved : (held : Store) (h : Held) → CanExtend R s held old.inode h (slot_address s old.inode) old.tail (move_entries i name other time) fresh
-      → ShowsMoved R s (with_log held old.inode h (move_entries i name other time) fresh) S
-  pub mixed : IsMixed R (ExtendWords (slot_address s old.inode) old.tail (move_entries i name other time) fresh) S
+  pub moved : (held : Store) (h : Held) → CanExtend R l held old.inode h (slot_in l old.inode) old.tail (move_entries i name other time) fresh
+      → ShowsMoved R l (with_log held old.inode h (move_entries i name other time) fresh) S
+  pub mixed : IsMixed R (ExtendWords (slot_in l old.inode) old.tail (move_entries i name other time) fresh) S

@@ -6,7 +6,7 @@ use Rattle.nv_super.specs.declared.kind.Kind.{Kind}
 use Rattle.nv_entry.specs.declared.entry.Operation.{Operation}
 use Rattle.nv_entry.specs.declared.entry.Operation.TheVariants.{Add}
 use Rattle.nv_logpage.specs.Append.{appended, end_of}
-use Rattle.nv_held.specs.Held.{Held, Store, with_inode}
+use Rattle.nv_mounted.specs.Held.{Held, Store, with_inode}
 use Rattle.nv_commit.specs.Extends.{with_log}
 
 -- the entry for a link count

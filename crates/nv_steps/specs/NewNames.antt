@@ -2,9 +2,9 @@
 use Rattle.std.specs.Prelude.{◌≡◌, ℕ, ◌*◌, ◌/◌, ◌%◌, ◌<◌, ◌≤◌, nat_eq, if◌then◌else◌, List, [], ◌∷◌, ◌++◌, length, Some, None, IsTrue}
 use Rattle.std.specs.Cmp.Lexicographic.{pointwise}
 use Rattle.nv_region.specs.Region.{Region}
-use Rattle.nv_super.specs.declared.superblock.Super.{Super}
 use Rattle.nv_super.specs.declared.kind.Kind.{Kind}
-use Rattle.nv_super.specs.Layout.{fixed_layout, is_number, system_blocks}
+use Rattle.nv_super.specs.Layout.{system_blocks, Layout}
+use Rattle.nv_inode.specs.Numbers.{has_slot}
 use Rattle.nv_journal.specs.Pending.{IsEmpty}
 use Rattle.nv_alloc.specs.FreeValue.{FreeLists}
 use Rattle.nv_entry.specs.declared.entry.Operation.TheVariants.{Add}
@@ -13,8 +13,8 @@ use Rattle.nv_logpage.specs.Append.{end_of, needed, place_of}
 use Rattle.nv_radix.specs.Pages.{block_at}
 use Rattle.nv_names.specs.Names.{EachOnce, name_at}
 use Rattle.nv_scan.specs.declared.piece.Row.{Row}
-use Rattle.nv_held.specs.Bytes.{byte_of}
-use Rattle.nv_held.specs.Held.{Held, Store}
+use Rattle.nv_mounted.specs.Bytes.{byte_of}
+use Rattle.nv_mounted.specs.Held.{Held, Store}
 use Rattle.nv_commit.specs.Together.{ShowsIdle}
 use Rattle.nv_steps.specs.NameEntries.{first_entries, name_entries, with_named}
 use Rattle.nv_steps.specs.Steps.{ShowsRow}
@@ -24,12 +24,12 @@ use Rattle.nv_steps.specs.Fronts.{SameFrontBut}
 -- ---- where a new inode goes
 
 -- What is known where a new inode of this number gets a name in a row's directory, by a CPU's journal: nothing waits in the
--- journal, the number is one, and the tail's page of the directory's log is a data block.
-pub record CanName (R : Region) (s : Super) (cpu j : ℕ) (row : Row) : Type 0 where
-  pub cpu_below : cpu < s.cpus
+-- journal, the number has a slot, and the tail's page of the directory's log is a data block.
+pub record CanName (R : Region) (l : Layout) (cpu j : ℕ) (row : Row) : Type 0 where
+  pub cpu_below : cpu < l.sup.cpus
   pub journal_empty : IsEmpty R cpu
-  pub number : IsTrue (is_number s j)
-  pub in_data : system_blocks s ≤ row.tail / 4096
+  pub number : IsTrue (has_slot l j)
+  pub in_data : system_blocks l.sup ≤ row.tail / 4096
 
 -- ---- rows
 
@@ -59,10 +59,10 @@ pub record IsNewRow (j : ℕ) (kind : Kind) (mode time page tail : ℕ) (row : R
 
 -- The region shows this, with nothing in its journals, each byte that a file had is where it was, and of the journals that of
 -- the CPU alone was used.
-pub record ShowsNamed (R S : Region) (s : Super) (cpu : ℕ) (held after : Store) : Type 0 where
-  pub idle : ShowsIdle S s after
-  pub bytes : (i : ℕ) (g : Held) → held i ≡ Some g → (x : ℕ) → byte_of S (fixed_layout s) g x ≡ byte_of R (fixed_layout s) g x
-  pub front : SameFrontBut s.cpus cpu R S
+pub record ShowsNamed (R S : Region) (l : Layout) (cpu : ℕ) (held after : Store) : Type 0 where
+  pub idle : ShowsIdle S l after
+  pub bytes : (i : ℕ) (g : Held) → held i ≡ Some g → (x : ℕ) → byte_of S l g x ≡ byte_of R l g x
+  pub front : SameFrontBut l.sup.cpus cpu R S
 
 -- where the entry of a new name goes
 abbrev pub place_named : List ℕ → ℕ → ℕ → List ℕ → ℕ → ℕ
@@ -70,7 +70,7 @@ place_named fresh tail j name time = place_of fresh 0 tail (Name (record { opera
 
 -- A new inode was made over one block, and its name was put behind the log of its directory's row, over further ones. They were
 -- taken one by one by a CPU, that of the new log first.
-pub record MakesNamed (R S : Region) (s : Super) (free after : FreeLists) (cpu : ℕ) (old new : Row) (kind : Kind) (mode time j : ℕ) (name : List ℕ) (made : Row) : Type 0 where
+pub record MakesNamed (R S : Region) (l : Layout) (free after : FreeLists) (cpu : ℕ) (old new : Row) (kind : Kind) (mode time j : ℕ) (name : List ℕ) (made : Row) : Type 0 where
   pub page : ℕ
   pub fresh : List ℕ
   pub taken : TakesEach free cpu (page ∷ fresh) after
@@ -79,4 +79,4 @@ pub record MakesNamed (R S : Region) (s : Super) (free after : FreeLists) (cpu :
   pub once : EachOnce old.names
   pub once_now : EachOnce new.names
   pub row : IsNewRow j kind mode time page (end_of [] 0 (4096 * page) (first_entries mode time)) made
-  pub shows : (held : Store) (h : Held) → ShowsRow R s held h old free → held j ≡ None → ShowsNamed R S s cpu held (with_named held kind mode time j old.inode h name page fresh)
+  pub shows : (held : Store) (h : Held) → ShowsRow R l held h old free → held j ≡ None → ShowsNamed R S l cpu held (with_named held kind mode time j old.inode h name page fresh)

@@ -2,22 +2,20 @@
 use Rattle.std.specs.Prelude.{◌≡◌, ℕ, suc, ◌/◌, ◌%◌, ◌<◌, ◌≤◌, nat_lt, nat_eq, not, ◌&&◌, if◌then◌else◌, is_some, List, [], ◌∷◌, Option, Some, None}
 use Rattle.nv_region.specs.Region.{Region}
 use Rattle.nv_region.specs.Stops.{IsMixed}
-use Rattle.nv_super.specs.declared.superblock.Super.{Super}
 use Rattle.nv_super.specs.declared.kind.Kind.TheVariants.{File}
-use Rattle.nv_super.specs.Layout.{fixed_layout}
+use Rattle.nv_super.specs.Layout.{most_size, Layout}
 use Rattle.nv_super.specs.declared.owners.Run.{Run}
 use Rattle.nv_alloc.specs.FreeValue.{FreeLists}
 use Rattle.nv_alloc.specs.Taking.{TakesSingly}
 use Rattle.nv_entry.specs.declared.entry.AttrEntry.{AttrEntry}
 use Rattle.nv_entry.specs.declared.entry.Entry.{Entry}
 use Rattle.nv_entry.specs.declared.entry.Entry.TheVariants.{Attr, Write}
-use Rattle.nv_entry.specs.Content.{most_size}
 use Rattle.nv_logpage.specs.Append.{needed}
 use Rattle.nv_radix.specs.Pages.{block_at}
 use Rattle.nv_scan.specs.declared.piece.Row.{Row}
-use Rattle.nv_held.specs.Held.{Held, Store}
-use Rattle.nv_held.specs.Blocks.{IsUnowned}
-use Rattle.nv_held.specs.Bytes.{byte_in}
+use Rattle.nv_mounted.specs.Held.{Held, Store}
+use Rattle.nv_mounted.specs.Blocks.{IsUnowned}
+use Rattle.nv_mounted.specs.Bytes.{byte_in}
 use Rattle.nv_commit.specs.Extends.{CanExtend, ExtendWords, ShowsMoved, with_log}
 use Rattle.nv_bytes.specs.Bytes.{byte_after}
 use Rattle.nv_bytes.specs.Storing.{HoldsPage, InBlocks}
@@ -41,8 +39,8 @@ abbrev pub sized : Node → ℕ → ℕ → AttrEntry
 sized node size time = record { mode = node.mode; size = size; time = time; owner = node.owner; group = node.group }
 
 -- What is known of a file that gets a size: these attributes are its own but for size and time, and the size isn't too large.
-pub record CanResize (R : Region) (s : Super) (free : FreeLists) (row : Row) (x : AttrEntry) : Type 0 where
-  pub stands : StandsRight R s free row
+pub record CanResize (R : Region) (l : Layout) (free : FreeLists) (row : Row) (x : AttrEntry) : Type 0 where
+  pub stands : StandsRight R l free row
   pub own : MapsOwn free row.index
   pub file : row.kind ≡ File
   pub mode : x.mode ≡ row.numbers.mode
@@ -80,16 +78,16 @@ SameBytes R S old new size = (y : ℕ) → y < size → byte_in S (block_at new.
 
 -- The log has the entries, the row what they say, and the file the bytes of before up to the new size. A CPU took the block of
 -- the copied page, and then those of the log, each by itself. Behind the old end that page is zeros.
-pub record Resizes (R S : Region) (s : Super) (free : FreeLists) (cpu : ℕ) (old : Row) (x : AttrEntry) (new : Row) (after : FreeLists) : Type 0 where
+pub record Resizes (R S : Region) (l : Layout) (free : FreeLists) (cpu : ℕ) (old : Row) (x : AttrEntry) (new : Row) (after : FreeLists) : Type 0 where
   pub to : Option ℕ
   pub copied : is_some to ≡ is_some (end_block (block_at old.index) old.numbers.size x.size)
   pub between : List (List Run)
   pub taken : TakesSingly free.pools cpu (copied_to to) between
   pub numbers : HasSize old x new
-  pub fresh : (held : Store) (h : Held) → ShowsRow R s held h old free → (b : ℕ) → to ≡ Some b → IsUnowned (fixed_layout s) held b
-  pub follows : (held : Store) (h : Held) → ShowsRow R s held h old free → LogFollows R S s held h (resizing old.numbers.size x to) between cpu old new after
-  pub bytes : (held : Store) (h : Held) → ShowsRow R s held h old free → SameBytes R S old new x.size
-  pub zeros : (held : Store) (h : Held) → ShowsRow R s held h old free → ZerosFrom S old.numbers.size (resizing old.numbers.size x to)
+  pub fresh : (held : Store) (h : Held) → ShowsRow R l held h old free → (b : ℕ) → to ≡ Some b → IsUnowned l held b
+  pub follows : (held : Store) (h : Held) → ShowsRow R l held h old free → LogFollows R S l held h (resizing old.numbers.size x to) between cpu old new after
+  pub bytes : (held : Store) (h : Held) → ShowsRow R l held h old free → SameBytes R S old new x.size
+  pub zeros : (held : Store) (h : Held) → ShowsRow R l held h old free → ZerosFrom S old.numbers.size (resizing old.numbers.size x to)
 
 -- ---- a page that is copied
 
@@ -99,5 +97,5 @@ pub record CopiesEnd (R S : Region) (from to size slot tail : ℕ) (entries : Li
   pub mid : Region
   pub page : HoldsPage mid (byte_after 0 [] size (byte_in R (Some from))) to (size / 4096)
   pub wrote : IsMixed R (InBlocks (λ b. b ≡ to)) mid
-  pub moved : (s : Super) (held : Store) (i : ℕ) (h : Held) → CanExtend mid s held i h slot tail entries fresh → ShowsMoved mid s (with_log held i h entries fresh) S
+  pub moved : (l : Layout) (held : Store) (i : ℕ) (h : Held) → CanExtend mid l held i h slot tail entries fresh → ShowsMoved mid l (with_log held i h entries fresh) S
   pub extends : IsMixed mid (ExtendWords slot tail entries fresh) S

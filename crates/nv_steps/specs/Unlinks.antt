@@ -2,7 +2,7 @@
 use Rattle.std.specs.Prelude.{◌≡◌, ℕ, ◌-◌, nat_eq, if◌then◌else◌, List, None}
 use Rattle.std.specs.Cmp.Lexicographic.{pointwise}
 use Rattle.nv_region.specs.Region.{Region}
-use Rattle.nv_super.specs.declared.superblock.Super.{Super}
+use Rattle.nv_super.specs.Layout.{Layout}
 use Rattle.nv_alloc.specs.FreeValue.{FreeLists}
 use Rattle.nv_entry.specs.declared.entry.Operation.TheVariants.{Remove}
 use Rattle.nv_logpage.specs.Append.{end_of}
@@ -23,8 +23,8 @@ abbrev pub LosesName : Row → List ℕ → ℕ → ℕ → List ℕ → Row →
 LosesName directory name j time fresh now = HasLost directory fresh (end_of fresh 0 directory.tail (name_entries Remove j name time)) name time now
 
 -- The directory of one row has a name less, and the file of another counts a link less.
-pub record UnlinksAt (R S : Region) (s : Super) (free after : FreeLists) (cpu : ℕ) (rows news : List Row) (place target : ℕ) (name : List ℕ) (time : ℕ) : Type 0 where
+pub record UnlinksAt (R S : Region) (l : Layout) (free after : FreeLists) (cpu : ℕ) (rows news : List Row) (place target : ℕ) (name : List ℕ) (time : ℕ) : Type 0 where
   pub directory : Row
   pub file : Row
-  pub step : GrowsTwo R S s free after cpu rows news place directory (name_entries Remove file.inode name time) target file (links_entries
+  pub step : GrowsTwo R S l free after cpu rows news place directory (name_entries Remove file.inode name time) target file (links_entries
       (file.numbers.links - 1) time) (λ fresh now. LosesName directory name file.inode time fresh now) (λ more now. GetsCount file (file.numbers.links - 1) time more now)

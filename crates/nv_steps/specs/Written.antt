@@ -5,7 +5,7 @@ use Rattle.nv_region.specs.Region.{Region}
 use Rattle.nv_region.specs.Stops.{IsMixed}
 use Rattle.nv_super.specs.declared.superblock.Super.{Super}
 use Rattle.nv_super.specs.declared.owners.Run.{Run}
-use Rattle.nv_super.specs.Layout.{system_blocks}
+use Rattle.nv_super.specs.Layout.{system_blocks, most_size, Layout}
 use Rattle.nv_alloc.specs.FreeValue.{FreeLists}
 use Rattle.nv_alloc.specs.FreeLists.{IsFreeIn, IsSound, Leave, Took}
 use Rattle.nv_alloc.specs.Taking.{HasBlock, Takes, all_blocks}
@@ -17,8 +17,8 @@ use Rattle.nv_radix.specs.Pages.{AreReady, Pages, block_at}
 use Rattle.nv_bytes.specs.Bytes.{LieInside, byte_after, file_byte}
 use Rattle.nv_bytes.specs.Storing.{HoldsPage, InBlocks}
 use Rattle.nv_scan.specs.declared.piece.Row.{Row}
-use Rattle.nv_held.specs.Held.{Held, Store}
-use Rattle.nv_held.specs.Writes.{blocks_in_entry, pages_in_entry}
+use Rattle.nv_mounted.specs.Held.{Held, Store}
+use Rattle.nv_mounted.specs.Writes.{blocks_in_entry, pages_in_entry}
 use Rattle.nv_commit.specs.Extends.{CanExtend, ExtendWords, ShowsMoved, with_log}
 use Rattle.nv_steps.specs.Steps.{LogFollows, ShowsRow}
 use Rattle.nv_steps.specs.Taken.{SamePools, TakesEach}
@@ -60,7 +60,7 @@ pub record FileStands (R : Region) (s : Super) (free : FreeLists) (row : Row) : 
   pub used : (p b cpu : ℕ) → block_at row.index p ≡ Some b → IsFreeIn free cpu b → ⊥
   pub once : (p q b : ℕ) → block_at row.index p ≡ Some b → block_at row.index q ≡ Some b → p ≡ q
   pub below : (p b : ℕ) → block_at row.index p ≡ Some b → p * 4096 < row.numbers.size
-  pub small : row.numbers.size ≤ 1073741824
+  pub small : row.numbers.size ≤ most_size
 
 -- A CPU took blocks for the pages of a write, and then pages for its entries, one by one.
 pub record Prepared (old : FreeLists) (cpu tail : ℕ) (plan : Plan) (entries : List Entry) (fresh : List ℕ) (new : FreeLists) : Type 0 where
@@ -77,11 +77,11 @@ pub record Prepared (old : FreeLists) (cpu tail : ℕ) (plan : Plan) (entries : 
   pub count : length fresh ≡ needed (tail % 4096) entries
 
 -- The new bytes were stored into the entries' blocks, and then the entries written behind the log's tail.
-pub record Commits (R S : Region) (s : Super) (inode slot tail : ℕ) (bytes : ℕ → ℕ) (entries : List Entry) (fresh : List ℕ) : Type 0 where
+pub record Commits (R S : Region) (l : Layout) (inode slot tail : ℕ) (bytes : ℕ → ℕ) (entries : List Entry) (fresh : List ℕ) : Type 0 where
   pub mid : Region
   pub «data» : IsMixed R (InBlocks (HasBlock (entry_blocks entries))) mid
   pub holds : HoldEntries mid bytes entries
-  pub moved : (held : Store) (h : Held) → CanExtend mid s held inode h slot tail entries fresh → ShowsMoved mid s (with_log held inode h entries fresh) S
+  pub moved : (held : Store) (h : Held) → CanExtend mid l held inode h slot tail entries fresh → ShowsMoved mid l (with_log held inode h entries fresh) S
   pub mixed : IsMixed mid (ExtendWords slot tail entries fresh) S
 
 -- why a write is refused: there are fewer blocks than it needs, or memory or the store refused it
@@ -102,14 +102,14 @@ pub record HasWritten (old : Row) (plan : Plan) (entries : List Entry) (fresh : 
 -- What a write makes of the row of its file: the blocks that a CPU takes at once decide its entries, by which the log grows over
 -- blocks that it takes from the rest. Each byte is the new one, or what it was, or zero, and behind the file's end all that was
 -- stored is zeros.
-pub record WritesFile (R S : Region) (s : Super) (free after : FreeLists) (cpu : ℕ) (plan : Plan) (offset : ℕ) (new : List ℕ) (old now : Row) : Type 0 where
+pub record WritesFile (R S : Region) (l : Layout) (free after : FreeLists) (cpu : ℕ) (plan : Plan) (offset : ℕ) (new : List ℕ) (old now : Row) : Type 0 where
   pub runs : List Run
   pub rest : List (List Run)
   pub taken : Takes free.pools cpu (data_blocks plan) runs rest
-  pub follows : (held : Store) (h : Held) → ShowsRow R s held h old free → LogFollows R S s held h (data_entries plan runs) rest cpu old now after
+  pub follows : (held : Store) (h : Held) → ShowsRow R l held h old free → LogFollows R S l held h (data_entries plan runs) rest cpu old now after
   pub inode : now.inode ≡ old.inode
   pub kind : now.kind ≡ old.kind
   pub numbers : now.numbers ≡ record old.numbers { size = plan.size; time = plan.time }
   pub names : now.names ≡ old.names
-  pub bytes : (held : Store) (h : Held) → ShowsRow R s held h old free → (x : ℕ) → x < plan.size → file_byte S now.index x ≡ byte_after offset new old.numbers.size (file_byte R old.index) x
-  pub zeros : (held : Store) (h : Held) → ShowsRow R s held h old free → ZerosFrom S plan.size (data_entries plan runs)
+  pub bytes : (held : Store) (h : Held) → ShowsRow R l held h old free → (x : ℕ) → x < plan.size → file_byte S now.index x ≡ byte_after offset new old.numbers.size (file_byte R old.index) x
+  pub zeros : (held : Store) (h : Held) → ShowsRow R l held h old free → ZerosFrom S plan.size (data_entries plan runs)

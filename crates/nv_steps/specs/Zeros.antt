@@ -5,7 +5,7 @@ use Rattle.nv_region.specs.Region.{Region}
 use Rattle.nv_entry.specs.declared.entry.WriteEntry.{WriteEntry}
 use Rattle.nv_entry.specs.declared.entry.Entry.{Entry}
 use Rattle.nv_entry.specs.declared.entry.Entry.TheVariants.{Write}
-use Rattle.nv_held.specs.Bytes.{byte_in}
+use Rattle.nv_mounted.specs.Bytes.{byte_in}
 
 -- The block of each page that these entries write has zeros from byte `size` of the file on, up to the page's end.
 abbrev pub ZerosFrom : Region → ℕ → List Entry → Type 0

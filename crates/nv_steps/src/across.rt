@@ -1,13 +1,13 @@
 //! A name of one inode that is given to another, by the rows of two directories: the first inode goes, or loses a link.
 
 ghost use Rattle.std.specs.Prelude.{◌≡◌, ◌≢◌, ◌+◌, ◌-◌, ◌%◌, ◌<◌, ◌≤◌, IsTrue, IfErr, OnOk};
-ghost use Rattle.nv_super.specs.Layout.{fixed_layout, is_number, slot_address};
 ghost use Rattle.nv_region.specs.Stops.{LeavesOnly, NothingPending};
+ghost use Rattle.nv_inode.specs.Numbers.{has_slot};
 ghost use Rattle.nv_entry.specs.declared.entry.Operation.TheVariants.{Remove};
 ghost use Rattle.nv_logpage.specs.Append.{needed};
 ghost use Rattle.nv_names.specs.Names.{IsName};
-ghost use Rattle.nv_held.specs.nv_outcome.Same.{SameRow};
-ghost use Rattle.nv_held.specs.Held.{Held, Store};
+ghost use Rattle.nv_outcome.specs.Same.{SameRow};
+ghost use Rattle.nv_mounted.specs.Held.{Held, Store};
 ghost use Rattle.nv_commit.specs.Stopped.{LeavesEither};
 ghost use Rattle.nv_tree.specs.declared.refusal.Refusal.{Refusal as RefusalValue};
 ghost use Rattle.nv_steps.specs.Across.{LessenedAcross, LessensAcross, TakesAcross, TookAcross, handed_entries};
@@ -18,6 +18,7 @@ ghost use Rattle.nv_steps.specs.Steps.{LeavesStep, ShowsRow};
 ghost use Rattle.nv_steps.specs.InOrder.{TailIsFirst, TailIsNext, tail_address};
 ghost use Rattle.nv_steps.specs.Stores.{StoresIn, three_logs, two_less};
 ghost use Rattle.nv_steps.specs.Keeping.{NeedsFree, SettlesStep};
+ghost use Rattle.nv_steps.specs.Slots.{slot_in};
 
 use crate::growing::Growth;
 use crate::growing_less::append_logs_less;
@@ -27,9 +28,9 @@ use crate::settling_names::{add_name, remove_name, set_links};
 use crate::taking::Displaced;
 use nv_alloc::Allocators;
 use nv_entry::{Entry, LinksEntry, Operation, length, name_entry};
+use nv_inode::Tables;
 use nv_region::Pmem;
 use nv_scan::Row;
-use nv_super::Super;
 use nv_tree::Refusal;
 use std::alloc::Global;
 
@@ -41,7 +42,7 @@ use std::alloc::Global;
 pub fn take_across<P: Pmem>(
     alloc: Global,
     memory: &mut P,
-    sup: &Super,
+    tables: &Tables,
     free: &mut Allocators,
     cpu: u64,
     from: &mut Row,
@@ -50,14 +51,14 @@ pub fn take_across<P: Pmem>(
     gone: Displaced,
 ) -> Result<(), Refusal>
     requires apart { from.old.inode ≢ to.old.inode }
-    requires stands { StandsRight (P.region memory.old) sup.now free.old from.old × CanName (P.region memory.old) sup.now cpu from.old.inode from.old }
-    requires to_stands { StandsRight (P.region memory.old) sup.now free.old to.old × CanName (P.region memory.old) sup.now cpu to.old.inode to.old }
-    requires number { IsTrue (is_number sup.now gone.inode) }
+    requires stands { StandsRight (P.region memory.old) tables.now.layout free.old from.old × CanName (P.region memory.old) tables.now.layout cpu from.old.inode from.old }
+    requires to_stands { StandsRight (P.region memory.old) tables.now.layout free.old to.old × CanName (P.region memory.old) tables.now.layout cpu to.old.inode to.old }
+    requires number { IsTrue (has_slot tables.now.layout gone.inode) }
     requires differ { from.old.inode ≢ gone.inode }
     requires to_differs { to.old.inode ≢ gone.inode }
     requires name { IsName moved.now.name.now }
     requires other { IsName moved.now.other.now }
-    ensures taken { OnOk result (TakesAcross (P.region memory.old) (P.region memory.new) sup.now free.old free.new cpu from.old from.new to.old to.new moved.now.inode gone.inode moved.now.name.now
+    ensures taken { OnOk result (TakesAcross (P.region memory.old) (P.region memory.new) tables.now.layout free.old free.new cpu from.old from.new to.old to.new moved.now.inode gone.inode moved.now.name.now
         moved.now.other.now moved.now.time) }
     ensures room { OnOk result (gone.blocks ≤ free.new.room) }
     ensures needs { NeedsFree (needed (from.old.tail % 4096) (name_entries Remove moved.now.inode moved.now.name.now moved.now.time)
@@ -66,20 +67,20 @@ pub fn take_across<P: Pmem>(
     ensures unchanged { IfErr result (λ e. (e ≡ RefusalValue.Stopped → ⊥) → LeavesStep memory.old memory.new free.old free.new from.old from.new × SameRow to.old to.new) }
     ensures inodes { (from.new.inode ≡ from.old.inode) × (to.new.inode ≡ to.old.inode) }
     // Every word outside these places is as it was.
-    ensures wrote { (held : Store) (h g : Held) → ShowsRow (P.region memory.old) sup.now held h from.old free.old → ShowsRow (P.region memory.old) sup.now held g to.old free.old
-        → StoresIn sup.now held (two_less sup.now cpu from.old.inode to.old.inode gone.inode) (P.region memory.old) (P.region memory.new) }
+    ensures wrote { (held : Store) (h g : Held) → ShowsRow (P.region memory.old) tables.now.layout held h from.old free.old → ShowsRow (P.region memory.old) tables.now.layout held g to.old free.old
+        → StoresIn tables.now.layout held (two_less tables.now.layout cpu from.old.inode to.old.inode gone.inode) (P.region memory.old) (P.region memory.new) }
     // The old directory's tail is stored first, then that of the new one, and then the valid word.
-    ensures in_order { (held : Store) (h g : Held) → ShowsRow (P.region memory.old) sup.now held h from.old free.old → ShowsRow (P.region memory.old) sup.now held g to.old free.old
-        → TailIsFirst (P.region memory.old) (P.region memory.new) sup.now free.old.pools cpu from.old.inode from.old.tail (name_entries Remove moved.now.inode moved.now.name.now
-        moved.now.time) (tail_address sup.now to.old.inode)
-        × TailIsNext (P.region memory.old) (P.region memory.new) sup.now free.old.pools cpu (needed (from.old.tail % 4096)
+    ensures in_order { (held : Store) (h g : Held) → ShowsRow (P.region memory.old) tables.now.layout held h from.old free.old → ShowsRow (P.region memory.old) tables.now.layout held g to.old free.old
+        → TailIsFirst (P.region memory.old) (P.region memory.new) tables.now.layout free.old.pools cpu from.old.inode from.old.tail (name_entries Remove moved.now.inode moved.now.name.now
+        moved.now.time) (tail_address tables.now.layout to.old.inode)
+        × TailIsNext (P.region memory.old) (P.region memory.new) tables.now.layout free.old.pools cpu (needed (from.old.tail % 4096)
         (name_entries Remove moved.now.inode moved.now.name.now moved.now.time)) to.old.inode to.old.tail (handed_entries moved.now.inode gone.inode moved.now.other.now moved.now.time)
-        (slot_address sup.now gone.inode) }
+        (slot_in tables.now.layout gone.inode) }
     // Whatever a stop leaves: recovery finds what is held, or it with the name given and without the inode, without faults.
-    ensures any_stop { (held : Store) (h g : Held) → ShowsRow (P.region memory.old) sup.now held h from.old free.old → ShowsRow (P.region memory.old) sup.now held g to.old free.old
+    ensures any_stop { (held : Store) (h g : Held) → ShowsRow (P.region memory.old) tables.now.layout held h from.old free.old → ShowsRow (P.region memory.old) tables.now.layout held g to.old free.old
         → NothingPending (P.region memory.old) (P.may_hold memory.old)
-        → LeavesOnly (P.region memory.new) (P.may_hold memory.new) (LeavesEither (P.region memory.old) (fixed_layout sup.now) held
-        (TookAcross (P.region memory.old) sup.now free.old cpu from.old to.old moved.now.inode gone.inode moved.now.name.now moved.now.other.now moved.now.time)) }
+        → LeavesOnly (P.region memory.new) (P.may_hold memory.new) (LeavesEither (P.region memory.old) tables.now.layout held
+        (TookAcross (P.region memory.old) tables.now.layout free.old cpu from.old to.old moved.now.inode gone.inode moved.now.name.now moved.now.other.now moved.now.time)) }
 {
     let removal = [name_entry(Operation::Remove, moved.inode, moved.name, moved.time)];
     let handing = [
@@ -95,7 +96,7 @@ pub fn take_across<P: Pmem>(
         names: 1,
     };
     append_logs_less(
-        alloc, memory, sup, free, cpu, from, &first, to, &second, gone,
+        alloc, memory, tables, free, cpu, from, &first, to, &second, gone,
     )?;
     remove_name(from, moved.name, moved.time);
     let place = to.tail - length(&handing[1]);
@@ -112,7 +113,7 @@ pub fn take_across<P: Pmem>(
 pub fn lessen_across<P: Pmem>(
     alloc: Global,
     memory: &mut P,
-    sup: &Super,
+    tables: &Tables,
     free: &mut Allocators,
     cpu: u64,
     from: &mut Row,
@@ -121,13 +122,13 @@ pub fn lessen_across<P: Pmem>(
     moved: &OtherName<'_>,
 ) -> Result<(), Refusal>
     requires apart { (from.old.inode ≢ to.old.inode) × (from.old.inode ≢ file.old.inode) × (to.old.inode ≢ file.old.inode) }
-    requires stands { StandsRight (P.region memory.old) sup.now free.old from.old × CanName (P.region memory.old) sup.now cpu from.old.inode from.old }
-    requires to_stands { StandsRight (P.region memory.old) sup.now free.old to.old × CanName (P.region memory.old) sup.now cpu to.old.inode to.old }
-    requires file_stands { StandsRight (P.region memory.old) sup.now free.old file.old × CanName (P.region memory.old) sup.now cpu file.old.inode file.old }
+    requires stands { StandsRight (P.region memory.old) tables.now.layout free.old from.old × CanName (P.region memory.old) tables.now.layout cpu from.old.inode from.old }
+    requires to_stands { StandsRight (P.region memory.old) tables.now.layout free.old to.old × CanName (P.region memory.old) tables.now.layout cpu to.old.inode to.old }
+    requires file_stands { StandsRight (P.region memory.old) tables.now.layout free.old file.old × CanName (P.region memory.old) tables.now.layout cpu file.old.inode file.old }
     requires more { 1 < file.old.numbers.links }
     requires name { IsName moved.now.name.now }
     requires other { IsName moved.now.other.now }
-    ensures lessened { OnOk result (LessensAcross (P.region memory.old) (P.region memory.new) sup.now free.old free.new cpu from.old from.new to.old to.new file.old file.new moved.now.inode
+    ensures lessened { OnOk result (LessensAcross (P.region memory.old) (P.region memory.new) tables.now.layout free.old free.new cpu from.old from.new to.old to.new file.old file.new moved.now.inode
         moved.now.name.now moved.now.other.now moved.now.time) }
     ensures needs { NeedsFree (needed (from.old.tail % 4096) (name_entries Remove moved.now.inode moved.now.name.now moved.now.time)
         + needed (to.old.tail % 4096) (handed_entries moved.now.inode file.old.inode moved.now.other.now moved.now.time)
@@ -136,23 +137,23 @@ pub fn lessen_across<P: Pmem>(
     ensures unchanged { IfErr result (λ e. (e ≡ RefusalValue.Stopped → ⊥) → LeavesStep memory.old memory.new free.old free.new from.old from.new × SameRow to.old to.new × SameRow file.old file.new) }
     ensures inodes { (from.new.inode ≡ from.old.inode) × (to.new.inode ≡ to.old.inode) × (file.new.inode ≡ file.old.inode) }
     // Every word outside these places is as it was.
-    ensures wrote { (held : Store) (h g f : Held) → ShowsRow (P.region memory.old) sup.now held h from.old free.old → ShowsRow (P.region memory.old) sup.now held g to.old free.old
-        → ShowsRow (P.region memory.old) sup.now held f file.old free.old
-        → StoresIn sup.now held (three_logs sup.now cpu from.old.inode to.old.inode file.old.inode) (P.region memory.old) (P.region memory.new) }
+    ensures wrote { (held : Store) (h g f : Held) → ShowsRow (P.region memory.old) tables.now.layout held h from.old free.old → ShowsRow (P.region memory.old) tables.now.layout held g to.old free.old
+        → ShowsRow (P.region memory.old) tables.now.layout held f file.old free.old
+        → StoresIn tables.now.layout held (three_logs tables.now.layout cpu from.old.inode to.old.inode file.old.inode) (P.region memory.old) (P.region memory.new) }
     // The old directory's tail is stored first, then that of the new one, and then that of the file.
-    ensures in_order { (held : Store) (h g f : Held) → ShowsRow (P.region memory.old) sup.now held h from.old free.old → ShowsRow (P.region memory.old) sup.now held g to.old free.old
-        → ShowsRow (P.region memory.old) sup.now held f file.old free.old
-        → TailIsFirst (P.region memory.old) (P.region memory.new) sup.now free.old.pools cpu from.old.inode from.old.tail (name_entries Remove moved.now.inode moved.now.name.now
-        moved.now.time) (tail_address sup.now to.old.inode)
-        × TailIsNext (P.region memory.old) (P.region memory.new) sup.now free.old.pools cpu (needed (from.old.tail % 4096)
+    ensures in_order { (held : Store) (h g f : Held) → ShowsRow (P.region memory.old) tables.now.layout held h from.old free.old → ShowsRow (P.region memory.old) tables.now.layout held g to.old free.old
+        → ShowsRow (P.region memory.old) tables.now.layout held f file.old free.old
+        → TailIsFirst (P.region memory.old) (P.region memory.new) tables.now.layout free.old.pools cpu from.old.inode from.old.tail (name_entries Remove moved.now.inode moved.now.name.now
+        moved.now.time) (tail_address tables.now.layout to.old.inode)
+        × TailIsNext (P.region memory.old) (P.region memory.new) tables.now.layout free.old.pools cpu (needed (from.old.tail % 4096)
         (name_entries Remove moved.now.inode moved.now.name.now moved.now.time)) to.old.inode to.old.tail (handed_entries moved.now.inode file.old.inode moved.now.other.now moved.now.time)
-        (tail_address sup.now file.old.inode) }
+        (tail_address tables.now.layout file.old.inode) }
     // Whatever a stop leaves: recovery finds what is held, or it with the name given and the link less, without faults.
-    ensures any_stop { (held : Store) (h g f : Held) → ShowsRow (P.region memory.old) sup.now held h from.old free.old → ShowsRow (P.region memory.old) sup.now held g to.old free.old
-        → ShowsRow (P.region memory.old) sup.now held f file.old free.old
+    ensures any_stop { (held : Store) (h g f : Held) → ShowsRow (P.region memory.old) tables.now.layout held h from.old free.old → ShowsRow (P.region memory.old) tables.now.layout held g to.old free.old
+        → ShowsRow (P.region memory.old) tables.now.layout held f file.old free.old
         → NothingPending (P.region memory.old) (P.may_hold memory.old)
-        → LeavesOnly (P.region memory.new) (P.may_hold memory.new) (LeavesEither (P.region memory.old) (fixed_layout sup.now) held
-        (LessenedAcross (P.region memory.old) sup.now free.old cpu from.old to.old file.old moved.now.inode moved.now.name.now moved.now.other.now moved.now.time)) }
+        → LeavesOnly (P.region memory.new) (P.may_hold memory.new) (LeavesEither (P.region memory.old) tables.now.layout held
+        (LessenedAcross (P.region memory.old) tables.now.layout free.old cpu from.old to.old file.old moved.now.inode moved.now.name.now moved.now.other.now moved.now.time)) }
 {
     let time = moved.time;
     let count = file.numbers.links - 1;
@@ -175,7 +176,7 @@ pub fn lessen_across<P: Pmem>(
         names: 0,
     };
     append_three_logs(
-        alloc, memory, sup, free, cpu, from, &first, to, &second, file, &third,
+        alloc, memory, tables, free, cpu, from, &first, to, &second, file, &third,
     )?;
     remove_name(from, moved.name, time);
     let place = to.tail - length(&handing[1]);

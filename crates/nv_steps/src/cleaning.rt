@@ -1,17 +1,18 @@
 //! The first page that the log of a row can do without, taken out of it, and such pages that follow one another.
 
-ghost use Rattle.std.specs.Prelude.{◌≡◌, ◌⊎◌, ◌+◌, ◌%◌, ◌<◌, ◌≤◌, ℕ, List, length, true, Option, IfOk, IfErr, IfSome, OnOk};
+ghost use Rattle.std.specs.Prelude.{◌≡◌, ◌⊎◌, ◌+◌, ◌%◌, ◌<◌, ◌≤◌, ℕ, List, length, true, Option, IfOk, IfErr, IfSome, OnOk, IsTrue};
 ghost use Rattle.nv_region.specs.Region.{HasBlocks, size};
 ghost use Rattle.nv_region.specs.Stops.{LeavesOnly, NothingPending};
-ghost use Rattle.nv_super.specs.Layout.{fixed_layout, HasAreas, IsLayout, inode_limit, slot_address};
+ghost use Rattle.nv_super.specs.Layout.{HasAreas};
 ghost use Rattle.nv_alloc.specs.FreeValue.{FreeLists};
 ghost use Rattle.nv_inode.specs.Slot.{is_right_log};
+ghost use Rattle.nv_inode.specs.Numbers.{has_slot};
 ghost use Rattle.nv_logpage.specs.declared.found.Placed.{Placed as PlacedValue};
 ghost use Rattle.nv_logpage.specs.Append.{EndBy};
 ghost use Rattle.nv_logpage.specs.Unlinked.{page_behind};
 ghost use Rattle.nv_deadpages.specs.Dead.{IsFirstDead, IsSaidBy};
 ghost use Rattle.nv_deadpages.specs.InTurn.{AreDeadPages};
-ghost use Rattle.nv_held.specs.Held.{Held, Store};
+ghost use Rattle.nv_mounted.specs.Held.{Held, Store};
 ghost use Rattle.nv_tree.specs.declared.refusal.Refusal.{Refusal as RefusalValue};
 ghost use Rattle.nv_commit.specs.Stopped.{LeavesEither};
 ghost use Rattle.nv_steps.specs.Cleans.{Cleans, HasLess, IsKnownDead, KeepsFile};
@@ -24,8 +25,10 @@ ghost use Rattle.nv_steps.specs.Taken.{SamePools};
 ghost use Rattle.nv_steps.specs.Keeping.{KeepsStep};
 
 use crate::giving::give_block;
+use crate::slots::slot_of_row;
 use nv_alloc::Allocators;
 use nv_deadpages::{DeadPages, dead_pages, first_dead_page};
+use nv_inode::Tables;
 use nv_logpage::unlink_page;
 use nv_region::Pmem;
 use nv_scan::Row;
@@ -44,23 +47,21 @@ const CREATED: u64 = 32;
 pub fn dead_pages_of<P: Pmem>(
     alloc: Global,
     memory: &P,
-    sup: &Super,
+    tables: &Tables,
     row: &Row,
 ) -> Result<Option<DeadPages>, AllocError>
-    requires layout { IsLayout sup.now }
-    requires number { row.now.inode < inode_limit sup.now }
-    requires whole { slot_address sup.now row.now.inode % 128 ≡ 0 }
-    requires inside { slot_address sup.now row.now.inode + 128 ≤ size (P.region memory.now) }
-    requires blocks { HasBlocks (P.region memory.now) sup.now.blocks }
-    requires right { is_right_log sup.now row.now.head row.now.tail ≡ true }
-    ensures { (held : Store) (h : Held) (free : FreeLists) → ShowsRow (P.region memory.now) sup.now held h row.now free
-        → IfOk result (AreDeadPages sup.now h.kind row.now.inode h.created h.entries h.pages) }
+    requires number { IsTrue (has_slot tables.now.layout row.now.inode) }
+    requires blocks { HasBlocks (P.region memory.now) tables.now.layout.sup.blocks }
+    requires right { is_right_log tables.now.layout.sup row.now.head row.now.tail ≡ true }
+    ensures { (held : Store) (h : Held) (free : FreeLists) → ShowsRow (P.region memory.now) tables.now.layout held h row.now free
+        → IfOk result (AreDeadPages tables.now.layout.sup h.kind row.now.inode h.created h.entries h.pages) }
 {
     // The region's length is a u64, and so is each address up to it.
     let _end = memory.len();
-    let slot = sup.slot_address(row.inode);
+    tables.are_laid();
+    let slot = slot_of_row(tables, row.inode);
     let created = memory.load(slot + CREATED);
-    dead_pages(alloc, memory, sup, row, created)
+    dead_pages(alloc, memory, tables.sup(), row, created)
 }
 
 /// Takes the first page out of the log of a row that it can do without, and gives its block back. Answers the block, or `None`
@@ -70,19 +71,19 @@ pub fn dead_pages_of<P: Pmem>(
 pub fn clean_log<P: Pmem>(
     alloc: Global,
     memory: &mut P,
-    sup: &Super,
+    tables: &Tables,
     free: &mut Allocators,
     row: &mut Row,
     known: Option<usize>,
 ) -> Result<Option<u64>, Refusal>
-    requires stands { StandsRight (P.region memory.old) sup.now free.old row.old }
-    requires blocks { HasBlocks (P.region memory.old) sup.now.blocks }
-    requires right { is_right_log sup.now row.old.head row.old.tail ≡ true }
+    requires stands { StandsRight (P.region memory.old) tables.now.layout free.old row.old }
+    requires blocks { HasBlocks (P.region memory.old) tables.now.layout.sup.blocks }
+    requires right { is_right_log tables.now.layout.sup row.old.head row.old.tail ≡ true }
     requires inside { EndBy row.old.pages.items (size (P.region memory.old)) }
     requires own { AreOwn free.old row.old.pages.items }
     requires before_last { IfSome known (λ k. k + 1 < length row.old.pages.items) }
-    ensures log { (held : Store) (h : Held) → ShowsRow (P.region memory.old) sup.now held h row.old free.old → IsKnownDead sup.now h.kind row.old.inode h.created h.entries h.pages known
-        → IfOk result (Cleans (P.region memory.old) (P.region memory.new) sup.now held h row.old row.new free.old free.new) }
+    ensures log { (held : Store) (h : Held) → ShowsRow (P.region memory.old) tables.now.layout held h row.old free.old → IsKnownDead tables.now.layout.sup h.kind row.old.inode h.created h.entries h.pages known
+        → IfOk result (Cleans (P.region memory.old) (P.region memory.new) tables.now.layout held h row.old row.new free.old free.new) }
     ensures settled { NothingPending (P.region memory.old) (P.may_hold memory.old) → OnOk result (NothingPending (P.region memory.new) (P.may_hold memory.new)) }
     ensures refused { IfErr result (λ e. (e ≡ RefusalValue.Memory) ⊎ (e ≡ RefusalValue.Stopped)) }
     // A block is given back once no log leads to it.
@@ -90,20 +91,20 @@ pub fn clean_log<P: Pmem>(
     ensures unchanged { IfErr result (λ e. (e ≡ RefusalValue.Stopped → ⊥) → LeavesStep memory.old memory.new free.old free.new row.old row.new) }
     ensures kept { KeepsStep P.region P.fuse memory.old memory.new free.old free.new result }
     // Every word outside these places is as it was.
-    ensures wrote { (held : Store) (h : Held) (o : Option ℕ) → ShowsRow (P.region memory.old) sup.now held h row.old free.old
-        → IsKnownDead sup.now h.kind row.old.inode h.created h.entries h.pages known → IsFirstDead sup.now h.kind row.old.inode h.created h.entries h.pages o
-        → StoresIn sup.now held (one_page_less sup.now row.old.inode h.pages o) (P.region memory.old) (P.region memory.new) }
+    ensures wrote { (held : Store) (h : Held) (o : Option ℕ) → ShowsRow (P.region memory.old) tables.now.layout held h row.old free.old
+        → IsKnownDead tables.now.layout.sup h.kind row.old.inode h.created h.entries h.pages known → IsFirstDead tables.now.layout.sup h.kind row.old.inode h.created h.entries h.pages o
+        → StoresIn tables.now.layout held (one_page_less tables.now.layout row.old.inode h.pages o) (P.region memory.old) (P.region memory.new) }
     // Whatever a stop leaves: recovery finds what is held, or it without the page, without faults.
-    ensures any_stop { (held : Store) (h : Held) → ShowsRow (P.region memory.old) sup.now held h row.old free.old
-        → IsKnownDead sup.now h.kind row.old.inode h.created h.entries h.pages known → NothingPending (P.region memory.old) (P.may_hold memory.old)
-        → LeavesOnly (P.region memory.new) (P.may_hold memory.new) (LeavesEither (P.region memory.old) (fixed_layout sup.now) held (PageLess (P.region memory.old) sup.now free.old row.old)) }
+    ensures any_stop { (held : Store) (h : Held) → ShowsRow (P.region memory.old) tables.now.layout held h row.old free.old
+        → IsKnownDead tables.now.layout.sup h.kind row.old.inode h.created h.entries h.pages known → NothingPending (P.region memory.old) (P.may_hold memory.old)
+        → LeavesOnly (P.region memory.new) (P.may_hold memory.new) (LeavesEither (P.region memory.old) tables.now.layout held (PageLess (P.region memory.old) tables.now.layout free.old row.old)) }
     ensures file { KeepsFile row.old row.new }
 {
     // The region's length is a u64, and so is each address up to it.
     let _end = memory.len();
-    let slot = sup.slot_address(row.inode);
+    let slot = slot_of_row(tables, row.inode);
     let created = memory.load(slot + CREATED);
-    let Ok(found) = known_or_first(alloc, &*memory, sup, row, created, known) else {
+    let Ok(found) = known_or_first(alloc, &*memory, tables.sup(), row, created, known) else {
         return Err(Refusal::Memory);
     };
     let place = match found {

@@ -10,13 +10,12 @@ ghost use Rattle.nv_alloc.specs.Taking.{all_blocks};
 ghost use Rattle.nv_alloc.specs.FreeLists.{Refuses};
 ghost use Rattle.nv_logpage.specs.Append.{CanAppend, end_of};
 ghost use Rattle.nv_radix.specs.Pages.{block_at};
-ghost use Rattle.nv_held.specs.Bytes.{byte_in};
+ghost use Rattle.nv_mounted.specs.Bytes.{byte_in};
 ghost use Rattle.nv_bytes.specs.Bytes.{byte_after};
 ghost use Rattle.nv_bytes.specs.Storing.{HoldsPage, InBlocks};
-ghost use Rattle.nv_super.specs.declared.superblock.Super.{Super as SuperValue};
-ghost use Rattle.nv_super.specs.Layout.{fixed_layout};
-ghost use Rattle.nv_held.specs.Held.{Held, Store};
-ghost use Rattle.nv_held.specs.Blocks.{IsUnowned};
+ghost use Rattle.nv_super.specs.Layout.{Layout};
+ghost use Rattle.nv_mounted.specs.Held.{Held, Store};
+ghost use Rattle.nv_mounted.specs.Blocks.{IsUnowned};
 ghost use Rattle.nv_commit.specs.Extends.{CanExtend};
 ghost use Rattle.nv_commit.specs.Stopped.{LeavesEither};
 ghost use Rattle.nv_tree.specs.declared.refusal.Refusal.{Refusal as RefusalValue};
@@ -30,14 +29,16 @@ ghost use Rattle.nv_steps.specs.Keeping.{NeedsFree, SettlesStep};
 use crate::blocks::take_blocks;
 use crate::giving::give_block;
 use crate::settling::{numbers_with, settle_log};
+use crate::slots::slot_of_row;
 use nv_alloc::{AllocRefusal, Allocators};
 use nv_bytes::{Data, NewBytes, store_page};
 use nv_commit::{Extension, extend_log};
 use nv_entry::{AttrEntry, Entry, WriteEntry};
+use nv_inode::Tables;
 use nv_logpage::pages_needed;
 use nv_region::{Pmem, Stopped};
 use nv_scan::{LogPages, Row};
-use nv_super::{BLOCK_SIZE, Super};
+use nv_super::BLOCK_SIZE;
 use nv_tree::Refusal;
 use std::alloc::Global;
 
@@ -46,7 +47,7 @@ use std::alloc::Global;
 pub(crate) fn resize_with_copy<P: Pmem>(
     alloc: Global,
     memory: &mut P,
-    sup: &Super,
+    tables: &Tables,
     free: &mut Allocators,
     cpu: u64,
     row: &mut Row,
@@ -54,23 +55,23 @@ pub(crate) fn resize_with_copy<P: Pmem>(
     from: u64,
 ) -> Result<(), Refusal>
     requires cpu { cpu < free.old.sup.cpus }
-    requires can { CanResize (P.region memory.old) sup.now free.old row.old attributes }
+    requires can { CanResize (P.region memory.old) tables.now.layout free.old row.old attributes }
     requires ends { end_block (block_at row.old.index) row.old.numbers.size attributes.size ≡ Option.Some from }
-    ensures resized { OnOk result (Resizes (P.region memory.old) (P.region memory.new) sup.now free.old cpu row.old attributes row.new free.new) }
+    ensures resized { OnOk result (Resizes (P.region memory.old) (P.region memory.new) tables.now.layout free.old cpu row.old attributes row.new free.new) }
     ensures needs { NeedsFree (blocks_from row.old.tail attributes (Option.Some from)) free.old result }
     ensures kept { SettlesStep P.region P.may_hold P.fuse memory.old memory.new free.old free.new result }
     ensures unchanged { IfErr result (λ e. (e ≡ RefusalValue.Stopped → ⊥) → LeavesStep memory.old memory.new free.old free.new row.old row.new) }
     ensures inode { row.new.inode ≡ row.old.inode }
     // Every word outside these places is as it was.
-    ensures wrote { (held : Store) (h : Held) → ShowsRow (P.region memory.old) sup.now held h row.old free.old
-        → StoresIn sup.now held (one_log sup.now row.old.inode) (P.region memory.old) (P.region memory.new) }
+    ensures wrote { (held : Store) (h : Held) → ShowsRow (P.region memory.old) tables.now.layout held h row.old free.old
+        → StoresIn tables.now.layout held (one_log tables.now.layout row.old.inode) (P.region memory.old) (P.region memory.new) }
     // Whatever a stop leaves: recovery finds what is held, or it with the file's new size, without faults.
-    ensures any_stop { (held : Store) (h : Held) → ShowsRow (P.region memory.old) sup.now held h row.old free.old → NothingPending (P.region memory.old) (P.may_hold memory.old)
-        → LeavesOnly (P.region memory.new) (P.may_hold memory.new) (LeavesEither (P.region memory.old) (fixed_layout sup.now) held
-        (Resized (P.region memory.old) sup.now free.old cpu row.old attributes)) }
+    ensures any_stop { (held : Store) (h : Held) → ShowsRow (P.region memory.old) tables.now.layout held h row.old free.old → NothingPending (P.region memory.old) (P.may_hold memory.old)
+        → LeavesOnly (P.region memory.new) (P.may_hold memory.new) (LeavesEither (P.region memory.old) tables.now.layout held
+        (Resized (P.region memory.old) tables.now.layout free.old cpu row.old attributes)) }
 {
     let bytes = row.numbers.size;
-    let slot = sup.slot_address(row.inode);
+    let slot = slot_of_row(tables, row.inode);
     let tail = row.tail;
     let (to, fresh) = match prepare_copy(alloc, free, cpu, &mut row.pages, tail, attributes) {
         Ok(prepared) => prepared,
@@ -168,13 +169,13 @@ fn copy_end<P: Pmem>(
     ensures length { size (P.region memory.new) ≡ size (P.region memory.old) }
     ensures keeps_fuse { KeepsFuse (λ limit. size (P.region memory.old) ≤ limit) (P.fuse memory.old) (P.fuse memory.new) }
     // Every word outside these places is as it was.
-    ensures wrote { (s : SuperValue) (held : Store) (i : ℕ) (h : Held) → CanExtend (P.region memory.old) s held i h log.now.slot log.now.tail log.now.entries.now log.now.fresh.now
-        → IsUnowned (fixed_layout s) held to
-        → StoresIn s held (one_log s i) (P.region memory.old) (P.region memory.new) }
+    ensures wrote { (l : Layout) (held : Store) (i : ℕ) (h : Held) → CanExtend (P.region memory.old) l held i h log.now.slot log.now.tail log.now.entries.now log.now.fresh.now
+        → IsUnowned l held to
+        → StoresIn l held (one_log l i) (P.region memory.old) (P.region memory.new) }
     // Whatever a stop leaves: recovery finds what is held, or it with the page copied and the log grown, without faults.
-    ensures any_stop { (s : SuperValue) (held : Store) (i : ℕ) (h : Held) → CanExtend (P.region memory.old) s held i h log.now.slot log.now.tail log.now.entries.now log.now.fresh.now
-        → IsUnowned (fixed_layout s) held to → NothingPending (P.region memory.old) (P.may_hold memory.old)
-        → LeavesOnly (P.region memory.new) (P.may_hold memory.new) (LeavesEither (P.region memory.old) (fixed_layout s) held
+    ensures any_stop { (l : Layout) (held : Store) (i : ℕ) (h : Held) → CanExtend (P.region memory.old) l held i h log.now.slot log.now.tail log.now.entries.now log.now.fresh.now
+        → IsUnowned l held to → NothingPending (P.region memory.old) (P.may_hold memory.old)
+        → LeavesOnly (P.region memory.new) (P.may_hold memory.new) (LeavesEither (P.region memory.old) l held
         (λ S. CopiesEnd (P.region memory.old) S from to bytes log.now.slot log.now.tail log.now.entries.now log.now.fresh.now)) }
 {
     copy_page(memory, from, to, bytes)?;

@@ -1,13 +1,13 @@
 //! Two logs that grow together, and the rows that stand for them: all growths first, then the commit, then the rows.
 
-ghost use Rattle.std.specs.Prelude.{◌≡◌, ◌≢◌, ◌+◌, ◌%◌, ◌<◌, ◌≤◌, ℕ, List, [], ◌∷◌, length, IfOk, IfErr, OnOk, OnErr};
+ghost use Rattle.std.specs.Prelude.{◌≡◌, ◌≢◌, ◌+◌, ◌%◌, ◌<◌, ◌≤◌, ℕ, List, [], ◌∷◌, length, IfOk, IfErr, OnOk, OnErr, IsTrue};
 ghost use Rattle.smallvec.specs.SmallVec.{HasRoomFor};
 ghost use Rattle.nv_region.specs.Stops.{LeavesOnly, NothingPending};
-ghost use Rattle.nv_super.specs.Layout.{IsLayout, fixed_layout, inode_limit, slot_address};
+ghost use Rattle.nv_inode.specs.Numbers.{has_slot};
 ghost use Rattle.nv_logpage.specs.Append.{needed};
 ghost use Rattle.nv_names.specs.Names.{name_at};
-ghost use Rattle.nv_held.specs.nv_outcome.Same.{SameRow};
-ghost use Rattle.nv_held.specs.Held.{Held, Store};
+ghost use Rattle.nv_outcome.specs.Same.{SameRow};
+ghost use Rattle.nv_mounted.specs.Held.{Held, Store};
 ghost use Rattle.nv_commit.specs.Stopped.{LeavesEither};
 ghost use Rattle.nv_tree.specs.declared.refusal.Refusal.{Refusal as RefusalValue};
 ghost use Rattle.nv_steps.specs.Grown.{StandsRight};
@@ -19,17 +19,19 @@ ghost use Rattle.nv_steps.specs.InOrder.{TailIsFirst, tail_address};
 ghost use Rattle.nv_steps.specs.Taken.{SamePools, TakesEach};
 ghost use Rattle.nv_steps.specs.Stores.{StoresIn, two_logs};
 ghost use Rattle.nv_steps.specs.Keeping.{NeedsFree, SettlesStep};
+ghost use Rattle.nv_steps.specs.Slots.{slot_in};
 
 use crate::blocks::{are_enough, take_blocks};
 use crate::settling::settle_log;
+use crate::slots::slot_of_row;
 use nv_alloc::{AllocRefusal, Allocators};
 use nv_commit::{Extension, extend_two};
 use nv_entry::Entry;
+use nv_inode::Tables;
 use nv_logpage::pages_needed;
 use nv_names::NameIndex;
 use nv_region::Pmem;
 use nv_scan::Row;
-use nv_super::Super;
 use nv_tree::Refusal;
 use std::alloc::{AllocError, Global};
 
@@ -49,7 +51,7 @@ pub(crate) struct Growth<'a> {
 pub(crate) fn append_logs<P: Pmem>(
     alloc: Global,
     memory: &mut P,
-    sup: &Super,
+    tables: &Tables,
     free: &mut Allocators,
     cpu: u64,
     row: &mut Row,
@@ -58,11 +60,11 @@ pub(crate) fn append_logs<P: Pmem>(
     second: &Growth<'_>,
 ) -> Result<(), Refusal>
     requires apart { row.old.inode ≢ other.old.inode }
-    requires stands { StandsRight (P.region memory.old) sup.now free.old row.old × CanName (P.region memory.old) sup.now cpu row.old.inode row.old }
-    requires other_stands { StandsRight (P.region memory.old) sup.now free.old other.old × CanName (P.region memory.old) sup.now cpu other.old.inode other.old }
+    requires stands { StandsRight (P.region memory.old) tables.now.layout free.old row.old × CanName (P.region memory.old) tables.now.layout cpu row.old.inode row.old }
+    requires other_stands { StandsRight (P.region memory.old) tables.now.layout free.old other.old × CanName (P.region memory.old) tables.now.layout cpu other.old.inode other.old }
     requires given { AreFew first.now.entries.now }
     requires more_given { AreFew second.now.entries.now }
-    ensures appended { OnOk result (AppendsLogs (P.region memory.old) (P.region memory.new) sup.now free.old free.new cpu (row.old ∷ other.old ∷ [])
+    ensures appended { OnOk result (AppendsLogs (P.region memory.old) (P.region memory.new) tables.now.layout free.old free.new cpu (row.old ∷ other.old ∷ [])
         (row.new ∷ other.new ∷ []) 0 first.now.entries.now 1 second.now.entries.now) }
     ensures rooms { OnOk result ((first.now.names ≤ row.new.names.room) × (second.now.names ≤ other.new.names.room)) }
     ensures needs { NeedsFree (needed (row.old.tail % 4096) first.now.entries.now + needed (other.old.tail % 4096) second.now.entries.now) free.old result }
@@ -70,22 +72,22 @@ pub(crate) fn append_logs<P: Pmem>(
     ensures unchanged { IfErr result (λ e. (e ≡ RefusalValue.Stopped → ⊥) → LeavesStep memory.old memory.new free.old free.new row.old row.new × SameRow other.old other.new) }
     ensures inodes { (row.new.inode ≡ row.old.inode) × (other.new.inode ≡ other.old.inode) }
     // Every word outside these places is as it was.
-    ensures wrote { (held : Store) (h g : Held) → ShowsRow (P.region memory.old) sup.now held h row.old free.old → ShowsRow (P.region memory.old) sup.now held g other.old free.old
-        → StoresIn sup.now held (two_logs sup.now cpu row.old.inode other.old.inode) (P.region memory.old) (P.region memory.new) }
+    ensures wrote { (held : Store) (h g : Held) → ShowsRow (P.region memory.old) tables.now.layout held h row.old free.old → ShowsRow (P.region memory.old) tables.now.layout held g other.old free.old
+        → StoresIn tables.now.layout held (two_logs tables.now.layout cpu row.old.inode other.old.inode) (P.region memory.old) (P.region memory.new) }
     // The first log's tail is stored first.
-    ensures in_order { (held : Store) (h g : Held) → ShowsRow (P.region memory.old) sup.now held h row.old free.old → ShowsRow (P.region memory.old) sup.now held g other.old free.old
-        → TailIsFirst (P.region memory.old) (P.region memory.new) sup.now free.old.pools cpu row.old.inode row.old.tail first.now.entries.now (tail_address sup.now other.old.inode) }
+    ensures in_order { (held : Store) (h g : Held) → ShowsRow (P.region memory.old) tables.now.layout held h row.old free.old → ShowsRow (P.region memory.old) tables.now.layout held g other.old free.old
+        → TailIsFirst (P.region memory.old) (P.region memory.new) tables.now.layout free.old.pools cpu row.old.inode row.old.tail first.now.entries.now (tail_address tables.now.layout other.old.inode) }
     // Whatever a stop leaves: recovery finds what is held, or it with both logs grown, without faults.
-    ensures any_stop { (held : Store) (h g : Held) → ShowsRow (P.region memory.old) sup.now held h row.old free.old → ShowsRow (P.region memory.old) sup.now held g other.old free.old
+    ensures any_stop { (held : Store) (h g : Held) → ShowsRow (P.region memory.old) tables.now.layout held h row.old free.old → ShowsRow (P.region memory.old) tables.now.layout held g other.old free.old
         → NothingPending (P.region memory.old) (P.may_hold memory.old)
-        → LeavesOnly (P.region memory.new) (P.may_hold memory.new) (LeavesEither (P.region memory.old) (fixed_layout sup.now) held
-        (AppendedBoth (P.region memory.old) sup.now free.old cpu row.old first.now.entries.now other.old second.now.entries.now)) }
+        → LeavesOnly (P.region memory.new) (P.may_hold memory.new) (LeavesEither (P.region memory.old) tables.now.layout held
+        (AppendedBoth (P.region memory.old) tables.now.layout free.old cpu row.old first.now.entries.now other.old second.now.entries.now)) }
 {
     let blocks = prepare_logs(alloc, free, cpu, row, first, other, second)?;
     let count = blocks_for(row, first) as usize;
     let (fresh, more) = blocks.split_at(count);
-    let one = extension(sup, row, first.entries, fresh);
-    let two = extension(sup, other, second.entries, more);
+    let one = extension(tables, row, first.entries, fresh);
+    let two = extension(tables, other, second.entries, more);
     let Ok((end, last)) = extend_two(memory, cpu, &one, &two) else {
         return Err(Refusal::Stopped);
     };
@@ -103,20 +105,19 @@ pub(crate) fn blocks_for(row: &Row, growth: &Growth<'_>) -> u64
 
 /// Entries for the log of a row, over these blocks.
 pub(crate) fn extension<'a>(
-    sup: &Super,
+    tables: &Tables,
     row: &Row,
     entries: &'a [Entry],
     fresh: &'a [u64],
 ) -> Extension<'a>
-    requires layout { IsLayout sup.now }
-    requires number { row.now.inode < inode_limit sup.now }
-    ensures slot { result.slot ≡ slot_address sup.now row.now.inode }
+    requires number { IsTrue (has_slot tables.now.layout row.now.inode) }
+    ensures slot { result.slot ≡ slot_in tables.now.layout row.now.inode }
     ensures tail { result.tail ≡ row.now.tail }
     ensures entries { result.entries.now ≡ entries.now }
     ensures fresh { result.fresh.now ≡ fresh.now }
 {
     Extension {
-        slot: sup.slot_address(row.inode),
+        slot: slot_of_row(tables, row.inode),
         tail: row.tail,
         entries,
         fresh,

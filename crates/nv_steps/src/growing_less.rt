@@ -3,10 +3,10 @@
 
 ghost use Rattle.std.specs.Prelude.{◌≡◌, ◌≢◌, ◌+◌, ◌%◌, ◌<◌, ◌≤◌, length, IsTrue, IfOk, IfErr, OnOk, OnErr};
 ghost use Rattle.nv_region.specs.Stops.{LeavesOnly, NothingPending};
-ghost use Rattle.nv_super.specs.Layout.{fixed_layout, is_number, slot_address};
+ghost use Rattle.nv_inode.specs.Numbers.{has_slot};
 ghost use Rattle.nv_logpage.specs.Append.{needed};
-ghost use Rattle.nv_held.specs.nv_outcome.Same.{SameRow};
-ghost use Rattle.nv_held.specs.Held.{Held, Store};
+ghost use Rattle.nv_outcome.specs.Same.{SameRow};
+ghost use Rattle.nv_mounted.specs.Held.{Held, Store};
 ghost use Rattle.nv_commit.specs.Stopped.{LeavesEither};
 ghost use Rattle.nv_tree.specs.declared.refusal.Refusal.{Refusal as RefusalValue};
 ghost use Rattle.nv_steps.specs.Across.{AppendedLogsLess, AppendsLogsLess};
@@ -18,15 +18,17 @@ ghost use Rattle.nv_steps.specs.InOrder.{TailIsFirst, TailIsNext, tail_address};
 ghost use Rattle.nv_steps.specs.Taken.{SamePools, TakesEach};
 ghost use Rattle.nv_steps.specs.Stores.{StoresIn, two_less};
 ghost use Rattle.nv_steps.specs.Keeping.{NeedsFree, SettlesStep};
+ghost use Rattle.nv_steps.specs.Slots.{slot_in};
 
 use crate::growing::{Growth, blocks_for, extension, prepare_logs};
 use crate::settling::settle_log;
+use crate::slots::slot_of_row;
 use crate::taking::Displaced;
 use nv_alloc::Allocators;
 use nv_commit::replace_inode;
+use nv_inode::Tables;
 use nv_region::Pmem;
 use nv_scan::Row;
-use nv_super::Super;
 use nv_tree::Refusal;
 use std::alloc::Global;
 
@@ -38,7 +40,7 @@ use std::alloc::Global;
 pub(crate) fn append_logs_less<P: Pmem>(
     alloc: Global,
     memory: &mut P,
-    sup: &Super,
+    tables: &Tables,
     free: &mut Allocators,
     cpu: u64,
     row: &mut Row,
@@ -48,14 +50,14 @@ pub(crate) fn append_logs_less<P: Pmem>(
     gone: Displaced,
 ) -> Result<(), Refusal>
     requires apart { row.old.inode ≢ other.old.inode }
-    requires stands { StandsRight (P.region memory.old) sup.now free.old row.old × CanName (P.region memory.old) sup.now cpu row.old.inode row.old }
-    requires other_stands { StandsRight (P.region memory.old) sup.now free.old other.old × CanName (P.region memory.old) sup.now cpu other.old.inode other.old }
+    requires stands { StandsRight (P.region memory.old) tables.now.layout free.old row.old × CanName (P.region memory.old) tables.now.layout cpu row.old.inode row.old }
+    requires other_stands { StandsRight (P.region memory.old) tables.now.layout free.old other.old × CanName (P.region memory.old) tables.now.layout cpu other.old.inode other.old }
     requires given { AreFew first.now.entries.now }
     requires more_given { AreFew second.now.entries.now }
-    requires number { IsTrue (is_number sup.now gone.inode) }
+    requires number { IsTrue (has_slot tables.now.layout gone.inode) }
     requires differ { row.old.inode ≢ gone.inode }
     requires other_differs { other.old.inode ≢ gone.inode }
-    ensures appended { OnOk result (AppendsLogsLess (P.region memory.old) (P.region memory.new) sup.now free.old free.new cpu row.old row.new first.now.entries.now other.old other.new
+    ensures appended { OnOk result (AppendsLogsLess (P.region memory.old) (P.region memory.new) tables.now.layout free.old free.new cpu row.old row.new first.now.entries.now other.old other.new
         second.now.entries.now gone.inode) }
     ensures rooms { OnOk result ((second.now.names ≤ other.new.names.room) × (gone.blocks ≤ free.new.room)) }
     ensures needs { NeedsFree (needed (row.old.tail % 4096) first.now.entries.now + needed (other.old.tail % 4096) second.now.entries.now) free.old result }
@@ -63,25 +65,25 @@ pub(crate) fn append_logs_less<P: Pmem>(
     ensures unchanged { IfErr result (λ e. (e ≡ RefusalValue.Stopped → ⊥) → LeavesStep memory.old memory.new free.old free.new row.old row.new × SameRow other.old other.new) }
     ensures inodes { (row.new.inode ≡ row.old.inode) × (other.new.inode ≡ other.old.inode) }
     // Every word outside these places is as it was.
-    ensures wrote { (held : Store) (h g : Held) → ShowsRow (P.region memory.old) sup.now held h row.old free.old → ShowsRow (P.region memory.old) sup.now held g other.old free.old
-        → StoresIn sup.now held (two_less sup.now cpu row.old.inode other.old.inode gone.inode) (P.region memory.old) (P.region memory.new) }
+    ensures wrote { (held : Store) (h g : Held) → ShowsRow (P.region memory.old) tables.now.layout held h row.old free.old → ShowsRow (P.region memory.old) tables.now.layout held g other.old free.old
+        → StoresIn tables.now.layout held (two_less tables.now.layout cpu row.old.inode other.old.inode gone.inode) (P.region memory.old) (P.region memory.new) }
     // The tails are stored in their order, and then the valid word.
-    ensures in_order { (held : Store) (h g : Held) → ShowsRow (P.region memory.old) sup.now held h row.old free.old → ShowsRow (P.region memory.old) sup.now held g other.old free.old
-        → TailIsFirst (P.region memory.old) (P.region memory.new) sup.now free.old.pools cpu row.old.inode row.old.tail first.now.entries.now (tail_address sup.now other.old.inode)
-        × TailIsNext (P.region memory.old) (P.region memory.new) sup.now free.old.pools cpu (needed
-        (row.old.tail % 4096) first.now.entries.now) other.old.inode other.old.tail second.now.entries.now (slot_address sup.now gone.inode) }
+    ensures in_order { (held : Store) (h g : Held) → ShowsRow (P.region memory.old) tables.now.layout held h row.old free.old → ShowsRow (P.region memory.old) tables.now.layout held g other.old free.old
+        → TailIsFirst (P.region memory.old) (P.region memory.new) tables.now.layout free.old.pools cpu row.old.inode row.old.tail first.now.entries.now (tail_address tables.now.layout other.old.inode)
+        × TailIsNext (P.region memory.old) (P.region memory.new) tables.now.layout free.old.pools cpu (needed
+        (row.old.tail % 4096) first.now.entries.now) other.old.inode other.old.tail second.now.entries.now (slot_in tables.now.layout gone.inode) }
     // Whatever a stop leaves: recovery finds what is held, or it with both logs grown and without the inode, without faults.
-    ensures any_stop { (held : Store) (h g : Held) → ShowsRow (P.region memory.old) sup.now held h row.old free.old → ShowsRow (P.region memory.old) sup.now held g other.old free.old
+    ensures any_stop { (held : Store) (h g : Held) → ShowsRow (P.region memory.old) tables.now.layout held h row.old free.old → ShowsRow (P.region memory.old) tables.now.layout held g other.old free.old
         → NothingPending (P.region memory.old) (P.may_hold memory.old)
-        → LeavesOnly (P.region memory.new) (P.may_hold memory.new) (LeavesEither (P.region memory.old) (fixed_layout sup.now) held
-        (AppendedLogsLess (P.region memory.old) sup.now free.old cpu row.old first.now.entries.now other.old second.now.entries.now gone.inode)) }
+        → LeavesOnly (P.region memory.new) (P.may_hold memory.new) (LeavesEither (P.region memory.old) tables.now.layout held
+        (AppendedLogsLess (P.region memory.old) tables.now.layout free.old cpu row.old first.now.entries.now other.old second.now.entries.now gone.inode)) }
 {
     let blocks = prepare_logs_less(alloc, free, cpu, row, first, other, second, gone.blocks)?;
     let count = blocks_for(row, first) as usize;
     let (fresh, more) = blocks.split_at(count);
-    let one = extension(sup, row, first.entries, fresh);
-    let two = extension(sup, other, second.entries, more);
-    let slot = sup.slot_address(gone.inode);
+    let one = extension(tables, row, first.entries, fresh);
+    let two = extension(tables, other, second.entries, more);
+    let slot = slot_of_row(tables, gone.inode);
     let Ok((end, last)) = replace_inode(memory, cpu, &one, &two, slot) else {
         return Err(Refusal::Stopped);
     };

@@ -2,10 +2,9 @@
 
 ghost use Rattle.std.specs.Prelude.{◌≡◌, ◌≢◌, ◌+◌, ◌%◌, ◌<◌, ◌≤◌, length, IfOk, IfErr, OnOk, OnErr};
 ghost use Rattle.nv_region.specs.Stops.{LeavesOnly, NothingPending};
-ghost use Rattle.nv_super.specs.Layout.{fixed_layout};
 ghost use Rattle.nv_logpage.specs.Append.{needed};
-ghost use Rattle.nv_held.specs.nv_outcome.Same.{SameRow};
-ghost use Rattle.nv_held.specs.Held.{Held, Store};
+ghost use Rattle.nv_outcome.specs.Same.{SameRow};
+ghost use Rattle.nv_mounted.specs.Held.{Held, Store};
 ghost use Rattle.nv_commit.specs.Stopped.{LeavesEither};
 ghost use Rattle.nv_tree.specs.declared.refusal.Refusal.{Refusal as RefusalValue};
 ghost use Rattle.nv_steps.specs.Across.{AppendedThreeLogs, AppendsThreeLogs};
@@ -23,9 +22,9 @@ use crate::growing::{Growth, blocks_for, extension, make_room};
 use crate::settling::settle_log;
 use nv_alloc::{AllocRefusal, Allocators};
 use nv_commit::extend_three;
+use nv_inode::Tables;
 use nv_region::Pmem;
 use nv_scan::Row;
-use nv_super::Super;
 use nv_tree::Refusal;
 use std::alloc::Global;
 
@@ -37,7 +36,7 @@ use std::alloc::Global;
 pub(crate) fn append_three_logs<P: Pmem>(
     alloc: Global,
     memory: &mut P,
-    sup: &Super,
+    tables: &Tables,
     free: &mut Allocators,
     cpu: u64,
     row: &mut Row,
@@ -48,13 +47,13 @@ pub(crate) fn append_three_logs<P: Pmem>(
     third: &Growth<'_>,
 ) -> Result<(), Refusal>
     requires apart { (row.old.inode ≢ other.old.inode) × (row.old.inode ≢ last.old.inode) × (other.old.inode ≢ last.old.inode) }
-    requires stands { StandsRight (P.region memory.old) sup.now free.old row.old × CanName (P.region memory.old) sup.now cpu row.old.inode row.old }
-    requires other_stands { StandsRight (P.region memory.old) sup.now free.old other.old × CanName (P.region memory.old) sup.now cpu other.old.inode other.old }
-    requires last_stands { StandsRight (P.region memory.old) sup.now free.old last.old × CanName (P.region memory.old) sup.now cpu last.old.inode last.old }
+    requires stands { StandsRight (P.region memory.old) tables.now.layout free.old row.old × CanName (P.region memory.old) tables.now.layout cpu row.old.inode row.old }
+    requires other_stands { StandsRight (P.region memory.old) tables.now.layout free.old other.old × CanName (P.region memory.old) tables.now.layout cpu other.old.inode other.old }
+    requires last_stands { StandsRight (P.region memory.old) tables.now.layout free.old last.old × CanName (P.region memory.old) tables.now.layout cpu last.old.inode last.old }
     requires given { AreFew first.now.entries.now }
     requires more_given { AreFew second.now.entries.now }
     requires last_given { AreFew third.now.entries.now }
-    ensures appended { OnOk result (AppendsThreeLogs (P.region memory.old) (P.region memory.new) sup.now free.old free.new cpu row.old row.new first.now.entries.now other.old other.new
+    ensures appended { OnOk result (AppendsThreeLogs (P.region memory.old) (P.region memory.new) tables.now.layout free.old free.new cpu row.old row.new first.now.entries.now other.old other.new
         second.now.entries.now last.old last.new third.now.entries.now) }
     ensures room { OnOk result (second.now.names ≤ other.new.names.room) }
     ensures needs { NeedsFree (needed (row.old.tail % 4096) first.now.entries.now + needed (other.old.tail % 4096) second.now.entries.now
@@ -64,30 +63,30 @@ pub(crate) fn append_three_logs<P: Pmem>(
         × SameRow last.old last.new) }
     ensures inodes { (row.new.inode ≡ row.old.inode) × (other.new.inode ≡ other.old.inode) × (last.new.inode ≡ last.old.inode) }
     // Every word outside these places is as it was.
-    ensures wrote { (held : Store) (h g f : Held) → ShowsRow (P.region memory.old) sup.now held h row.old free.old → ShowsRow (P.region memory.old) sup.now held g other.old free.old
-        → ShowsRow (P.region memory.old) sup.now held f last.old free.old
-        → StoresIn sup.now held (three_logs sup.now cpu row.old.inode other.old.inode last.old.inode) (P.region memory.old) (P.region memory.new) }
+    ensures wrote { (held : Store) (h g f : Held) → ShowsRow (P.region memory.old) tables.now.layout held h row.old free.old → ShowsRow (P.region memory.old) tables.now.layout held g other.old free.old
+        → ShowsRow (P.region memory.old) tables.now.layout held f last.old free.old
+        → StoresIn tables.now.layout held (three_logs tables.now.layout cpu row.old.inode other.old.inode last.old.inode) (P.region memory.old) (P.region memory.new) }
     // The tails are stored in their order.
-    ensures in_order { (held : Store) (h g f : Held) → ShowsRow (P.region memory.old) sup.now held h row.old free.old → ShowsRow (P.region memory.old) sup.now held g other.old free.old
-        → ShowsRow (P.region memory.old) sup.now held f last.old free.old
-        → TailIsFirst (P.region memory.old) (P.region memory.new) sup.now free.old.pools cpu row.old.inode row.old.tail first.now.entries.now (tail_address sup.now other.old.inode)
-        × TailIsNext (P.region memory.old) (P.region memory.new) sup.now free.old.pools cpu (needed
-        (row.old.tail % 4096) first.now.entries.now) other.old.inode other.old.tail second.now.entries.now (tail_address sup.now last.old.inode) }
+    ensures in_order { (held : Store) (h g f : Held) → ShowsRow (P.region memory.old) tables.now.layout held h row.old free.old → ShowsRow (P.region memory.old) tables.now.layout held g other.old free.old
+        → ShowsRow (P.region memory.old) tables.now.layout held f last.old free.old
+        → TailIsFirst (P.region memory.old) (P.region memory.new) tables.now.layout free.old.pools cpu row.old.inode row.old.tail first.now.entries.now (tail_address tables.now.layout other.old.inode)
+        × TailIsNext (P.region memory.old) (P.region memory.new) tables.now.layout free.old.pools cpu (needed
+        (row.old.tail % 4096) first.now.entries.now) other.old.inode other.old.tail second.now.entries.now (tail_address tables.now.layout last.old.inode) }
     // Whatever a stop leaves: recovery finds what is held, or it with all logs grown, without faults.
-    ensures any_stop { (held : Store) (h g f : Held) → ShowsRow (P.region memory.old) sup.now held h row.old free.old → ShowsRow (P.region memory.old) sup.now held g other.old free.old
-        → ShowsRow (P.region memory.old) sup.now held f last.old free.old
+    ensures any_stop { (held : Store) (h g f : Held) → ShowsRow (P.region memory.old) tables.now.layout held h row.old free.old → ShowsRow (P.region memory.old) tables.now.layout held g other.old free.old
+        → ShowsRow (P.region memory.old) tables.now.layout held f last.old free.old
         → NothingPending (P.region memory.old) (P.may_hold memory.old)
-        → LeavesOnly (P.region memory.new) (P.may_hold memory.new) (LeavesEither (P.region memory.old) (fixed_layout sup.now) held
-        (AppendedThreeLogs (P.region memory.old) sup.now free.old cpu row.old first.now.entries.now other.old second.now.entries.now last.old third.now.entries.now)) }
+        → LeavesOnly (P.region memory.new) (P.may_hold memory.new) (LeavesEither (P.region memory.old) tables.now.layout held
+        (AppendedThreeLogs (P.region memory.old) tables.now.layout free.old cpu row.old first.now.entries.now other.old second.now.entries.now last.old third.now.entries.now)) }
 {
     let blocks = prepare_three(alloc, free, cpu, row, first, other, second, last, third)?;
     let count = blocks_for(row, first) as usize;
     let (fresh, later) = blocks.split_at(count);
     let next = blocks_for(other, second) as usize;
     let (more, rest) = later.split_at(next);
-    let one = extension(sup, row, first.entries, fresh);
-    let two = extension(sup, other, second.entries, more);
-    let three = extension(sup, last, third.entries, rest);
+    let one = extension(tables, row, first.entries, fresh);
+    let two = extension(tables, other, second.entries, more);
+    let three = extension(tables, last, third.entries, rest);
     let Ok(ends) = extend_three(memory, cpu, &one, &two, &three) else {
         return Err(Refusal::Stopped);
     };

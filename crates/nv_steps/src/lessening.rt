@@ -1,13 +1,12 @@
 //! A log that grows while another inode goes, and the row that stands for it: all growths first, then the commit, then the row.
 
 ghost use Rattle.std.specs.Prelude.{◌≡◌, ◌≢◌, ◌%◌, ◌<◌, ◌≤◌, length, IfOk, IfErr, OnOk, OnErr};
-ghost use Rattle.nv_super.specs.Layout.{fixed_layout, slot_address};
 ghost use Rattle.smallvec.specs.SmallVec.{HasRoomFor};
 ghost use Rattle.nv_region.specs.Stops.{LeavesOnly, NothingPending};
 ghost use Rattle.nv_logpage.specs.Append.{AreGiven, needed};
 ghost use Rattle.nv_names.specs.Names.{EachOnce};
-ghost use Rattle.nv_held.specs.nv_outcome.Same.{SameRow};
-ghost use Rattle.nv_held.specs.Held.{Held, Store};
+ghost use Rattle.nv_outcome.specs.Same.{SameRow};
+ghost use Rattle.nv_mounted.specs.Held.{Held, Store};
 ghost use Rattle.nv_commit.specs.Stopped.{LeavesEither};
 ghost use Rattle.nv_tree.specs.declared.refusal.Refusal.{Refusal as RefusalValue};
 ghost use Rattle.nv_steps.specs.Grown.{HasGrown, StandsRight};
@@ -18,15 +17,17 @@ ghost use Rattle.nv_steps.specs.Stores.{StoresIn, one_less};
 ghost use Rattle.nv_steps.specs.Takes.{AppendedLess, AppendsLess};
 ghost use Rattle.nv_steps.specs.Taken.{SamePools, TakesEach};
 ghost use Rattle.nv_steps.specs.Keeping.{NeedsFree, SettlesStep};
+ghost use Rattle.nv_steps.specs.Slots.{slot_in};
 
 use crate::preparing::prepare_log;
 use crate::settling::settle_log;
+use crate::slots::slot_of_row;
 use nv_alloc::{AllocRefusal, Allocators};
 use nv_commit::{Extension, remove_inode};
 use nv_entry::Entry;
+use nv_inode::Tables;
 use nv_region::Pmem;
 use nv_scan::Row;
-use nv_super::Super;
 use nv_tree::Refusal;
 use std::alloc::Global;
 
@@ -38,7 +39,7 @@ use std::alloc::Global;
 pub fn append_less<P: Pmem>(
     alloc: Global,
     memory: &mut P,
-    sup: &Super,
+    tables: &Tables,
     free: &mut Allocators,
     cpu: u64,
     row: &mut Row,
@@ -46,36 +47,36 @@ pub fn append_less<P: Pmem>(
     gone: u64,
     coming: usize,
 ) -> Result<(), Refusal>
-    requires stands { StandsRight (P.region memory.old) sup.now free.old row.old }
-    requires can { CanName (P.region memory.old) sup.now cpu gone row.old }
+    requires stands { StandsRight (P.region memory.old) tables.now.layout free.old row.old }
+    requires can { CanName (P.region memory.old) tables.now.layout cpu gone row.old }
     requires differ { row.old.inode ≢ gone }
     requires given { AreGiven entries.now }
     requires some { 0 < length entries.now }
-    ensures appended { OnOk result (AppendsLess (P.region memory.old) (P.region memory.new) sup.now free.old free.new cpu row.old row.new gone entries.now) }
+    ensures appended { OnOk result (AppendsLess (P.region memory.old) (P.region memory.new) tables.now.layout free.old free.new cpu row.old row.new gone entries.now) }
     ensures room { OnOk result (coming ≤ free.new.room) }
     ensures needs { NeedsFree (needed (row.old.tail % 4096) entries.now) free.old result }
     ensures kept { SettlesStep P.region P.may_hold P.fuse memory.old memory.new free.old free.new result }
     ensures unchanged { IfErr result (λ e. (e ≡ RefusalValue.Stopped → ⊥) → LeavesStep memory.old memory.new free.old free.new row.old row.new) }
     ensures row { (row.new.inode ≡ row.old.inode) × (row.new.names.room ≡ row.old.names.room) }
     // Every word outside these places is as it was.
-    ensures wrote { (held : Store) (h : Held) → ShowsRow (P.region memory.old) sup.now held h row.old free.old
-        → StoresIn sup.now held (one_less sup.now cpu row.old.inode gone) (P.region memory.old) (P.region memory.new) }
+    ensures wrote { (held : Store) (h : Held) → ShowsRow (P.region memory.old) tables.now.layout held h row.old free.old
+        → StoresIn tables.now.layout held (one_less tables.now.layout cpu row.old.inode gone) (P.region memory.old) (P.region memory.new) }
     // The log's tail is stored first.
-    ensures in_order { (held : Store) (h : Held) → ShowsRow (P.region memory.old) sup.now held h row.old free.old
-        → TailIsFirst (P.region memory.old) (P.region memory.new) sup.now free.old.pools cpu row.old.inode row.old.tail entries.now (slot_address sup.now gone) }
+    ensures in_order { (held : Store) (h : Held) → ShowsRow (P.region memory.old) tables.now.layout held h row.old free.old
+        → TailIsFirst (P.region memory.old) (P.region memory.new) tables.now.layout free.old.pools cpu row.old.inode row.old.tail entries.now (slot_in tables.now.layout gone) }
     // Whatever a stop leaves: recovery finds what is held, or it with the entries and without the inode, without faults.
-    ensures any_stop { (held : Store) (h : Held) → ShowsRow (P.region memory.old) sup.now held h row.old free.old → NothingPending (P.region memory.old) (P.may_hold memory.old)
-        → LeavesOnly (P.region memory.new) (P.may_hold memory.new) (LeavesEither (P.region memory.old) (fixed_layout sup.now) held
-        (AppendedLess (P.region memory.old) sup.now free.old cpu row.old gone entries.now)) }
+    ensures any_stop { (held : Store) (h : Held) → ShowsRow (P.region memory.old) tables.now.layout held h row.old free.old → NothingPending (P.region memory.old) (P.may_hold memory.old)
+        → LeavesOnly (P.region memory.new) (P.may_hold memory.new) (LeavesEither (P.region memory.old) tables.now.layout held
+        (AppendedLess (P.region memory.old) tables.now.layout free.old cpu row.old gone entries.now)) }
 {
     let fresh = prepare_cut(alloc, free, cpu, row, entries, coming)?;
     let parent = Extension {
-        slot: sup.slot_address(row.inode),
+        slot: slot_of_row(tables, row.inode),
         tail: row.tail,
         entries,
         fresh: &fresh,
     };
-    let Ok(end) = remove_inode(memory, cpu, &parent, sup.slot_address(gone)) else {
+    let Ok(end) = remove_inode(memory, cpu, &parent, slot_of_row(tables, gone)) else {
         return Err(Refusal::Stopped);
     };
     settle_less(row, &fresh, end);

@@ -1,13 +1,12 @@
 //! One more name of a file, by the rows of the file and of the directory.
 
 ghost use Rattle.std.specs.Prelude.{◌≡◌, ◌≢◌, ◌+◌, ◌%◌, ◌<◌, [], ◌∷◌, Option, Result, IfErr, OnOk};
-ghost use Rattle.nv_super.specs.Layout.{fixed_layout};
 ghost use Rattle.nv_region.specs.Stops.{LeavesOnly, NothingPending};
 ghost use Rattle.nv_entry.specs.declared.entry.Operation.TheVariants.{Add};
 ghost use Rattle.nv_logpage.specs.Append.{needed};
 ghost use Rattle.nv_names.specs.Names.{IsName, name_at};
-ghost use Rattle.nv_held.specs.nv_outcome.Same.{SameRow};
-ghost use Rattle.nv_held.specs.Held.{Held, Store};
+ghost use Rattle.nv_outcome.specs.Same.{SameRow};
+ghost use Rattle.nv_mounted.specs.Held.{Held, Store};
 ghost use Rattle.nv_commit.specs.Stopped.{LeavesEither};
 ghost use Rattle.nv_tree.specs.Calls.{linked};
 ghost use Rattle.nv_tree.specs.declared.refusal.Refusal.{Refusal as RefusalValue};
@@ -25,9 +24,9 @@ use crate::growing::{Growth, append_logs};
 use crate::settling_names::{add_name, set_links};
 use nv_alloc::Allocators;
 use nv_entry::{Entry, LinksEntry, Operation, length, name_entry};
+use nv_inode::Tables;
 use nv_region::Pmem;
 use nv_scan::Row;
-use nv_super::Super;
 use nv_tree::Refusal;
 use std::alloc::Global;
 
@@ -38,7 +37,7 @@ use std::alloc::Global;
 pub fn link_both<P: Pmem>(
     alloc: Global,
     memory: &mut P,
-    sup: &Super,
+    tables: &Tables,
     free: &mut Allocators,
     cpu: u64,
     file: &mut Row,
@@ -47,11 +46,11 @@ pub fn link_both<P: Pmem>(
     time: u64,
 ) -> Result<(), Refusal>
     requires apart { file.old.inode ≢ directory.old.inode }
-    requires stands { StandsRight (P.region memory.old) sup.now free.old file.old × CanName (P.region memory.old) sup.now cpu file.old.inode file.old }
-    requires directory_stands { StandsRight (P.region memory.old) sup.now free.old directory.old × CanName (P.region memory.old) sup.now cpu directory.old.inode directory.old }
+    requires stands { StandsRight (P.region memory.old) tables.now.layout free.old file.old × CanName (P.region memory.old) tables.now.layout cpu file.old.inode file.old }
+    requires directory_stands { StandsRight (P.region memory.old) tables.now.layout free.old directory.old × CanName (P.region memory.old) tables.now.layout cpu directory.old.inode directory.old }
     requires few { file.old.numbers.links < 1000 }
     requires name { IsName name.now }
-    ensures linked { OnOk result (LinksAt (P.region memory.old) (P.region memory.new) sup.now free.old free.new cpu (file.old ∷ directory.old ∷ []) (file.new ∷ directory.new ∷ []) 0 1 name.now time) }
+    ensures linked { OnOk result (LinksAt (P.region memory.old) (P.region memory.new) tables.now.layout free.old free.new cpu (file.old ∷ directory.old ∷ []) (file.new ∷ directory.new ∷ []) 0 1 name.now time) }
     ensures needs { NeedsFree (needed (file.old.tail % 4096) (links_entries (file.old.numbers.links + 1) time)
         + needed (directory.old.tail % 4096) (name_entries Add file.old.inode name.now time)) free.old result }
     ensures kept { SettlesStep P.region P.may_hold P.fuse memory.old memory.new free.old free.new result }
@@ -59,17 +58,17 @@ pub fn link_both<P: Pmem>(
     ensures inode { file.new.inode ≡ file.old.inode }
     ensures directory_inode { directory.new.inode ≡ directory.old.inode }
     // Every word outside these places is as it was.
-    ensures wrote { (held : Store) (h g : Held) → ShowsRow (P.region memory.old) sup.now held h file.old free.old → ShowsRow (P.region memory.old) sup.now held g directory.old free.old
-        → StoresIn sup.now held (two_logs sup.now cpu file.old.inode directory.old.inode) (P.region memory.old) (P.region memory.new) }
+    ensures wrote { (held : Store) (h g : Held) → ShowsRow (P.region memory.old) tables.now.layout held h file.old free.old → ShowsRow (P.region memory.old) tables.now.layout held g directory.old free.old
+        → StoresIn tables.now.layout held (two_logs tables.now.layout cpu file.old.inode directory.old.inode) (P.region memory.old) (P.region memory.new) }
     // The file's tail is stored first.
-    ensures in_order { (held : Store) (h g : Held) → ShowsRow (P.region memory.old) sup.now held h file.old free.old → ShowsRow (P.region memory.old) sup.now held g directory.old free.old
-        → TailIsFirst (P.region memory.old) (P.region memory.new) sup.now free.old.pools cpu file.old.inode file.old.tail (links_entries
-        (file.old.numbers.links + 1) time) (tail_address sup.now directory.old.inode) }
+    ensures in_order { (held : Store) (h g : Held) → ShowsRow (P.region memory.old) tables.now.layout held h file.old free.old → ShowsRow (P.region memory.old) tables.now.layout held g directory.old free.old
+        → TailIsFirst (P.region memory.old) (P.region memory.new) tables.now.layout free.old.pools cpu file.old.inode file.old.tail (links_entries
+        (file.old.numbers.links + 1) time) (tail_address tables.now.layout directory.old.inode) }
     // Whatever a stop leaves: recovery finds what is held, or it with the link and the name, without faults.
-    ensures any_stop { (held : Store) (h g : Held) → ShowsRow (P.region memory.old) sup.now held h file.old free.old → ShowsRow (P.region memory.old) sup.now held g directory.old free.old
+    ensures any_stop { (held : Store) (h g : Held) → ShowsRow (P.region memory.old) tables.now.layout held h file.old free.old → ShowsRow (P.region memory.old) tables.now.layout held g directory.old free.old
         → name_at directory.old.names name.now ≡ Option.None → NothingPending (P.region memory.old) (P.may_hold memory.old)
-        → LeavesOnly (P.region memory.new) (P.may_hold memory.new) (LeavesEither (P.region memory.old) (fixed_layout sup.now) held
-        (Linked (P.region memory.old) sup.now free.old cpu file.old directory.old name.now time)) }
+        → LeavesOnly (P.region memory.new) (P.may_hold memory.new) (LeavesEither (P.region memory.old) tables.now.layout held
+        (Linked (P.region memory.old) tables.now.layout free.old cpu file.old directory.old name.now time)) }
 {
     let inode = file.inode;
     let count = file.numbers.links + 1;
@@ -84,7 +83,7 @@ pub fn link_both<P: Pmem>(
         names: 1,
     };
     append_logs(
-        alloc, memory, sup, free, cpu, file, &first, directory, &second,
+        alloc, memory, tables, free, cpu, file, &first, directory, &second,
     )?;
     set_links(file, count, time);
     let place = directory.tail - length(&names[0]);

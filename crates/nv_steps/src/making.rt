@@ -1,7 +1,6 @@
 //! A new inode and its name, over blocks that are taken for both logs: all growths first, then the commit, then the rows.
 
 ghost use Rattle.std.specs.Prelude.{◌≡◌, ◌+◌, ◌*◌, ◌<◌, ◌≤◌, ◌%◌, ◌^◌, [], ◌∷◌, length, IfOk, IfErr, OnOk, OnErr, None};
-ghost use Rattle.nv_super.specs.Layout.{fixed_layout, slot_address};
 ghost use Rattle.nv_journal.specs.InOrder.{FirstIsFirst};
 ghost use Rattle.smallvec.specs.SmallVec.{HasRoomFor};
 ghost use Rattle.nv_region.specs.Region.{size};
@@ -10,9 +9,9 @@ ghost use Rattle.nv_entry.specs.declared.entry.Operation.{Operation as Operation
 ghost use Rattle.nv_entry.specs.declared.entry.Entry.TheVariants.{Attr};
 ghost use Rattle.nv_logpage.specs.Append.{needed};
 ghost use Rattle.nv_names.specs.Names.{EachOnce, IsName, name_at};
-ghost use Rattle.nv_held.specs.Held.{Held, Store};
+ghost use Rattle.nv_mounted.specs.Held.{Held, Store};
 ghost use Rattle.nv_commit.specs.Stopped.{LeavesEither};
-ghost use Rattle.nv_held.specs.nv_outcome.Same.{SameRow};
+ghost use Rattle.nv_outcome.specs.Same.{SameRow};
 ghost use Rattle.nv_tree.specs.declared.refusal.Refusal.{Refusal as RefusalValue};
 ghost use Rattle.nv_steps.specs.Grown.{StandsRight};
 ghost use Rattle.nv_steps.specs.NameEntries.{first_entries, name_entries};
@@ -23,18 +22,21 @@ ghost use Rattle.nv_steps.specs.InOrder.{tail_address};
 ghost use Rattle.nv_steps.specs.Taken.{SamePools, TakesEach};
 ghost use Rattle.nv_steps.specs.Stores.{StoresIn, one_more};
 ghost use Rattle.nv_steps.specs.Keeping.{NeedsFree, SettlesStep};
+ghost use Rattle.nv_steps.specs.Slots.{slot_in};
 
 use crate::blocks::take_blocks;
 use crate::settling::settle_log;
+use crate::slots::slot_of_row;
 use nv_alloc::{AllocRefusal, Allocators};
 use nv_commit::{Extension, NewInode, make_inode};
 use nv_entry::{AttrEntry, Entry, Operation, length, name_entry};
+use nv_inode::Tables;
 use nv_logpage::pages_needed;
 use nv_names::NameIndex;
 use nv_radix::FileIndex;
 use nv_region::Pmem;
 use nv_scan::{LogPages, Numbers, Row};
-use nv_super::{BLOCK_SIZE, Kind, Super};
+use nv_super::{BLOCK_SIZE, Kind};
 use nv_tree::Refusal;
 use std::alloc::{AllocError, Global};
 
@@ -58,45 +60,45 @@ pub struct NewName<'a> {
 pub fn make_named<P: Pmem>(
     alloc: Global,
     memory: &mut P,
-    sup: &Super,
+    tables: &Tables,
     free: &mut Allocators,
     cpu: u64,
     directory: &mut Row,
     new: &NewName<'_>,
 ) -> Result<Row, Refusal>
-    requires stands { StandsRight (P.region memory.old) sup.now free.old directory.old }
-    requires can { CanName (P.region memory.old) sup.now cpu new.now.inode directory.old }
+    requires stands { StandsRight (P.region memory.old) tables.now.layout free.old directory.old }
+    requires can { CanName (P.region memory.old) tables.now.layout cpu new.now.inode directory.old }
     requires name { IsName new.now.name.now }
-    ensures made { IfOk result (λ row. MakesNamed (P.region memory.old) (P.region memory.new) sup.now free.old free.new cpu directory.old directory.new new.now.kind new.now.mode new.now.time
+    ensures made { IfOk result (λ row. MakesNamed (P.region memory.old) (P.region memory.new) tables.now.layout free.old free.new cpu directory.old directory.new new.now.kind new.now.mode new.now.time
         new.now.inode new.now.name.now row) }
     ensures needs { NeedsFree (1 + needed (directory.old.tail % 4096) (name_entries OperationValue.Add new.now.inode new.now.name.now new.now.time)) free.old result }
     ensures kept { SettlesStep P.region P.may_hold P.fuse memory.old memory.new free.old free.new result }
     ensures unchanged { IfErr result (λ e. (e ≡ RefusalValue.Stopped → ⊥) → LeavesStep memory.old memory.new free.old free.new directory.old directory.new) }
     ensures inode { directory.new.inode ≡ directory.old.inode }
     // Every word outside these places is as it was.
-    ensures wrote { (held : Store) (h : Held) → ShowsRow (P.region memory.old) sup.now held h directory.old free.old → held new.now.inode ≡ None
-        → StoresIn sup.now held (one_more sup.now cpu new.now.inode directory.old.inode) (P.region memory.old) (P.region memory.new) }
+    ensures wrote { (held : Store) (h : Held) → ShowsRow (P.region memory.old) tables.now.layout held h directory.old free.old → held new.now.inode ≡ None
+        → StoresIn tables.now.layout held (one_more tables.now.layout cpu new.now.inode directory.old.inode) (P.region memory.old) (P.region memory.new) }
     // The new inode's valid word is stored first.
-    ensures in_order { (held : Store) (h : Held) → ShowsRow (P.region memory.old) sup.now held h directory.old free.old → held new.now.inode ≡ None
-        → FirstIsFirst (P.region memory.old) (slot_address sup.now new.now.inode) 1 (tail_address sup.now directory.old.inode) (P.region memory.new) }
+    ensures in_order { (held : Store) (h : Held) → ShowsRow (P.region memory.old) tables.now.layout held h directory.old free.old → held new.now.inode ≡ None
+        → FirstIsFirst (P.region memory.old) (slot_in tables.now.layout new.now.inode) 1 (tail_address tables.now.layout directory.old.inode) (P.region memory.new) }
     // What a stop leaves, at any exit.
-    ensures any_stop { (held : Store) (h : Held) → ShowsRow (P.region memory.old) sup.now held h directory.old free.old → held new.now.inode ≡ None
+    ensures any_stop { (held : Store) (h : Held) → ShowsRow (P.region memory.old) tables.now.layout held h directory.old free.old → held new.now.inode ≡ None
         → name_at directory.old.names new.now.name.now ≡ None → NothingPending (P.region memory.old) (P.may_hold memory.old)
-        → LeavesOnly (P.region memory.new) (P.may_hold memory.new) (LeavesEither (P.region memory.old) (fixed_layout sup.now) held
-        (Named (P.region memory.old) sup.now free.old cpu directory.old new.now.kind new.now.mode new.now.time new.now.inode new.now.name.now)) }
+        → LeavesOnly (P.region memory.new) (P.may_hold memory.new) (LeavesEither (P.region memory.old) tables.now.layout held
+        (Named (P.region memory.old) tables.now.layout free.old cpu directory.old new.now.kind new.now.mode new.now.time new.now.inode new.now.name.now)) }
 {
     let entries = [name_entry(Operation::Add, new.inode, new.name, new.time)];
     let blocks = prepare_name(alloc, free, cpu, directory, &entries)?;
     let first = [Entry::Attr(first_attributes(new.mode, new.time))];
     let inode = NewInode {
-        slot: sup.slot_address(new.inode),
+        slot: slot_of_row(tables, new.inode),
         kind: new.kind,
         created: new.time,
         page: blocks[0],
         entries: &first,
     };
     let parent = Extension {
-        slot: sup.slot_address(directory.inode),
+        slot: slot_of_row(tables, directory.inode),
         tail: directory.tail,
         entries: &entries,
         fresh: &blocks[1..],

@@ -2,12 +2,13 @@
 
 ghost use Rattle.std.specs.Prelude.{◌≡◌, ◌<◌, ◌≤◌, ◌+◌, ◌*◌, ◌%◌, ◌^◌, ℕ, length, Some, IfOk, IfErr, IfSome, OnOk, OnErr};
 ghost use Rattle.std.specs.List.{Contains};
+ghost use Rattle.nv_super.specs.Layout.{most_pages};
 ghost use Rattle.smallvec.specs.SmallVec.{HasRoomFor};
 ghost use Rattle.nv_super.specs.declared.owners.Run.{Run as RunValue};
 ghost use Rattle.nv_alloc.specs.FreeLists.{SameLists};
 ghost use Rattle.nv_alloc.specs.Taking.{all_blocks, blocks_in};
 ghost use Rattle.nv_logpage.specs.Append.{needed};
-ghost use Rattle.nv_held.specs.nv_outcome.Same.{SameRow};
+ghost use Rattle.nv_outcome.specs.Same.{SameRow};
 ghost use Rattle.nv_radix.specs.Pages.{AreReady, block_at};
 ghost use Rattle.nv_alloc.specs.declared.allocators.AllocRefusal.TheVariants.{NoSpace};
 ghost use Rattle.nv_steps.specs.Taken.{SamePools, TakesEach};
@@ -51,8 +52,8 @@ pub(crate) fn prepare_data(
 ) -> Result<Ready, AllocRefusal>
     requires cpu { cpu < free.old.sup.cpus }
     requires some { 0 < plan.now.pages }
-    requires pages { plan.now.first + plan.now.pages ≤ 262144 }
-    requires ending { IfSome plan.now.ending (λ p. p < 262144) }
+    requires pages { plan.now.first + plan.now.pages ≤ most_pages }
+    requires ending { IfSome plan.now.ending (λ p. p < most_pages) }
     ensures prepared { IfOk result (λ ready. Prepared free.old cpu row.old.tail plan.now ready.log.entries.items ready.log.fresh.items free.new) }
     ensures replaced { IfOk result (λ ready. ready.replaced.items ≡ replaced_blocks row.old.index plan.now) }
     ensures room { IfOk result (λ ready. length ready.replaced.items ≤ free.new.room) }
@@ -87,8 +88,8 @@ fn make_room(
     index: &mut FileIndex,
     plan: &Plan,
 ) -> Result<Vec<Run>, AllocError>
-    requires pages { plan.now.first + plan.now.pages ≤ 262144 }
-    requires ending { IfSome plan.now.ending (λ p. p < 262144) }
+    requires pages { plan.now.first + plan.now.pages ≤ most_pages }
+    requires ending { IfSome plan.now.ending (λ p. p < most_pages) }
     ensures replaced { IfOk result (λ runs. runs.items ≡ replaced_blocks index.old plan.now) }
     ensures count { IfOk result (λ runs. length runs.items ≤ data_blocks plan.now) }
     ensures room { OnOk result (2 * data_blocks plan.now ≤ free.new.room) }
@@ -120,8 +121,8 @@ fn prepare_entries(
     requires cpu { cpu < free.old.sup.cpus }
     requires some { 0 < length runs.now }
     requires blocks { (r : RunValue) → Contains runs.now r → (0 < r.count) × (r.start < 2 ^ 62) }
-    requires ending { IfSome plan.now.ending (λ p. p < 262144) }
-    requires pages { plan.now.first + plan.now.pages ≤ 262144 }
+    requires ending { IfSome plan.now.ending (λ p. p < most_pages) }
+    requires pages { plan.now.first + plan.now.pages ≤ most_pages }
     requires count { blocks_in runs.now ≡ data_blocks plan.now }
     ensures entries { IfOk result (λ log. log.entries.items ≡ data_entries plan.now runs.now) }
     ensures taken { IfOk result (λ log. TakesEach free.old cpu log.fresh.items free.new) }

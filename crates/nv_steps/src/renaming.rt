@@ -1,13 +1,12 @@
 //! Another name for an inode, by the rows of one directory or of two.
 
 ghost use Rattle.std.specs.Prelude.{◌≡◌, ◌≢◌, ◌+◌, ◌%◌, ◌<◌, [], ◌∷◌, Option, Result, IfErr, OnOk};
-ghost use Rattle.nv_super.specs.Layout.{fixed_layout};
 ghost use Rattle.nv_region.specs.Stops.{LeavesOnly, NothingPending};
 ghost use Rattle.nv_entry.specs.declared.entry.Operation.TheVariants.{Add, Remove};
 ghost use Rattle.nv_logpage.specs.Append.{needed};
 ghost use Rattle.nv_names.specs.Names.{IsName, name_at};
-ghost use Rattle.nv_held.specs.nv_outcome.Same.{SameRow};
-ghost use Rattle.nv_held.specs.Held.{Held, Store};
+ghost use Rattle.nv_outcome.specs.Same.{SameRow};
+ghost use Rattle.nv_mounted.specs.Held.{Held, Store};
 ghost use Rattle.nv_commit.specs.Stopped.{LeavesEither};
 ghost use Rattle.nv_tree.specs.declared.refusal.Refusal.{Refusal as RefusalValue};
 ghost use Rattle.nv_steps.specs.Grown.{StandsRight};
@@ -28,10 +27,10 @@ use crate::growing::{Growth, append_logs};
 use crate::settling_names::{add_name, remove_name};
 use nv_alloc::Allocators;
 use nv_entry::{Operation, length, name_entry};
+use nv_inode::Tables;
 use nv_logpage::pages_needed;
 use nv_region::Pmem;
 use nv_scan::Row;
-use nv_super::Super;
 use nv_tree::Refusal;
 use std::alloc::Global;
 
@@ -51,30 +50,30 @@ pub struct OtherName<'a> {
 pub fn move_within<P: Pmem>(
     alloc: Global,
     memory: &mut P,
-    sup: &Super,
+    tables: &Tables,
     free: &mut Allocators,
     cpu: u64,
     directory: &mut Row,
     moved: &OtherName<'_>,
 ) -> Result<(), Refusal>
     requires cpu { cpu < free.old.sup.cpus }
-    requires stands { StandsRight (P.region memory.old) sup.now free.old directory.old }
+    requires stands { StandsRight (P.region memory.old) tables.now.layout free.old directory.old }
     requires name { IsName moved.now.name.now }
     requires other { IsName moved.now.other.now }
-    ensures moved { OnOk result (MovesWithin (P.region memory.old) (P.region memory.new) sup.now free.old free.new cpu directory.old directory.new moved.now.inode moved.now.name.now
+    ensures moved { OnOk result (MovesWithin (P.region memory.old) (P.region memory.new) tables.now.layout free.old free.new cpu directory.old directory.new moved.now.inode moved.now.name.now
         moved.now.other.now moved.now.time) }
     ensures needs { NeedsFree (needed (directory.old.tail % 4096) (move_entries moved.now.inode moved.now.name.now moved.now.other.now moved.now.time)) free.old result }
     ensures kept { SettlesStep P.region P.may_hold P.fuse memory.old memory.new free.old free.new result }
     ensures unchanged { IfErr result (λ e. (e ≡ RefusalValue.Stopped → ⊥) → LeavesStep memory.old memory.new free.old free.new directory.old directory.new) }
     ensures inode { directory.new.inode ≡ directory.old.inode }
     // Every word outside these places is as it was.
-    ensures wrote { (held : Store) (h : Held) → ShowsRow (P.region memory.old) sup.now held h directory.old free.old
-        → StoresIn sup.now held (one_log sup.now directory.old.inode) (P.region memory.old) (P.region memory.new) }
+    ensures wrote { (held : Store) (h : Held) → ShowsRow (P.region memory.old) tables.now.layout held h directory.old free.old
+        → StoresIn tables.now.layout held (one_log tables.now.layout directory.old.inode) (P.region memory.old) (P.region memory.new) }
     // Whatever a stop leaves: recovery finds what is held, or it with the other name, without faults.
-    ensures any_stop { (held : Store) (h : Held) → ShowsRow (P.region memory.old) sup.now held h directory.old free.old → name_at directory.old.names moved.now.other.now ≡ Option.None
+    ensures any_stop { (held : Store) (h : Held) → ShowsRow (P.region memory.old) tables.now.layout held h directory.old free.old → name_at directory.old.names moved.now.other.now ≡ Option.None
         → NothingPending (P.region memory.old) (P.may_hold memory.old)
-        → LeavesOnly (P.region memory.new) (P.may_hold memory.new) (LeavesEither (P.region memory.old) (fixed_layout sup.now) held
-        (MovedHere (P.region memory.old) sup.now free.old cpu directory.old moved.now.inode moved.now.name.now moved.now.other.now moved.now.time)) }
+        → LeavesOnly (P.region memory.new) (P.may_hold memory.new) (LeavesEither (P.region memory.old) tables.now.layout held
+        (MovedHere (P.region memory.old) tables.now.layout free.old cpu directory.old moved.now.inode moved.now.name.now moved.now.other.now moved.now.time)) }
 {
     let entries = [
         name_entry(Operation::Remove, moved.inode, moved.name, moved.time),
@@ -88,7 +87,7 @@ pub fn move_within<P: Pmem>(
     if directory.names.reserve(1).is_err() {
         return Err(Refusal::Memory);
     }
-    append_log(alloc, memory, sup, free, cpu, directory, &entries)?;
+    append_log(alloc, memory, tables, free, cpu, directory, &entries)?;
     let place = directory.tail - length(&entries[1]);
     remove_name(directory, moved.name, moved.time);
     add_name(directory, moved.other, moved.inode, place, moved.time);
@@ -102,7 +101,7 @@ pub fn move_within<P: Pmem>(
 pub fn move_both<P: Pmem>(
     alloc: Global,
     memory: &mut P,
-    sup: &Super,
+    tables: &Tables,
     free: &mut Allocators,
     cpu: u64,
     from: &mut Row,
@@ -110,11 +109,11 @@ pub fn move_both<P: Pmem>(
     moved: &OtherName<'_>,
 ) -> Result<(), Refusal>
     requires apart { from.old.inode ≢ to.old.inode }
-    requires stands { StandsRight (P.region memory.old) sup.now free.old from.old × CanName (P.region memory.old) sup.now cpu from.old.inode from.old }
-    requires to_stands { StandsRight (P.region memory.old) sup.now free.old to.old × CanName (P.region memory.old) sup.now cpu to.old.inode to.old }
+    requires stands { StandsRight (P.region memory.old) tables.now.layout free.old from.old × CanName (P.region memory.old) tables.now.layout cpu from.old.inode from.old }
+    requires to_stands { StandsRight (P.region memory.old) tables.now.layout free.old to.old × CanName (P.region memory.old) tables.now.layout cpu to.old.inode to.old }
     requires name { IsName moved.now.name.now }
     requires other { IsName moved.now.other.now }
-    ensures moved { OnOk result (GrowsTwo (P.region memory.old) (P.region memory.new) sup.now free.old free.new cpu (from.old ∷ to.old ∷ []) (from.new ∷ to.new ∷ []) 0 from.old
+    ensures moved { OnOk result (GrowsTwo (P.region memory.old) (P.region memory.new) tables.now.layout free.old free.new cpu (from.old ∷ to.old ∷ []) (from.new ∷ to.new ∷ []) 0 from.old
         (name_entries Remove moved.now.inode moved.now.name.now moved.now.time) 1 to.old (name_entries Add moved.now.inode moved.now.other.now moved.now.time) (λ fresh now. LosesName from.old
         moved.now.name.now moved.now.inode moved.now.time fresh now) (λ more now. GetsName to.old moved.now.other.now moved.now.inode moved.now.time more now)) }
     ensures needs { NeedsFree (needed (from.old.tail % 4096) (name_entries Remove moved.now.inode moved.now.name.now moved.now.time)
@@ -124,17 +123,17 @@ pub fn move_both<P: Pmem>(
     ensures inode { from.new.inode ≡ from.old.inode }
     ensures to_inode { to.new.inode ≡ to.old.inode }
     // Every word outside these places is as it was.
-    ensures wrote { (held : Store) (h g : Held) → ShowsRow (P.region memory.old) sup.now held h from.old free.old → ShowsRow (P.region memory.old) sup.now held g to.old free.old
-        → StoresIn sup.now held (two_logs sup.now cpu from.old.inode to.old.inode) (P.region memory.old) (P.region memory.new) }
+    ensures wrote { (held : Store) (h g : Held) → ShowsRow (P.region memory.old) tables.now.layout held h from.old free.old → ShowsRow (P.region memory.old) tables.now.layout held g to.old free.old
+        → StoresIn tables.now.layout held (two_logs tables.now.layout cpu from.old.inode to.old.inode) (P.region memory.old) (P.region memory.new) }
     // The old directory's tail is stored first.
-    ensures in_order { (held : Store) (h g : Held) → ShowsRow (P.region memory.old) sup.now held h from.old free.old → ShowsRow (P.region memory.old) sup.now held g to.old free.old
-        → TailIsFirst (P.region memory.old) (P.region memory.new) sup.now free.old.pools cpu from.old.inode from.old.tail (name_entries Remove moved.now.inode moved.now.name.now
-        moved.now.time) (tail_address sup.now to.old.inode) }
+    ensures in_order { (held : Store) (h g : Held) → ShowsRow (P.region memory.old) tables.now.layout held h from.old free.old → ShowsRow (P.region memory.old) tables.now.layout held g to.old free.old
+        → TailIsFirst (P.region memory.old) (P.region memory.new) tables.now.layout free.old.pools cpu from.old.inode from.old.tail (name_entries Remove moved.now.inode moved.now.name.now
+        moved.now.time) (tail_address tables.now.layout to.old.inode) }
     // Whatever a stop leaves: recovery finds what is held, or it with the name in the other directory, without faults.
-    ensures any_stop { (held : Store) (h g : Held) → ShowsRow (P.region memory.old) sup.now held h from.old free.old → ShowsRow (P.region memory.old) sup.now held g to.old free.old
+    ensures any_stop { (held : Store) (h g : Held) → ShowsRow (P.region memory.old) tables.now.layout held h from.old free.old → ShowsRow (P.region memory.old) tables.now.layout held g to.old free.old
         → name_at to.old.names moved.now.other.now ≡ Option.None → NothingPending (P.region memory.old) (P.may_hold memory.old)
-        → LeavesOnly (P.region memory.new) (P.may_hold memory.new) (LeavesEither (P.region memory.old) (fixed_layout sup.now) held
-        (MovedOver (P.region memory.old) sup.now free.old cpu from.old to.old moved.now.inode moved.now.name.now moved.now.other.now moved.now.time)) }
+        → LeavesOnly (P.region memory.new) (P.may_hold memory.new) (LeavesEither (P.region memory.old) tables.now.layout held
+        (MovedOver (P.region memory.old) tables.now.layout free.old cpu from.old to.old moved.now.inode moved.now.name.now moved.now.other.now moved.now.time)) }
 {
     let removal = [name_entry(Operation::Remove, moved.inode, moved.name, moved.time)];
     let addition = [name_entry(Operation::Add, moved.inode, moved.other, moved.time)];
@@ -146,7 +145,7 @@ pub fn move_both<P: Pmem>(
         entries: &addition,
         names: 1,
     };
-    append_logs(alloc, memory, sup, free, cpu, from, &first, to, &second)?;
+    append_logs(alloc, memory, tables, free, cpu, from, &first, to, &second)?;
     remove_name(from, moved.name, moved.time);
     let place = to.tail - length(&addition[0]);
     add_name(to, moved.other, moved.inode, place, moved.time);

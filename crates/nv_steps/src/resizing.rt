@@ -1,11 +1,10 @@
 //! A file's new size: its log grows by the attributes, and the pages behind the new end are cut.
 
 ghost use Rattle.std.specs.Prelude.{◌≡◌, ◌<◌, IfErr, OnOk, Option};
-ghost use Rattle.nv_super.specs.Layout.{fixed_layout};
 ghost use Rattle.nv_region.specs.Region.{size};
 ghost use Rattle.nv_region.specs.Stops.{LeavesOnly, NothingPending};
 ghost use Rattle.nv_radix.specs.Pages.{block_at};
-ghost use Rattle.nv_held.specs.Held.{Held, Store};
+ghost use Rattle.nv_mounted.specs.Held.{Held, Store};
 ghost use Rattle.nv_commit.specs.Stopped.{LeavesEither};
 ghost use Rattle.nv_tree.specs.declared.refusal.Refusal.{Refusal as RefusalValue};
 ghost use Rattle.nv_steps.specs.Sizes.{CanResize, Resizes, blocks_from, end_block};
@@ -20,9 +19,10 @@ use crate::giving::give_pages;
 use crate::settling::numbers_with;
 use nv_alloc::Allocators;
 use nv_entry::{AttrEntry, Entry};
+use nv_inode::Tables;
 use nv_region::Pmem;
 use nv_scan::Row;
-use nv_super::{BLOCK_SIZE, Super};
+use nv_super::BLOCK_SIZE;
 use nv_tree::Refusal;
 use std::alloc::Global;
 
@@ -33,30 +33,30 @@ use std::alloc::Global;
 pub fn resize<P: Pmem>(
     alloc: Global,
     memory: &mut P,
-    sup: &Super,
+    tables: &Tables,
     free: &mut Allocators,
     cpu: u64,
     row: &mut Row,
     attributes: AttrEntry,
 ) -> Result<(), Refusal>
     requires cpu { cpu < free.old.sup.cpus }
-    requires can { CanResize (P.region memory.old) sup.now free.old row.old attributes }
-    ensures resized { OnOk result (Resizes (P.region memory.old) (P.region memory.new) sup.now free.old cpu row.old attributes row.new free.new) }
+    requires can { CanResize (P.region memory.old) tables.now.layout free.old row.old attributes }
+    ensures resized { OnOk result (Resizes (P.region memory.old) (P.region memory.new) tables.now.layout free.old cpu row.old attributes row.new free.new) }
     ensures needs { NeedsFree (blocks_from row.old.tail attributes (end_block (block_at row.old.index) row.old.numbers.size attributes.size)) free.old result }
     ensures kept { SettlesStep P.region P.may_hold P.fuse memory.old memory.new free.old free.new result }
     ensures unchanged { IfErr result (λ e. (e ≡ RefusalValue.Stopped → ⊥) → LeavesStep memory.old memory.new free.old free.new row.old row.new) }
     ensures inode { row.new.inode ≡ row.old.inode }
     // Every word outside these places is as it was.
-    ensures wrote { (held : Store) (h : Held) → ShowsRow (P.region memory.old) sup.now held h row.old free.old
-        → StoresIn sup.now held (one_log sup.now row.old.inode) (P.region memory.old) (P.region memory.new) }
+    ensures wrote { (held : Store) (h : Held) → ShowsRow (P.region memory.old) tables.now.layout held h row.old free.old
+        → StoresIn tables.now.layout held (one_log tables.now.layout row.old.inode) (P.region memory.old) (P.region memory.new) }
     // Whatever a stop leaves: recovery finds what is held, or it with the file's new size, without faults.
-    ensures any_stop { (held : Store) (h : Held) → ShowsRow (P.region memory.old) sup.now held h row.old free.old → NothingPending (P.region memory.old) (P.may_hold memory.old)
-        → LeavesOnly (P.region memory.new) (P.may_hold memory.new) (LeavesEither (P.region memory.old) (fixed_layout sup.now) held
-        (Resized (P.region memory.old) sup.now free.old cpu row.old attributes)) }
+    ensures any_stop { (held : Store) (h : Held) → ShowsRow (P.region memory.old) tables.now.layout held h row.old free.old → NothingPending (P.region memory.old) (P.may_hold memory.old)
+        → LeavesOnly (P.region memory.new) (P.may_hold memory.new) (LeavesEither (P.region memory.old) tables.now.layout held
+        (Resized (P.region memory.old) tables.now.layout free.old cpu row.old attributes)) }
 {
     match end_block(row, attributes.size) {
-        Some(from) => resize_with_copy(alloc, memory, sup, free, cpu, row, attributes, from),
-        None => resize_in_place(alloc, memory, sup, free, cpu, row, attributes),
+        Some(from) => resize_with_copy(alloc, memory, tables, free, cpu, row, attributes, from),
+        None => resize_in_place(alloc, memory, tables, free, cpu, row, attributes),
     }
 }
 
@@ -77,27 +77,27 @@ fn end_block(row: &Row, new: u64) -> Option<u64>
 fn resize_in_place<P: Pmem>(
     alloc: Global,
     memory: &mut P,
-    sup: &Super,
+    tables: &Tables,
     free: &mut Allocators,
     cpu: u64,
     row: &mut Row,
     attributes: AttrEntry,
 ) -> Result<(), Refusal>
     requires cpu { cpu < free.old.sup.cpus }
-    requires can { CanResize (P.region memory.old) sup.now free.old row.old attributes }
+    requires can { CanResize (P.region memory.old) tables.now.layout free.old row.old attributes }
     requires stays { end_block (block_at row.old.index) row.old.numbers.size attributes.size ≡ Option.None }
-    ensures resized { OnOk result (Resizes (P.region memory.old) (P.region memory.new) sup.now free.old cpu row.old attributes row.new free.new) }
+    ensures resized { OnOk result (Resizes (P.region memory.old) (P.region memory.new) tables.now.layout free.old cpu row.old attributes row.new free.new) }
     ensures needs { NeedsFree (blocks_from row.old.tail attributes Option.None) free.old result }
     ensures kept { SettlesStep P.region P.may_hold P.fuse memory.old memory.new free.old free.new result }
     ensures unchanged { IfErr result (λ e. (e ≡ RefusalValue.Stopped → ⊥) → LeavesStep memory.old memory.new free.old free.new row.old row.new) }
     ensures inode { row.new.inode ≡ row.old.inode }
     // Every word outside these places is as it was.
-    ensures wrote { (held : Store) (h : Held) → ShowsRow (P.region memory.old) sup.now held h row.old free.old
-        → StoresIn sup.now held (one_log sup.now row.old.inode) (P.region memory.old) (P.region memory.new) }
+    ensures wrote { (held : Store) (h : Held) → ShowsRow (P.region memory.old) tables.now.layout held h row.old free.old
+        → StoresIn tables.now.layout held (one_log tables.now.layout row.old.inode) (P.region memory.old) (P.region memory.new) }
     // Whatever a stop leaves: recovery finds what is held, or it with the file's new size, without faults.
-    ensures any_stop { (held : Store) (h : Held) → ShowsRow (P.region memory.old) sup.now held h row.old free.old → NothingPending (P.region memory.old) (P.may_hold memory.old)
-        → LeavesOnly (P.region memory.new) (P.may_hold memory.new) (LeavesEither (P.region memory.old) (fixed_layout sup.now) held
-        (Resized (P.region memory.old) sup.now free.old cpu row.old attributes)) }
+    ensures any_stop { (held : Store) (h : Held) → ShowsRow (P.region memory.old) tables.now.layout held h row.old free.old → NothingPending (P.region memory.old) (P.may_hold memory.old)
+        → LeavesOnly (P.region memory.new) (P.may_hold memory.new) (LeavesEither (P.region memory.old) tables.now.layout held
+        (Resized (P.region memory.old) tables.now.layout free.old cpu row.old attributes)) }
 {
     let first = attributes.size.div_ceil(BLOCK_SIZE);
     let end = row.numbers.size.div_ceil(BLOCK_SIZE);
@@ -106,7 +106,7 @@ fn resize_in_place<P: Pmem>(
     if free.reserve(end.saturating_sub(first) as usize).is_err() {
         return Err(Refusal::Memory);
     }
-    append_log(alloc, memory, sup, free, cpu, row, &entries)?;
+    append_log(alloc, memory, tables, free, cpu, row, &entries)?;
     give_pages(free, &row.index, first, end);
     row.index.cut(first);
     row.numbers = numbers_with(row.numbers, attributes);

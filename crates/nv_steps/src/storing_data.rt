@@ -8,10 +8,9 @@ ghost use Rattle.nv_alloc.specs.Taking.{HasBlock};
 ghost use Rattle.nv_bytes.specs.Bytes.{byte_after, file_byte, LieInside};
 ghost use Rattle.nv_bytes.specs.Storing.{AreFresh, InBlocks};
 ghost use Rattle.nv_region.specs.Stops.{LeavesOnly, NothingPending};
-ghost use Rattle.nv_super.specs.declared.superblock.Super.{Super};
-ghost use Rattle.nv_super.specs.Layout.{fixed_layout};
-ghost use Rattle.nv_held.specs.Held.{Held, Store};
-ghost use Rattle.nv_held.specs.Blocks.{IsUnowned};
+ghost use Rattle.nv_super.specs.Layout.{Layout};
+ghost use Rattle.nv_mounted.specs.Held.{Held, Store};
+ghost use Rattle.nv_mounted.specs.Blocks.{IsUnowned};
 ghost use Rattle.nv_commit.specs.Extends.{CanExtend};
 ghost use Rattle.nv_commit.specs.Stopped.{LeavesEither};
 ghost use Rattle.nv_logpage.specs.Append.{CanAppend, end_of};
@@ -78,22 +77,22 @@ pub(crate) fn commit_data<P: Pmem>(
     requires whole { slot % 8 ≡ 0 }
     requires inside { slot + 32 ≤ size (P.region memory.old) }
     ensures end { IfOk result (λ new. new ≡ end_of log.now.fresh.items 0 tail log.now.entries.items) }
-    ensures commits { (s : Super) (inode : ℕ)
-        → OnOk result (Commits (P.region memory.old) (P.region memory.new) s inode slot tail
+    ensures commits { (l : Layout) (inode : ℕ)
+        → OnOk result (Commits (P.region memory.old) (P.region memory.new) l inode slot tail
         (byte_after change.now.offset (data_bytes change.now.content) change.now.size (file_byte (P.region memory.old) index.now)) log.now.entries.items log.now.fresh.items) }
     ensures settled { OnOk result (NothingPending (P.region memory.new) (P.may_hold memory.new)) }
     ensures stopped { (P.fuse memory.old).has_burnt ≡ false → is_err result ≡ (P.fuse memory.new).has_burnt }
     ensures length { size (P.region memory.new) ≡ size (P.region memory.old) }
     ensures keeps_fuse { KeepsFuse (λ limit. size (P.region memory.old) ≤ limit) (P.fuse memory.old) (P.fuse memory.new) }
     // Every word outside these places is as it was.
-    ensures wrote { (s : Super) (held : Store) (inode : ℕ) (h : Held) → CanExtend (P.region memory.old) s held inode h slot tail log.now.entries.items log.now.fresh.items
-        → ((b : ℕ) → HasBlock (entry_blocks log.now.entries.items) b → IsUnowned (fixed_layout s) held b)
-        → StoresIn s held (one_log s inode) (P.region memory.old) (P.region memory.new) }
+    ensures wrote { (l : Layout) (held : Store) (inode : ℕ) (h : Held) → CanExtend (P.region memory.old) l held inode h slot tail log.now.entries.items log.now.fresh.items
+        → ((b : ℕ) → HasBlock (entry_blocks log.now.entries.items) b → IsUnowned l held b)
+        → StoresIn l held (one_log l inode) (P.region memory.old) (P.region memory.new) }
     // What a stop leaves, at any exit: the data are stored where nothing is read from, and count once the tail has moved.
-    ensures any_stop { (s : Super) (held : Store) (inode : ℕ) (h : Held) → CanExtend (P.region memory.old) s held inode h slot tail log.now.entries.items log.now.fresh.items
-        → ((b : ℕ) → HasBlock (entry_blocks log.now.entries.items) b → IsUnowned (fixed_layout s) held b)
-        → NothingPending (P.region memory.old) (P.may_hold memory.old) → LeavesOnly (P.region memory.new) (P.may_hold memory.new) (LeavesEither (P.region memory.old) (fixed_layout s) held
-        (λ S. Commits (P.region memory.old) S s inode slot tail (byte_after change.now.offset (data_bytes change.now.content) change.now.size (file_byte (P.region memory.old) index.now))
+    ensures any_stop { (l : Layout) (held : Store) (inode : ℕ) (h : Held) → CanExtend (P.region memory.old) l held inode h slot tail log.now.entries.items log.now.fresh.items
+        → ((b : ℕ) → HasBlock (entry_blocks log.now.entries.items) b → IsUnowned l held b)
+        → NothingPending (P.region memory.old) (P.may_hold memory.old) → LeavesOnly (P.region memory.new) (P.may_hold memory.new) (LeavesEither (P.region memory.old) l held
+        (λ S. Commits (P.region memory.old) S l inode slot tail (byte_after change.now.offset (data_bytes change.now.content) change.now.size (file_byte (P.region memory.old) index.now))
         log.now.entries.items log.now.fresh.items)) }
 {
     store_data(memory, index, &log.entries, change)?;

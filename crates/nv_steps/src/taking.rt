@@ -1,12 +1,11 @@
 //! A name of one inode that is given to another in its directory: the first inode goes, or counts a link less.
 
 ghost use Rattle.std.specs.Prelude.{◌≡◌, ◌≢◌, ◌+◌, ◌-◌, ◌%◌, ◌<◌, ◌≤◌, [], ◌∷◌, IfErr, OnOk};
-ghost use Rattle.nv_super.specs.Layout.{fixed_layout, slot_address};
 ghost use Rattle.nv_region.specs.Stops.{LeavesOnly, NothingPending};
 ghost use Rattle.nv_logpage.specs.Append.{needed};
 ghost use Rattle.nv_names.specs.Names.{IsName};
-ghost use Rattle.nv_held.specs.nv_outcome.Same.{SameRow};
-ghost use Rattle.nv_held.specs.Held.{Held, Store};
+ghost use Rattle.nv_outcome.specs.Same.{SameRow};
+ghost use Rattle.nv_mounted.specs.Held.{Held, Store};
 ghost use Rattle.nv_commit.specs.Stopped.{LeavesEither};
 ghost use Rattle.nv_tree.specs.declared.refusal.Refusal.{Refusal as RefusalValue};
 ghost use Rattle.nv_steps.specs.Grown.{StandsRight};
@@ -18,6 +17,7 @@ ghost use Rattle.nv_steps.specs.Lessens.{Lessened, LessensAt};
 ghost use Rattle.nv_steps.specs.Stores.{StoresIn, one_less, two_logs};
 ghost use Rattle.nv_steps.specs.Takes.{TakesWithin, TookWithin, take_entries};
 ghost use Rattle.nv_steps.specs.Keeping.{NeedsFree, SettlesStep};
+ghost use Rattle.nv_steps.specs.Slots.{slot_in};
 
 use crate::growing::{Growth, append_logs};
 use crate::lessening::append_less;
@@ -25,9 +25,9 @@ use crate::renaming::OtherName;
 use crate::settling_names::{add_name, remove_name, set_links};
 use nv_alloc::Allocators;
 use nv_entry::{Entry, LinksEntry, Operation, length, name_entry};
+use nv_inode::Tables;
 use nv_region::Pmem;
 use nv_scan::Row;
-use nv_super::Super;
 use nv_tree::Refusal;
 use std::alloc::Global;
 
@@ -48,19 +48,19 @@ pub struct Displaced {
 pub fn take_within<P: Pmem>(
     alloc: Global,
     memory: &mut P,
-    sup: &Super,
+    tables: &Tables,
     free: &mut Allocators,
     cpu: u64,
     directory: &mut Row,
     moved: &OtherName<'_>,
     gone: Displaced,
 ) -> Result<(), Refusal>
-    requires stands { StandsRight (P.region memory.old) sup.now free.old directory.old }
-    requires can { CanName (P.region memory.old) sup.now cpu gone.inode directory.old }
+    requires stands { StandsRight (P.region memory.old) tables.now.layout free.old directory.old }
+    requires can { CanName (P.region memory.old) tables.now.layout cpu gone.inode directory.old }
     requires differ { directory.old.inode ≢ gone.inode }
     requires name { IsName moved.now.name.now }
     requires other { IsName moved.now.other.now }
-    ensures taken { OnOk result (TakesWithin (P.region memory.old) (P.region memory.new) sup.now free.old free.new cpu directory.old directory.new moved.now.inode gone.inode moved.now.name.now
+    ensures taken { OnOk result (TakesWithin (P.region memory.old) (P.region memory.new) tables.now.layout free.old free.new cpu directory.old directory.new moved.now.inode gone.inode moved.now.name.now
         moved.now.other.now moved.now.time) }
     ensures room { OnOk result (gone.blocks ≤ free.new.room) }
     ensures needs { NeedsFree (needed (directory.old.tail % 4096) (take_entries moved.now.inode gone.inode moved.now.name.now moved.now.other.now moved.now.time)) free.old result }
@@ -68,16 +68,16 @@ pub fn take_within<P: Pmem>(
     ensures unchanged { IfErr result (λ e. (e ≡ RefusalValue.Stopped → ⊥) → LeavesStep memory.old memory.new free.old free.new directory.old directory.new) }
     ensures inode { directory.new.inode ≡ directory.old.inode }
     // Every word outside these places is as it was.
-    ensures wrote { (held : Store) (h : Held) → ShowsRow (P.region memory.old) sup.now held h directory.old free.old
-        → StoresIn sup.now held (one_less sup.now cpu directory.old.inode gone.inode) (P.region memory.old) (P.region memory.new) }
+    ensures wrote { (held : Store) (h : Held) → ShowsRow (P.region memory.old) tables.now.layout held h directory.old free.old
+        → StoresIn tables.now.layout held (one_less tables.now.layout cpu directory.old.inode gone.inode) (P.region memory.old) (P.region memory.new) }
     // The directory's tail is stored first.
-    ensures in_order { (held : Store) (h : Held) → ShowsRow (P.region memory.old) sup.now held h directory.old free.old
-        → TailIsFirst (P.region memory.old) (P.region memory.new) sup.now free.old.pools cpu directory.old.inode directory.old.tail (take_entries moved.now.inode gone.inode moved.now.name.now
-        moved.now.other.now moved.now.time) (slot_address sup.now gone.inode) }
+    ensures in_order { (held : Store) (h : Held) → ShowsRow (P.region memory.old) tables.now.layout held h directory.old free.old
+        → TailIsFirst (P.region memory.old) (P.region memory.new) tables.now.layout free.old.pools cpu directory.old.inode directory.old.tail (take_entries moved.now.inode gone.inode moved.now.name.now
+        moved.now.other.now moved.now.time) (slot_in tables.now.layout gone.inode) }
     // Whatever a stop leaves: recovery finds what is held, or it with the name given and without the inode, without faults.
-    ensures any_stop { (held : Store) (h : Held) → ShowsRow (P.region memory.old) sup.now held h directory.old free.old → NothingPending (P.region memory.old) (P.may_hold memory.old)
-        → LeavesOnly (P.region memory.new) (P.may_hold memory.new) (LeavesEither (P.region memory.old) (fixed_layout sup.now) held
-        (TookWithin (P.region memory.old) sup.now free.old cpu directory.old moved.now.inode gone.inode moved.now.name.now moved.now.other.now moved.now.time)) }
+    ensures any_stop { (held : Store) (h : Held) → ShowsRow (P.region memory.old) tables.now.layout held h directory.old free.old → NothingPending (P.region memory.old) (P.may_hold memory.old)
+        → LeavesOnly (P.region memory.new) (P.may_hold memory.new) (LeavesEither (P.region memory.old) tables.now.layout held
+        (TookWithin (P.region memory.old) tables.now.layout free.old cpu directory.old moved.now.inode gone.inode moved.now.name.now moved.now.other.now moved.now.time)) }
 {
     let entries = [
         name_entry(Operation::Remove, moved.inode, moved.name, moved.time),
@@ -92,7 +92,7 @@ pub fn take_within<P: Pmem>(
     append_less(
         alloc,
         memory,
-        sup,
+        tables,
         free,
         cpu,
         directory,
@@ -114,7 +114,7 @@ pub fn take_within<P: Pmem>(
 pub fn lessen_within<P: Pmem>(
     alloc: Global,
     memory: &mut P,
-    sup: &Super,
+    tables: &Tables,
     free: &mut Allocators,
     cpu: u64,
     directory: &mut Row,
@@ -122,12 +122,12 @@ pub fn lessen_within<P: Pmem>(
     moved: &OtherName<'_>,
 ) -> Result<(), Refusal>
     requires apart { directory.old.inode ≢ file.old.inode }
-    requires stands { StandsRight (P.region memory.old) sup.now free.old directory.old × CanName (P.region memory.old) sup.now cpu directory.old.inode directory.old }
-    requires file_stands { StandsRight (P.region memory.old) sup.now free.old file.old × CanName (P.region memory.old) sup.now cpu file.old.inode file.old }
+    requires stands { StandsRight (P.region memory.old) tables.now.layout free.old directory.old × CanName (P.region memory.old) tables.now.layout cpu directory.old.inode directory.old }
+    requires file_stands { StandsRight (P.region memory.old) tables.now.layout free.old file.old × CanName (P.region memory.old) tables.now.layout cpu file.old.inode file.old }
     requires more { 1 < file.old.numbers.links }
     requires name { IsName moved.now.name.now }
     requires other { IsName moved.now.other.now }
-    ensures lessened { OnOk result (LessensAt (P.region memory.old) (P.region memory.new) sup.now free.old free.new cpu (directory.old ∷ file.old ∷ [])
+    ensures lessened { OnOk result (LessensAt (P.region memory.old) (P.region memory.new) tables.now.layout free.old free.new cpu (directory.old ∷ file.old ∷ [])
         (directory.new ∷ file.new ∷ []) 0 1 moved.now.inode moved.now.name.now moved.now.other.now moved.now.time) }
     ensures needs { NeedsFree (needed (directory.old.tail % 4096) (take_entries moved.now.inode file.old.inode moved.now.name.now moved.now.other.now moved.now.time)
         + needed (file.old.tail % 4096) (links_entries (file.old.numbers.links - 1) moved.now.time)) free.old result }
@@ -136,17 +136,17 @@ pub fn lessen_within<P: Pmem>(
     ensures inode { directory.new.inode ≡ directory.old.inode }
     ensures file_inode { file.new.inode ≡ file.old.inode }
     // Every word outside these places is as it was.
-    ensures wrote { (held : Store) (h f : Held) → ShowsRow (P.region memory.old) sup.now held h directory.old free.old → ShowsRow (P.region memory.old) sup.now held f file.old free.old
-        → StoresIn sup.now held (two_logs sup.now cpu directory.old.inode file.old.inode) (P.region memory.old) (P.region memory.new) }
+    ensures wrote { (held : Store) (h f : Held) → ShowsRow (P.region memory.old) tables.now.layout held h directory.old free.old → ShowsRow (P.region memory.old) tables.now.layout held f file.old free.old
+        → StoresIn tables.now.layout held (two_logs tables.now.layout cpu directory.old.inode file.old.inode) (P.region memory.old) (P.region memory.new) }
     // The directory's tail is stored first.
-    ensures in_order { (held : Store) (h f : Held) → ShowsRow (P.region memory.old) sup.now held h directory.old free.old → ShowsRow (P.region memory.old) sup.now held f file.old free.old
-        → TailIsFirst (P.region memory.old) (P.region memory.new) sup.now free.old.pools cpu directory.old.inode directory.old.tail (take_entries moved.now.inode file.old.inode moved.now.name.now
-        moved.now.other.now moved.now.time) (tail_address sup.now file.old.inode) }
+    ensures in_order { (held : Store) (h f : Held) → ShowsRow (P.region memory.old) tables.now.layout held h directory.old free.old → ShowsRow (P.region memory.old) tables.now.layout held f file.old free.old
+        → TailIsFirst (P.region memory.old) (P.region memory.new) tables.now.layout free.old.pools cpu directory.old.inode directory.old.tail (take_entries moved.now.inode file.old.inode moved.now.name.now
+        moved.now.other.now moved.now.time) (tail_address tables.now.layout file.old.inode) }
     // Whatever a stop leaves: recovery finds what is held, or it with the name given and a link less, without faults.
-    ensures any_stop { (held : Store) (h f : Held) → ShowsRow (P.region memory.old) sup.now held h directory.old free.old → ShowsRow (P.region memory.old) sup.now held f file.old free.old
+    ensures any_stop { (held : Store) (h f : Held) → ShowsRow (P.region memory.old) tables.now.layout held h directory.old free.old → ShowsRow (P.region memory.old) tables.now.layout held f file.old free.old
         → NothingPending (P.region memory.old) (P.may_hold memory.old)
-        → LeavesOnly (P.region memory.new) (P.may_hold memory.new) (LeavesEither (P.region memory.old) (fixed_layout sup.now) held
-        (Lessened (P.region memory.old) sup.now free.old cpu directory.old file.old moved.now.inode moved.now.name.now moved.now.other.now moved.now.time)) }
+        → LeavesOnly (P.region memory.new) (P.may_hold memory.new) (LeavesEither (P.region memory.old) tables.now.layout held
+        (Lessened (P.region memory.old) tables.now.layout free.old cpu directory.old file.old moved.now.inode moved.now.name.now moved.now.other.now moved.now.time)) }
 {
     let time = moved.time;
     let count = file.numbers.links - 1;
@@ -165,7 +165,7 @@ pub fn lessen_within<P: Pmem>(
         names: 0,
     };
     append_logs(
-        alloc, memory, sup, free, cpu, directory, &first, file, &second,
+        alloc, memory, tables, free, cpu, directory, &first, file, &second,
     )?;
     let place = directory.tail - length(&names[2]);
     remove_name(directory, moved.name, time);

@@ -1,13 +1,12 @@
 //! One name of a file less that has others, by the rows of the directory and of the file.
 
 ghost use Rattle.std.specs.Prelude.{◌≡◌, ◌≢◌, ◌+◌, ◌-◌, ◌%◌, ◌<◌, [], ◌∷◌, Result, IfErr, OnOk};
-ghost use Rattle.nv_super.specs.Layout.{fixed_layout};
 ghost use Rattle.nv_region.specs.Stops.{LeavesOnly, NothingPending};
 ghost use Rattle.nv_entry.specs.declared.entry.Operation.TheVariants.{Remove};
 ghost use Rattle.nv_logpage.specs.Append.{needed};
 ghost use Rattle.nv_names.specs.Names.{IsName};
-ghost use Rattle.nv_held.specs.nv_outcome.Same.{SameRow};
-ghost use Rattle.nv_held.specs.Held.{Held, Store};
+ghost use Rattle.nv_outcome.specs.Same.{SameRow};
+ghost use Rattle.nv_mounted.specs.Held.{Held, Store};
 ghost use Rattle.nv_commit.specs.Stopped.{LeavesEither};
 ghost use Rattle.nv_tree.specs.Calls.{unlinked};
 ghost use Rattle.nv_tree.specs.declared.refusal.Refusal.{Refusal as RefusalValue};
@@ -25,9 +24,9 @@ use crate::growing::{Growth, append_logs};
 use crate::settling_names::{remove_name, set_links};
 use nv_alloc::Allocators;
 use nv_entry::{Entry, LinksEntry, Operation, name_entry};
+use nv_inode::Tables;
 use nv_region::Pmem;
 use nv_scan::Row;
-use nv_super::Super;
 use nv_tree::Refusal;
 use std::alloc::Global;
 
@@ -39,7 +38,7 @@ use std::alloc::Global;
 pub fn unlink_both<P: Pmem>(
     alloc: Global,
     memory: &mut P,
-    sup: &Super,
+    tables: &Tables,
     free: &mut Allocators,
     cpu: u64,
     directory: &mut Row,
@@ -48,11 +47,11 @@ pub fn unlink_both<P: Pmem>(
     time: u64,
 ) -> Result<(), Refusal>
     requires apart { directory.old.inode ≢ file.old.inode }
-    requires stands { StandsRight (P.region memory.old) sup.now free.old directory.old × CanName (P.region memory.old) sup.now cpu directory.old.inode directory.old }
-    requires file_stands { StandsRight (P.region memory.old) sup.now free.old file.old × CanName (P.region memory.old) sup.now cpu file.old.inode file.old }
+    requires stands { StandsRight (P.region memory.old) tables.now.layout free.old directory.old × CanName (P.region memory.old) tables.now.layout cpu directory.old.inode directory.old }
+    requires file_stands { StandsRight (P.region memory.old) tables.now.layout free.old file.old × CanName (P.region memory.old) tables.now.layout cpu file.old.inode file.old }
     requires more { 1 < file.old.numbers.links }
     requires name { IsName name.now }
-    ensures unlinked { OnOk result (UnlinksAt (P.region memory.old) (P.region memory.new) sup.now free.old free.new cpu (directory.old ∷ file.old ∷ [])
+    ensures unlinked { OnOk result (UnlinksAt (P.region memory.old) (P.region memory.new) tables.now.layout free.old free.new cpu (directory.old ∷ file.old ∷ [])
         (directory.new ∷ file.new ∷ []) 0 1 name.now time) }
     ensures needs { NeedsFree (needed (directory.old.tail % 4096) (name_entries Remove file.old.inode name.now time)
         + needed (file.old.tail % 4096) (links_entries (file.old.numbers.links - 1) time)) free.old result }
@@ -61,17 +60,17 @@ pub fn unlink_both<P: Pmem>(
     ensures inode { directory.new.inode ≡ directory.old.inode }
     ensures file_inode { file.new.inode ≡ file.old.inode }
     // Every word outside these places is as it was.
-    ensures wrote { (held : Store) (h g : Held) → ShowsRow (P.region memory.old) sup.now held h directory.old free.old → ShowsRow (P.region memory.old) sup.now held g file.old free.old
-        → StoresIn sup.now held (two_logs sup.now cpu directory.old.inode file.old.inode) (P.region memory.old) (P.region memory.new) }
+    ensures wrote { (held : Store) (h g : Held) → ShowsRow (P.region memory.old) tables.now.layout held h directory.old free.old → ShowsRow (P.region memory.old) tables.now.layout held g file.old free.old
+        → StoresIn tables.now.layout held (two_logs tables.now.layout cpu directory.old.inode file.old.inode) (P.region memory.old) (P.region memory.new) }
     // The directory's tail is stored first.
-    ensures in_order { (held : Store) (h f : Held) → ShowsRow (P.region memory.old) sup.now held h directory.old free.old → ShowsRow (P.region memory.old) sup.now held f file.old free.old
-        → TailIsFirst (P.region memory.old) (P.region memory.new) sup.now free.old.pools cpu directory.old.inode directory.old.tail (name_entries Remove file.old.inode name.now time) (tail_address
-        sup.now file.old.inode) }
+    ensures in_order { (held : Store) (h f : Held) → ShowsRow (P.region memory.old) tables.now.layout held h directory.old free.old → ShowsRow (P.region memory.old) tables.now.layout held f file.old free.old
+        → TailIsFirst (P.region memory.old) (P.region memory.new) tables.now.layout free.old.pools cpu directory.old.inode directory.old.tail (name_entries Remove file.old.inode name.now time) (tail_address
+        tables.now.layout file.old.inode) }
     // Whatever a stop leaves: recovery finds what is held, or it without the name and the link, without faults.
-    ensures any_stop { (held : Store) (h f : Held) → ShowsRow (P.region memory.old) sup.now held h directory.old free.old → ShowsRow (P.region memory.old) sup.now held f file.old free.old
+    ensures any_stop { (held : Store) (h f : Held) → ShowsRow (P.region memory.old) tables.now.layout held h directory.old free.old → ShowsRow (P.region memory.old) tables.now.layout held f file.old free.old
         → NothingPending (P.region memory.old) (P.may_hold memory.old)
-        → LeavesOnly (P.region memory.new) (P.may_hold memory.new) (LeavesEither (P.region memory.old) (fixed_layout sup.now) held
-        (Unlinked (P.region memory.old) sup.now free.old cpu directory.old file.old name.now time)) }
+        → LeavesOnly (P.region memory.new) (P.may_hold memory.new) (LeavesEither (P.region memory.old) tables.now.layout held
+        (Unlinked (P.region memory.old) tables.now.layout free.old cpu directory.old file.old name.now time)) }
 {
     let count = file.numbers.links - 1;
     let names = [name_entry(Operation::Remove, file.inode, name, time)];
@@ -85,7 +84,7 @@ pub fn unlink_both<P: Pmem>(
         names: 0,
     };
     append_logs(
-        alloc, memory, sup, free, cpu, directory, &first, file, &second,
+        alloc, memory, tables, free, cpu, directory, &first, file, &second,
     )?;
     remove_name(directory, name, time);
     set_links(file, count, time);

@@ -12,7 +12,7 @@ module _ (R Q : Region) (as_long : size Q ≡ size R) (same : (at : ℕ) → at 
   applied : (fault : SuperFault) → Applies Q fault → Applies R fault
   applied Length h = subst (λ (n : ℕ). (n % 4096 ≢ 0) ⊎ ((n / 4096 < 8) ⊎ (most_blocks < n / 4096))) as_long h
   applied Magic h = subst (λ (n : ℕ). n ≢ magic) (same 0 (omega arith) (omega arith)) h
-  applied Version h = subst (λ (n : ℕ). n ≢ 1) (same 8 (omega arith) (omega arith)) h
+  applied Version h = subst (λ (n : ℕ). (n ≢ 1) × (n ≢ 2)) (same 8 (omega arith) (omega arith)) h
   applied Cpus h = subst (λ (n : ℕ). (n < 1) ⊎ (64 < n)) (same 16 (omega arith) (omega arith)) h
   applied Blocks h = λ is. h (same 24 (omega arith) (omega arith) ∙ is ∙ ap (λ (n : ℕ). n / 4096) (sym as_long))
   applied Tables h =

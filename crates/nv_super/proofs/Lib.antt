@@ -1,4 +1,5 @@
 pub mod Rising
+pub mod ClassNames
 pub mod RisingPlaces
 pub mod Members
 pub mod Filters

@@ -2,6 +2,7 @@
 use Rattle.std.proofs.Common.{◌≡◌, ◌≢◌, ◌⊎◌, inl, inr, ℕ, zero, suc, ◌+◌, ◌-◌, ◌*◌, ◌/◌, ◌%◌, ◌<◌, ◌≤◌, ◌==◌, nat_lt, Bool, true, false, if◌then◌else◌, List, [], Some, None, refl, ap, sym, arith}
 use Rattle.std.specs.Prelude.{slice_get, unwrap_or, replicate}
 use Rattle.std.proofs.Math.Nat.{mul-le-mul_right}
+use Rattle.std.proofs.lemmas.Nat.{div_below}
 use Rattle.std.proofs.lemmas.Bool.{cases_order, ltb-true}
 use Rattle.nv_super.specs.Layout.{system_blocks, slot_address, slot_of, fixed_layout, extra_slot, chain_of, IsLayout, SlotsApart}
 use Rattle.nv_super.specs.declared.superblock.Super.{Super}
@@ -85,11 +86,18 @@ module _ (s : Super) (layout : IsLayout s) where
     ]
   ]
 
-  before_data : (i a : ℕ) → IsSlot s i a → a + 128 ≤ 4096 * system_blocks s
+  pub before_data : (i a : ℕ) → IsSlot s i a → a + 128 ≤ 4096 * system_blocks s
   before_data i a slot =
       let ends = table_ends s (i % s.cpus) s.cpus (cpu_below s i some) in
       let within = within_table s i a slot in
       omega (arith, ends, within.1)
+
+  -- the slot of a number within the fixed tables
+  pub numbered : (i : ℕ) → i < 32 * s.cpus * s.table_blocks → IsSlot s i (slot_address s i)
+  numbered i below = record { low = div_below i s.cpus (32 * s.table_blocks) some (omega (arith, below)); is = refl }
+
+  pub slot_fits : (i : ℕ) → i < 32 * s.cpus * s.table_blocks → slot_address s i + 128 ≤ 4096 * s.blocks
+  slot_fits i below = let before = before_data i (slot_address s i) (numbered i below) in omega (arith, before, layout.areas.room)
 
   pub slots_apart : SlotsApart (fixed_layout s)
   slots_apart = record {

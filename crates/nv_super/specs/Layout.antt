@@ -43,11 +43,19 @@ is_name_number s i = nat_lt 0 i && nat_lt i (name_limit s)
 abbrev pub most_blocks : ℕ
 most_blocks = 262144
 
+-- the most pages that a file can have: as many as the greatest region has blocks
+abbrev pub most_pages : ℕ
+most_pages = 262144
+
+-- the most bytes that a file can have
+abbrev pub most_size : ℕ
+most_size = 1073741824
+
 -- numbers by which each address of the areas is small
 pub record HasAreas (s : Super) : Type 0 where
   pub cpus_to : s.cpus ≤ 64
   pub tables_to : s.table_blocks ≤ 64
-  pub blocks_to : s.blocks ≤ 262144
+  pub blocks_to : s.blocks ≤ most_blocks
   pub room : system_blocks s < s.blocks
 
 -- numbers that a sound superblock can have

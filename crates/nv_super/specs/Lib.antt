@@ -4,6 +4,7 @@ pub mod Kind
 pub mod Owners
 pub mod Order
 pub mod FaultText
+pub mod Classes
 pub mod Keys
 pub mod Runs
 pub use Rattle.nv_region.specs.Region

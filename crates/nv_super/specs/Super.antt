@@ -14,7 +14,7 @@ magic = 0x31304d5041564f4e
 abbrev pub Applies : Region → SuperFault → Type 0
 Applies R Length = (size R % 4096 ≢ 0) ⊎ ((size R / 4096 < 8) ⊎ (most_blocks < size R / 4096))
 Applies R Magic = word R 0 ≢ magic
-Applies R Version = word R 8 ≢ 1
+Applies R Version = (word R 8 ≢ 1) × (word R 8 ≢ 2)
 Applies R Cpus = (word R 16 < 1) ⊎ (64 < word R 16)
 Applies R Blocks = word R 24 ≢ size R / 4096
 Applies R Tables = ((word R 32 < 1) ⊎ (64 < word R 32)) ⊎ (word R 24 ≤ 1 + word R 16 + word R 16 * word R 32)

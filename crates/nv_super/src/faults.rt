@@ -1,5 +1,5 @@
-//! What can be wrong with a region: one table of the fault classes, with their fields, their order and their texts, and
-//! the names of a superblock's faults.
+//! What can be wrong with a region: the faults with their fields, their order and their texts, and the names of a
+//! superblock's faults.
 
 ghost use Rattle.std.specs.Prelude.{◌≡◌};
 
@@ -126,38 +126,9 @@ impl fmt::Debug for Fault {
 }
 
 impl Fault {
-    ghost use Rattle.std.specs.Prelude.{take, drop};
+    ghost use Rattle.std.specs.Prelude.{drop};
     ghost use Rattle.std.specs.Fmt.{WritesOnOk};
     ghost use Rattle.nv_super.specs.FaultText.{fault_text};
-
-    // The name of its class: the first two letters of its text.
-    fn class(&self) -> &'static str
-        ensures { result.now ≡ take 2 (fault_text self.now) }
-    {
-        match self {
-            Fault::J1 { .. } => "J1",
-            Fault::J2 { .. } => "J2",
-            Fault::H1 { .. } => "H1",
-            Fault::H2 { .. } => "H2",
-            Fault::I1 { .. } => "I1",
-            Fault::I2 { .. } => "I2",
-            Fault::I3 { .. } => "I3",
-            Fault::L1 { .. } => "L1",
-            Fault::L2 { .. } => "L2",
-            Fault::L3 { .. } => "L3",
-            Fault::L4 { .. } => "L4",
-            Fault::E1 { .. } => "E1",
-            Fault::E2 { .. } => "E2",
-            Fault::E3 { .. } => "E3",
-            Fault::E4 { .. } => "E4",
-            Fault::C1 { .. } => "C1",
-            Fault::C2 { .. } => "C2",
-            Fault::C3 { .. } => "C3",
-            Fault::C4 { .. } => "C4",
-            Fault::C5 => "C5",
-            Fault::B1 { .. } => "B1",
-        }
-    }
 
     // What its text has behind the name of its class.
     fn write_fields<W: fmt::Write>(&self, f: &mut fmt::Formatter<W>) -> fmt::Result

@@ -2,6 +2,7 @@
 //! runs of blocks, the owners of blocks, the kinds of inodes, and the faults of a region with their order.
 #![tactic(auto)]
 
+mod classes;
 mod faults;
 mod kind;
 mod laws;
@@ -10,6 +11,7 @@ mod owners;
 mod sorting;
 mod superblock;
 
+pub use classes::{FAULT_CLASS_COUNT, FAULT_CLASSES, FaultClass, class_name};
 pub use faults::Fault;
 pub use kind::Kind;
 pub use laws::{pools_cover_the_data_blocks, slots_stand_apart, version_1_names_are_numbers};

@@ -64,8 +64,8 @@ pub enum SuperFault {
     /// The magic word is another.
     #[error("S2, the magic word is another")]
     Magic,
-    /// The version isn't 1.
-    #[error("S3, the version isn't 1")]
+    /// The version is neither 1 nor 2.
+    #[error("S3, the version is neither 1 nor 2")]
     Version,
     /// There aren't 1 to 64 CPUs.
     #[error("S4, there aren't 1 to 64 CPUs")]
@@ -105,7 +105,7 @@ pub fn read_super<P: Pmem>(memory: &P) -> Result<Super, SuperFault>
         table_blocks: memory.load(32),
         state: memory.load(40),
     };
-    if found.version != 1 {
+    if found.version != 1 && found.version != WITH_CHAINS {
         return Err(SuperFault::Version);
     }
     if found.cpus < 1 || found.cpus > MOST_CPUS {
@@ -221,12 +221,14 @@ impl Super {
         )
     }
 
-    /// The byte address of the slot of an inode: inode `i` is slot `i / cpus` of the table of CPU `i % cpus`, and a
-    /// slot has 128 bytes.
+    /// The byte address of the slot of an inode in the fixed tables: inode `i` is slot `i / cpus` of the table of CPU
+    /// `i % cpus`, and a slot has 128 bytes. The slot lies whole within the region.
     pub fn slot_address(&self, inode: u64) -> u64
         requires layout { IsLayout self.now }
         requires inode { inode < 32 * self.now.cpus * self.now.table_blocks }
-        ensures { result ≡ slot_address self.now inode }
+        ensures value { result ≡ slot_address self.now inode }
+        ensures whole { result % 128 ≡ 0 }
+        ensures inside { result + 128 ≤ 4096 * self.now.blocks }
     {
         let table = 1 + self.cpus + inode % self.cpus * self.table_blocks;
         table * BLOCK_SIZE + inode / self.cpus * SLOT_SIZE

@@ -88,6 +88,7 @@ capital refusals.ReadOnly = refl
 capital refusals.LinkLimit = refl
 capital refusals.IntoItself = refl
 capital refusals.BadCpu = refl
+capital refusals.IsVersion2 = refl
 
 digit_first : (ds more : List ℕ) → AllDigits 10 ds → 0 < length ds → get_or (ds ++ more) 0 0 ≤ 57
 digit_first [] more digits some = absurd (omega arith)

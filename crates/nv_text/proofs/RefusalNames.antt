@@ -41,6 +41,7 @@ known refusals.ReadOnly = refl
 known refusals.LinkLimit = refl
 known refusals.IntoItself = refl
 known refusals.BadCpu = refl
+known refusals.IsVersion2 = refl
 
 -- a name of one of these is the name of a refusal
 named : (these : List Refusal) (name : List ℕ) → names_one these name ≡ true → (refusal : Refusal) × (name ≡ refusal_name refusal)

@@ -173,9 +173,6 @@ pub record Reads (text name rest : List ℕ) : Type 0 where
   pub completes : (more : List ℕ) → SpellsName rest more → SpellsName text (name ++ more)
   pub begins : (whole : List ℕ) → SpellsName text whole → (more : List ℕ) × (whole ≡ name ++ more) × SpellsName rest more
 
-pub reads_none : (text : List ℕ) → Reads text [] text
-reads_none text = record { completes = λ more spells. spells; begins = λ whole spells. (whole, refl, spells) }
-
 module _ (text name rest : List ℕ) where
   byte_less : (byte : ℕ) (behind more : List ℕ) → BeginsWith SpellsByte rest byte behind → SpellsName rest more
       → (left : List ℕ) × (more ≡ byte ∷ left) × SpellsName behind left

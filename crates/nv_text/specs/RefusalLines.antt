@@ -20,7 +20,7 @@ names_one (refusal ∷ others) name = bytes_eq name (refusal_name refusal) || na
 -- the refusals of file calls for what they would make
 unfoldable pub call_limits : List Refusal
 call_limits = refusals.NoSpace ∷ refusals.NoInodes ∷ refusals.TooLarge ∷ refusals.ReadOnly ∷ refusals.LinkLimit
-    ∷ refusals.IntoItself ∷ refusals.BadCpu ∷ []
+    ∷ refusals.IntoItself ∷ refusals.BadCpu ∷ refusals.IsVersion2 ∷ []
 
 -- all refusals of file calls
 unfoldable pub call_refusals : List Refusal

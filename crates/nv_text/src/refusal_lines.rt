@@ -94,6 +94,7 @@ fn is_limit_name(name: &[u8]) -> bool
         || name == b"LinkLimit".as_slice()
         || name == b"IntoItself".as_slice()
         || name == b"BadCpu".as_slice()
+        || name == b"IsVersion2".as_slice()
 }
 
 /// What shows the names of a directory is never told as a refusal, whatever these are: not with this name as the first.

@@ -40,6 +40,7 @@ pub enum Refusal {
     LinkLimit,
     IntoItself,
     BadCpu,
+    IsVersion2,
 }
 
 impl Refusal {
@@ -70,6 +71,7 @@ impl Refusal {
             Refusal::LinkLimit => "LinkLimit",
             Refusal::IntoItself => "IntoItself",
             Refusal::BadCpu => "BadCpu",
+            Refusal::IsVersion2 => "IsVersion2",
         }
     }
 }

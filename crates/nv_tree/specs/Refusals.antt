@@ -2,9 +2,10 @@
 use Rattle.std.specs.Prelude.{◌≡◌, ◌⊎◌, ℕ, Bool, true, false, not, nat_lt, nat_le, ◌&&◌, if◌then◌else◌, is_some, is_none, List, [], ◌∷◌, ◌++◌, Option, Some, None, Result, Ok, Err, codes, eqb}
 use Rattle.std.specs.List.{list_any}
 use Rattle.std.specs.Option.{option_map_or}
+use Rattle.nv_super.specs.Layout.{most_size}
 use Rattle.nv_tree.specs.declared.refusal.Refusal.{Refusal}
 use Rattle.nv_tree.specs.declared.refusal.Refusal.TheVariants.{NotFound, Exists, NotDirectory, IsDirectory, NotEmpty, BadName, NoSpace, NoInodes, TooLarge, ReadOnly, LinkLimit, IntoItself, BadCpu}
-use Rattle.nv_tree.specs.declared.refusal.Refusal.TheVariants.{Memory, Stopped}
+use Rattle.nv_tree.specs.declared.refusal.Refusal.TheVariants.{Memory, Stopped, IsVersion2}
 use Rattle.nv_tree.specs.Tree.{Node, Tree, walk, found, passed, is_directory}
 use Rattle.nv_tree.specs.Calls.{links_at}
 
@@ -25,6 +26,7 @@ refusal_word IntoItself = codes "IntoItself"
 refusal_word BadCpu = codes "BadCpu"
 refusal_word Memory = codes "Memory"
 refusal_word Stopped = codes "Stopped"
+refusal_word IsVersion2 = codes "IsVersion2"
 
 -- tests, each with the refusal that it stands for
 abbrev pub Tests : Type 0
@@ -121,7 +123,7 @@ has_most_links t p = (option_map_or (λ i. nat_le 1000 (links_at t i)) (target t
 
 -- more bytes than a file can have
 abbrev pub is_too_large : ℕ → Bool × Refusal
-is_too_large size = (nat_lt 1073741824 size, TooLarge)
+is_too_large size = (nat_lt most_size size, TooLarge)
 
 -- the walk to the second path's last name passes a number
 abbrev pub passes : Tree → Path → ℕ → Bool
@@ -194,3 +196,7 @@ stat_tests t p = is_bad p ∷ walk_tests t p ++ is_missing t p ∷ []
 -- `clean`, which names no CPU
 abbrev pub clean_tests : World → Tree → Path → Tests
 clean_tests w t p = (w.read_only, ReadOnly) ∷ stat_tests t p
+
+-- `upgrade`, by the region's version: it names no CPU and no path
+abbrev pub upgrade_tests : World → ℕ → Tests
+upgrade_tests w version = (w.read_only, ReadOnly) ∷ (eqb version 2, IsVersion2) ∷ []

@@ -2,7 +2,7 @@
 use Rattle.std.specs.Prelude.{ℕ, List, codes}
 use Rattle.nv_tree.specs.declared.refusal.Refusal.{Refusal}
 use Rattle.nv_tree.specs.declared.refusal.Refusal.TheVariants.{NotFound, Exists, NotDirectory, IsDirectory, NotEmpty, BadName, NoSpace, NoInodes, TooLarge, ReadOnly, LinkLimit, IntoItself, BadCpu}
-use Rattle.nv_tree.specs.declared.refusal.Refusal.TheVariants.{Memory, Stopped}
+use Rattle.nv_tree.specs.declared.refusal.Refusal.TheVariants.{Memory, Stopped, IsVersion2}
 
 -- the sentence that is shown for a refusal
 abbrev pub refusal_sentence : Refusal → List ℕ
@@ -21,3 +21,4 @@ refusal_sentence IntoItself = codes "the directory would lie in itself"
 refusal_sentence BadCpu = codes "there is no CPU of that number"
 refusal_sentence Memory = codes "out of memory"
 refusal_sentence Stopped = codes "the memory has been stopped"
+refusal_sentence IsVersion2 = codes "the region has version 2 already"

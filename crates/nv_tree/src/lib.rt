@@ -11,9 +11,9 @@ mod refusal;
 mod replacing;
 
 pub use laws::{
-    calls_keep_sameness, each_text_says_one, first_refusal_is_first, names_after_create,
-    names_after_link, names_after_removal, names_after_rename, paths_lead_alike, read_back,
-    refusals_are_alike, same_tree,
+    calls_keep_sameness, each_text_says_one, first_refusal_is_first, looks_are_refused_alike,
+    names_after_create, names_after_link, names_after_removal, names_after_rename,
+    paths_lead_alike, read_back, refusals_are_alike, same_tree,
 };
 pub use path::{is_path, is_path_name, split_name};
 pub use refusal::Refusal;

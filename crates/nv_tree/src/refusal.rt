@@ -40,6 +40,8 @@ pub enum Refusal {
     Memory,
     /// The memory's fuse has burnt. From then on every call answers it, until the region is recovered again.
     Stopped,
+    /// The region has version 2 already.
+    IsVersion2,
 }
 
 impl Refusal {
@@ -63,6 +65,7 @@ impl Refusal {
             Refusal::BadCpu => "BadCpu",
             Refusal::Memory => "Memory",
             Refusal::Stopped => "Stopped",
+            Refusal::IsVersion2 => "IsVersion2",
         }
     }
 
@@ -86,6 +89,7 @@ impl Refusal {
             Refusal::BadCpu => "there is no CPU of that number",
             Refusal::Memory => "out of memory",
             Refusal::Stopped => "the memory has been stopped",
+            Refusal::IsVersion2 => "the region has version 2 already",
         }
     }
 }

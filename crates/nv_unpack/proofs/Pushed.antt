@@ -1,16 +1,9 @@
 -- What stands behind the calls that were there.
-use Rattle.std.proofs.Common.{◌≡◌, ◌∙◌, ◌⊎◌, inl, inr, ℕ, ◌+◌, Bool, true, false, IsTrue, List, [], ◌∷◌, ◌++◌, map, take, refl, sym, ap}
-use Rattle.std.proofs.lemmas.List.{append_assoc, append-nil, map-append}
-use Rattle.nv_tree.specs.Tree.{Tree}
-use Rattle.nv_session.specs.Machine.{directory_mode}
-use Rattle.nv_changes.specs.Calls.{IsThere}
+use Rattle.std.proofs.Common.{◌≡◌, ◌∙◌, Bool, true, false, IsTrue, List, [], ◌∷◌, ◌++◌, map, sym, ap}
+use Rattle.std.proofs.lemmas.List.{append_assoc, map-append}
 use Rattle.nv_history.specs.declared.calls.Call.{Call}
-use Rattle.nv_unpack.specs.Said.{Said, MakeDirectory, said}
-use Rattle.nv_unpack.specs.Calls.{Adds, MakesWay, ends_above, none, makes, passes}
-
--- no call more
-pub adds_none : (IsKind : List Said → Type 0) (before after : List Call) → after ≡ before → IsKind [] → Adds IsKind before after
-adds_none IsKind before after same is = ([], is, ap (map said) same ∙ sym (append-nil (map said before)))
+use Rattle.nv_unpack.specs.Said.{Said, said}
+use Rattle.nv_unpack.specs.Calls.{Adds}
 
 -- one more
 pub adds_one : (IsKind : List Said → Type 0) (before after : List Call) (a : Call) → after ≡ before ++ a ∷ [] → IsKind (said a ∷ []) → Adds IsKind before after
@@ -40,19 +33,3 @@ adds_three IsKind before one two after a b c first second third is = (
 
 pub off_never : (b : Bool) → b ≡ false → IsTrue b → ⊥
 off_never b off on = absurd (let never : true ≡ false = sym on ∙ off in cc)
-
-module _ (t : Tree) (cpu time : ℕ) (text : List ℕ) (k : ℕ) (before now after : List Call) where
-  -- nothing is made for the byte at this index
-  pub way_passes : after ≡ now → (ends_above text k ≡ false) ⊎ IsThere t (take k text) → Adds (MakesWay t cpu time text k) before now → Adds (MakesWay t cpu time text (k + 1)) before after
-  way_passes same why way = (way.0, passes k way.0 why way.1, ap (map said) same ∙ way.2)
-
-  -- a directory is
-  pub way_makes : (call : Call) → ends_above text k ≡ true → ¬ IsThere t (take k text) → said call ≡ MakeDirectory cpu (take k text) directory_mode time → after ≡ now ++ call ∷ []
-      → Adds (MakesWay t cpu time text k) before now → Adds (MakesWay t cpu time text (k + 1)) before after
-  way_makes call ends missing is more way = (
-    way.0 ++ MakeDirectory cpu (take k text) directory_mode time ∷ [],
-    makes k way.0 ends missing way.1,
-    ap (map said) more ∙ map-append said now (call ∷ []) ∙ ap (λ (c : Said). map said now ++ c ∷ []) is
-        ∙ ap (λ (all : List Said). all ++ MakeDirectory cpu (take k text) directory_mode time ∷ []) way.2
-        ∙ append_assoc (map said before) way.0 (MakeDirectory cpu (take k text) directory_mode time ∷ []),
-  )

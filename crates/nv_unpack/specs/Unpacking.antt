@@ -2,7 +2,7 @@
 use Rattle.std.specs.Prelude.{◌≡◌, ℕ, true, false, List, []}
 use Rattle.nv_region.specs.Region.{Region}
 use Rattle.nv_region.specs.RegionState.{RegionState}
-use Rattle.nv_report.specs.nv_outcome.Outcome.{Outcome, IsOutcome}
+use Rattle.nv_outcome.specs.Outcome.{Outcome, IsOutcome}
 use Rattle.nv_tree.specs.Tree.{Tree}
 use Rattle.nv_tree.specs.Refusals.{refusal_word}
 use Rattle.nv_tree.specs.declared.refusal.Refusal.{Refusal as CallRefusal}
@@ -11,11 +11,13 @@ use Rattle.nv_text.specs.Answers.{refused_line}
 use Rattle.nv_text.specs.Refusals.{refusal_name}
 use Rattle.nv_session.specs.Calls.{LeavesTree, mounted_as}
 use Rattle.nv_session.specs.Sessions.{IsSettled}
-use Rattle.nv_session.specs.nv_calls.Mount.{IsKept, Mount, has_faults}
-use Rattle.nv_checking.specs.Recovering.{IsSuperRefused}
+use Rattle.nv_mounted.specs.Mounted.{outcome_layout}
+use Rattle.nv_calls.specs.Mount.{IsKept, Mount, has_faults}
+use Rattle.nv_image_check.specs.Recovering.{IsSuperRefused}
 use Rattle.nv_changes.specs.Changing.{tree_shown}
 use Rattle.nv_untar.specs.declared.item.Item.{Item}
 use Rattle.nv_untar.specs.Items.{item_of}
+use Rattle.nv_unpack.specs.declared.maker.Maker.{Maker}
 use Rattle.nv_unpack.specs.declared.unpacking.Unpacked.{Unpacked}
 use Rattle.nv_unpack.specs.declared.unpacking.Unpacked.TheVariants as unpacked
 use Rattle.nv_unpack.specs.Making.{AreSteps, RefusesSteps}
@@ -24,34 +26,35 @@ use Rattle.nv_unpack.specs.Told.{refused_item}
 
 -- All steps were made. The region that is left is as long as the one that came, its own undone region, and has no fault; it shows
 -- the tree that the steps make. Nothing is pending in it.
-pub record IsMade (R : Region) (o : Outcome) (base : List ℕ) (items : List Item) (cpu : ℕ) (left : RegionState) : Type 0 where
+pub record IsMade (R : Region) (o : Outcome) (base : List ℕ) (items : List Item) (maker : Maker) (left : RegionState) : Type 0 where
   pub tree : Tree
-  pub made : AreSteps o.sup base cpu (steps_of items) (tree_shown R o) tree
+  pub made : AreSteps (outcome_layout o) base maker (steps_of items) (tree_shown R o) tree
   pub leaves : LeavesTree R left.region (mounted_as o false) tree
   pub settled : IsSettled left
 
 -- A call for this item is refused, of what is mounted then without faults.
-pub record IsHalted (R : Region) (o : Outcome) (base : List ℕ) (items : List Item) (cpu : ℕ) (item : Item) (refusal : CallRefusal) : Type 0 where
+pub record IsHalted (R : Region) (o : Outcome) (base : List ℕ) (items : List Item) (maker : Maker) (item : Item) (refusal : CallRefusal) : Type 0 where
   pub left : Mount RegionState
-  pub kept : IsKept left.memory.region left.sup left.rows left.free left.faults left.read_only left.stopped
+  pub kept : IsKept left.memory.region left.sup left.layout left.rows left.free left.faults left.read_only left.stopped
   pub runs : left.stopped ≡ false
   pub sup : left.sup ≡ o.sup
+  pub layout : left.layout ≡ outcome_layout o
   pub writes : left.read_only ≡ false
-  pub refuses : RefusesSteps o.sup base cpu (steps_of items) (tree_shown R o) left item refusal
+  pub refuses : RefusesSteps (outcome_layout o) base maker (steps_of items) (tree_shown R o) left item refusal
 
 -- what came of it, by the region's outcome: faults refuse it before anything else
-abbrev pub IsUnpackedAs : Region → Outcome → List ℕ → List Item → ℕ → Unpacked → Type 0
-IsUnpackedAs R o base items cpu (unpacked.Region left) = (has_faults o.faults ≡ false) × IsMade R o base items cpu left
-IsUnpackedAs R o base items cpu (unpacked.Unrecovered refusal) = ⊥
-IsUnpackedAs R o base items cpu unpacked.Faulty = has_faults o.faults ≡ true
-IsUnpackedAs R o base items cpu (unpacked.Refused item refusal) = (has_faults o.faults ≡ false) × IsHalted R o base items cpu item refusal
+abbrev pub IsUnpackedAs : Region → Outcome → List ℕ → List Item → Maker → Unpacked → Type 0
+IsUnpackedAs R o base items maker (unpacked.Region left) = (has_faults o.faults ≡ false) × IsMade R o base items maker left
+IsUnpackedAs R o base items maker (unpacked.Unrecovered refusal) = ⊥
+IsUnpackedAs R o base items maker unpacked.Faulty = has_faults o.faults ≡ true
+IsUnpackedAs R o base items maker (unpacked.Refused item refusal) = (has_faults o.faults ≡ false) × IsHalted R o base items maker item refusal
 
 -- What unpacking answers: the superblock's first fault, or what came of it.
-abbrev pub IsUnpacked : Region → List ℕ → List Item → ℕ → Unpacked → Type 0
-IsUnpacked R base items cpu (unpacked.Unrecovered refusal) = IsSuperRefused R refusal
-IsUnpacked R base items cpu (unpacked.Region left) = (o : Outcome) × IsOutcome R o × IsUnpackedAs R o base items cpu (unpacked.Region left)
-IsUnpacked R base items cpu unpacked.Faulty = (o : Outcome) × IsOutcome R o × IsUnpackedAs R o base items cpu unpacked.Faulty
-IsUnpacked R base items cpu (unpacked.Refused item refusal) = (o : Outcome) × IsOutcome R o × IsUnpackedAs R o base items cpu (unpacked.Refused item refusal)
+abbrev pub IsUnpacked : Region → List ℕ → List Item → Maker → Unpacked → Type 0
+IsUnpacked R base items maker (unpacked.Unrecovered refusal) = IsSuperRefused R refusal
+IsUnpacked R base items maker (unpacked.Region left) = (o : Outcome) × IsOutcome R o × IsUnpackedAs R o base items maker (unpacked.Region left)
+IsUnpacked R base items maker unpacked.Faulty = (o : Outcome) × IsOutcome R o × IsUnpackedAs R o base items maker unpacked.Faulty
+IsUnpacked R base items maker (unpacked.Refused item refusal) = (o : Outcome) × IsOutcome R o × IsUnpackedAs R o base items maker (unpacked.Refused item refusal)
 
 -- ---- what is told
 

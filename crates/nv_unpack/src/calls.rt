@@ -1,11 +1,11 @@
-//! The calls of a step.
+//! The calls of a step, once the way to its place is there.
 
-ghost use Rattle.std.specs.Prelude.{◌≡◌, ◌+◌, ◌<◌, ◌↔◌, false, length, map, IfOk, IsTrue, OnOk};
-ghost use Rattle.nv_session.specs.nv_paths.Seen.{tree_of};
+ghost use Rattle.std.specs.Prelude.{◌≡◌, ◌↔◌, false, map, IfOk, IsTrue, OnOk};
+ghost use Rattle.nv_paths.specs.Seen.{tree_of};
 ghost use Rattle.nv_changes.specs.Calls.{IsThere};
 ghost use Rattle.nv_untar.specs.Items.{item_of};
 ghost use Rattle.nv_unpack.specs.Said.{said};
-ghost use Rattle.nv_unpack.specs.Calls.{Adds, AreCallsAt, BeginsFile, IsDirectoryAt, MakesDirectory, MakesFile, MakesKind, MakesLink, MakesWay, attributes_call, ends_above};
+ghost use Rattle.nv_unpack.specs.Calls.{Adds, AreCallsAt, BeginsFile, IsDirectoryAt, MakesDirectory, MakesFile, MakesKind, MakesLink, attributes_call};
 
 use crate::step::Step;
 use nv_history::Call;
@@ -15,11 +15,8 @@ use nv_super::Kind;
 use nv_untar::{Item, ItemKind};
 use std::alloc::{AllocError, Global};
 
-/// The mode of a directory that is made on the way.
-const DIRECTORY_MODE: u32 = 493;
-
 /// The calls that a step makes of what is mounted, in the name of a CPU, by the text of the place of its item and of that of the
-/// file that it is a further name of. Errors: `AllocError` where a growth was refused.
+/// file that it is a further name of. The way to the place was made before. Errors: `AllocError` where a growth was refused.
 pub(crate) fn calls_of<'a>(
     alloc: Global,
     mount: &Fs<MemRegion>,
@@ -33,44 +30,10 @@ pub(crate) fn calls_of<'a>(
 {
     let mut calls = Vec::new(alloc);
     match step {
-        Step::Make(item) => {
-            push_way(&mut calls, mount, text, cpu, item.time)?;
-            push_item(&mut calls, mount, item, text, old, cpu)?;
-        }
+        Step::Make(item) => push_item(&mut calls, mount, item, text, old, cpu)?,
         Step::SetAttributes(item) => calls.push(set_attributes(item, text, cpu))?,
     }
     Ok(calls)
-}
-
-// The directories above a place that are missing are made.
-fn push_way<'a>(
-    calls: &mut Vec<Call<'a>>,
-    mount: &Fs<MemRegion>,
-    text: &'a [u8],
-    cpu: u64,
-    time: u64,
-) -> Result<(), AllocError>
-    requires { mount.now.stopped ≡ false }
-    ensures { OnOk result (Adds (MakesWay (tree_of mount.now.memory.region mount.now.rows) cpu time text.entry.now (length text.entry.now)) calls.old.items calls.new.items) }
-{
-    for at in 0..text.len() {
-        if ends_above(text, at) && !is_there(mount, &text[..at]) {
-            calls.push(Call::MakeDirectory {
-                cpu,
-                path: &text[..at],
-                mode: DIRECTORY_MODE,
-                time,
-            })?;
-        }
-    }
-    Ok(())
-}
-
-fn ends_above(text: &[u8], at: usize) -> bool
-    requires { at < length text.now }
-    ensures { result ≡ ends_above text.now at }
-{
-    at > 0 && text[at] == b'/'
 }
 
 // The item itself.
@@ -198,8 +161,8 @@ fn push_directory<'a>(
     Ok(())
 }
 
-// Whether a path leads to an inode.
-fn is_there(mount: &Fs<MemRegion>, path: &[u8]) -> bool
+/// Whether a path leads to an inode.
+pub(crate) fn is_there(mount: &Fs<MemRegion>, path: &[u8]) -> bool
     requires { mount.now.stopped ≡ false }
     ensures { IsTrue result ↔ IsThere (tree_of mount.now.memory.region mount.now.rows) path.now }
 {

@@ -4,16 +4,17 @@
 
 ghost use Rattle.std.specs.Prelude.{◌≡◌, false, IfOk, IsTrue, string_bytes};
 ghost use Rattle.nv_region.specs.Region.{Region};
-ghost use Rattle.nv_report.specs.nv_outcome.Outcome.{Outcome};
-ghost use Rattle.nv_cli.specs.Cleaning.{CanClean, IsOpenedAs};
+ghost use Rattle.nv_outcome.specs.Outcome.{Outcome};
+ghost use Rattle.nv_script.specs.Cleaning.{CanClean, IsOpenedAs};
 ghost use Rattle.nv_region.specs.RegionState.{is_steady};
 ghost use Rattle.nv_unpack.specs.Unpacking.{IsUnpacked, IsUnpackedAs};
 
 use crate::halt::Halt;
+use crate::maker::Maker;
 use crate::making::make_steps;
 use crate::step::steps_of;
 use crate::told::refused_item_text;
-use nv_checking::{Answer, recover_alone};
+use nv_image_check::{Answer, recover_alone};
 use nv_region::MemRegion;
 use nv_report::refused_text;
 use nv_session::{CallRefusal, Fs, keep_all, refused_call_text};
@@ -62,7 +63,8 @@ impl<'a> Unpacked<'a> {
     }
 }
 
-/// Recovers the region that a memory holds, and unpacks items below the directory that a base path leads to, in the name of a CPU.
+/// Recovers the region that a memory holds, and unpacks items below the directory that a base path leads to, in the name of one CPU
+/// or of any.
 /// What is pending in the memory is kept first, and its fuse is taken out. A region with faults is refused before anything else.
 ///
 /// Errors: `AllocError` where a growth was refused.
@@ -71,15 +73,21 @@ pub fn unpack_image<'a>(
     memory: MemRegion,
     base: &[u8],
     items: &[Item<'a>],
-    cpu: u64,
+    maker: Maker,
 ) -> Result<Unpacked<'a>, AllocError>
-    ensures { IfOk result (IsUnpacked memory.region base.now items.now cpu) }
+    ensures { IfOk result (IsUnpacked memory.region base.now items.now maker) }
 {
     let mut memory = keep_all(memory);
     let answer = recover_alone(alloc, &mut memory)?;
     match answer {
         Answer::Recovered(recovered) => {
-            unpack_mount(alloc, Fs::open(alloc, memory, recovered), base, items, cpu)
+            unpack_mount(
+                alloc,
+                Fs::open(alloc, memory, recovered),
+                base,
+                items,
+                maker,
+            )
         }
         Answer::Refused(refusal) => Ok(Unpacked::Unrecovered(refusal)),
     }
@@ -91,16 +99,16 @@ fn unpack_mount<'a>(
     mount: Fs<MemRegion>,
     base: &[u8],
     items: &[Item<'a>],
-    cpu: u64,
+    maker: Maker,
 ) -> Result<Unpacked<'a>, AllocError>
     requires runs { mount.stopped ≡ false }
     requires steady { IsTrue (is_steady mount.memory) }
-    ensures { (R : Region) (o : Outcome) → IsOpenedAs R o mount → IfOk result (IsUnpackedAs R o base.now items.now cpu) }
+    ensures { (R : Region) (o : Outcome) → IsOpenedAs R o mount → IfOk result (IsUnpackedAs R o base.now items.now maker) }
 {
     // Whether it may be written is told by its faults.
     mount.keeps();
     if mount.faults().is_empty() {
-        unpack_sound(alloc, mount, base, items, cpu)
+        unpack_sound(alloc, mount, base, items, maker)
     } else {
         Ok(Unpacked::Faulty)
     }
@@ -112,13 +120,13 @@ fn unpack_sound<'a>(
     mut mount: Fs<MemRegion>,
     base: &[u8],
     items: &[Item<'a>],
-    cpu: u64,
+    maker: Maker,
 ) -> Result<Unpacked<'a>, AllocError>
     requires { CanClean mount }
-    ensures { (R : Region) (o : Outcome) → IsOpenedAs R o mount → IfOk result (IsUnpackedAs R o base.now items.now cpu) }
+    ensures { (R : Region) (o : Outcome) → IsOpenedAs R o mount → IfOk result (IsUnpackedAs R o base.now items.now maker) }
 {
     let steps = steps_of(alloc, items)?;
-    let answer = make_steps(alloc, &mut mount, base, &steps, cpu);
+    let answer = make_steps(alloc, &mut mount, base, &steps, maker);
     // What it keeps is asked for below.
     mount.keeps();
     mount.nothing_is_pending();

@@ -2,11 +2,9 @@
 
 ghost use Rattle.std.specs.Prelude.{◌≡◌, ◌+◌, ◌<◌, ◌++◌, IfOk, OnOk, Some, length, slice_get, string_bytes};
 ghost use Rattle.nv_rows.specs.Rows.{IsInUse};
-ghost use Rattle.nv_archive.specs.Shown.{AreLowRows};
 ghost use Rattle.nv_usage.specs.Usage.{AreUsed, Counts, IsAdded, IsCount, IsRowBlocks, IsUsage, blocks_in, usage_line};
 
 use crate::named::NamedRows;
-use nv_archive::limit_of;
 use nv_members::{Member, members_of};
 use nv_radix::Extent;
 use nv_rows::Rows;
@@ -19,14 +17,10 @@ use std::fmt::Write;
 ///
 /// Errors: `AllocError` where a growth was refused.
 pub fn blocks_below(alloc: Global, rows: &Rows, inode: u64) -> Result<u64, AllocError>
-    requires low { AreLowRows rows.now.items }
-    requires used { IsInUse rows.now.items inode }
+    requires { IsInUse rows.now.items inode }
     ensures { IfOk result (IsUsage rows.now.items inode) }
 {
-    let named = NamedRows {
-        rows,
-        limit: limit_of(rows),
-    };
+    let named = NamedRows { rows };
     let members = members_of(alloc, &named, inode, false)?;
     count_blocks(rows, &members)
 }

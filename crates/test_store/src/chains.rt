@@ -151,7 +151,8 @@ const OF_TWO_CPUS: [Row<'static>; 4] = [
 // No chain is read in version 1.
 const OF_VERSION_1: [Row<'static>; 1] = [(&RING, &[], &[(31, Some(12160)), (32, None)])];
 
-fn tables_of(rt: &impl Abort, alloc: Global, memory: &MemRegion, sup: &Super) -> Tables
+/// The tables of a region with this superblock.
+pub(crate) fn tables_of(rt: &impl Abort, alloc: Global, memory: &MemRegion, sup: &Super) -> Tables
     requires layout { IsLayout sup.now }
     requires blocks { HasBlocks memory.now.region sup.now.blocks }
     ensures { result.layout ≡ layout_of sup.now memory.now.region }

@@ -3,13 +3,13 @@
 ghost use Rattle.std.specs.Prelude.{◌<◌};
 ghost use Rattle.nv_region.specs.Region.{HasBlocks};
 
+use crate::chains::tables_of;
 use crate::checks::{check, check_at};
 use crate::small::{SMALL, Word, assert_words, small_region};
-use nv_inode::{
-    Slot, SlotState, is_journal_word, nth_slot, put_slot, read_slot, set_word, slot_start,
-};
+use nv_inode::{Slot, SlotState, Tables, nth_slot, read_slot, read_slot_at, set_word, store_slot};
 use nv_region::{Fuse, MemRegion, Stopped};
 use nv_super::{Kind, Super};
+use std::alloc::Global;
 use std::process::Abort;
 
 // Two CPUs with two table blocks each: the tables are blocks 3 and 4, and 5 and 6.
@@ -43,7 +43,7 @@ fn put_root(memory: &mut MemRegion) -> Result<(), Stopped>
     requires { HasBlocks memory.old.region 16 }
     ensures { HasBlocks memory.new.region 16 }
 {
-    put_slot(memory, &SMALL, 1, &ROOT)
+    store_slot(memory, 8320, &ROOT)
 }
 
 fn validate_root(memory: &mut MemRegion) -> Result<(), Stopped>
@@ -56,7 +56,7 @@ fn validate_root(memory: &mut MemRegion) -> Result<(), Stopped>
 fn assert_slot(rt: &impl Abort, memory: &MemRegion, slot: &Slot)
     requires { HasBlocks memory.now.region 16 }
 {
-    check(rt, read_slot(memory, &SMALL, 1) == *slot, "slot 1");
+    check(rt, read_slot_at(memory, 8320) == *slot, "slot 1");
 }
 
 fn assert_put(rt: &impl Abort, memory: &mut MemRegion)
@@ -81,41 +81,50 @@ fn put_in_two(memory: &mut MemRegion, inode: u64) -> Result<(), Stopped>
     requires number { (0 < inode) × (inode < 128) }
     ensures { HasBlocks memory.new.region 16 }
 {
-    put_slot(memory, &TWO, inode, &ROOT)
+    store_slot(memory, TWO.slot_address(inode), &ROOT)
 }
 
-fn assert_created(rt: &impl Abort, memory: &MemRegion, inode: u64, created: u64)
-    requires blocks { HasBlocks memory.now.region 16 }
-    requires number { (0 < inode) × (inode < 128) }
+fn assert_created(
+    rt: &impl Abort,
+    memory: &MemRegion,
+    tables: &Tables,
+    inode: u64,
+    created: Option<u64>,
+)
+    requires { HasBlocks memory.now.region tables.now.layout.sup.blocks }
 {
-    let slot = read_slot(memory, &TWO, inode);
-    check_at(rt, slot.created == created, "the time of a slot", inode);
+    let slot = read_slot(memory, tables, inode);
+    let is_right = slot.map(|slot| slot.created) == created;
+    check_at(rt, is_right, "the time of a slot", inode);
 }
 
 const TAILS_IN_TWO: [Word; 2] = [(12416 + 24, 12320), (20608 + 24, 12320)];
 
 #[test]
 fn slots_lie_one_behind_the_other(rt: HostRuntime) {
-    let starts = [slot_start(&TWO, 1), slot_start(&TWO, 2)];
+    let starts = [TWO.slot_address(1), TWO.slot_address(2)];
     check(&rt, starts == [20480, 12416], "slots 1 and 2");
     let slots = [nth_slot(&TWO, 0), nth_slot(&TWO, 1), nth_slot(&TWO, 64)];
     check(&rt, slots == [12288, 12416, 20480], "the tables' slots");
 }
 
-fn assert_put_in_two(rt: &impl Abort, memory: &mut MemRegion)
+fn assert_put_in_two(rt: &impl Abort, alloc: Global, memory: &mut MemRegion)
     requires { HasBlocks memory.old.region 16 }
 {
     check(rt, put_in_two(memory, 2).is_ok(), "slot 2 is put");
     check(rt, put_in_two(memory, 3).is_ok(), "slot 3 is put");
     assert_words(rt, memory, &TAILS_IN_TWO);
-    assert_created(rt, memory, 3, 7);
-    assert_created(rt, memory, 127, 0);
+    let tables = tables_of(rt, alloc, memory, &TWO);
+    assert_created(rt, memory, &tables, 3, Some(7));
+    assert_created(rt, memory, &tables, 127, Some(0));
+    assert_created(rt, memory, &tables, 0, None);
+    assert_created(rt, memory, &tables, 128, None);
 }
 
 #[test]
 fn slots_alternate_between_the_tables_of_the_cpus(rt: HostRuntime) {
     let mut memory = small_region(&rt, rt.alloc(), &[]);
-    assert_put_in_two(&rt, &mut memory);
+    assert_put_in_two(&rt, rt.alloc(), &mut memory);
 }
 
 const PARTLY: Slot = Slot {
@@ -206,7 +215,9 @@ const NAMED: [(u64, bool); 15] = [
 
 #[test]
 fn a_journal_may_name_valid_word_head_and_tail(rt: HostRuntime) {
+    let memory = small_region(&rt, rt.alloc(), &[]);
+    let tables = tables_of(&rt, rt.alloc(), &memory, &SMALL);
     for &(at, named) in NAMED.iter() {
-        check_at(&rt, is_journal_word(&SMALL, at) == named, "a word", at);
+        check_at(&rt, tables.permits(at) == named, "a word", at);
     }
 }

@@ -36,12 +36,13 @@ fn write_two(memory: &mut MemRegion) -> Result<(), Stopped>
 }
 
 /// Words that are stored one after another, and the fault that is told then.
-const FIRST_FAULTS: [(u64, u64, SuperFault); 5] = [
+const FIRST_FAULTS: [(u64, u64, SuperFault); 6] = [
     (40, 2, SuperFault::State),
     (32, 31, SuperFault::Tables),
     (24, 65, SuperFault::Blocks),
     (16, 65, SuperFault::Cpus),
-    (8, 2, SuperFault::Version),
+    (8, 3, SuperFault::Version),
+    (8, 0, SuperFault::Version),
 ];
 
 fn store(memory: &mut MemRegion, at: u64, word: u64) -> Result<(), Stopped>
@@ -69,7 +70,16 @@ fn is_read_as_written(rt: &impl Abort, memory: &mut MemRegion)
     assert_super(rt, memory, 0, Err(SuperFault::Magic));
     check(rt, write_two(memory).is_ok(), "the superblock is written");
     assert_super(rt, memory, 0, Ok(TWO_CPUS));
+    check(rt, store(memory, 8, 2).is_ok(), "a store");
+    assert_super(rt, memory, 8, Ok(in_version_2()));
     faults_are_told(rt, memory);
+}
+
+fn in_version_2() -> Super {
+    Super {
+        version: 2,
+        ..TWO_CPUS
+    }
 }
 
 #[test]

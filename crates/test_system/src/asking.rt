@@ -87,6 +87,7 @@ pub fn call<P: Pmem + Drop>(
         "unlink" => unlink(fs, line),
         "rmdir" => rmdir(fs, line),
         "rename" => rename(fs, line),
+        "upgrade" => fs.upgrade(),
         _ => return None,
     })
 }

@@ -1,7 +1,7 @@
 //! What serves people who write by hand: scripts that end at their first refused command, shells, and names that are typed with
 //! escapes.
 
-use nv_cli::{
+use nv_script::{
     Ended, Hint, Hints, Host, MemRegion, run_script_strictly, run_shell, strict_shows_first_lines,
 };
 use nv_text::{no_list_is_refused, one_name, unescaped};

@@ -1,9 +1,9 @@
 //! Checks of a region's bytes, with all that they print and their exit statuses.
 
 use crate::broken_streams::Closing;
-use nv_cli::{ScriptError, check_region};
 use nv_format::format;
 use nv_region::MemRegion;
+use nv_script::{ScriptError, check_region};
 use std::process::Abort;
 use std::test::Fail;
 use std::thread::Threads;

@@ -1,7 +1,7 @@
 //! Logs that are cleaned: one page after another by a script, and all at once as an image.
 
 use crate::images::run_on;
-use nv_cli::{Cleaned, clean_image, region_of_file};
+use nv_script::{Cleaned, clean_image, region_of_file};
 use std::alloc::{AllocError, Global};
 use std::process::Abort;
 use std::test::Fail;

@@ -2,8 +2,8 @@
 
 use crate::rows::row;
 use crate::small::small_tables;
-use nv_check::{cross_faults, doubled};
 use nv_claimmap::ClaimedRuns;
+use nv_cross_check::{cross_faults, doubled};
 use nv_names::NameIndex;
 use nv_numbered::Chunks;
 use nv_scan::RowList;

@@ -2,12 +2,12 @@
 
 use crate::broken_streams::Closing;
 use crate::checking::clear;
-use nv_cli::{
+use nv_looks::{Chosen, cat_image, list_image, stat_image, tar_blocks};
+use nv_metadata::HeldBytes;
+use nv_script::{
     Answered, Hint, Hints, MemRegion, Output, ScriptError, check_region_as, map_cells,
     region_of_file, run_script_on, write_map,
 };
-use nv_looks::{Chosen, cat_image, list_image, stat_image, tar_blocks};
-use nv_metadata::HeldBytes;
 use std::alloc::Global;
 use std::process::Abort;
 use std::test::Fail;

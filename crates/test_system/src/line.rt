@@ -7,7 +7,7 @@ use std::process::Abort;
 use std::test::Fail;
 
 /// Lines, and the commands that they are read as, as `Debug` shows them.
-const COMMANDS: [(&str, &str); 26] = [
+const COMMANDS: [(&str, &str); 27] = [
     (
         "format 1 16 1",
         "Command(Format { cpus: 1, blocks: 16, table_blocks: 1 })",
@@ -39,6 +39,7 @@ const COMMANDS: [(&str, &str); 26] = [
         "Command(Replay { workers: 2, schedule: [0, 0, 0, 0, 1, 1, 1, 1] })",
     ),
     ("replay 3", "Command(Replay { workers: 3, schedule: [] })"),
+    ("upgrade", "Command(Upgrade)"),
     ("tree", "Command(Tree)"),
     ("free", "Command(Free)"),
     ("faults", "Command(Faults)"),
@@ -110,7 +111,7 @@ fn commands_are_read_with_their_values(rt: HostRuntime) -> Result<(), Fail> {
     Ok(())
 }
 
-const BAD_LINES: [&str; 73] = [
+const BAD_LINES: [&str; 74] = [
     // paths and stops
     "list",
     "stat /a /b",
@@ -134,6 +135,7 @@ const BAD_LINES: [&str; 73] = [
     "recover",
     "recover 1 1",
     "replay",
+    "upgrade 2",
     "tree 1",
     "free 0",
     "faults 1",

@@ -36,7 +36,8 @@ const READ_ONLY: &str = "
     ReadOnly    link    0 a b
     ReadOnly    unlink  0 a
     ReadOnly    rmdir   0 a
-    ReadOnly    rename  0 a b";
+    ReadOnly    rename  0 a b
+    ReadOnly    upgrade - /";
 
 pub fn is_read_only(rt: &impl Abort, alloc: Global, fs: &mut Fs<MemRegion>) -> Result<(), Fail> {
     assert!(rt; fs.faults() == FAULTS.as_slice());

@@ -85,13 +85,22 @@ const FILES: &str = "
     IsDirectory   size    0 / 1073741825
     TooLarge      size    0 /a 1073741825";
 
+const UPGRADES: &str = "
+    ok            upgrade - /
+    IsVersion2    upgrade - /
+    ok            write   0 /a 0 5000 65
+    ok            rename  0 /a /d/a
+    ok            unlink  0 /d/x
+    IsVersion2    upgrade - /";
+
 /// The lines of each are asked of a small tree.
-const STORIES: [Story<'static>; 5] = [
+const STORIES: [Story<'static>; 6] = [
     (32, 1, &[SMALL_TREE, NEW_NAMES]),
     (32, 1, &[SMALL_TREE, LINKS]),
     (32, 1, &[SMALL_TREE, RENAMES]),
     (32, 1, &[SMALL_TREE, REMOVALS]),
     (32, 1, &[SMALL_TREE, FILES]),
+    (32, 1, &[SMALL_TREE, UPGRADES]),
 ];
 
 #[test]

@@ -2,7 +2,7 @@
 
 ghost use Rattle.std.specs.Prelude.{◌≡◌, ◌<◌, IfOk};
 ghost use Rattle.nv_super.specs.Layout.{fixed_layout};
-ghost use Rattle.nv_recover.specs.nv_outcome.nv_rows.RowList.{HasNumbersOf};
+ghost use Rattle.nv_rows.specs.RowList.{HasNumbersOf};
 
 use crate::small::{SMALL, small_tables};
 use nv_names::NameIndex;

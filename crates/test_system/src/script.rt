@@ -3,7 +3,7 @@
 use crate::broken_streams::{Closing, Failing};
 use crate::damage::{JOURNALS, LOGS, NAMES, REPLAYED};
 use crate::written::{REFUSED, STOPPED, WRITTEN};
-use nv_cli::{ScriptError, run_script};
+use nv_script::{ScriptError, run_script};
 use std::alloc::{AllocError, Global};
 use std::process::Abort;
 use std::test::Fail;

@@ -16,7 +16,7 @@ fn push_answers(out: &mut String) -> Result<(), AllocError> {
 const ANSWERS: &str = "ok\nstopped\nbad line 8\nrecovered inodes 3 free 54 faults 4\n\
      word 18446744073709551615\n";
 
-const REFUSALS: [(Refusal, &str); 28] = [
+const REFUSALS: [(Refusal, &str); 29] = [
     (Refusal::NoRegion, "refused NoRegion\n"),
     (Refusal::NotMounted, "refused NotMounted\n"),
     (Refusal::Address, "refused Address\n"),
@@ -45,6 +45,7 @@ const REFUSALS: [(Refusal, &str); 28] = [
     (Refusal::LinkLimit, "refused LinkLimit\n"),
     (Refusal::IntoItself, "refused IntoItself\n"),
     (Refusal::BadCpu, "refused BadCpu\n"),
+    (Refusal::IsVersion2, "refused IsVersion2\n"),
 ];
 
 const NUMBERS: Super = Super {

@@ -2,7 +2,7 @@ use Rattle.std.proofs.Common.{◌≡◌, ℕ, ◌+◌, ◌-◌, ◌≤◌, ◌�
 use Rattle.std.specs.List.{range_with_len}
 use Rattle.std.proofs.lemmas.List.FromFn.{length-map-range_with_len}
 use Rattle.nv_radix.specs.Pages.{block_at}
-use Rattle.nv_held.specs.Bytes.{byte_in}
+use Rattle.nv_mounted.specs.Bytes.{byte_in}
 use Rattle.nv_bytes.specs.Bytes.{file_byte}
 use Rattle.nv_bytes.proofs.Filled.{on_page_up, page_filled, still_as_long}
 use Rattle.nv_bytes.proofs.filling.fill_bytes.Goals as goal

@@ -1,6 +1,6 @@
 use Rattle.std.proofs.Common.{◌≡◌, ℕ, ◌+◌, ◌-◌, ◌++◌, ◌∙◌, List, ap, append_assoc, arith, drop, length, length-drop, length-take, map, refl, take}
 use Rattle.std.specs.List.{range_with_len}
-use Rattle.nv_held.specs.Bytes.{byte_in}
+use Rattle.nv_mounted.specs.Bytes.{byte_in}
 use Rattle.nv_bytes.proofs.Filled.{filled_more, still_as_long}
 use Rattle.nv_bytes.proofs.filling.fill_page.Goals as goal
 

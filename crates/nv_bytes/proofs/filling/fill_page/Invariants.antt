@@ -1,6 +1,6 @@
 use Rattle.std.proofs.Common.{◌≡◌, ◌-◌, ◌≤◌, length, map, take}
 use Rattle.std.specs.List.{range_with_len}
-use Rattle.nv_held.specs.Bytes.{byte_in}
+use Rattle.nv_mounted.specs.Bytes.{byte_in}
 use Rattle.nv_bytes.proofs.filling.fill_page.Given as goal
 
 abbrev pub decreases-loop-done : goal.decreases-loop-done

@@ -1,6 +1,6 @@
 use Rattle.std.proofs.Common.{ℕ, ◌+◌, ◌*◌, ◌∙◌, map, ap, arith, length-set}
 use Rattle.std.specs.List.{range_with_len}
-use Rattle.nv_held.specs.Bytes.{byte_in}
+use Rattle.nv_mounted.specs.Bytes.{byte_in}
 use Rattle.nv_bytes.proofs.Changes.{old_byte}
 use Rattle.nv_bytes.proofs.StoredPages.{line_more}
 use Rattle.nv_bytes.proofs.Words.{bytes_in_row}

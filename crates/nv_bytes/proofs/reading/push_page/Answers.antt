@@ -1,6 +1,6 @@
 use Rattle.std.proofs.Common.{refl, arith, map, ◌-◌, ◌≤◌}
 use Rattle.std.specs.List.{range_with_len}
-use Rattle.nv_held.specs.Bytes.{byte_in}
+use Rattle.nv_mounted.specs.Bytes.{byte_in}
 use Rattle.nv_bytes.proofs.Ranges.{piece_more}
 use Rattle.nv_bytes.proofs.reading.push_page.Goals as goal
 

@@ -1,5 +1,5 @@
 use Rattle.std.proofs.Common.{◌≡◌, ap, ◌∙◌, arith, ℕ, ◌-◌, ◌+◌, ◌%◌, take, drop}
-use Rattle.nv_held.specs.Bytes.{byte_in}
+use Rattle.nv_mounted.specs.Bytes.{byte_in}
 use Rattle.nv_bytes.proofs.Words.{part_of_word}
 use Rattle.nv_bytes.proofs.Ranges.{added}
 use Rattle.nv_bytes.proofs.reading.push_part.Goals as goal

@@ -2,7 +2,7 @@ use Rattle.std.proofs.Common.{ℕ, ◌+◌, ◌*◌, ◌≤◌, ◌-◌, ◌/◌
 use Rattle.std.specs.List.{range_with_len}
 use Rattle.nv_region.specs.Region.{size}
 use Rattle.nv_radix.specs.Pages.{block_at}
-use Rattle.nv_held.specs.Bytes.{byte_in}
+use Rattle.nv_mounted.specs.Bytes.{byte_in}
 use Rattle.nv_bytes.specs.Bytes.{file_byte}
 use Rattle.nv_bytes.proofs.Ranges.{piece_more, same_range, page_on, page_high, page_smaller, on_page, all_read}
 use Rattle.nv_bytes.proofs.StoredPages.{of_index}

@@ -1,5 +1,5 @@
 use Rattle.std.proofs.Common.{◌∙◌, length-set}
-use Rattle.nv_held.specs.Bytes.{byte_in}
+use Rattle.nv_mounted.specs.Bytes.{byte_in}
 use Rattle.nv_bytes.specs.Bytes.{byte_after}
 use Rattle.nv_bytes.proofs.StoredPages.{line_more}
 use Rattle.nv_bytes.proofs.storing.mixed_line.Goals as goal

@@ -1,5 +1,5 @@
 use Rattle.std.proofs.Common.{◌≡◌, ◌+◌, ◌*◌, ◌<◌, ℕ, length, get_or}
-use Rattle.nv_held.specs.Bytes.{byte_in}
+use Rattle.nv_mounted.specs.Bytes.{byte_in}
 use Rattle.nv_bytes.specs.Bytes.{byte_of_word, byte_after}
 use Rattle.nv_bytes.proofs.storing.mixed_line.Given as goal
 use Rattle.nv_bytes.specs.Data.{data_bytes}

@@ -6,10 +6,10 @@ use Rattle.nv_region.proofs.Wordwise.{stores_more, stores_none}
 use Rattle.nv_region.specs.Lines.{put_words}
 use Rattle.nv_region.proofs.Lines.{put_words_size}
 use Rattle.nv_region.proofs.RowStores.{row_stores}
-use Rattle.nv_held.specs.Bytes.{byte_in}
+use Rattle.nv_mounted.specs.Bytes.{byte_in}
 use Rattle.nv_bytes.specs.Bytes.{byte_after, byte_of_word}
 use Rattle.nv_bytes.specs.Storing.{InBlocks}
-use Rattle.nv_held.proofs.BytesKept.{byte_stays}
+use Rattle.nv_mounted.proofs.BytesKept.{byte_stays}
 use Rattle.nv_bytes.proofs.StoredPages.{at_some, words_more, words_hold, none_below}
 use Rattle.nv_bytes.proofs.storing.store_mixed_page.Goals as goal
 use Rattle.nv_bytes.specs.Data.{data_bytes}

@@ -2,7 +2,7 @@ use Rattle.std.proofs.Common.{◌≡◌, ◌+◌, ◌*◌, ◌<◌, ◌≤◌, f
 use Rattle.nv_region.specs.Region.{size}
 use Rattle.nv_region.specs.Fuses.{KeepsFuse}
 use Rattle.nv_region.specs.Stored.{StoresOnly}
-use Rattle.nv_held.specs.Bytes.{byte_in}
+use Rattle.nv_mounted.specs.Bytes.{byte_in}
 use Rattle.nv_bytes.specs.Bytes.{byte_after}
 use Rattle.nv_bytes.specs.Storing.{InBlocks}
 use Rattle.nv_bytes.proofs.StoredPages.{HoldsWords}

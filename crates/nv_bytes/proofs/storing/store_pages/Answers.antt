@@ -5,7 +5,7 @@ use Rattle.nv_region.proofs.Stops.{mixed_same}
 use Rattle.nv_region.proofs.Wordwise.{stores_more, stores_none}
 use Rattle.nv_super.specs.declared.owners.Run.{Run}
 use Rattle.nv_alloc.specs.Taking.{HasBlock, blocks_in}
-use Rattle.nv_held.proofs.BytesKept.{mixed_size}
+use Rattle.nv_mounted.proofs.BytesKept.{mixed_size}
 use Rattle.nv_bytes.specs.Bytes.{byte_after, file_byte}
 use Rattle.nv_bytes.specs.Storing.{InBlocks}
 use Rattle.nv_bytes.proofs.StoredPages.{same_pages, Storing, storing_goes_on, runs_from, run_inside, pages_from, run_held, part_of, all_held}

@@ -4,7 +4,7 @@ use Rattle.nv_region.specs.Region.{size}
 use Rattle.nv_region.proofs.Fuses.{keeps_more}
 use Rattle.nv_region.proofs.Wordwise.{stores_more, stores_none}
 use Rattle.nv_super.specs.Runs.{InRun}
-use Rattle.nv_held.proofs.BytesKept.{mixed_size}
+use Rattle.nv_mounted.proofs.BytesKept.{mixed_size}
 use Rattle.nv_bytes.specs.Bytes.{byte_after, file_byte}
 use Rattle.nv_bytes.specs.Storing.{HoldsPage, InBlocks}
 use Rattle.nv_bytes.proofs.StoredPages.{page_next, same_pages, of_file, of_index, in_run_of, less_of, none_below}

@@ -3,8 +3,8 @@ use Rattle.nv_steps.specs.InOrder.{tail_address}
 use Rattle.nv_journal.specs.InOrder.{FirstIsFirst}
 use Rattle.std.proofs.lemmas.Result.{err_from_is_err_and}
 use Rattle.std.proofs.lemmas.Option.{same_Some}
-use Rattle.nv_super.specs.Layout.{fixed_layout, slot_address}
 use Rattle.nv_super.specs.declared.superblock.Super.{Super}
+use Rattle.nv_steps.specs.Slots.{slot_in}
 use Rattle.nv_alloc.specs.Taking.{all_blocks}
 use Rattle.nv_entry.specs.declared.entry.Operation.TheVariants.{Add}
 use Rattle.nv_logpage.specs.Append.{needed}
@@ -119,23 +119,23 @@ returns-clause-enough g c row is =
     subst (λ (r : Row). 1 + needed (r.tail % 4096) (name_entries Add c.args.new.now.inode c.args.new.now.name.now c.args.new.now.time) ≤ all_blocks c.args.free.now.pools) (same_Some _ _ (sym at ∙ is)) c.in_ok-made.ensures.needs.enough
 
 pub returns-then-free_blocks-pages_needed-clause-any_stop : goal.returns-then-free_blocks-pages_needed-clause-any_stop
-returns-then-free_blocks-pages_needed-clause-any_stop g c row held h is shows out absent settled = still _ _ c.args.sup.now held (Named (g.P.Pmem.region c.args.memory.now) c.args.sup.now c.args.free.now c.args.cpu row c.args.new.now.kind c.args.new.now.mode c.args.new.now.time c.args.new.now.inode c.args.new.now.name.now) shows.sound settled
+returns-then-free_blocks-pages_needed-clause-any_stop g c row held h is shows out absent settled = still _ _ c.args.tables.now.layout held (Named (g.P.Pmem.region c.args.memory.now) c.args.tables.now.layout c.args.free.now c.args.cpu row c.args.new.now.kind c.args.new.now.mode c.args.new.now.time c.args.new.now.inode c.args.new.now.name.now) shows.sound settled
 
 pub returns-then-is_err-clause-any_stop : goal.returns-then-is_err-clause-any_stop
-returns-then-is_err-clause-any_stop g c row held h is shows out absent settled = still _ _ c.args.sup.now held (Named (g.P.Pmem.region c.args.memory.now) c.args.sup.now c.args.free.now c.args.cpu row c.args.new.now.kind c.args.new.now.mode c.args.new.now.time c.args.new.now.inode c.args.new.now.name.now) shows.sound settled
+returns-then-is_err-clause-any_stop g c row held h is shows out absent settled = still _ _ c.args.tables.now.layout held (Named (g.P.Pmem.region c.args.memory.now) c.args.tables.now.layout c.args.free.now c.args.cpu row c.args.new.now.kind c.args.new.now.mode c.args.new.now.time c.args.new.now.inode c.args.new.now.name.now) shows.sound settled
 
 pub returns-in_err-made-clause-any_stop : goal.returns-in_err-made-clause-any_stop
 returns-in_err-made-clause-any_stop g c row held h is shows out absent settled =
     let at : row_of c.args.rows.now.items c.args.directory ≡ Some c.lend-row.result = ap (λ (rows : List Row). row_of rows c.args.directory) (sym c.reserve.ensures.rows) ∙ c.lend-row.ensures.row in
-    subst (λ (r : Row). ShowsRow (g.P.Pmem.region c.args.memory.now) c.args.sup.now held h r c.args.free.now → name_at r.names c.args.new.now.name.now ≡ None
-    → LeavesOnly (g.P.Pmem.region c.make_named-made.new.memory) (g.P.Pmem.may_hold c.make_named-made.new.memory) (LeavesEither (g.P.Pmem.region c.args.memory.now) (fixed_layout c.args.sup.now) held (Named (g.P.Pmem.region c.args.memory.now) c.args.sup.now c.args.free.now c.args.cpu r c.args.new.now.kind c.args.new.now.mode c.args.new.now.time c.args.new.now.inode c.args.new.now.name.now))) (same_Some _ _ (sym at ∙ is))
+    subst (λ (r : Row). ShowsRow (g.P.Pmem.region c.args.memory.now) c.args.tables.now.layout held h r c.args.free.now → name_at r.names c.args.new.now.name.now ≡ None
+    → LeavesOnly (g.P.Pmem.region c.make_named-made.new.memory) (g.P.Pmem.may_hold c.make_named-made.new.memory) (LeavesEither (g.P.Pmem.region c.args.memory.now) c.args.tables.now.layout held (Named (g.P.Pmem.region c.args.memory.now) c.args.tables.now.layout c.args.free.now c.args.cpu r c.args.new.now.kind c.args.new.now.mode c.args.new.now.time c.args.new.now.inode c.args.new.now.name.now))) (same_Some _ _ (sym at ∙ is))
     (λ seen none. c.make_named-made.ensures.any_stop held h seen out none settled) shows absent
 
 pub returns-clause-any_stop : goal.returns-clause-any_stop
 returns-clause-any_stop g c row held h is shows out absent settled =
     let at : row_of c.args.rows.now.items c.args.directory ≡ Some c.lend-row.result = ap (λ (rows : List Row). row_of rows c.args.directory) (sym c.reserve.ensures.rows) ∙ c.lend-row.ensures.row in
-    subst (λ (r : Row). ShowsRow (g.P.Pmem.region c.args.memory.now) c.args.sup.now held h r c.args.free.now → name_at r.names c.args.new.now.name.now ≡ None
-    → LeavesOnly (g.P.Pmem.region c.make_named-made.new.memory) (g.P.Pmem.may_hold c.make_named-made.new.memory) (LeavesEither (g.P.Pmem.region c.args.memory.now) (fixed_layout c.args.sup.now) held (Named (g.P.Pmem.region c.args.memory.now) c.args.sup.now c.args.free.now c.args.cpu r c.args.new.now.kind c.args.new.now.mode c.args.new.now.time c.args.new.now.inode c.args.new.now.name.now))) (same_Some _ _ (sym at ∙ is))
+    subst (λ (r : Row). ShowsRow (g.P.Pmem.region c.args.memory.now) c.args.tables.now.layout held h r c.args.free.now → name_at r.names c.args.new.now.name.now ≡ None
+    → LeavesOnly (g.P.Pmem.region c.make_named-made.new.memory) (g.P.Pmem.may_hold c.make_named-made.new.memory) (LeavesEither (g.P.Pmem.region c.args.memory.now) c.args.tables.now.layout held (Named (g.P.Pmem.region c.args.memory.now) c.args.tables.now.layout c.args.free.now c.args.cpu r c.args.new.now.kind c.args.new.now.mode c.args.new.now.time c.args.new.now.inode c.args.new.now.name.now))) (same_Some _ _ (sym at ∙ is))
     (λ seen none. c.make_named-made.ensures.any_stop held h seen out none settled) shows absent
 
 pub returns-then-free_blocks-pages_needed-clause-in_order : goal.returns-then-free_blocks-pages_needed-clause-in_order
@@ -147,29 +147,29 @@ returns-then-is_err-clause-in_order g c row held h is shows out = inl refl
 pub returns-in_err-made-clause-in_order : goal.returns-in_err-made-clause-in_order
 returns-in_err-made-clause-in_order g c row held h is shows out =
     let at : row_of c.args.rows.now.items c.args.directory ≡ Some c.lend-row.result = ap (λ (rows : List Row). row_of rows c.args.directory) (sym c.reserve.ensures.rows) ∙ c.lend-row.ensures.row in
-    subst (λ (r : Row). ShowsRow (g.P.Pmem.region c.args.memory.now) c.args.sup.now held h r c.args.free.now → FirstIsFirst (g.P.Pmem.region c.args.memory.now) (slot_address c.args.sup.now c.args.new.now.inode) 1 (tail_address c.args.sup.now r.inode) (g.P.Pmem.region c.make_named-made.new.memory)) (same_Some _ _ (sym at ∙ is))
+    subst (λ (r : Row). ShowsRow (g.P.Pmem.region c.args.memory.now) c.args.tables.now.layout held h r c.args.free.now → FirstIsFirst (g.P.Pmem.region c.args.memory.now) (slot_in c.args.tables.now.layout c.args.new.now.inode) 1 (tail_address c.args.tables.now.layout r.inode) (g.P.Pmem.region c.make_named-made.new.memory)) (same_Some _ _ (sym at ∙ is))
     (λ seen. c.make_named-made.ensures.in_order held h seen out) shows
 
 pub returns-clause-in_order : goal.returns-clause-in_order
 returns-clause-in_order g c row held h is shows out =
     let at : row_of c.args.rows.now.items c.args.directory ≡ Some c.lend-row.result = ap (λ (rows : List Row). row_of rows c.args.directory) (sym c.reserve.ensures.rows) ∙ c.lend-row.ensures.row in
-    subst (λ (r : Row). ShowsRow (g.P.Pmem.region c.args.memory.now) c.args.sup.now held h r c.args.free.now → FirstIsFirst (g.P.Pmem.region c.args.memory.now) (slot_address c.args.sup.now c.args.new.now.inode) 1 (tail_address c.args.sup.now r.inode) (g.P.Pmem.region c.make_named-made.new.memory)) (same_Some _ _ (sym at ∙ is))
+    subst (λ (r : Row). ShowsRow (g.P.Pmem.region c.args.memory.now) c.args.tables.now.layout held h r c.args.free.now → FirstIsFirst (g.P.Pmem.region c.args.memory.now) (slot_in c.args.tables.now.layout c.args.new.now.inode) 1 (tail_address c.args.tables.now.layout r.inode) (g.P.Pmem.region c.make_named-made.new.memory)) (same_Some _ _ (sym at ∙ is))
     (λ seen. c.make_named-made.ensures.in_order held h seen out) shows
 
 pub returns-then-free_blocks-pages_needed-clause-wrote : goal.returns-then-free_blocks-pages_needed-clause-wrote
-returns-then-free_blocks-pages_needed-clause-wrote g c row held h is shows out = stores_nothing c.args.sup.now held (one_more c.args.sup.now c.args.cpu c.args.new.now.inode row.inode) (g.P.Pmem.region c.args.memory.now)
+returns-then-free_blocks-pages_needed-clause-wrote g c row held h is shows out = stores_nothing c.args.tables.now.layout held (one_more c.args.tables.now.layout c.args.cpu c.args.new.now.inode row.inode) (g.P.Pmem.region c.args.memory.now)
 
 pub returns-then-is_err-clause-wrote : goal.returns-then-is_err-clause-wrote
-returns-then-is_err-clause-wrote g c row held h is shows out = stores_nothing c.args.sup.now held (one_more c.args.sup.now c.args.cpu c.args.new.now.inode row.inode) (g.P.Pmem.region c.args.memory.now)
+returns-then-is_err-clause-wrote g c row held h is shows out = stores_nothing c.args.tables.now.layout held (one_more c.args.tables.now.layout c.args.cpu c.args.new.now.inode row.inode) (g.P.Pmem.region c.args.memory.now)
 
 pub returns-in_err-made-clause-wrote : goal.returns-in_err-made-clause-wrote
 returns-in_err-made-clause-wrote g c row held h is shows out =
     let at : row_of c.args.rows.now.items c.args.directory ≡ Some c.lend-row.result = ap (λ (rows : List Row). row_of rows c.args.directory) (sym c.reserve.ensures.rows) ∙ c.lend-row.ensures.row in
-    subst (λ (r : Row). ShowsRow (g.P.Pmem.region c.args.memory.now) c.args.sup.now held h r c.args.free.now → StoresIn c.args.sup.now held (one_more c.args.sup.now c.args.cpu c.args.new.now.inode r.inode) (g.P.Pmem.region c.args.memory.now) (g.P.Pmem.region c.make_named-made.new.memory)) (same_Some _ _ (sym at ∙ is))
+    subst (λ (r : Row). ShowsRow (g.P.Pmem.region c.args.memory.now) c.args.tables.now.layout held h r c.args.free.now → StoresIn c.args.tables.now.layout held (one_more c.args.tables.now.layout c.args.cpu c.args.new.now.inode r.inode) (g.P.Pmem.region c.args.memory.now) (g.P.Pmem.region c.make_named-made.new.memory)) (same_Some _ _ (sym at ∙ is))
     (λ seen. c.make_named-made.ensures.wrote held h seen out) shows
 
 pub returns-clause-wrote : goal.returns-clause-wrote
 returns-clause-wrote g c row held h is shows out =
     let at : row_of c.args.rows.now.items c.args.directory ≡ Some c.lend-row.result = ap (λ (rows : List Row). row_of rows c.args.directory) (sym c.reserve.ensures.rows) ∙ c.lend-row.ensures.row in
-    subst (λ (r : Row). ShowsRow (g.P.Pmem.region c.args.memory.now) c.args.sup.now held h r c.args.free.now → StoresIn c.args.sup.now held (one_more c.args.sup.now c.args.cpu c.args.new.now.inode r.inode) (g.P.Pmem.region c.args.memory.now) (g.P.Pmem.region c.make_named-made.new.memory)) (same_Some _ _ (sym at ∙ is))
+    subst (λ (r : Row). ShowsRow (g.P.Pmem.region c.args.memory.now) c.args.tables.now.layout held h r c.args.free.now → StoresIn c.args.tables.now.layout held (one_more c.args.tables.now.layout c.args.cpu c.args.new.now.inode r.inode) (g.P.Pmem.region c.args.memory.now) (g.P.Pmem.region c.make_named-made.new.memory)) (same_Some _ _ (sym at ∙ is))
     (λ seen. c.make_named-made.ensures.wrote held h seen out) shows

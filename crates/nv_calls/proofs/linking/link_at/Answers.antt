@@ -1,6 +1,5 @@
 use Rattle.std.proofs.Common.{◌≡◌, ◌∙◌, ◌+◌, ◌%◌, ◌≤◌, ◌∷◌, [], ℕ, ap, subst, sym, None}
 use Rattle.nv_steps.specs.InOrder.{TailIsFirst, tail_address}
-use Rattle.nv_super.specs.Layout.{fixed_layout}
 use Rattle.std.proofs.lemmas.Result.{IfErr-weaker, on_ok_weaker}
 use Rattle.std.proofs.lemmas.Option.{same_Some}
 use Rattle.nv_alloc.specs.Taking.{all_blocks}
@@ -46,7 +45,7 @@ returns-clause-linked g c =
     let there = row_stays c.args.rows.now.items c.lend-file.new.self.items c.args.named.now.target c.args.named.now.directory c.requires.apart c.requires.target c.lend-file.ensures.lent c.lend-directory.result c.lend-directory.ensures.row in
     let put = back_two c.args.rows.now.items c.lend-file.new.self.items c.lend-directory.new.self.items c.give_back.new.self.items c.give_back-2.new.self.items c.args.named.now.target c.args.named.now.directory c.link_both-done.new.file c.link_both-done.new.directory c.requires.apart c.requires.target c.requires.directory
     c.lend-file.ensures.lent c.lend-directory.ensures.lent (c.link_both-done.ensures.directory_inode ∙ c.lend-directory.ensures.number) c.give_back.ensures.rows (c.link_both-done.ensures.inode ∙ c.lend-file.ensures.number) c.give_back-2.ensures.rows in
-    on_ok_weaker c.link_both-done.result (λ (step : LinksAt (g.P.Pmem.region c.args.memory.now) (g.P.Pmem.region c.link_both-done.new.memory) c.args.sup.now c.args.free.now c.link_both-done.new.free c.args.cpu (c.lend-file.result ∷ c.lend-directory.result ∷ []) (c.link_both-done.new.file ∷ c.link_both-done.new.directory ∷ []) 0 1 c.args.named.now.name.now c.args.time). record { file = step.file; directory = step.directory; step = lifted c.args.rows.now.items c.give_back-2.new.self.items c.args.named.now.target c.args.named.now.directory c.lend-file.result c.lend-directory.result c.link_both-done.new.file c.link_both-done.new.directory c.requires.apart c.lend-file.ensures.row there put step.step }) c.link_both-done.ensures.linked
+    on_ok_weaker c.link_both-done.result (λ (step : LinksAt (g.P.Pmem.region c.args.memory.now) (g.P.Pmem.region c.link_both-done.new.memory) c.args.tables.now.layout c.args.free.now c.link_both-done.new.free c.args.cpu (c.lend-file.result ∷ c.lend-directory.result ∷ []) (c.link_both-done.new.file ∷ c.link_both-done.new.directory ∷ []) 0 1 c.args.named.now.name.now c.args.time). record { file = step.file; directory = step.directory; step = lifted c.args.rows.now.items c.give_back-2.new.self.items c.args.named.now.target c.args.named.now.directory c.lend-file.result c.lend-directory.result c.link_both-done.new.file c.link_both-done.new.directory c.requires.apart c.lend-file.ensures.row there put step.step }) c.link_both-done.ensures.linked
 
 pub returns-clause-enough : goal.returns-clause-enough
 returns-clause-enough g c row directory at other_at =
@@ -78,16 +77,16 @@ returns-clause-any_stop g c file directory held f h at other_at here other absen
     let there = row_stays c.args.rows.now.items c.lend-file.new.self.items c.args.named.now.target c.args.named.now.directory c.requires.apart c.requires.target c.lend-file.ensures.lent c.lend-directory.result c.lend-directory.ensures.row in
     let same : c.lend-file.result ≡ file = same_Some _ _ (sym c.lend-file.ensures.row ∙ at) in
     let other_same : c.lend-directory.result ≡ directory = same_Some _ _ (sym there ∙ other_at) in
-    subst (λ (r : Row). ShowsRow (g.P.Pmem.region c.args.memory.now) c.args.sup.now held f r c.args.free.now → LeavesOnly (g.P.Pmem.region c.link_both-done.new.memory) (g.P.Pmem.may_hold c.link_both-done.new.memory) (LeavesEither (g.P.Pmem.region c.args.memory.now) (fixed_layout c.args.sup.now) held (Linked (g.P.Pmem.region c.args.memory.now) c.args.sup.now c.args.free.now c.args.cpu r directory c.args.named.now.name.now c.args.time))) same
-    (λ seen. subst (λ (d : Row). ShowsRow (g.P.Pmem.region c.args.memory.now) c.args.sup.now held h d c.args.free.now → name_at d.names c.args.named.now.name.now ≡ None → LeavesOnly (g.P.Pmem.region c.link_both-done.new.memory) (g.P.Pmem.may_hold c.link_both-done.new.memory) (LeavesEither (g.P.Pmem.region c.args.memory.now) (fixed_layout c.args.sup.now) held (Linked (g.P.Pmem.region c.args.memory.now) c.args.sup.now c.args.free.now c.args.cpu c.lend-file.result d c.args.named.now.name.now c.args.time))) other_same
+    subst (λ (r : Row). ShowsRow (g.P.Pmem.region c.args.memory.now) c.args.tables.now.layout held f r c.args.free.now → LeavesOnly (g.P.Pmem.region c.link_both-done.new.memory) (g.P.Pmem.may_hold c.link_both-done.new.memory) (LeavesEither (g.P.Pmem.region c.args.memory.now) c.args.tables.now.layout held (Linked (g.P.Pmem.region c.args.memory.now) c.args.tables.now.layout c.args.free.now c.args.cpu r directory c.args.named.now.name.now c.args.time))) same
+    (λ seen. subst (λ (d : Row). ShowsRow (g.P.Pmem.region c.args.memory.now) c.args.tables.now.layout held h d c.args.free.now → name_at d.names c.args.named.now.name.now ≡ None → LeavesOnly (g.P.Pmem.region c.link_both-done.new.memory) (g.P.Pmem.may_hold c.link_both-done.new.memory) (LeavesEither (g.P.Pmem.region c.args.memory.now) c.args.tables.now.layout held (Linked (g.P.Pmem.region c.args.memory.now) c.args.tables.now.layout c.args.free.now c.args.cpu c.lend-file.result d c.args.named.now.name.now c.args.time))) other_same
     (λ seen_other none. c.link_both-done.ensures.any_stop held f h seen seen_other none settled) other absent) here
 
 pub returns-clause-in_order : goal.returns-clause-in_order
 returns-clause-in_order g c file directory held f h at other_at here other =
-    of_lent c.args.rows.now.items c.lend-file.new.self.items c.args.named.now.target c.args.named.now.directory c.requires.apart c.requires.target c.lend-file.ensures.lent (λ (r d : Row). ShowsRow (g.P.Pmem.region c.args.memory.now) c.args.sup.now held f r c.args.free.now → ShowsRow (g.P.Pmem.region c.args.memory.now) c.args.sup.now held h d c.args.free.now → TailIsFirst (g.P.Pmem.region c.args.memory.now) (g.P.Pmem.region c.link_both-done.new.memory) c.args.sup.now c.args.free.now.pools c.args.cpu r.inode r.tail (links_entries (r.numbers.links + 1) c.args.time) (tail_address c.args.sup.now d.inode))
+    of_lent c.args.rows.now.items c.lend-file.new.self.items c.args.named.now.target c.args.named.now.directory c.requires.apart c.requires.target c.lend-file.ensures.lent (λ (r d : Row). ShowsRow (g.P.Pmem.region c.args.memory.now) c.args.tables.now.layout held f r c.args.free.now → ShowsRow (g.P.Pmem.region c.args.memory.now) c.args.tables.now.layout held h d c.args.free.now → TailIsFirst (g.P.Pmem.region c.args.memory.now) (g.P.Pmem.region c.link_both-done.new.memory) c.args.tables.now.layout c.args.free.now.pools c.args.cpu r.inode r.tail (links_entries (r.numbers.links + 1) c.args.time) (tail_address c.args.tables.now.layout d.inode))
     c.lend-file.result c.lend-directory.result file directory c.lend-file.ensures.row c.lend-directory.ensures.row (λ seen seen_other. c.link_both-done.ensures.in_order held f h seen seen_other) at other_at here other
 
 pub returns-clause-wrote : goal.returns-clause-wrote
 returns-clause-wrote g c file directory held f h at other_at here other =
-    of_lent c.args.rows.now.items c.lend-file.new.self.items c.args.named.now.target c.args.named.now.directory c.requires.apart c.requires.target c.lend-file.ensures.lent (λ (r d : Row). ShowsRow (g.P.Pmem.region c.args.memory.now) c.args.sup.now held f r c.args.free.now → ShowsRow (g.P.Pmem.region c.args.memory.now) c.args.sup.now held h d c.args.free.now → StoresIn c.args.sup.now held (two_logs c.args.sup.now c.args.cpu r.inode d.inode) (g.P.Pmem.region c.args.memory.now) (g.P.Pmem.region c.link_both-done.new.memory))
+    of_lent c.args.rows.now.items c.lend-file.new.self.items c.args.named.now.target c.args.named.now.directory c.requires.apart c.requires.target c.lend-file.ensures.lent (λ (r d : Row). ShowsRow (g.P.Pmem.region c.args.memory.now) c.args.tables.now.layout held f r c.args.free.now → ShowsRow (g.P.Pmem.region c.args.memory.now) c.args.tables.now.layout held h d c.args.free.now → StoresIn c.args.tables.now.layout held (two_logs c.args.tables.now.layout c.args.cpu r.inode d.inode) (g.P.Pmem.region c.args.memory.now) (g.P.Pmem.region c.link_both-done.new.memory))
     c.lend-file.result c.lend-directory.result file directory c.lend-file.ensures.row c.lend-directory.ensures.row (λ seen seen_other. c.link_both-done.ensures.wrote held f h seen seen_other) at other_at here other

@@ -1,6 +1,5 @@
 use Rattle.std.proofs.Common.{◌≡◌, ◌≢◌, ◌∙◌, ◌+◌, ◌%◌, ◌≤◌, ℕ, length, subst, sym}
 use Rattle.nv_steps.specs.InOrder.{TailIsFirst}
-use Rattle.nv_super.specs.Layout.{fixed_layout, slot_address}
 use Rattle.std.specs.Int.{div_ceil}
 use Rattle.std.proofs.lemmas.Result.{err_from_is_err_and}
 use Rattle.std.proofs.lemmas.Option.{same_Some}
@@ -26,6 +25,7 @@ use Rattle.nv_calls.proofs.TwoRows.{last_used}
 use Rattle.nv_steps.proofs.Kept.{kept_refused}
 use Rattle.nv_calls.proofs.removing.remove_named.Goals as goal
 use Rattle.nv_steps.specs.Stores.{StoresIn, one_less}
+use Rattle.nv_steps.specs.Slots.{slot_in}
 
 pub give_back-requires : goal.give_back-requires
 give_back-requires g c =
@@ -37,7 +37,7 @@ cut_name-cut-requires-clause-stands g c = c.requires.stands c.lend-directory.res
 pub cut_name-cut-requires-clause-can : goal.cut_name-cut-requires-clause-can
 cut_name-cut-requires-clause-can g c =
     let number = numbered c.args.rows.now.items c.args.named.now.target c.row.result.now c.row.ensures in
-    subst (λ (i : ℕ). CanName (g.P.Pmem.region c.args.memory.now) c.args.sup.now c.args.cpu i c.lend-directory.result) number (c.requires.can c.lend-directory.result c.row.result.now c.lend-directory.ensures.row c.row.ensures).0
+    subst (λ (i : ℕ). CanName (g.P.Pmem.region c.args.memory.now) c.args.tables.now.layout c.args.cpu i c.lend-directory.result) number (c.requires.can c.lend-directory.result c.row.result.now c.lend-directory.ensures.row c.row.ensures).0
 
 pub cut_name-cut-requires-clause-differ : goal.cut_name-cut-requires-clause-differ
 cut_name-cut-requires-clause-differ g c =
@@ -100,7 +100,7 @@ returns-clause-removed g c =
       mid = c.cut_name-cut.new.free;
       at = at_place rows c.args.named.now.directory ∙ c.lend-directory.ensures.row;
       gone_at = at_place rows c.args.named.now.target ∙ there;
-      step = subst (λ (i : ℕ). CutsName (g.P.Pmem.region c.args.memory.now) (g.P.Pmem.region c.cut_name-cut.new.memory) c.args.sup.now c.args.free.now c.cut_name-cut.new.free c.args.cpu c.lend-directory.result c.cut_name-cut.new.directory i c.args.time c.args.named.now.name.now) (sym c.take.ensures.number) c.in_ok-cut.ensures.cut;
+      step = subst (λ (i : ℕ). CutsName (g.P.Pmem.region c.args.memory.now) (g.P.Pmem.region c.cut_name-cut.new.memory) c.args.tables.now.layout c.args.free.now c.cut_name-cut.new.free c.args.cpu c.lend-directory.result c.cut_name-cut.new.directory i c.args.time c.args.named.now.name.now) (sym c.take.ensures.number) c.in_ok-cut.ensures.cut;
       given = c.give_row.ensures.given;
       put = other_out rows c.lend-directory.new.self.items c.give_back.new.self.items c.args.named.now.directory c.lend-directory.result c.cut_name-cut.new.directory c.lend-directory.ensures.row c.lend-directory.ensures.lent (c.cut_name-cut.ensures.inode ∙ c.lend-directory.ensures.number) c.give_back.ensures.rows c.args.named.now.target apart c.take.ensures.rows;
     }
@@ -116,46 +116,46 @@ pub returns-in_err-cut-clause-any_stop : goal.returns-in_err-cut-clause-any_stop
 returns-in_err-cut-clause-any_stop g c row gone held h at gone_at shows settled =
     let same : c.lend-directory.result ≡ row = same_Some _ _ (sym c.lend-directory.ensures.row ∙ at) in
     let number = sym (numbered c.args.rows.now.items c.args.named.now.target gone gone_at) in
-    subst (λ (i : ℕ). LeavesOnly (g.P.Pmem.region c.cut_name-cut.new.memory) (g.P.Pmem.may_hold c.cut_name-cut.new.memory) (LeavesEither (g.P.Pmem.region c.args.memory.now) (fixed_layout c.args.sup.now) held (Cut (g.P.Pmem.region c.args.memory.now) c.args.sup.now c.args.free.now c.args.cpu row i c.args.time c.args.named.now.name.now))) number
-    (subst (λ (r : Row). ShowsRow (g.P.Pmem.region c.args.memory.now) c.args.sup.now held h r c.args.free.now → LeavesOnly (g.P.Pmem.region c.cut_name-cut.new.memory) (g.P.Pmem.may_hold c.cut_name-cut.new.memory) (LeavesEither (g.P.Pmem.region c.args.memory.now) (fixed_layout c.args.sup.now) held (Cut (g.P.Pmem.region c.args.memory.now) c.args.sup.now c.args.free.now c.args.cpu r c.args.named.now.target c.args.time c.args.named.now.name.now))) same
+    subst (λ (i : ℕ). LeavesOnly (g.P.Pmem.region c.cut_name-cut.new.memory) (g.P.Pmem.may_hold c.cut_name-cut.new.memory) (LeavesEither (g.P.Pmem.region c.args.memory.now) c.args.tables.now.layout held (Cut (g.P.Pmem.region c.args.memory.now) c.args.tables.now.layout c.args.free.now c.args.cpu row i c.args.time c.args.named.now.name.now))) number
+    (subst (λ (r : Row). ShowsRow (g.P.Pmem.region c.args.memory.now) c.args.tables.now.layout held h r c.args.free.now → LeavesOnly (g.P.Pmem.region c.cut_name-cut.new.memory) (g.P.Pmem.may_hold c.cut_name-cut.new.memory) (LeavesEither (g.P.Pmem.region c.args.memory.now) c.args.tables.now.layout held (Cut (g.P.Pmem.region c.args.memory.now) c.args.tables.now.layout c.args.free.now c.args.cpu r c.args.named.now.target c.args.time c.args.named.now.name.now))) same
     (λ seen. c.cut_name-cut.ensures.any_stop held h seen settled) shows)
 
 pub returns-clause-any_stop : goal.returns-clause-any_stop
 returns-clause-any_stop g c row gone held h at gone_at shows settled =
     let same : c.lend-directory.result ≡ row = same_Some _ _ (sym c.lend-directory.ensures.row ∙ at) in
     let number = sym (numbered c.args.rows.now.items c.args.named.now.target gone gone_at) in
-    subst (λ (i : ℕ). LeavesOnly (g.P.Pmem.region c.cut_name-cut.new.memory) (g.P.Pmem.may_hold c.cut_name-cut.new.memory) (LeavesEither (g.P.Pmem.region c.args.memory.now) (fixed_layout c.args.sup.now) held (Cut (g.P.Pmem.region c.args.memory.now) c.args.sup.now c.args.free.now c.args.cpu row i c.args.time c.args.named.now.name.now))) number
-    (subst (λ (r : Row). ShowsRow (g.P.Pmem.region c.args.memory.now) c.args.sup.now held h r c.args.free.now → LeavesOnly (g.P.Pmem.region c.cut_name-cut.new.memory) (g.P.Pmem.may_hold c.cut_name-cut.new.memory) (LeavesEither (g.P.Pmem.region c.args.memory.now) (fixed_layout c.args.sup.now) held (Cut (g.P.Pmem.region c.args.memory.now) c.args.sup.now c.args.free.now c.args.cpu r c.args.named.now.target c.args.time c.args.named.now.name.now))) same
+    subst (λ (i : ℕ). LeavesOnly (g.P.Pmem.region c.cut_name-cut.new.memory) (g.P.Pmem.may_hold c.cut_name-cut.new.memory) (LeavesEither (g.P.Pmem.region c.args.memory.now) c.args.tables.now.layout held (Cut (g.P.Pmem.region c.args.memory.now) c.args.tables.now.layout c.args.free.now c.args.cpu row i c.args.time c.args.named.now.name.now))) number
+    (subst (λ (r : Row). ShowsRow (g.P.Pmem.region c.args.memory.now) c.args.tables.now.layout held h r c.args.free.now → LeavesOnly (g.P.Pmem.region c.cut_name-cut.new.memory) (g.P.Pmem.may_hold c.cut_name-cut.new.memory) (LeavesEither (g.P.Pmem.region c.args.memory.now) c.args.tables.now.layout held (Cut (g.P.Pmem.region c.args.memory.now) c.args.tables.now.layout c.args.free.now c.args.cpu r c.args.named.now.target c.args.time c.args.named.now.name.now))) same
     (λ seen. c.cut_name-cut.ensures.any_stop held h seen settled) shows)
 
 pub returns-in_err-cut-clause-in_order : goal.returns-in_err-cut-clause-in_order
 returns-in_err-cut-clause-in_order g c row gone held h at gone_at shows =
     let same : c.lend-directory.result ≡ row = same_Some _ _ (sym c.lend-directory.ensures.row ∙ at) in
     let number = sym (numbered c.args.rows.now.items c.args.named.now.target gone gone_at) in
-    subst (λ (i : ℕ). TailIsFirst (g.P.Pmem.region c.args.memory.now) (g.P.Pmem.region c.cut_name-cut.new.memory) c.args.sup.now c.args.free.now.pools c.args.cpu row.inode row.tail (name_entries Remove i c.args.named.now.name.now c.args.time) (slot_address c.args.sup.now i)) number
-    (subst (λ (r : Row). ShowsRow (g.P.Pmem.region c.args.memory.now) c.args.sup.now held h r c.args.free.now → TailIsFirst (g.P.Pmem.region c.args.memory.now) (g.P.Pmem.region c.cut_name-cut.new.memory) c.args.sup.now c.args.free.now.pools c.args.cpu r.inode r.tail (name_entries Remove c.args.named.now.target c.args.named.now.name.now c.args.time) (slot_address c.args.sup.now c.args.named.now.target)) same
+    subst (λ (i : ℕ). TailIsFirst (g.P.Pmem.region c.args.memory.now) (g.P.Pmem.region c.cut_name-cut.new.memory) c.args.tables.now.layout c.args.free.now.pools c.args.cpu row.inode row.tail (name_entries Remove i c.args.named.now.name.now c.args.time) (slot_in c.args.tables.now.layout i)) number
+    (subst (λ (r : Row). ShowsRow (g.P.Pmem.region c.args.memory.now) c.args.tables.now.layout held h r c.args.free.now → TailIsFirst (g.P.Pmem.region c.args.memory.now) (g.P.Pmem.region c.cut_name-cut.new.memory) c.args.tables.now.layout c.args.free.now.pools c.args.cpu r.inode r.tail (name_entries Remove c.args.named.now.target c.args.named.now.name.now c.args.time) (slot_in c.args.tables.now.layout c.args.named.now.target)) same
     (λ seen. c.cut_name-cut.ensures.in_order held h seen) shows)
 
 pub returns-clause-in_order : goal.returns-clause-in_order
 returns-clause-in_order g c row gone held h at gone_at shows =
     let same : c.lend-directory.result ≡ row = same_Some _ _ (sym c.lend-directory.ensures.row ∙ at) in
     let number = sym (numbered c.args.rows.now.items c.args.named.now.target gone gone_at) in
-    subst (λ (i : ℕ). TailIsFirst (g.P.Pmem.region c.args.memory.now) (g.P.Pmem.region c.cut_name-cut.new.memory) c.args.sup.now c.args.free.now.pools c.args.cpu row.inode row.tail (name_entries Remove i c.args.named.now.name.now c.args.time) (slot_address c.args.sup.now i)) number
-    (subst (λ (r : Row). ShowsRow (g.P.Pmem.region c.args.memory.now) c.args.sup.now held h r c.args.free.now → TailIsFirst (g.P.Pmem.region c.args.memory.now) (g.P.Pmem.region c.cut_name-cut.new.memory) c.args.sup.now c.args.free.now.pools c.args.cpu r.inode r.tail (name_entries Remove c.args.named.now.target c.args.named.now.name.now c.args.time) (slot_address c.args.sup.now c.args.named.now.target)) same
+    subst (λ (i : ℕ). TailIsFirst (g.P.Pmem.region c.args.memory.now) (g.P.Pmem.region c.cut_name-cut.new.memory) c.args.tables.now.layout c.args.free.now.pools c.args.cpu row.inode row.tail (name_entries Remove i c.args.named.now.name.now c.args.time) (slot_in c.args.tables.now.layout i)) number
+    (subst (λ (r : Row). ShowsRow (g.P.Pmem.region c.args.memory.now) c.args.tables.now.layout held h r c.args.free.now → TailIsFirst (g.P.Pmem.region c.args.memory.now) (g.P.Pmem.region c.cut_name-cut.new.memory) c.args.tables.now.layout c.args.free.now.pools c.args.cpu r.inode r.tail (name_entries Remove c.args.named.now.target c.args.named.now.name.now c.args.time) (slot_in c.args.tables.now.layout c.args.named.now.target)) same
     (λ seen. c.cut_name-cut.ensures.in_order held h seen) shows)
 
 pub returns-in_err-cut-clause-wrote : goal.returns-in_err-cut-clause-wrote
 returns-in_err-cut-clause-wrote g c row gone held h at gone_at shows =
     let same : c.lend-directory.result ≡ row = same_Some _ _ (sym c.lend-directory.ensures.row ∙ at) in
     let number = sym (numbered c.args.rows.now.items c.args.named.now.target gone gone_at) in
-    subst (λ (i : ℕ). StoresIn c.args.sup.now held (one_less c.args.sup.now c.args.cpu row.inode i) (g.P.Pmem.region c.args.memory.now) (g.P.Pmem.region c.cut_name-cut.new.memory)) number
-    (subst (λ (r : Row). ShowsRow (g.P.Pmem.region c.args.memory.now) c.args.sup.now held h r c.args.free.now → StoresIn c.args.sup.now held (one_less c.args.sup.now c.args.cpu r.inode c.args.named.now.target) (g.P.Pmem.region c.args.memory.now) (g.P.Pmem.region c.cut_name-cut.new.memory)) same
+    subst (λ (i : ℕ). StoresIn c.args.tables.now.layout held (one_less c.args.tables.now.layout c.args.cpu row.inode i) (g.P.Pmem.region c.args.memory.now) (g.P.Pmem.region c.cut_name-cut.new.memory)) number
+    (subst (λ (r : Row). ShowsRow (g.P.Pmem.region c.args.memory.now) c.args.tables.now.layout held h r c.args.free.now → StoresIn c.args.tables.now.layout held (one_less c.args.tables.now.layout c.args.cpu r.inode c.args.named.now.target) (g.P.Pmem.region c.args.memory.now) (g.P.Pmem.region c.cut_name-cut.new.memory)) same
     (λ seen. c.cut_name-cut.ensures.wrote held h seen) shows)
 
 pub returns-clause-wrote : goal.returns-clause-wrote
 returns-clause-wrote g c row gone held h at gone_at shows =
     let same : c.lend-directory.result ≡ row = same_Some _ _ (sym c.lend-directory.ensures.row ∙ at) in
     let number = sym (numbered c.args.rows.now.items c.args.named.now.target gone gone_at) in
-    subst (λ (i : ℕ). StoresIn c.args.sup.now held (one_less c.args.sup.now c.args.cpu row.inode i) (g.P.Pmem.region c.args.memory.now) (g.P.Pmem.region c.cut_name-cut.new.memory)) number
-    (subst (λ (r : Row). ShowsRow (g.P.Pmem.region c.args.memory.now) c.args.sup.now held h r c.args.free.now → StoresIn c.args.sup.now held (one_less c.args.sup.now c.args.cpu r.inode c.args.named.now.target) (g.P.Pmem.region c.args.memory.now) (g.P.Pmem.region c.cut_name-cut.new.memory)) same
+    subst (λ (i : ℕ). StoresIn c.args.tables.now.layout held (one_less c.args.tables.now.layout c.args.cpu row.inode i) (g.P.Pmem.region c.args.memory.now) (g.P.Pmem.region c.cut_name-cut.new.memory)) number
+    (subst (λ (r : Row). ShowsRow (g.P.Pmem.region c.args.memory.now) c.args.tables.now.layout held h r c.args.free.now → StoresIn c.args.tables.now.layout held (one_less c.args.tables.now.layout c.args.cpu r.inode c.args.named.now.target) (g.P.Pmem.region c.args.memory.now) (g.P.Pmem.region c.cut_name-cut.new.memory)) same
     (λ seen. c.cut_name-cut.ensures.wrote held h seen) shows)

@@ -3,7 +3,6 @@ use Rattle.nv_entry.specs.declared.entry.Entry.{Entry}
 use Rattle.nv_entry.specs.declared.entry.Operation.TheVariants.{Remove}
 use Rattle.nv_steps.specs.NameEntries.{name_entries}
 use Rattle.nv_steps.specs.InOrder.{TailIsFirst, tail_address}
-use Rattle.nv_super.specs.Layout.{fixed_layout}
 use Rattle.std.proofs.lemmas.Result.{IfErr-weaker, on_ok_weaker}
 use Rattle.std.proofs.lemmas.Option.{same_Some}
 use Rattle.nv_alloc.specs.Taking.{all_blocks}
@@ -91,8 +90,8 @@ returns-clause-any_stop g c from to inode held h k at other_at inode_at here oth
     let same : c.lend-from.result ≡ from = same_Some _ _ (sym c.lend-from.ensures.row ∙ at) in
     let other_same : c.lend-to.result ≡ to = same_Some _ _ (sym there ∙ other_at) in
     let number = c.other_name-other.ensures.inode ∙ sym (numbered rows c.args.moved.now.from.target inode inode_at) in
-    subst (λ (r : Row). ShowsRow (g.P.Pmem.region c.args.memory.now) c.args.sup.now held h r c.args.free.now → LeavesOnly (g.P.Pmem.region c.move_both-done.new.memory) (g.P.Pmem.may_hold c.move_both-done.new.memory) (LeavesEither (g.P.Pmem.region c.args.memory.now) (fixed_layout c.args.sup.now) held (MovedOver (g.P.Pmem.region c.args.memory.now) c.args.sup.now c.args.free.now c.args.cpu r to inode.inode c.args.moved.now.from.name.now c.args.moved.now.name.now c.args.time))) same
-    (λ seen. subst (λ (d : Row). ShowsRow (g.P.Pmem.region c.args.memory.now) c.args.sup.now held k d c.args.free.now → name_at d.names c.args.moved.now.name.now ≡ None → LeavesOnly (g.P.Pmem.region c.move_both-done.new.memory) (g.P.Pmem.may_hold c.move_both-done.new.memory) (LeavesEither (g.P.Pmem.region c.args.memory.now) (fixed_layout c.args.sup.now) held (MovedOver (g.P.Pmem.region c.args.memory.now) c.args.sup.now c.args.free.now c.args.cpu c.lend-from.result d inode.inode c.args.moved.now.from.name.now c.args.moved.now.name.now c.args.time))) other_same
+    subst (λ (r : Row). ShowsRow (g.P.Pmem.region c.args.memory.now) c.args.tables.now.layout held h r c.args.free.now → LeavesOnly (g.P.Pmem.region c.move_both-done.new.memory) (g.P.Pmem.may_hold c.move_both-done.new.memory) (LeavesEither (g.P.Pmem.region c.args.memory.now) c.args.tables.now.layout held (MovedOver (g.P.Pmem.region c.args.memory.now) c.args.tables.now.layout c.args.free.now c.args.cpu r to inode.inode c.args.moved.now.from.name.now c.args.moved.now.name.now c.args.time))) same
+    (λ seen. subst (λ (d : Row). ShowsRow (g.P.Pmem.region c.args.memory.now) c.args.tables.now.layout held k d c.args.free.now → name_at d.names c.args.moved.now.name.now ≡ None → LeavesOnly (g.P.Pmem.region c.move_both-done.new.memory) (g.P.Pmem.may_hold c.move_both-done.new.memory) (LeavesEither (g.P.Pmem.region c.args.memory.now) c.args.tables.now.layout held (MovedOver (g.P.Pmem.region c.args.memory.now) c.args.tables.now.layout c.args.free.now c.args.cpu c.lend-from.result d inode.inode c.args.moved.now.from.name.now c.args.moved.now.name.now c.args.time))) other_same
     (λ seen_other none. over_as c.lend-from.result c.lend-to.result (g.P.Pmem.region c.move_both-done.new.memory) (g.P.Pmem.may_hold c.move_both-done.new.memory) number c.other_name-other.ensures.name c.other_name-other.ensures.other c.other_name-other.ensures.time
     (c.move_both-done.ensures.any_stop held h k seen seen_other (ap (name_at c.lend-to.result.names) c.other_name-other.ensures.other ∙ none) settled)) other absent) here
 
@@ -100,11 +99,11 @@ pub returns-clause-in_order : goal.returns-clause-in_order
 returns-clause-in_order g c from to inode held h k at other_at inode_at here other =
     let number = c.other_name-other.ensures.inode ∙ sym (numbered c.args.rows.now.items c.args.moved.now.from.target inode inode_at) in
     let entries : name_entries Remove c.other_name-other.result.inode c.other_name-other.result.name.now c.other_name-other.result.time ≡ name_entries Remove inode.inode c.args.moved.now.from.name.now c.args.time = λ t. name_entries Remove (number t) (c.other_name-other.ensures.name t) (c.other_name-other.ensures.time t) in
-    of_lent c.args.rows.now.items c.lend-from.new.self.items c.args.moved.now.from.directory c.args.moved.now.directory c.requires.apart c.requires.from c.lend-from.ensures.lent (λ (r d : Row). ShowsRow (g.P.Pmem.region c.args.memory.now) c.args.sup.now held h r c.args.free.now → ShowsRow (g.P.Pmem.region c.args.memory.now) c.args.sup.now held k d c.args.free.now → TailIsFirst (g.P.Pmem.region c.args.memory.now) (g.P.Pmem.region c.move_both-done.new.memory) c.args.sup.now c.args.free.now.pools c.args.cpu r.inode r.tail (name_entries Remove inode.inode c.args.moved.now.from.name.now c.args.time) (tail_address c.args.sup.now d.inode))
+    of_lent c.args.rows.now.items c.lend-from.new.self.items c.args.moved.now.from.directory c.args.moved.now.directory c.requires.apart c.requires.from c.lend-from.ensures.lent (λ (r d : Row). ShowsRow (g.P.Pmem.region c.args.memory.now) c.args.tables.now.layout held h r c.args.free.now → ShowsRow (g.P.Pmem.region c.args.memory.now) c.args.tables.now.layout held k d c.args.free.now → TailIsFirst (g.P.Pmem.region c.args.memory.now) (g.P.Pmem.region c.move_both-done.new.memory) c.args.tables.now.layout c.args.free.now.pools c.args.cpu r.inode r.tail (name_entries Remove inode.inode c.args.moved.now.from.name.now c.args.time) (tail_address c.args.tables.now.layout d.inode))
     c.lend-from.result c.lend-to.result from to c.lend-from.ensures.row c.lend-to.ensures.row
-    (λ seen seen_other. subst (λ (es : List Entry). TailIsFirst (g.P.Pmem.region c.args.memory.now) (g.P.Pmem.region c.move_both-done.new.memory) c.args.sup.now c.args.free.now.pools c.args.cpu c.lend-from.result.inode c.lend-from.result.tail es (tail_address c.args.sup.now c.lend-to.result.inode)) entries (c.move_both-done.ensures.in_order held h k seen seen_other)) at other_at here other
+    (λ seen seen_other. subst (λ (es : List Entry). TailIsFirst (g.P.Pmem.region c.args.memory.now) (g.P.Pmem.region c.move_both-done.new.memory) c.args.tables.now.layout c.args.free.now.pools c.args.cpu c.lend-from.result.inode c.lend-from.result.tail es (tail_address c.args.tables.now.layout c.lend-to.result.inode)) entries (c.move_both-done.ensures.in_order held h k seen seen_other)) at other_at here other
 
 pub returns-clause-wrote : goal.returns-clause-wrote
 returns-clause-wrote g c from to inode held h k at other_at inode_at here other =
-    of_lent c.args.rows.now.items c.lend-from.new.self.items c.args.moved.now.from.directory c.args.moved.now.directory c.requires.apart c.requires.from c.lend-from.ensures.lent (λ (r d : Row). ShowsRow (g.P.Pmem.region c.args.memory.now) c.args.sup.now held h r c.args.free.now → ShowsRow (g.P.Pmem.region c.args.memory.now) c.args.sup.now held k d c.args.free.now → StoresIn c.args.sup.now held (two_logs c.args.sup.now c.args.cpu r.inode d.inode) (g.P.Pmem.region c.args.memory.now) (g.P.Pmem.region c.move_both-done.new.memory))
+    of_lent c.args.rows.now.items c.lend-from.new.self.items c.args.moved.now.from.directory c.args.moved.now.directory c.requires.apart c.requires.from c.lend-from.ensures.lent (λ (r d : Row). ShowsRow (g.P.Pmem.region c.args.memory.now) c.args.tables.now.layout held h r c.args.free.now → ShowsRow (g.P.Pmem.region c.args.memory.now) c.args.tables.now.layout held k d c.args.free.now → StoresIn c.args.tables.now.layout held (two_logs c.args.tables.now.layout c.args.cpu r.inode d.inode) (g.P.Pmem.region c.args.memory.now) (g.P.Pmem.region c.move_both-done.new.memory))
     c.lend-from.result c.lend-to.result from to c.lend-from.ensures.row c.lend-to.ensures.row (λ seen seen_other. c.move_both-done.ensures.wrote held h k seen seen_other) at other_at here other

@@ -76,7 +76,7 @@ returns-clause-kept g c =
 pub returns-then-moved-clause-any_stop : goal.returns-then-moved-clause-any_stop
 returns-then-moved-clause-any_stop g c from to inode held h k at other_at inode_at here other absent settled left may =
     let apart = places_apart c.args.rows.now.items c.args.moved.now.from.directory c.args.moved.now.directory c.requires.from c.requires.directory c.if-moved.true in
-    left_made (MovedOver (g.P.Pmem.region c.args.memory.now) c.args.sup.now c.args.free.now c.args.cpu from to inode.inode c.args.moved.now.from.name.now c.args.moved.now.name.now c.args.time) (Renamed (g.P.Pmem.region c.args.memory.now) c.args.sup.now c.args.free.now c.args.cpu (place_in c.args.rows.now.items c.args.moved.now.from.directory) (place_in c.args.rows.now.items c.args.moved.now.directory) from to inode.inode c.args.moved.now.from.name.now c.args.moved.now.name.now c.args.time) (λ S w. inr (apart, w)) left (c.move_across.ensures.any_stop from to inode held h k at other_at inode_at here other absent settled left may)
+    left_made (MovedOver (g.P.Pmem.region c.args.memory.now) c.args.tables.now.layout c.args.free.now c.args.cpu from to inode.inode c.args.moved.now.from.name.now c.args.moved.now.name.now c.args.time) (Renamed (g.P.Pmem.region c.args.memory.now) c.args.tables.now.layout c.args.free.now c.args.cpu (place_in c.args.rows.now.items c.args.moved.now.from.directory) (place_in c.args.rows.now.items c.args.moved.now.directory) from to inode.inode c.args.moved.now.from.name.now c.args.moved.now.name.now c.args.time) (λ S w. inr (apart, w)) left (c.move_across.ensures.any_stop from to inode held h k at other_at inode_at here other absent settled left may)
 
 pub returns-clause-any_stop : goal.returns-clause-any_stop
 returns-clause-any_stop g c from to inode held h k at other_at inode_at here other absent settled left may =
@@ -84,11 +84,11 @@ returns-clause-any_stop g c from to inode held h k at other_at inode_at here oth
     let one = same_Some _ _ (sym c.lend-directory.ensures.row ∙ sym (ap (row_of rows) c.if-moved.false) ∙ at) in
     let two : c.lend-directory.result ≡ to = same_Some _ _ (sym c.lend-directory.ensures.row ∙ other_at) in
     let number = c.other_name-other.ensures.inode ∙ sym (numbered rows c.args.moved.now.from.target inode inode_at) in
-    let shown = subst (λ (r : Row). ShowsRow (g.P.Pmem.region c.args.memory.now) c.args.sup.now held k r c.args.free.now) (sym two) other in
+    let shown = subst (λ (r : Row). ShowsRow (g.P.Pmem.region c.args.memory.now) c.args.tables.now.layout held k r c.args.free.now) (sym two) other in
     let none : name_at c.lend-directory.result.names c.args.moved.now.name.now ≡ None = subst (λ (r : Row). name_at r.names c.args.moved.now.name.now ≡ None) (sym two) absent in
     let step = here_as (g.P.Pmem.region c.move_within-done.new.memory) (g.P.Pmem.may_hold c.move_within-done.new.memory) one number c.other_name-other.ensures.name c.other_name-other.ensures.other c.other_name-other.ensures.time
     (c.move_within-done.ensures.any_stop held k shown (ap (name_at c.lend-directory.result.names) c.other_name-other.ensures.other ∙ none) settled) in
-    left_made (MovedHere (g.P.Pmem.region c.args.memory.now) c.args.sup.now c.args.free.now c.args.cpu from inode.inode c.args.moved.now.from.name.now c.args.moved.now.name.now c.args.time) (Renamed (g.P.Pmem.region c.args.memory.now) c.args.sup.now c.args.free.now c.args.cpu (place_in c.args.rows.now.items c.args.moved.now.from.directory) (place_in c.args.rows.now.items c.args.moved.now.directory) from to inode.inode c.args.moved.now.from.name.now c.args.moved.now.name.now c.args.time) (λ S w. inl (ap (place_in rows) c.if-moved.false, w)) left (step left may)
+    left_made (MovedHere (g.P.Pmem.region c.args.memory.now) c.args.tables.now.layout c.args.free.now c.args.cpu from inode.inode c.args.moved.now.from.name.now c.args.moved.now.name.now c.args.time) (Renamed (g.P.Pmem.region c.args.memory.now) c.args.tables.now.layout c.args.free.now c.args.cpu (place_in c.args.rows.now.items c.args.moved.now.from.directory) (place_in c.args.rows.now.items c.args.moved.now.directory) from to inode.inode c.args.moved.now.from.name.now c.args.moved.now.name.now c.args.time) (λ S w. inl (ap (place_in rows) c.if-moved.false, w)) left (step left may)
 
 pub returns-then-moved-clause-in_order : goal.returns-then-moved-clause-in_order
 returns-then-moved-clause-in_order g c from to inode held h k at other_at inode_at here other apart = c.move_across.ensures.in_order from to inode held h k at other_at inode_at here other
@@ -108,5 +108,5 @@ returns-then-moved-clause-within_wrote g c to held k other_at other same = absur
 pub returns-clause-within_wrote : goal.returns-clause-within_wrote
 returns-clause-within_wrote g c to held k other_at other same =
     let two : c.lend-directory.result ≡ to = same_Some _ _ (sym c.lend-directory.ensures.row ∙ other_at) in
-    subst (λ (r : Row). ShowsRow (g.P.Pmem.region c.args.memory.now) c.args.sup.now held k r c.args.free.now → StoresIn c.args.sup.now held (one_log c.args.sup.now r.inode) (g.P.Pmem.region c.args.memory.now) (g.P.Pmem.region c.move_within-done.new.memory)) two
+    subst (λ (r : Row). ShowsRow (g.P.Pmem.region c.args.memory.now) c.args.tables.now.layout held k r c.args.free.now → StoresIn c.args.tables.now.layout held (one_log c.args.tables.now.layout r.inode) (g.P.Pmem.region c.args.memory.now) (g.P.Pmem.region c.move_within-done.new.memory)) two
     (λ shows. c.move_within-done.ensures.wrote held k shows) other

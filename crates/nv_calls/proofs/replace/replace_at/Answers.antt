@@ -4,7 +4,6 @@ use Rattle.std.proofs.lemmas.Option.{same_Some}
 use Rattle.std.proofs.lemmas.Result.{IfErr-weaker, on_ok_weaker}
 use Rattle.nv_region.specs.Stops.{LeavesOnly}
 use Rattle.nv_region.proofs.Stops.{fenced_leaves}
-use Rattle.nv_super.specs.Layout.{fixed_layout}
 use Rattle.nv_alloc.specs.Taking.{all_blocks}
 use Rattle.nv_entry.specs.declared.entry.Operation.TheVariants.{Remove}
 use Rattle.nv_scan.specs.declared.piece.Row.{Row}
@@ -57,30 +56,30 @@ pub replace_within-requires-clause-can : goal.replace_within-requires-clause-can
 replace_within-requires-clause-can g c row file at file_at =
     let number = numbered c.args.rows.now.items c.in-Some.there file file_at in
     let both = c.requires.apart c.in-Some.there c.in-Some.is c.if-there-moved.false in
-    (subst (λ (n : ℕ). CanName (g.P.Pmem.region c.args.memory.now) c.args.sup.now c.args.cpu n row) (sym number) (c.requires.can c.in-Some.there row c.in-Some.is at), λ same. both.1 (sym (numbered c.args.rows.now.items c.args.moved.now.directory row at) ∙ same ∙ number))
+    (subst (λ (n : ℕ). CanName (g.P.Pmem.region c.args.memory.now) c.args.tables.now.layout c.args.cpu n row) (sym number) (c.requires.can c.in-Some.there row c.in-Some.is at), λ same. both.1 (sym (numbered c.args.rows.now.items c.args.moved.now.directory row at) ∙ same ∙ number))
 
 pub replace_within-requires-clause-owns : goal.replace_within-requires-clause-owns
 replace_within-requires-clause-owns g c row at = c.requires.owns c.in-Some.there row c.in-Some.is at
 
 pub returns-in_default-clause-replaced : goal.returns-in_default-clause-replaced
 returns-in_default-clause-replaced g c =
-    on_ok_weaker c.move_at.result (λ step. subst (λ (o : Option ℕ). ReplacesAt (g.P.Pmem.region c.args.memory.now) (g.P.Pmem.region c.move_at.new.memory) c.args.sup.now c.args.free.now c.move_at.new.free c.args.cpu c.args.rows.now.items c.move_at.new.rows.items (place_in c.args.rows.now.items c.args.moved.now.from.directory) (place_in c.args.rows.now.items c.args.moved.now.from.target) (place_in c.args.rows.now.items c.args.moved.now.directory) o c.args.moved.now.from.target c.args.moved.now.from.name.now c.args.moved.now.name.now c.args.time) (sym c.in_default.is) step) c.move_at.ensures.moved
+    on_ok_weaker c.move_at.result (λ step. subst (λ (o : Option ℕ). ReplacesAt (g.P.Pmem.region c.args.memory.now) (g.P.Pmem.region c.move_at.new.memory) c.args.tables.now.layout c.args.free.now c.move_at.new.free c.args.cpu c.args.rows.now.items c.move_at.new.rows.items (place_in c.args.rows.now.items c.args.moved.now.from.directory) (place_in c.args.rows.now.items c.args.moved.now.from.target) (place_in c.args.rows.now.items c.args.moved.now.directory) o c.args.moved.now.from.target c.args.moved.now.from.name.now c.args.moved.now.name.now c.args.time) (sym c.in_default.is) step) c.move_at.ensures.moved
 
 pub returns-then-there-moved-clause-replaced : goal.returns-then-there-moved-clause-replaced
 returns-then-there-moved-clause-replaced g c =
-    subst (λ (o : Option ℕ). ReplacesAt (g.P.Pmem.region c.args.memory.now) (g.P.Pmem.region c.args.memory.now) c.args.sup.now c.args.free.now c.args.free.now c.args.cpu c.args.rows.now.items c.args.rows.now.items (place_in c.args.rows.now.items c.args.moved.now.from.directory) (place_in c.args.rows.now.items c.args.moved.now.from.target) (place_in c.args.rows.now.items c.args.moved.now.directory) o c.args.moved.now.from.target c.args.moved.now.from.name.now c.args.moved.now.name.now c.args.time) (sym c.in-Some.is) (inl (c.if-there-moved.true, (refl, refl, refl)))
+    subst (λ (o : Option ℕ). ReplacesAt (g.P.Pmem.region c.args.memory.now) (g.P.Pmem.region c.args.memory.now) c.args.tables.now.layout c.args.free.now c.args.free.now c.args.cpu c.args.rows.now.items c.args.rows.now.items (place_in c.args.rows.now.items c.args.moved.now.from.directory) (place_in c.args.rows.now.items c.args.moved.now.from.target) (place_in c.args.rows.now.items c.args.moved.now.directory) o c.args.moved.now.from.target c.args.moved.now.from.name.now c.args.moved.now.name.now c.args.time) (sym c.in-Some.is) (inl (c.if-there-moved.true, (refl, refl, refl)))
 
 pub returns-then-moved-clause-replaced : goal.returns-then-moved-clause-replaced
 returns-then-moved-clause-replaced g c =
-    on_ok_weaker c.replace_over.result (λ step. subst (λ (o : Option ℕ). ReplacesAt (g.P.Pmem.region c.args.memory.now) (g.P.Pmem.region c.replace_over.new.memory) c.args.sup.now c.args.free.now c.replace_over.new.free c.args.cpu c.args.rows.now.items c.replace_over.new.rows.items (place_in c.args.rows.now.items c.args.moved.now.from.directory) (place_in c.args.rows.now.items c.args.moved.now.from.target) (place_in c.args.rows.now.items c.args.moved.now.directory) o c.args.moved.now.from.target c.args.moved.now.from.name.now c.args.moved.now.name.now c.args.time) (sym c.in-Some.is) (inr (c.if-there-moved.false, inr ((places_apart c.args.rows.now.items c.args.moved.now.from.directory c.args.moved.now.directory c.requires.from c.requires.directory c.if-moved.true), step)))) c.replace_over.ensures.replaced
+    on_ok_weaker c.replace_over.result (λ step. subst (λ (o : Option ℕ). ReplacesAt (g.P.Pmem.region c.args.memory.now) (g.P.Pmem.region c.replace_over.new.memory) c.args.tables.now.layout c.args.free.now c.replace_over.new.free c.args.cpu c.args.rows.now.items c.replace_over.new.rows.items (place_in c.args.rows.now.items c.args.moved.now.from.directory) (place_in c.args.rows.now.items c.args.moved.now.from.target) (place_in c.args.rows.now.items c.args.moved.now.directory) o c.args.moved.now.from.target c.args.moved.now.from.name.now c.args.moved.now.name.now c.args.time) (sym c.in-Some.is) (inr (c.if-there-moved.false, inr ((places_apart c.args.rows.now.items c.args.moved.now.from.directory c.args.moved.now.directory c.requires.from c.requires.directory c.if-moved.true), step)))) c.replace_over.ensures.replaced
 
 pub returns-clause-replaced : goal.returns-clause-replaced
 returns-clause-replaced g c =
-    on_ok_weaker c.replace_within.result (λ step. subst (λ (o : Option ℕ). ReplacesAt (g.P.Pmem.region c.args.memory.now) (g.P.Pmem.region c.replace_within.new.memory) c.args.sup.now c.args.free.now c.replace_within.new.free c.args.cpu c.args.rows.now.items c.replace_within.new.rows.items (place_in c.args.rows.now.items c.args.moved.now.from.directory) (place_in c.args.rows.now.items c.args.moved.now.from.target) (place_in c.args.rows.now.items c.args.moved.now.directory) o c.args.moved.now.from.target c.args.moved.now.from.name.now c.args.moved.now.name.now c.args.time) (sym c.in-Some.is) (inr (
+    on_ok_weaker c.replace_within.result (λ step. subst (λ (o : Option ℕ). ReplacesAt (g.P.Pmem.region c.args.memory.now) (g.P.Pmem.region c.replace_within.new.memory) c.args.tables.now.layout c.args.free.now c.replace_within.new.free c.args.cpu c.args.rows.now.items c.replace_within.new.rows.items (place_in c.args.rows.now.items c.args.moved.now.from.directory) (place_in c.args.rows.now.items c.args.moved.now.from.target) (place_in c.args.rows.now.items c.args.moved.now.directory) o c.args.moved.now.from.target c.args.moved.now.from.name.now c.args.moved.now.name.now c.args.time) (sym c.in-Some.is) (inr (
       c.if-there-moved.false,
       inl (
         (ap (place_in c.args.rows.now.items) c.if-moved.false),
-        subst (λ (p : ℕ). ReplacesHere (g.P.Pmem.region c.args.memory.now) (g.P.Pmem.region c.replace_within.new.memory) c.args.sup.now c.args.free.now c.replace_within.new.free c.args.cpu c.args.rows.now.items c.replace_within.new.rows.items p (place_in c.args.rows.now.items c.in-Some.there) c.args.moved.now.from.target c.args.moved.now.from.name.now c.args.moved.now.name.now c.args.time) (sym (ap (place_in c.args.rows.now.items) c.if-moved.false)) step,
+        subst (λ (p : ℕ). ReplacesHere (g.P.Pmem.region c.args.memory.now) (g.P.Pmem.region c.replace_within.new.memory) c.args.tables.now.layout c.args.free.now c.replace_within.new.free c.args.cpu c.args.rows.now.items c.replace_within.new.rows.items p (place_in c.args.rows.now.items c.in-Some.there) c.args.moved.now.from.target c.args.moved.now.from.name.now c.args.moved.now.name.now c.args.time) (sym (ap (place_in c.args.rows.now.items) c.if-moved.false)) step,
       ),
     ))) c.replace_within.ensures.replaced
 
@@ -144,22 +143,22 @@ pub returns-in_default-clause-any_stop : goal.returns-in_default-clause-any_stop
 returns-in_default-clause-any_stop g c from to held h k at to_at here other none seen =
     let inode = row_in_use c.args.rows.now.items c.args.moved.now.from.target c.requires.target in
     let number = numbered c.args.rows.now.items c.args.moved.now.from.target inode.0 inode.1 in
-    subst (λ (o : Option ℕ). LeavesOnly (g.P.Pmem.region c.move_at.new.memory) (g.P.Pmem.may_hold c.move_at.new.memory) (LeavesEither (g.P.Pmem.region c.args.memory.now) (fixed_layout c.args.sup.now) held (ReplacedAt (g.P.Pmem.region c.args.memory.now) c.args.sup.now c.args.free.now c.args.cpu (place_in c.args.rows.now.items c.args.moved.now.from.directory) (place_in c.args.rows.now.items c.args.moved.now.directory) from to (option_and_then (row_of c.args.rows.now.items) o) c.args.moved.now.from.target c.args.moved.now.from.name.now c.args.moved.now.name.now c.args.time))) (sym c.in_default.is)
-    (subst (λ (n : ℕ). LeavesOnly (g.P.Pmem.region c.move_at.new.memory) (g.P.Pmem.may_hold c.move_at.new.memory) (LeavesEither (g.P.Pmem.region c.args.memory.now) (fixed_layout c.args.sup.now) held (Renamed (g.P.Pmem.region c.args.memory.now) c.args.sup.now c.args.free.now c.args.cpu (place_in c.args.rows.now.items c.args.moved.now.from.directory) (place_in c.args.rows.now.items c.args.moved.now.directory) from to n c.args.moved.now.from.name.now c.args.moved.now.name.now c.args.time))) number
+    subst (λ (o : Option ℕ). LeavesOnly (g.P.Pmem.region c.move_at.new.memory) (g.P.Pmem.may_hold c.move_at.new.memory) (LeavesEither (g.P.Pmem.region c.args.memory.now) c.args.tables.now.layout held (ReplacedAt (g.P.Pmem.region c.args.memory.now) c.args.tables.now.layout c.args.free.now c.args.cpu (place_in c.args.rows.now.items c.args.moved.now.from.directory) (place_in c.args.rows.now.items c.args.moved.now.directory) from to (option_and_then (row_of c.args.rows.now.items) o) c.args.moved.now.from.target c.args.moved.now.from.name.now c.args.moved.now.name.now c.args.time))) (sym c.in_default.is)
+    (subst (λ (n : ℕ). LeavesOnly (g.P.Pmem.region c.move_at.new.memory) (g.P.Pmem.may_hold c.move_at.new.memory) (LeavesEither (g.P.Pmem.region c.args.memory.now) c.args.tables.now.layout held (Renamed (g.P.Pmem.region c.args.memory.now) c.args.tables.now.layout c.args.free.now c.args.cpu (place_in c.args.rows.now.items c.args.moved.now.from.directory) (place_in c.args.rows.now.items c.args.moved.now.directory) from to n c.args.moved.now.from.name.now c.args.moved.now.name.now c.args.time))) number
     (c.move_at.ensures.any_stop from to inode.0 held h k at to_at inode.1 here other (none c.in_default.is) c.requires.settled_before))
 
 pub returns-then-there-moved-clause-any_stop : goal.returns-then-there-moved-clause-any_stop
 returns-then-there-moved-clause-any_stop g c from to held h k at to_at here other none seen =
-    fenced_leaves (g.P.Pmem.region c.args.memory.now) (g.P.Pmem.may_hold c.args.memory.now) (LeavesEither (g.P.Pmem.region c.args.memory.now) (fixed_layout c.args.sup.now) held (ReplacedAt (g.P.Pmem.region c.args.memory.now) c.args.sup.now c.args.free.now c.args.cpu (place_in c.args.rows.now.items c.args.moved.now.from.directory) (place_in c.args.rows.now.items c.args.moved.now.directory) from to (option_and_then (row_of c.args.rows.now.items) c.args.had) c.args.moved.now.from.target c.args.moved.now.from.name.now c.args.moved.now.name.now c.args.time)) c.requires.settled_before
-    (inl (itself_recovers (g.P.Pmem.region c.args.memory.now) c.args.sup.now held here.sound))
+    fenced_leaves (g.P.Pmem.region c.args.memory.now) (g.P.Pmem.may_hold c.args.memory.now) (LeavesEither (g.P.Pmem.region c.args.memory.now) c.args.tables.now.layout held (ReplacedAt (g.P.Pmem.region c.args.memory.now) c.args.tables.now.layout c.args.free.now c.args.cpu (place_in c.args.rows.now.items c.args.moved.now.from.directory) (place_in c.args.rows.now.items c.args.moved.now.directory) from to (option_and_then (row_of c.args.rows.now.items) c.args.had) c.args.moved.now.from.target c.args.moved.now.from.name.now c.args.moved.now.name.now c.args.time)) c.requires.settled_before
+    (inl (itself_recovers (g.P.Pmem.region c.args.memory.now) c.args.tables.now.layout held here.sound))
 
 pub returns-then-moved-clause-any_stop : goal.returns-then-moved-clause-any_stop
 returns-then-moved-clause-any_stop g c from to held h k at to_at here other none seen =
     let file = row_in_use c.args.rows.now.items c.in-Some.there (c.requires.there c.in-Some.there c.in-Some.is) in
     let number = numbered c.args.rows.now.items c.in-Some.there file.0 file.1 in
     let f = seen c.in-Some.there file.0 c.in-Some.is file.1 in
-    subst (λ (o : Option Row). LeavesOnly (g.P.Pmem.region c.replace_over.new.memory) (g.P.Pmem.may_hold c.replace_over.new.memory) (LeavesEither (g.P.Pmem.region c.args.memory.now) (fixed_layout c.args.sup.now) held (ReplacedAt (g.P.Pmem.region c.args.memory.now) c.args.sup.now c.args.free.now c.args.cpu (place_in c.args.rows.now.items c.args.moved.now.from.directory) (place_in c.args.rows.now.items c.args.moved.now.directory) from to o c.args.moved.now.from.target c.args.moved.now.from.name.now c.args.moved.now.name.now c.args.time))) (sym (row_there c.args.rows.now.items c.args.had c.in-Some.there file.0 c.in-Some.is file.1))
-    (λ left may. left_made (ReplacedOver (g.P.Pmem.region c.args.memory.now) c.args.sup.now c.args.free.now c.args.cpu from to file.0 c.args.moved.now.from.target c.args.moved.now.from.name.now c.args.moved.now.name.now c.args.time) (ReplacedAt (g.P.Pmem.region c.args.memory.now) c.args.sup.now c.args.free.now c.args.cpu (place_in c.args.rows.now.items c.args.moved.now.from.directory) (place_in c.args.rows.now.items c.args.moved.now.directory) from to (Some file.0) c.args.moved.now.from.target c.args.moved.now.from.name.now c.args.moved.now.name.now c.args.time) (λ T w. ((λ same. c.if-there-moved.false (sym number ∙ same)), inr ((places_apart c.args.rows.now.items c.args.moved.now.from.directory c.args.moved.now.directory c.requires.from c.requires.directory c.if-moved.true), w))) left
+    subst (λ (o : Option Row). LeavesOnly (g.P.Pmem.region c.replace_over.new.memory) (g.P.Pmem.may_hold c.replace_over.new.memory) (LeavesEither (g.P.Pmem.region c.args.memory.now) c.args.tables.now.layout held (ReplacedAt (g.P.Pmem.region c.args.memory.now) c.args.tables.now.layout c.args.free.now c.args.cpu (place_in c.args.rows.now.items c.args.moved.now.from.directory) (place_in c.args.rows.now.items c.args.moved.now.directory) from to o c.args.moved.now.from.target c.args.moved.now.from.name.now c.args.moved.now.name.now c.args.time))) (sym (row_there c.args.rows.now.items c.args.had c.in-Some.there file.0 c.in-Some.is file.1))
+    (λ left may. left_made (ReplacedOver (g.P.Pmem.region c.args.memory.now) c.args.tables.now.layout c.args.free.now c.args.cpu from to file.0 c.args.moved.now.from.target c.args.moved.now.from.name.now c.args.moved.now.name.now c.args.time) (ReplacedAt (g.P.Pmem.region c.args.memory.now) c.args.tables.now.layout c.args.free.now c.args.cpu (place_in c.args.rows.now.items c.args.moved.now.from.directory) (place_in c.args.rows.now.items c.args.moved.now.directory) from to (Some file.0) c.args.moved.now.from.target c.args.moved.now.from.name.now c.args.moved.now.name.now c.args.time) (λ T w. ((λ same. c.if-there-moved.false (sym number ∙ same)), inr ((places_apart c.args.rows.now.items c.args.moved.now.from.directory c.args.moved.now.directory c.requires.from c.requires.directory c.if-moved.true), w))) left
     (c.replace_over.ensures.any_stop from to file.0 held h k f.0 at to_at file.1 here other f.1 c.requires.settled_before left may))
 
 pub returns-clause-any_stop : goal.returns-clause-any_stop
@@ -167,8 +166,8 @@ returns-clause-any_stop g c from to held h k at to_at here other none seen =
     let file = row_in_use c.args.rows.now.items c.in-Some.there (c.requires.there c.in-Some.there c.in-Some.is) in
     let number = numbered c.args.rows.now.items c.in-Some.there file.0 file.1 in
     let f = seen c.in-Some.there file.0 c.in-Some.is file.1 in
-    subst (λ (o : Option Row). LeavesOnly (g.P.Pmem.region c.replace_within.new.memory) (g.P.Pmem.may_hold c.replace_within.new.memory) (LeavesEither (g.P.Pmem.region c.args.memory.now) (fixed_layout c.args.sup.now) held (ReplacedAt (g.P.Pmem.region c.args.memory.now) c.args.sup.now c.args.free.now c.args.cpu (place_in c.args.rows.now.items c.args.moved.now.from.directory) (place_in c.args.rows.now.items c.args.moved.now.directory) from to o c.args.moved.now.from.target c.args.moved.now.from.name.now c.args.moved.now.name.now c.args.time))) (sym (row_there c.args.rows.now.items c.args.had c.in-Some.there file.0 c.in-Some.is file.1))
-    (λ left may. left_made (ReplacedHere (g.P.Pmem.region c.args.memory.now) c.args.sup.now c.args.free.now c.args.cpu from file.0 c.args.moved.now.from.target c.args.moved.now.from.name.now c.args.moved.now.name.now c.args.time) (ReplacedAt (g.P.Pmem.region c.args.memory.now) c.args.sup.now c.args.free.now c.args.cpu (place_in c.args.rows.now.items c.args.moved.now.from.directory) (place_in c.args.rows.now.items c.args.moved.now.directory) from to (Some file.0) c.args.moved.now.from.target c.args.moved.now.from.name.now c.args.moved.now.name.now c.args.time) (λ T w. ((λ same. c.if-there-moved.false (sym number ∙ same)), inl ((ap (place_in c.args.rows.now.items) c.if-moved.false), w))) left
+    subst (λ (o : Option Row). LeavesOnly (g.P.Pmem.region c.replace_within.new.memory) (g.P.Pmem.may_hold c.replace_within.new.memory) (LeavesEither (g.P.Pmem.region c.args.memory.now) c.args.tables.now.layout held (ReplacedAt (g.P.Pmem.region c.args.memory.now) c.args.tables.now.layout c.args.free.now c.args.cpu (place_in c.args.rows.now.items c.args.moved.now.from.directory) (place_in c.args.rows.now.items c.args.moved.now.directory) from to o c.args.moved.now.from.target c.args.moved.now.from.name.now c.args.moved.now.name.now c.args.time))) (sym (row_there c.args.rows.now.items c.args.had c.in-Some.there file.0 c.in-Some.is file.1))
+    (λ left may. left_made (ReplacedHere (g.P.Pmem.region c.args.memory.now) c.args.tables.now.layout c.args.free.now c.args.cpu from file.0 c.args.moved.now.from.target c.args.moved.now.from.name.now c.args.moved.now.name.now c.args.time) (ReplacedAt (g.P.Pmem.region c.args.memory.now) c.args.tables.now.layout c.args.free.now c.args.cpu (place_in c.args.rows.now.items c.args.moved.now.from.directory) (place_in c.args.rows.now.items c.args.moved.now.directory) from to (Some file.0) c.args.moved.now.from.target c.args.moved.now.from.name.now c.args.moved.now.name.now c.args.time) (λ T w. ((λ same. c.if-there-moved.false (sym number ∙ same)), inl ((ap (place_in c.args.rows.now.items) c.if-moved.false), w))) left
     (c.replace_within.ensures.any_stop from file.0 held h f.0 (sym (ap (row_of c.args.rows.now.items) c.if-moved.false) ∙ at) file.1 here f.1 c.requires.settled_before left may))
 
 pub returns-in_default-clause-same : goal.returns-in_default-clause-same
@@ -188,8 +187,8 @@ returns-in_default-clause-wrote g c from to held h k at to_at here other seen =
     let inode = row_in_use c.args.rows.now.items c.args.moved.now.from.target c.requires.target in
     let from_is = numbered c.args.rows.now.items c.args.moved.now.from.directory from at in
     let to_is = numbered c.args.rows.now.items c.args.moved.now.directory to to_at in
-    free_places (λ (p : Places). StoresIn c.args.sup.now held p (g.P.Pmem.region c.args.memory.now) (g.P.Pmem.region c.move_at.new.memory)) c.args.sup.now c.args.cpu from.inode to.inode c.args.moved.now.from.target c.args.had (keeps_others_at c.args.rows.now.items c.args.had) c.in_default.is
-    (λ same. subst (λ (n : ℕ). StoresIn c.args.sup.now held (one_log c.args.sup.now n) (g.P.Pmem.region c.args.memory.now) (g.P.Pmem.region c.move_at.new.memory)) (sym same) (c.move_at.ensures.within_wrote to held k to_at other (sym from_is ∙ same ∙ to_is)))
+    free_places (λ (p : Places). StoresIn c.args.tables.now.layout held p (g.P.Pmem.region c.args.memory.now) (g.P.Pmem.region c.move_at.new.memory)) c.args.tables.now.layout c.args.cpu from.inode to.inode c.args.moved.now.from.target c.args.had (keeps_others_at c.args.rows.now.items c.args.had) c.in_default.is
+    (λ same. subst (λ (n : ℕ). StoresIn c.args.tables.now.layout held (one_log c.args.tables.now.layout n) (g.P.Pmem.region c.args.memory.now) (g.P.Pmem.region c.move_at.new.memory)) (sym same) (c.move_at.ensures.within_wrote to held k to_at other (sym from_is ∙ same ∙ to_is)))
     (λ differ. c.move_at.ensures.wrote from to inode.0 held h k at to_at inode.1 here other (places_apart c.args.rows.now.items c.args.moved.now.from.directory c.args.moved.now.directory c.requires.from c.requires.directory (λ same. differ (from_is ∙ same ∙ sym to_is))))
 
 pub returns-then-there-moved-clause-wrote : goal.returns-then-there-moved-clause-wrote
@@ -202,10 +201,10 @@ returns-then-moved-clause-wrote g c from to held h k at to_at here other seen =
     let f = seen c.in-Some.there file.0 c.in-Some.is file.1 in
     let from_is = numbered c.args.rows.now.items c.args.moved.now.from.directory from at in
     let to_is = numbered c.args.rows.now.items c.args.moved.now.directory to to_at in
-    over_places (λ (p : Places). StoresIn c.args.sup.now held p (g.P.Pmem.region c.args.memory.now) (g.P.Pmem.region c.replace_over.new.memory)) c.args.sup.now c.args.cpu from.inode to.inode c.args.moved.now.from.target c.args.had (keeps_others_at c.args.rows.now.items c.args.had) c.in-Some.there c.in-Some.is (λ same. c.if-there-moved.false (sym same)) (keeps_others file.0)
+    over_places (λ (p : Places). StoresIn c.args.tables.now.layout held p (g.P.Pmem.region c.args.memory.now) (g.P.Pmem.region c.replace_over.new.memory)) c.args.tables.now.layout c.args.cpu from.inode to.inode c.args.moved.now.from.target c.args.had (keeps_others_at c.args.rows.now.items c.args.had) c.in-Some.there c.in-Some.is (λ same. c.if-there-moved.false (sym same)) (keeps_others file.0)
     (ap (λ (o : Option Row). option_map_or keeps_others o false) (row_there c.args.rows.now.items c.args.had c.in-Some.there file.0 c.in-Some.is file.1)) (λ same. c.if-moved.true (sym from_is ∙ same ∙ to_is))
-    (λ on. subst (λ (n : ℕ). StoresIn c.args.sup.now held (three_logs c.args.sup.now c.args.cpu from.inode to.inode n) (g.P.Pmem.region c.args.memory.now) (g.P.Pmem.region c.replace_over.new.memory)) number (c.replace_over.ensures.wrote from to file.0 held h k f.0 at to_at file.1 here other f.1 on))
-    (λ off. subst (λ (n : ℕ). StoresIn c.args.sup.now held (two_less c.args.sup.now c.args.cpu from.inode to.inode n) (g.P.Pmem.region c.args.memory.now) (g.P.Pmem.region c.replace_over.new.memory)) number (c.replace_over.ensures.last_wrote from to file.0 held h k at to_at file.1 here other off))
+    (λ on. subst (λ (n : ℕ). StoresIn c.args.tables.now.layout held (three_logs c.args.tables.now.layout c.args.cpu from.inode to.inode n) (g.P.Pmem.region c.args.memory.now) (g.P.Pmem.region c.replace_over.new.memory)) number (c.replace_over.ensures.wrote from to file.0 held h k f.0 at to_at file.1 here other f.1 on))
+    (λ off. subst (λ (n : ℕ). StoresIn c.args.tables.now.layout held (two_less c.args.tables.now.layout c.args.cpu from.inode to.inode n) (g.P.Pmem.region c.args.memory.now) (g.P.Pmem.region c.replace_over.new.memory)) number (c.replace_over.ensures.last_wrote from to file.0 held h k at to_at file.1 here other off))
 
 pub returns-clause-wrote : goal.returns-clause-wrote
 returns-clause-wrote g c from to held h k at to_at here other seen =
@@ -215,16 +214,16 @@ returns-clause-wrote g c from to held h k at to_at here other seen =
     let from_is = numbered c.args.rows.now.items c.args.moved.now.from.directory from at in
     let to_is = numbered c.args.rows.now.items c.args.moved.now.directory to to_at in
     let here_at = sym (ap (row_of c.args.rows.now.items) c.if-moved.false) ∙ at in
-    here_places (λ (p : Places). StoresIn c.args.sup.now held p (g.P.Pmem.region c.args.memory.now) (g.P.Pmem.region c.replace_within.new.memory)) c.args.sup.now c.args.cpu from.inode to.inode c.args.moved.now.from.target c.args.had (keeps_others_at c.args.rows.now.items c.args.had) c.in-Some.there c.in-Some.is (λ same. c.if-there-moved.false (sym same)) (keeps_others file.0)
+    here_places (λ (p : Places). StoresIn c.args.tables.now.layout held p (g.P.Pmem.region c.args.memory.now) (g.P.Pmem.region c.replace_within.new.memory)) c.args.tables.now.layout c.args.cpu from.inode to.inode c.args.moved.now.from.target c.args.had (keeps_others_at c.args.rows.now.items c.args.had) c.in-Some.there c.in-Some.is (λ same. c.if-there-moved.false (sym same)) (keeps_others file.0)
     (ap (λ (o : Option Row). option_map_or keeps_others o false) (row_there c.args.rows.now.items c.args.had c.in-Some.there file.0 c.in-Some.is file.1)) (from_is ∙ c.if-moved.false ∙ sym to_is)
-    (λ on. subst (λ (n : ℕ). StoresIn c.args.sup.now held (two_logs c.args.sup.now c.args.cpu from.inode n) (g.P.Pmem.region c.args.memory.now) (g.P.Pmem.region c.replace_within.new.memory)) number (c.replace_within.ensures.wrote from file.0 held h f.0 here_at file.1 here f.1 on))
-    (λ off. subst (λ (n : ℕ). StoresIn c.args.sup.now held (one_less c.args.sup.now c.args.cpu from.inode n) (g.P.Pmem.region c.args.memory.now) (g.P.Pmem.region c.replace_within.new.memory)) number (c.replace_within.ensures.last_wrote from file.0 held h here_at file.1 here off))
+    (λ on. subst (λ (n : ℕ). StoresIn c.args.tables.now.layout held (two_logs c.args.tables.now.layout c.args.cpu from.inode n) (g.P.Pmem.region c.args.memory.now) (g.P.Pmem.region c.replace_within.new.memory)) number (c.replace_within.ensures.wrote from file.0 held h f.0 here_at file.1 here f.1 on))
+    (λ off. subst (λ (n : ℕ). StoresIn c.args.tables.now.layout held (one_less c.args.tables.now.layout c.args.cpu from.inode n) (g.P.Pmem.region c.args.memory.now) (g.P.Pmem.region c.replace_within.new.memory)) number (c.replace_within.ensures.last_wrote from file.0 held h here_at file.1 here off))
 
 pub returns-in_default-clause-free_in_order : goal.returns-in_default-clause-free_in_order
 returns-in_default-clause-free_in_order g c from to held h k at to_at here other none differ =
     let inode = row_in_use c.args.rows.now.items c.args.moved.now.from.target c.requires.target in
     let number = numbered c.args.rows.now.items c.args.moved.now.from.target inode.0 inode.1 in
-    subst (λ (n : ℕ). TailIsFirst (g.P.Pmem.region c.args.memory.now) (g.P.Pmem.region c.move_at.new.memory) c.args.sup.now c.args.free.now.pools c.args.cpu from.inode from.tail (name_entries Remove n c.args.moved.now.from.name.now c.args.time) (tail_address c.args.sup.now to.inode)) number
+    subst (λ (n : ℕ). TailIsFirst (g.P.Pmem.region c.args.memory.now) (g.P.Pmem.region c.move_at.new.memory) c.args.tables.now.layout c.args.free.now.pools c.args.cpu from.inode from.tail (name_entries Remove n c.args.moved.now.from.name.now c.args.time) (tail_address c.args.tables.now.layout to.inode)) number
     (c.move_at.ensures.in_order from to inode.0 held h k at to_at inode.1 here other (places_apart c.args.rows.now.items c.args.moved.now.from.directory c.args.moved.now.directory c.requires.from c.requires.directory differ))
 
 pub returns-then-there-moved-clause-free_in_order : goal.returns-then-there-moved-clause-free_in_order
@@ -250,8 +249,8 @@ returns-clause-within_in_order g c row file i held h f at file_at here other is 
     let one : c.in-Some.there ≡ i = same_Some _ _ (sym c.in-Some.is ∙ is) in
     let there_at = ap (row_of c.args.rows.now.items) one ∙ file_at in
     let number = numbered c.args.rows.now.items i file file_at in
-    subst (λ (n : ℕ). TailIsFirst (g.P.Pmem.region c.args.memory.now) (g.P.Pmem.region c.replace_within.new.memory) c.args.sup.now c.args.free.now.pools c.args.cpu row.inode row.tail (take_entries c.args.moved.now.from.target n c.args.moved.now.from.name.now c.args.moved.now.name.now c.args.time) (last_word c.args.sup.now n (keeps_others file))) number
-    (last_by (λ (at : ℕ). TailIsFirst (g.P.Pmem.region c.args.memory.now) (g.P.Pmem.region c.replace_within.new.memory) c.args.sup.now c.args.free.now.pools c.args.cpu row.inode row.tail (take_entries c.args.moved.now.from.target file.inode c.args.moved.now.from.name.now c.args.moved.now.name.now c.args.time) at) c.args.sup.now file.inode (keeps_others file)
+    subst (λ (n : ℕ). TailIsFirst (g.P.Pmem.region c.args.memory.now) (g.P.Pmem.region c.replace_within.new.memory) c.args.tables.now.layout c.args.free.now.pools c.args.cpu row.inode row.tail (take_entries c.args.moved.now.from.target n c.args.moved.now.from.name.now c.args.moved.now.name.now c.args.time) (last_word c.args.tables.now.layout n (keeps_others file))) number
+    (last_by (λ (at : ℕ). TailIsFirst (g.P.Pmem.region c.args.memory.now) (g.P.Pmem.region c.replace_within.new.memory) c.args.tables.now.layout c.args.free.now.pools c.args.cpu row.inode row.tail (take_entries c.args.moved.now.from.target file.inode c.args.moved.now.from.name.now c.args.moved.now.name.now c.args.time) at) c.args.tables.now.layout file.inode (keeps_others file)
     (λ on. c.replace_within.ensures.in_order row file held h f at there_at here other on)
     (λ off. c.replace_within.ensures.last_in_order row file held h at there_at here off))
 
@@ -266,8 +265,8 @@ returns-then-moved-clause-in_order g c from to file i held h k f at to_at file_a
     let one : c.in-Some.there ≡ i = same_Some _ _ (sym c.in-Some.is ∙ is) in
     let there_at = ap (row_of c.args.rows.now.items) one ∙ file_at in
     let number = numbered c.args.rows.now.items i file file_at in
-    subst (λ (n : ℕ). HandsInOrder (g.P.Pmem.region c.args.memory.now) (g.P.Pmem.region c.replace_over.new.memory) c.args.sup.now c.args.free.now c.args.cpu from to c.args.moved.now.from.target n c.args.moved.now.from.name.now c.args.moved.now.name.now c.args.time (last_word c.args.sup.now n (keeps_others file))) number
-    (last_by (λ (at : ℕ). HandsInOrder (g.P.Pmem.region c.args.memory.now) (g.P.Pmem.region c.replace_over.new.memory) c.args.sup.now c.args.free.now c.args.cpu from to c.args.moved.now.from.target file.inode c.args.moved.now.from.name.now c.args.moved.now.name.now c.args.time at) c.args.sup.now file.inode (keeps_others file)
+    subst (λ (n : ℕ). HandsInOrder (g.P.Pmem.region c.args.memory.now) (g.P.Pmem.region c.replace_over.new.memory) c.args.tables.now.layout c.args.free.now c.args.cpu from to c.args.moved.now.from.target n c.args.moved.now.from.name.now c.args.moved.now.name.now c.args.time (last_word c.args.tables.now.layout n (keeps_others file))) number
+    (last_by (λ (at : ℕ). HandsInOrder (g.P.Pmem.region c.args.memory.now) (g.P.Pmem.region c.replace_over.new.memory) c.args.tables.now.layout c.args.free.now c.args.cpu from to c.args.moved.now.from.target file.inode c.args.moved.now.from.name.now c.args.moved.now.name.now c.args.time at) c.args.tables.now.layout file.inode (keeps_others file)
     (λ on. c.replace_over.ensures.in_order from to file held h k f at to_at there_at here other last on)
     (λ off. c.replace_over.ensures.last_in_order from to file held h k at to_at there_at here other off))
 

@@ -1,6 +1,5 @@
 use Rattle.std.proofs.Common.{◌∙◌, ◌+◌, ◌-◌, ◌%◌, ◌≤◌, ◌∷◌, [], ℕ, List, sym}
 use Rattle.std.proofs.lemmas.Result.{IfErr-weaker, on_ok_weaker}
-use Rattle.nv_super.specs.Layout.{fixed_layout}
 use Rattle.nv_region.specs.Stops.{LeavesOnly}
 use Rattle.nv_alloc.specs.Taking.{all_blocks}
 use Rattle.nv_logpage.specs.Append.{needed}
@@ -55,8 +54,8 @@ returns-clause-lessened g c =
     let put = back_two c.args.rows.now.items c.lend-directory.new.self.items c.lend-file.new.self.items c.give_back.new.self.items c.give_back-2.new.self.items c.args.moved.now.directory c.args.there c.lessen_within-done.new.directory c.lessen_within-done.new.file c.requires.apart c.requires.directory c.requires.there
     c.lend-directory.ensures.lent c.lend-file.ensures.lent (c.lessen_within-done.ensures.file_inode ∙ c.lend-file.ensures.number) c.give_back.ensures.rows (c.lessen_within-done.ensures.inode ∙ c.lend-directory.ensures.number) c.give_back-2.ensures.rows in
     on_ok_weaker c.lessen_within-done.result
-    (λ (step : LessensAt (g.P.Pmem.region c.args.memory.now) (g.P.Pmem.region c.lessen_within-done.new.memory) c.args.sup.now c.args.free.now c.lessen_within-done.new.free c.args.cpu (c.lend-directory.result ∷ c.lend-file.result ∷ []) (c.lessen_within-done.new.directory ∷ c.lessen_within-done.new.file ∷ []) 0 1 c.other_name-other.result.inode c.other_name-other.result.name.now c.other_name-other.result.other.now c.other_name-other.result.time).
-    by_words (λ (i k : ℕ) (n o : List ℕ) (t : ℕ). LessensAt (g.P.Pmem.region c.args.memory.now) (g.P.Pmem.region c.lessen_within-done.new.memory) c.args.sup.now c.args.free.now c.lessen_within-done.new.free c.args.cpu c.args.rows.now.items c.give_back-2.new.self.items (place_in c.args.rows.now.items c.args.moved.now.directory) (place_in c.args.rows.now.items c.args.there) i n o t) c.other_name-other.ensures.inode (λ x. 0) c.other_name-other.ensures.name c.other_name-other.ensures.other c.other_name-other.ensures.time
+    (λ (step : LessensAt (g.P.Pmem.region c.args.memory.now) (g.P.Pmem.region c.lessen_within-done.new.memory) c.args.tables.now.layout c.args.free.now c.lessen_within-done.new.free c.args.cpu (c.lend-directory.result ∷ c.lend-file.result ∷ []) (c.lessen_within-done.new.directory ∷ c.lessen_within-done.new.file ∷ []) 0 1 c.other_name-other.result.inode c.other_name-other.result.name.now c.other_name-other.result.other.now c.other_name-other.result.time).
+    by_words (λ (i k : ℕ) (n o : List ℕ) (t : ℕ). LessensAt (g.P.Pmem.region c.args.memory.now) (g.P.Pmem.region c.lessen_within-done.new.memory) c.args.tables.now.layout c.args.free.now c.lessen_within-done.new.free c.args.cpu c.args.rows.now.items c.give_back-2.new.self.items (place_in c.args.rows.now.items c.args.moved.now.directory) (place_in c.args.rows.now.items c.args.there) i n o t) c.other_name-other.ensures.inode (λ x. 0) c.other_name-other.ensures.name c.other_name-other.ensures.other c.other_name-other.ensures.time
     (record { directory = step.directory; file = step.file; step = lifted c.args.rows.now.items c.give_back-2.new.self.items c.args.moved.now.directory c.args.there c.lend-directory.result c.lend-file.result c.lessen_within-done.new.directory c.lessen_within-done.new.file c.requires.apart c.lend-directory.ensures.row at_there put step.step })) c.lessen_within-done.ensures.lessened
 
 pub returns-clause-enough : goal.returns-clause-enough
@@ -84,15 +83,15 @@ returns-clause-kept g c =
 
 pub returns-clause-any_stop : goal.returns-clause-any_stop
 returns-clause-any_stop g c row file held h f at other_at here other settled =
-    of_lent c.args.rows.now.items c.lend-directory.new.self.items c.args.moved.now.directory c.args.there c.requires.apart c.requires.directory c.lend-directory.ensures.lent (λ (r d : Row). ShowsRow (g.P.Pmem.region c.args.memory.now) c.args.sup.now held h r c.args.free.now → ShowsRow (g.P.Pmem.region c.args.memory.now) c.args.sup.now held f d c.args.free.now → LeavesOnly (g.P.Pmem.region c.lessen_within-done.new.memory) (g.P.Pmem.may_hold c.lessen_within-done.new.memory) (LeavesEither (g.P.Pmem.region c.args.memory.now) (fixed_layout c.args.sup.now) held (Lessened (g.P.Pmem.region c.args.memory.now) c.args.sup.now c.args.free.now c.args.cpu r d c.args.moved.now.from.target c.args.moved.now.from.name.now c.args.moved.now.name.now c.args.time))) c.lend-directory.result c.lend-file.result row file c.lend-directory.ensures.row c.lend-file.ensures.row
-    (λ seen seen_other. by_words (λ (i k : ℕ) (n o : List ℕ) (t : ℕ). LeavesOnly (g.P.Pmem.region c.lessen_within-done.new.memory) (g.P.Pmem.may_hold c.lessen_within-done.new.memory) (LeavesEither (g.P.Pmem.region c.args.memory.now) (fixed_layout c.args.sup.now) held (Lessened (g.P.Pmem.region c.args.memory.now) c.args.sup.now c.args.free.now c.args.cpu c.lend-directory.result c.lend-file.result i n o t))) c.other_name-other.ensures.inode (λ x. 0) c.other_name-other.ensures.name c.other_name-other.ensures.other c.other_name-other.ensures.time (c.lessen_within-done.ensures.any_stop held h f seen seen_other settled)) at other_at here other
+    of_lent c.args.rows.now.items c.lend-directory.new.self.items c.args.moved.now.directory c.args.there c.requires.apart c.requires.directory c.lend-directory.ensures.lent (λ (r d : Row). ShowsRow (g.P.Pmem.region c.args.memory.now) c.args.tables.now.layout held h r c.args.free.now → ShowsRow (g.P.Pmem.region c.args.memory.now) c.args.tables.now.layout held f d c.args.free.now → LeavesOnly (g.P.Pmem.region c.lessen_within-done.new.memory) (g.P.Pmem.may_hold c.lessen_within-done.new.memory) (LeavesEither (g.P.Pmem.region c.args.memory.now) c.args.tables.now.layout held (Lessened (g.P.Pmem.region c.args.memory.now) c.args.tables.now.layout c.args.free.now c.args.cpu r d c.args.moved.now.from.target c.args.moved.now.from.name.now c.args.moved.now.name.now c.args.time))) c.lend-directory.result c.lend-file.result row file c.lend-directory.ensures.row c.lend-file.ensures.row
+    (λ seen seen_other. by_words (λ (i k : ℕ) (n o : List ℕ) (t : ℕ). LeavesOnly (g.P.Pmem.region c.lessen_within-done.new.memory) (g.P.Pmem.may_hold c.lessen_within-done.new.memory) (LeavesEither (g.P.Pmem.region c.args.memory.now) c.args.tables.now.layout held (Lessened (g.P.Pmem.region c.args.memory.now) c.args.tables.now.layout c.args.free.now c.args.cpu c.lend-directory.result c.lend-file.result i n o t))) c.other_name-other.ensures.inode (λ x. 0) c.other_name-other.ensures.name c.other_name-other.ensures.other c.other_name-other.ensures.time (c.lessen_within-done.ensures.any_stop held h f seen seen_other settled)) at other_at here other
 
 pub returns-clause-in_order : goal.returns-clause-in_order
 returns-clause-in_order g c row file held h f at other_at here other =
-    of_lent c.args.rows.now.items c.lend-directory.new.self.items c.args.moved.now.directory c.args.there c.requires.apart c.requires.directory c.lend-directory.ensures.lent (λ (r d : Row). ShowsRow (g.P.Pmem.region c.args.memory.now) c.args.sup.now held h r c.args.free.now → ShowsRow (g.P.Pmem.region c.args.memory.now) c.args.sup.now held f d c.args.free.now → TailIsFirst (g.P.Pmem.region c.args.memory.now) (g.P.Pmem.region c.lessen_within-done.new.memory) c.args.sup.now c.args.free.now.pools c.args.cpu r.inode r.tail (take_entries c.args.moved.now.from.target d.inode c.args.moved.now.from.name.now c.args.moved.now.name.now c.args.time) (tail_address c.args.sup.now d.inode)) c.lend-directory.result c.lend-file.result row file c.lend-directory.ensures.row c.lend-file.ensures.row
-    (λ seen seen_other. by_words (λ (i k : ℕ) (n o : List ℕ) (t : ℕ). TailIsFirst (g.P.Pmem.region c.args.memory.now) (g.P.Pmem.region c.lessen_within-done.new.memory) c.args.sup.now c.args.free.now.pools c.args.cpu c.lend-directory.result.inode c.lend-directory.result.tail (take_entries i c.lend-file.result.inode n o t) (tail_address c.args.sup.now c.lend-file.result.inode)) c.other_name-other.ensures.inode (λ x. 0) c.other_name-other.ensures.name c.other_name-other.ensures.other c.other_name-other.ensures.time (c.lessen_within-done.ensures.in_order held h f seen seen_other)) at other_at here other
+    of_lent c.args.rows.now.items c.lend-directory.new.self.items c.args.moved.now.directory c.args.there c.requires.apart c.requires.directory c.lend-directory.ensures.lent (λ (r d : Row). ShowsRow (g.P.Pmem.region c.args.memory.now) c.args.tables.now.layout held h r c.args.free.now → ShowsRow (g.P.Pmem.region c.args.memory.now) c.args.tables.now.layout held f d c.args.free.now → TailIsFirst (g.P.Pmem.region c.args.memory.now) (g.P.Pmem.region c.lessen_within-done.new.memory) c.args.tables.now.layout c.args.free.now.pools c.args.cpu r.inode r.tail (take_entries c.args.moved.now.from.target d.inode c.args.moved.now.from.name.now c.args.moved.now.name.now c.args.time) (tail_address c.args.tables.now.layout d.inode)) c.lend-directory.result c.lend-file.result row file c.lend-directory.ensures.row c.lend-file.ensures.row
+    (λ seen seen_other. by_words (λ (i k : ℕ) (n o : List ℕ) (t : ℕ). TailIsFirst (g.P.Pmem.region c.args.memory.now) (g.P.Pmem.region c.lessen_within-done.new.memory) c.args.tables.now.layout c.args.free.now.pools c.args.cpu c.lend-directory.result.inode c.lend-directory.result.tail (take_entries i c.lend-file.result.inode n o t) (tail_address c.args.tables.now.layout c.lend-file.result.inode)) c.other_name-other.ensures.inode (λ x. 0) c.other_name-other.ensures.name c.other_name-other.ensures.other c.other_name-other.ensures.time (c.lessen_within-done.ensures.in_order held h f seen seen_other)) at other_at here other
 
 pub returns-clause-wrote : goal.returns-clause-wrote
 returns-clause-wrote g c row file held h f at other_at here other =
-    of_lent c.args.rows.now.items c.lend-directory.new.self.items c.args.moved.now.directory c.args.there c.requires.apart c.requires.directory c.lend-directory.ensures.lent (λ (r d : Row). ShowsRow (g.P.Pmem.region c.args.memory.now) c.args.sup.now held h r c.args.free.now → ShowsRow (g.P.Pmem.region c.args.memory.now) c.args.sup.now held f d c.args.free.now → StoresIn c.args.sup.now held (two_logs c.args.sup.now c.args.cpu r.inode d.inode) (g.P.Pmem.region c.args.memory.now) (g.P.Pmem.region c.lessen_within-done.new.memory)) c.lend-directory.result c.lend-file.result row file c.lend-directory.ensures.row c.lend-file.ensures.row
+    of_lent c.args.rows.now.items c.lend-directory.new.self.items c.args.moved.now.directory c.args.there c.requires.apart c.requires.directory c.lend-directory.ensures.lent (λ (r d : Row). ShowsRow (g.P.Pmem.region c.args.memory.now) c.args.tables.now.layout held h r c.args.free.now → ShowsRow (g.P.Pmem.region c.args.memory.now) c.args.tables.now.layout held f d c.args.free.now → StoresIn c.args.tables.now.layout held (two_logs c.args.tables.now.layout c.args.cpu r.inode d.inode) (g.P.Pmem.region c.args.memory.now) (g.P.Pmem.region c.lessen_within-done.new.memory)) c.lend-directory.result c.lend-file.result row file c.lend-directory.ensures.row c.lend-file.ensures.row
     (λ seen seen_other. c.lessen_within-done.ensures.wrote held h f seen seen_other) at other_at here other

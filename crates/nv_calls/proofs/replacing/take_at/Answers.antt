@@ -2,7 +2,6 @@ use Rattle.std.proofs.Common.{◌≡◌, ◌≢◌, ◌∙◌, ◌+◌, ◌%◌,
 use Rattle.std.specs.Int.{div_ceil}
 use Rattle.std.proofs.lemmas.Option.{same_Some}
 use Rattle.std.proofs.lemmas.Result.{err_from_is_err_and}
-use Rattle.nv_super.specs.Layout.{fixed_layout, slot_address}
 use Rattle.nv_region.specs.Stops.{LeavesOnly}
 use Rattle.nv_alloc.specs.Taking.{all_blocks}
 use Rattle.nv_logpage.specs.Append.{needed}
@@ -24,6 +23,7 @@ use Rattle.nv_calls.proofs.ReplaceAt.{by_words}
 use Rattle.nv_calls.proofs.TwoRows.{last_used}
 use Rattle.nv_steps.proofs.Kept.{kept_refused}
 use Rattle.nv_calls.proofs.replacing.take_at.Goals as goal
+use Rattle.nv_steps.specs.Slots.{slot_in}
 
 pub give_back-requires : goal.give_back-requires
 give_back-requires g c =
@@ -35,7 +35,7 @@ take_within-taken-requires-clause-stands g c = c.requires.stands c.lend-director
 pub take_within-taken-requires-clause-can : goal.take_within-taken-requires-clause-can
 take_within-taken-requires-clause-can g c =
     let number = numbered c.args.rows.now.items c.args.there c.row.result.now c.row.ensures in
-    subst (λ (i : ℕ). CanName (g.P.Pmem.region c.args.memory.now) c.args.sup.now c.args.cpu i c.lend-directory.result) number (c.requires.can c.lend-directory.result c.row.result.now c.lend-directory.ensures.row c.row.ensures).0
+    subst (λ (i : ℕ). CanName (g.P.Pmem.region c.args.memory.now) c.args.tables.now.layout c.args.cpu i c.lend-directory.result) number (c.requires.can c.lend-directory.result c.row.result.now c.lend-directory.ensures.row c.row.ensures).0
 
 pub take_within-taken-requires-clause-differ : goal.take_within-taken-requires-clause-differ
 take_within-taken-requires-clause-differ g c =
@@ -91,7 +91,7 @@ returns-clause-taken g c =
       mid = c.take_within-taken.new.free;
       at = at_place c.args.rows.now.items c.args.moved.now.directory ∙ c.lend-directory.ensures.row;
       gone_at = at_place c.args.rows.now.items c.args.there ∙ at_there;
-      step = by_words (λ (i k : ℕ) (n o : List ℕ) (t : ℕ). TakesWithin (g.P.Pmem.region c.args.memory.now) (g.P.Pmem.region c.take_within-taken.new.memory) c.args.sup.now c.args.free.now c.take_within-taken.new.free c.args.cpu c.lend-directory.result c.take_within-taken.new.directory i k n o t) c.other_name-other.ensures.inode (sym c.take.ensures.number) c.other_name-other.ensures.name c.other_name-other.ensures.other c.other_name-other.ensures.time c.in_ok-taken.ensures.taken;
+      step = by_words (λ (i k : ℕ) (n o : List ℕ) (t : ℕ). TakesWithin (g.P.Pmem.region c.args.memory.now) (g.P.Pmem.region c.take_within-taken.new.memory) c.args.tables.now.layout c.args.free.now c.take_within-taken.new.free c.args.cpu c.lend-directory.result c.take_within-taken.new.directory i k n o t) c.other_name-other.ensures.inode (sym c.take.ensures.number) c.other_name-other.ensures.name c.other_name-other.ensures.other c.other_name-other.ensures.time c.in_ok-taken.ensures.taken;
       given = c.give_row.ensures.given;
       put = other_out c.args.rows.now.items c.lend-directory.new.self.items c.give_back.new.self.items c.args.moved.now.directory c.lend-directory.result c.take_within-taken.new.directory c.lend-directory.ensures.row c.lend-directory.ensures.lent (c.take_within-taken.ensures.inode ∙ c.lend-directory.ensures.number) c.give_back.ensures.rows c.args.there apart c.take.ensures.rows;
     }
@@ -107,42 +107,42 @@ pub returns-in_err-taken-clause-any_stop : goal.returns-in_err-taken-clause-any_
 returns-in_err-taken-clause-any_stop g c row gone held h at gone_at shows settled =
     let same : c.lend-directory.result ≡ row = same_Some _ _ (sym c.lend-directory.ensures.row ∙ at) in
     let number = sym (numbered c.args.rows.now.items c.args.there gone gone_at) in
-    subst (λ (r : Row). ShowsRow (g.P.Pmem.region c.args.memory.now) c.args.sup.now held h r c.args.free.now → LeavesOnly (g.P.Pmem.region c.take_within-taken.new.memory) (g.P.Pmem.may_hold c.take_within-taken.new.memory) (LeavesEither (g.P.Pmem.region c.args.memory.now) (fixed_layout c.args.sup.now) held (TookWithin (g.P.Pmem.region c.args.memory.now) c.args.sup.now c.args.free.now c.args.cpu r c.args.moved.now.from.target gone.inode c.args.moved.now.from.name.now c.args.moved.now.name.now c.args.time))) same
-    (λ seen. by_words (λ (i k : ℕ) (n o : List ℕ) (t : ℕ). LeavesOnly (g.P.Pmem.region c.take_within-taken.new.memory) (g.P.Pmem.may_hold c.take_within-taken.new.memory) (LeavesEither (g.P.Pmem.region c.args.memory.now) (fixed_layout c.args.sup.now) held (TookWithin (g.P.Pmem.region c.args.memory.now) c.args.sup.now c.args.free.now c.args.cpu c.lend-directory.result i k n o t))) c.other_name-other.ensures.inode number c.other_name-other.ensures.name c.other_name-other.ensures.other c.other_name-other.ensures.time (c.take_within-taken.ensures.any_stop held h seen settled)) shows
+    subst (λ (r : Row). ShowsRow (g.P.Pmem.region c.args.memory.now) c.args.tables.now.layout held h r c.args.free.now → LeavesOnly (g.P.Pmem.region c.take_within-taken.new.memory) (g.P.Pmem.may_hold c.take_within-taken.new.memory) (LeavesEither (g.P.Pmem.region c.args.memory.now) c.args.tables.now.layout held (TookWithin (g.P.Pmem.region c.args.memory.now) c.args.tables.now.layout c.args.free.now c.args.cpu r c.args.moved.now.from.target gone.inode c.args.moved.now.from.name.now c.args.moved.now.name.now c.args.time))) same
+    (λ seen. by_words (λ (i k : ℕ) (n o : List ℕ) (t : ℕ). LeavesOnly (g.P.Pmem.region c.take_within-taken.new.memory) (g.P.Pmem.may_hold c.take_within-taken.new.memory) (LeavesEither (g.P.Pmem.region c.args.memory.now) c.args.tables.now.layout held (TookWithin (g.P.Pmem.region c.args.memory.now) c.args.tables.now.layout c.args.free.now c.args.cpu c.lend-directory.result i k n o t))) c.other_name-other.ensures.inode number c.other_name-other.ensures.name c.other_name-other.ensures.other c.other_name-other.ensures.time (c.take_within-taken.ensures.any_stop held h seen settled)) shows
 
 pub returns-in_err-taken-clause-in_order : goal.returns-in_err-taken-clause-in_order
 returns-in_err-taken-clause-in_order g c row gone held h at gone_at shows =
     let same : c.lend-directory.result ≡ row = same_Some _ _ (sym c.lend-directory.ensures.row ∙ at) in
     let number = sym (numbered c.args.rows.now.items c.args.there gone gone_at) in
-    subst (λ (r : Row). ShowsRow (g.P.Pmem.region c.args.memory.now) c.args.sup.now held h r c.args.free.now → TailIsFirst (g.P.Pmem.region c.args.memory.now) (g.P.Pmem.region c.take_within-taken.new.memory) c.args.sup.now c.args.free.now.pools c.args.cpu r.inode r.tail (take_entries c.args.moved.now.from.target gone.inode c.args.moved.now.from.name.now c.args.moved.now.name.now c.args.time) (slot_address c.args.sup.now gone.inode)) same
-    (λ seen. by_words (λ (i k : ℕ) (n o : List ℕ) (t : ℕ). TailIsFirst (g.P.Pmem.region c.args.memory.now) (g.P.Pmem.region c.take_within-taken.new.memory) c.args.sup.now c.args.free.now.pools c.args.cpu c.lend-directory.result.inode c.lend-directory.result.tail (take_entries i k n o t) (slot_address c.args.sup.now k)) c.other_name-other.ensures.inode number c.other_name-other.ensures.name c.other_name-other.ensures.other c.other_name-other.ensures.time (c.take_within-taken.ensures.in_order held h seen)) shows
+    subst (λ (r : Row). ShowsRow (g.P.Pmem.region c.args.memory.now) c.args.tables.now.layout held h r c.args.free.now → TailIsFirst (g.P.Pmem.region c.args.memory.now) (g.P.Pmem.region c.take_within-taken.new.memory) c.args.tables.now.layout c.args.free.now.pools c.args.cpu r.inode r.tail (take_entries c.args.moved.now.from.target gone.inode c.args.moved.now.from.name.now c.args.moved.now.name.now c.args.time) (slot_in c.args.tables.now.layout gone.inode)) same
+    (λ seen. by_words (λ (i k : ℕ) (n o : List ℕ) (t : ℕ). TailIsFirst (g.P.Pmem.region c.args.memory.now) (g.P.Pmem.region c.take_within-taken.new.memory) c.args.tables.now.layout c.args.free.now.pools c.args.cpu c.lend-directory.result.inode c.lend-directory.result.tail (take_entries i k n o t) (slot_in c.args.tables.now.layout k)) c.other_name-other.ensures.inode number c.other_name-other.ensures.name c.other_name-other.ensures.other c.other_name-other.ensures.time (c.take_within-taken.ensures.in_order held h seen)) shows
 
 pub returns-in_err-taken-clause-wrote : goal.returns-in_err-taken-clause-wrote
 returns-in_err-taken-clause-wrote g c row gone held h at gone_at shows =
     let same : c.lend-directory.result ≡ row = same_Some _ _ (sym c.lend-directory.ensures.row ∙ at) in
     let number = sym (numbered c.args.rows.now.items c.args.there gone gone_at) in
-    subst (λ (i : ℕ). StoresIn c.args.sup.now held (one_less c.args.sup.now c.args.cpu row.inode i) (g.P.Pmem.region c.args.memory.now) (g.P.Pmem.region c.take_within-taken.new.memory)) number
-    (subst (λ (r : Row). ShowsRow (g.P.Pmem.region c.args.memory.now) c.args.sup.now held h r c.args.free.now → StoresIn c.args.sup.now held (one_less c.args.sup.now c.args.cpu r.inode c.args.there) (g.P.Pmem.region c.args.memory.now) (g.P.Pmem.region c.take_within-taken.new.memory)) same
+    subst (λ (i : ℕ). StoresIn c.args.tables.now.layout held (one_less c.args.tables.now.layout c.args.cpu row.inode i) (g.P.Pmem.region c.args.memory.now) (g.P.Pmem.region c.take_within-taken.new.memory)) number
+    (subst (λ (r : Row). ShowsRow (g.P.Pmem.region c.args.memory.now) c.args.tables.now.layout held h r c.args.free.now → StoresIn c.args.tables.now.layout held (one_less c.args.tables.now.layout c.args.cpu r.inode c.args.there) (g.P.Pmem.region c.args.memory.now) (g.P.Pmem.region c.take_within-taken.new.memory)) same
     (λ seen. c.take_within-taken.ensures.wrote held h seen) shows)
 
 pub returns-clause-any_stop : goal.returns-clause-any_stop
 returns-clause-any_stop g c row gone held h at gone_at shows settled =
     let same : c.lend-directory.result ≡ row = same_Some _ _ (sym c.lend-directory.ensures.row ∙ at) in
     let number = sym (numbered c.args.rows.now.items c.args.there gone gone_at) in
-    subst (λ (r : Row). ShowsRow (g.P.Pmem.region c.args.memory.now) c.args.sup.now held h r c.args.free.now → LeavesOnly (g.P.Pmem.region c.take_within-taken.new.memory) (g.P.Pmem.may_hold c.take_within-taken.new.memory) (LeavesEither (g.P.Pmem.region c.args.memory.now) (fixed_layout c.args.sup.now) held (TookWithin (g.P.Pmem.region c.args.memory.now) c.args.sup.now c.args.free.now c.args.cpu r c.args.moved.now.from.target gone.inode c.args.moved.now.from.name.now c.args.moved.now.name.now c.args.time))) same
-    (λ seen. by_words (λ (i k : ℕ) (n o : List ℕ) (t : ℕ). LeavesOnly (g.P.Pmem.region c.take_within-taken.new.memory) (g.P.Pmem.may_hold c.take_within-taken.new.memory) (LeavesEither (g.P.Pmem.region c.args.memory.now) (fixed_layout c.args.sup.now) held (TookWithin (g.P.Pmem.region c.args.memory.now) c.args.sup.now c.args.free.now c.args.cpu c.lend-directory.result i k n o t))) c.other_name-other.ensures.inode number c.other_name-other.ensures.name c.other_name-other.ensures.other c.other_name-other.ensures.time (c.take_within-taken.ensures.any_stop held h seen settled)) shows
+    subst (λ (r : Row). ShowsRow (g.P.Pmem.region c.args.memory.now) c.args.tables.now.layout held h r c.args.free.now → LeavesOnly (g.P.Pmem.region c.take_within-taken.new.memory) (g.P.Pmem.may_hold c.take_within-taken.new.memory) (LeavesEither (g.P.Pmem.region c.args.memory.now) c.args.tables.now.layout held (TookWithin (g.P.Pmem.region c.args.memory.now) c.args.tables.now.layout c.args.free.now c.args.cpu r c.args.moved.now.from.target gone.inode c.args.moved.now.from.name.now c.args.moved.now.name.now c.args.time))) same
+    (λ seen. by_words (λ (i k : ℕ) (n o : List ℕ) (t : ℕ). LeavesOnly (g.P.Pmem.region c.take_within-taken.new.memory) (g.P.Pmem.may_hold c.take_within-taken.new.memory) (LeavesEither (g.P.Pmem.region c.args.memory.now) c.args.tables.now.layout held (TookWithin (g.P.Pmem.region c.args.memory.now) c.args.tables.now.layout c.args.free.now c.args.cpu c.lend-directory.result i k n o t))) c.other_name-other.ensures.inode number c.other_name-other.ensures.name c.other_name-other.ensures.other c.other_name-other.ensures.time (c.take_within-taken.ensures.any_stop held h seen settled)) shows
 
 pub returns-clause-in_order : goal.returns-clause-in_order
 returns-clause-in_order g c row gone held h at gone_at shows =
     let same : c.lend-directory.result ≡ row = same_Some _ _ (sym c.lend-directory.ensures.row ∙ at) in
     let number = sym (numbered c.args.rows.now.items c.args.there gone gone_at) in
-    subst (λ (r : Row). ShowsRow (g.P.Pmem.region c.args.memory.now) c.args.sup.now held h r c.args.free.now → TailIsFirst (g.P.Pmem.region c.args.memory.now) (g.P.Pmem.region c.take_within-taken.new.memory) c.args.sup.now c.args.free.now.pools c.args.cpu r.inode r.tail (take_entries c.args.moved.now.from.target gone.inode c.args.moved.now.from.name.now c.args.moved.now.name.now c.args.time) (slot_address c.args.sup.now gone.inode)) same
-    (λ seen. by_words (λ (i k : ℕ) (n o : List ℕ) (t : ℕ). TailIsFirst (g.P.Pmem.region c.args.memory.now) (g.P.Pmem.region c.take_within-taken.new.memory) c.args.sup.now c.args.free.now.pools c.args.cpu c.lend-directory.result.inode c.lend-directory.result.tail (take_entries i k n o t) (slot_address c.args.sup.now k)) c.other_name-other.ensures.inode number c.other_name-other.ensures.name c.other_name-other.ensures.other c.other_name-other.ensures.time (c.take_within-taken.ensures.in_order held h seen)) shows
+    subst (λ (r : Row). ShowsRow (g.P.Pmem.region c.args.memory.now) c.args.tables.now.layout held h r c.args.free.now → TailIsFirst (g.P.Pmem.region c.args.memory.now) (g.P.Pmem.region c.take_within-taken.new.memory) c.args.tables.now.layout c.args.free.now.pools c.args.cpu r.inode r.tail (take_entries c.args.moved.now.from.target gone.inode c.args.moved.now.from.name.now c.args.moved.now.name.now c.args.time) (slot_in c.args.tables.now.layout gone.inode)) same
+    (λ seen. by_words (λ (i k : ℕ) (n o : List ℕ) (t : ℕ). TailIsFirst (g.P.Pmem.region c.args.memory.now) (g.P.Pmem.region c.take_within-taken.new.memory) c.args.tables.now.layout c.args.free.now.pools c.args.cpu c.lend-directory.result.inode c.lend-directory.result.tail (take_entries i k n o t) (slot_in c.args.tables.now.layout k)) c.other_name-other.ensures.inode number c.other_name-other.ensures.name c.other_name-other.ensures.other c.other_name-other.ensures.time (c.take_within-taken.ensures.in_order held h seen)) shows
 
 pub returns-clause-wrote : goal.returns-clause-wrote
 returns-clause-wrote g c row gone held h at gone_at shows =
     let same : c.lend-directory.result ≡ row = same_Some _ _ (sym c.lend-directory.ensures.row ∙ at) in
     let number = sym (numbered c.args.rows.now.items c.args.there gone gone_at) in
-    subst (λ (i : ℕ). StoresIn c.args.sup.now held (one_less c.args.sup.now c.args.cpu row.inode i) (g.P.Pmem.region c.args.memory.now) (g.P.Pmem.region c.take_within-taken.new.memory)) number
-    (subst (λ (r : Row). ShowsRow (g.P.Pmem.region c.args.memory.now) c.args.sup.now held h r c.args.free.now → StoresIn c.args.sup.now held (one_less c.args.sup.now c.args.cpu r.inode c.args.there) (g.P.Pmem.region c.args.memory.now) (g.P.Pmem.region c.take_within-taken.new.memory)) same
+    subst (λ (i : ℕ). StoresIn c.args.tables.now.layout held (one_less c.args.tables.now.layout c.args.cpu row.inode i) (g.P.Pmem.region c.args.memory.now) (g.P.Pmem.region c.take_within-taken.new.memory)) number
+    (subst (λ (r : Row). ShowsRow (g.P.Pmem.region c.args.memory.now) c.args.tables.now.layout held h r c.args.free.now → StoresIn c.args.tables.now.layout held (one_less c.args.tables.now.layout c.args.cpu r.inode c.args.there) (g.P.Pmem.region c.args.memory.now) (g.P.Pmem.region c.take_within-taken.new.memory)) same
     (λ seen. c.take_within-taken.ensures.wrote held h seen) shows)

@@ -1,6 +1,5 @@
 use Rattle.std.proofs.Common.{◌∙◌, ◌+◌, ◌-◌, ◌%◌, ◌≤◌, ℕ, List, sym}
 use Rattle.std.proofs.lemmas.Result.{IfErr-weaker, on_ok_weaker}
-use Rattle.nv_super.specs.Layout.{fixed_layout}
 use Rattle.nv_region.specs.Stops.{LeavesOnly}
 use Rattle.nv_alloc.specs.Taking.{all_blocks}
 use Rattle.nv_logpage.specs.Append.{needed}
@@ -59,7 +58,7 @@ returns-clause-lessened g c =
     let file_at = third_stays c.args.rows.now.items c.lend-from.new.self.items c.lend-to.new.self.items c.args.moved.now.from.directory c.args.moved.now.directory c.args.there c.requires.apart.0 c.requires.apart.1 c.requires.apart.2 c.requires.from c.requires.directory c.requires.there c.lend-from.ensures.lent c.lend-to.ensures.lent c.lend-file.result c.lend-file.ensures.row in
     let put = back_three c.args.rows.now.items c.lend-from.new.self.items c.lend-to.new.self.items c.args.moved.now.from.directory c.args.moved.now.directory c.args.there c.requires.apart.0 c.requires.apart.1 c.requires.apart.2 c.requires.from c.requires.directory c.requires.there c.lend-from.ensures.lent c.lend-to.ensures.lent c.lend-file.new.self.items c.give_back.new.self.items c.lessen_across-done.new.to c.lessen_across-done.new.file c.lend-file.ensures.lent (c.lessen_across-done.ensures.inodes.1 ∙ c.lend-to.ensures.number) (c.lessen_across-done.ensures.inodes.2 ∙ c.lend-file.ensures.number) c.give_back.ensures.rows c.give_back-2.new.self.items c.lessen_across-done.new.from (c.lessen_across-done.ensures.inodes.0 ∙ c.lend-from.ensures.number) c.give_back-2.ensures.rows c.give_back-3.ensures.rows in
     on_ok_weaker c.lessen_across-done.result
-    (λ (step : LessensAcross (g.P.Pmem.region c.args.memory.now) (g.P.Pmem.region c.lessen_across-done.new.memory) c.args.sup.now c.args.free.now c.lessen_across-done.new.free c.args.cpu c.lend-from.result c.lessen_across-done.new.from c.lend-to.result c.lessen_across-done.new.to c.lend-file.result c.lessen_across-done.new.file c.other_name-other.result.inode c.other_name-other.result.name.now c.other_name-other.result.other.now c.other_name-other.result.time). record {
+    (λ (step : LessensAcross (g.P.Pmem.region c.args.memory.now) (g.P.Pmem.region c.lessen_across-done.new.memory) c.args.tables.now.layout c.args.free.now c.lessen_across-done.new.free c.args.cpu c.lend-from.result c.lessen_across-done.new.from c.lend-to.result c.lessen_across-done.new.to c.lend-file.result c.lessen_across-done.new.file c.other_name-other.result.inode c.other_name-other.result.name.now c.other_name-other.result.other.now c.other_name-other.result.time). record {
       from = c.lend-from.result;
       to = c.lend-to.result;
       file = c.lend-file.result;
@@ -69,7 +68,7 @@ returns-clause-lessened g c =
       at = at_place c.args.rows.now.items c.args.moved.now.from.directory ∙ c.lend-from.ensures.row;
       to_at = at_place c.args.rows.now.items c.args.moved.now.directory ∙ to_at;
       file_at = at_place c.args.rows.now.items c.args.there ∙ file_at;
-      step = by_words (λ (i k : ℕ) (n o : List ℕ) (t : ℕ). LessensAcross (g.P.Pmem.region c.args.memory.now) (g.P.Pmem.region c.lessen_across-done.new.memory) c.args.sup.now c.args.free.now c.lessen_across-done.new.free c.args.cpu c.lend-from.result c.lessen_across-done.new.from c.lend-to.result c.lessen_across-done.new.to c.lend-file.result c.lessen_across-done.new.file i n o t) c.other_name-other.ensures.inode (λ x. 0) c.other_name-other.ensures.name c.other_name-other.ensures.other c.other_name-other.ensures.time step;
+      step = by_words (λ (i k : ℕ) (n o : List ℕ) (t : ℕ). LessensAcross (g.P.Pmem.region c.args.memory.now) (g.P.Pmem.region c.lessen_across-done.new.memory) c.args.tables.now.layout c.args.free.now c.lessen_across-done.new.free c.args.cpu c.lend-from.result c.lessen_across-done.new.from c.lend-to.result c.lessen_across-done.new.to c.lend-file.result c.lessen_across-done.new.file i n o t) c.other_name-other.ensures.inode (λ x. 0) c.other_name-other.ensures.name c.other_name-other.ensures.other c.other_name-other.ensures.time step;
       put = put;
     }) c.lessen_across-done.ensures.lessened
 
@@ -98,15 +97,15 @@ returns-clause-kept g c =
 
 pub returns-clause-any_stop : goal.returns-clause-any_stop
 returns-clause-any_stop g c from to file held h k f at to_at file_at here other last settled =
-    of_three c.args.rows.now.items c.lend-from.new.self.items c.lend-to.new.self.items c.args.moved.now.from.directory c.args.moved.now.directory c.args.there c.requires.apart.0 c.requires.apart.1 c.requires.apart.2 c.requires.from c.requires.directory c.requires.there c.lend-from.ensures.lent c.lend-to.ensures.lent (λ (r d b : Row). ShowsRow (g.P.Pmem.region c.args.memory.now) c.args.sup.now held h r c.args.free.now → ShowsRow (g.P.Pmem.region c.args.memory.now) c.args.sup.now held k d c.args.free.now → ShowsRow (g.P.Pmem.region c.args.memory.now) c.args.sup.now held f b c.args.free.now → LeavesOnly (g.P.Pmem.region c.lessen_across-done.new.memory) (g.P.Pmem.may_hold c.lessen_across-done.new.memory) (LeavesEither (g.P.Pmem.region c.args.memory.now) (fixed_layout c.args.sup.now) held (LessenedAcross (g.P.Pmem.region c.args.memory.now) c.args.sup.now c.args.free.now c.args.cpu r d b c.args.moved.now.from.target c.args.moved.now.from.name.now c.args.moved.now.name.now c.args.time))) c.lend-from.result c.lend-to.result c.lend-file.result from to file c.lend-from.ensures.row c.lend-to.ensures.row c.lend-file.ensures.row
-    (λ seen seen_to seen_file. by_words (λ (i m : ℕ) (n o : List ℕ) (t : ℕ). LeavesOnly (g.P.Pmem.region c.lessen_across-done.new.memory) (g.P.Pmem.may_hold c.lessen_across-done.new.memory) (LeavesEither (g.P.Pmem.region c.args.memory.now) (fixed_layout c.args.sup.now) held (LessenedAcross (g.P.Pmem.region c.args.memory.now) c.args.sup.now c.args.free.now c.args.cpu c.lend-from.result c.lend-to.result c.lend-file.result i n o t))) c.other_name-other.ensures.inode (λ x. 0) c.other_name-other.ensures.name c.other_name-other.ensures.other c.other_name-other.ensures.time (c.lessen_across-done.ensures.any_stop held h k f seen seen_to seen_file settled)) at to_at file_at here other last
+    of_three c.args.rows.now.items c.lend-from.new.self.items c.lend-to.new.self.items c.args.moved.now.from.directory c.args.moved.now.directory c.args.there c.requires.apart.0 c.requires.apart.1 c.requires.apart.2 c.requires.from c.requires.directory c.requires.there c.lend-from.ensures.lent c.lend-to.ensures.lent (λ (r d b : Row). ShowsRow (g.P.Pmem.region c.args.memory.now) c.args.tables.now.layout held h r c.args.free.now → ShowsRow (g.P.Pmem.region c.args.memory.now) c.args.tables.now.layout held k d c.args.free.now → ShowsRow (g.P.Pmem.region c.args.memory.now) c.args.tables.now.layout held f b c.args.free.now → LeavesOnly (g.P.Pmem.region c.lessen_across-done.new.memory) (g.P.Pmem.may_hold c.lessen_across-done.new.memory) (LeavesEither (g.P.Pmem.region c.args.memory.now) c.args.tables.now.layout held (LessenedAcross (g.P.Pmem.region c.args.memory.now) c.args.tables.now.layout c.args.free.now c.args.cpu r d b c.args.moved.now.from.target c.args.moved.now.from.name.now c.args.moved.now.name.now c.args.time))) c.lend-from.result c.lend-to.result c.lend-file.result from to file c.lend-from.ensures.row c.lend-to.ensures.row c.lend-file.ensures.row
+    (λ seen seen_to seen_file. by_words (λ (i m : ℕ) (n o : List ℕ) (t : ℕ). LeavesOnly (g.P.Pmem.region c.lessen_across-done.new.memory) (g.P.Pmem.may_hold c.lessen_across-done.new.memory) (LeavesEither (g.P.Pmem.region c.args.memory.now) c.args.tables.now.layout held (LessenedAcross (g.P.Pmem.region c.args.memory.now) c.args.tables.now.layout c.args.free.now c.args.cpu c.lend-from.result c.lend-to.result c.lend-file.result i n o t))) c.other_name-other.ensures.inode (λ x. 0) c.other_name-other.ensures.name c.other_name-other.ensures.other c.other_name-other.ensures.time (c.lessen_across-done.ensures.any_stop held h k f seen seen_to seen_file settled)) at to_at file_at here other last
 
 pub returns-clause-in_order : goal.returns-clause-in_order
 returns-clause-in_order g c from to file held h k f at to_at file_at here other last =
-    of_three c.args.rows.now.items c.lend-from.new.self.items c.lend-to.new.self.items c.args.moved.now.from.directory c.args.moved.now.directory c.args.there c.requires.apart.0 c.requires.apart.1 c.requires.apart.2 c.requires.from c.requires.directory c.requires.there c.lend-from.ensures.lent c.lend-to.ensures.lent (λ (r d b : Row). ShowsRow (g.P.Pmem.region c.args.memory.now) c.args.sup.now held h r c.args.free.now → ShowsRow (g.P.Pmem.region c.args.memory.now) c.args.sup.now held k d c.args.free.now → ShowsRow (g.P.Pmem.region c.args.memory.now) c.args.sup.now held f b c.args.free.now → HandsInOrder (g.P.Pmem.region c.args.memory.now) (g.P.Pmem.region c.lessen_across-done.new.memory) c.args.sup.now c.args.free.now c.args.cpu r d c.args.moved.now.from.target b.inode c.args.moved.now.from.name.now c.args.moved.now.name.now c.args.time (tail_address c.args.sup.now b.inode)) c.lend-from.result c.lend-to.result c.lend-file.result from to file c.lend-from.ensures.row c.lend-to.ensures.row c.lend-file.ensures.row
-    (λ seen seen_to seen_file. by_words (λ (i m : ℕ) (n o : List ℕ) (t : ℕ). HandsInOrder (g.P.Pmem.region c.args.memory.now) (g.P.Pmem.region c.lessen_across-done.new.memory) c.args.sup.now c.args.free.now c.args.cpu c.lend-from.result c.lend-to.result i c.lend-file.result.inode n o t (tail_address c.args.sup.now c.lend-file.result.inode)) c.other_name-other.ensures.inode (λ x. 0) c.other_name-other.ensures.name c.other_name-other.ensures.other c.other_name-other.ensures.time (c.lessen_across-done.ensures.in_order held h k f seen seen_to seen_file)) at to_at file_at here other last
+    of_three c.args.rows.now.items c.lend-from.new.self.items c.lend-to.new.self.items c.args.moved.now.from.directory c.args.moved.now.directory c.args.there c.requires.apart.0 c.requires.apart.1 c.requires.apart.2 c.requires.from c.requires.directory c.requires.there c.lend-from.ensures.lent c.lend-to.ensures.lent (λ (r d b : Row). ShowsRow (g.P.Pmem.region c.args.memory.now) c.args.tables.now.layout held h r c.args.free.now → ShowsRow (g.P.Pmem.region c.args.memory.now) c.args.tables.now.layout held k d c.args.free.now → ShowsRow (g.P.Pmem.region c.args.memory.now) c.args.tables.now.layout held f b c.args.free.now → HandsInOrder (g.P.Pmem.region c.args.memory.now) (g.P.Pmem.region c.lessen_across-done.new.memory) c.args.tables.now.layout c.args.free.now c.args.cpu r d c.args.moved.now.from.target b.inode c.args.moved.now.from.name.now c.args.moved.now.name.now c.args.time (tail_address c.args.tables.now.layout b.inode)) c.lend-from.result c.lend-to.result c.lend-file.result from to file c.lend-from.ensures.row c.lend-to.ensures.row c.lend-file.ensures.row
+    (λ seen seen_to seen_file. by_words (λ (i m : ℕ) (n o : List ℕ) (t : ℕ). HandsInOrder (g.P.Pmem.region c.args.memory.now) (g.P.Pmem.region c.lessen_across-done.new.memory) c.args.tables.now.layout c.args.free.now c.args.cpu c.lend-from.result c.lend-to.result i c.lend-file.result.inode n o t (tail_address c.args.tables.now.layout c.lend-file.result.inode)) c.other_name-other.ensures.inode (λ x. 0) c.other_name-other.ensures.name c.other_name-other.ensures.other c.other_name-other.ensures.time (c.lessen_across-done.ensures.in_order held h k f seen seen_to seen_file)) at to_at file_at here other last
 
 pub returns-clause-wrote : goal.returns-clause-wrote
 returns-clause-wrote g c from to file held h k f at to_at file_at here other last =
-    of_three c.args.rows.now.items c.lend-from.new.self.items c.lend-to.new.self.items c.args.moved.now.from.directory c.args.moved.now.directory c.args.there c.requires.apart.0 c.requires.apart.1 c.requires.apart.2 c.requires.from c.requires.directory c.requires.there c.lend-from.ensures.lent c.lend-to.ensures.lent (λ (r d b : Row). ShowsRow (g.P.Pmem.region c.args.memory.now) c.args.sup.now held h r c.args.free.now → ShowsRow (g.P.Pmem.region c.args.memory.now) c.args.sup.now held k d c.args.free.now → ShowsRow (g.P.Pmem.region c.args.memory.now) c.args.sup.now held f b c.args.free.now → StoresIn c.args.sup.now held (three_logs c.args.sup.now c.args.cpu r.inode d.inode b.inode) (g.P.Pmem.region c.args.memory.now) (g.P.Pmem.region c.lessen_across-done.new.memory)) c.lend-from.result c.lend-to.result c.lend-file.result from to file c.lend-from.ensures.row c.lend-to.ensures.row c.lend-file.ensures.row
+    of_three c.args.rows.now.items c.lend-from.new.self.items c.lend-to.new.self.items c.args.moved.now.from.directory c.args.moved.now.directory c.args.there c.requires.apart.0 c.requires.apart.1 c.requires.apart.2 c.requires.from c.requires.directory c.requires.there c.lend-from.ensures.lent c.lend-to.ensures.lent (λ (r d b : Row). ShowsRow (g.P.Pmem.region c.args.memory.now) c.args.tables.now.layout held h r c.args.free.now → ShowsRow (g.P.Pmem.region c.args.memory.now) c.args.tables.now.layout held k d c.args.free.now → ShowsRow (g.P.Pmem.region c.args.memory.now) c.args.tables.now.layout held f b c.args.free.now → StoresIn c.args.tables.now.layout held (three_logs c.args.tables.now.layout c.args.cpu r.inode d.inode b.inode) (g.P.Pmem.region c.args.memory.now) (g.P.Pmem.region c.lessen_across-done.new.memory)) c.lend-from.result c.lend-to.result c.lend-file.result from to file c.lend-from.ensures.row c.lend-to.ensures.row c.lend-file.ensures.row
     (λ seen seen_to seen_file. c.lessen_across-done.ensures.wrote held h k f seen seen_to seen_file) at to_at file_at here other last

@@ -32,7 +32,7 @@ returns-then-keeps_others-clause-refused g c from to file at to_at there =
 pub returns-then-keeps_others-clause-any_stop : goal.returns-then-keeps_others-clause-any_stop
 returns-then-keeps_others-clause-any_stop g c from to file held h k f at to_at there here other last settled left may =
     let is = stays_at true c.args.rows.now.items (place_in c.args.rows.now.items c.args.there) c.row.result.now c.keeps_others.result (at_place c.args.rows.now.items c.args.there ∙ c.row.ensures) c.keeps_others.ensures c.if-keeps_others.true file (at_place c.args.rows.now.items c.args.there ∙ there) in
-    left_made (LessenedAcross (g.P.Pmem.region c.args.memory.now) c.args.sup.now c.args.free.now c.args.cpu from to file c.args.moved.now.from.target c.args.moved.now.from.name.now c.args.moved.now.name.now c.args.time) (ReplacedOver (g.P.Pmem.region c.args.memory.now) c.args.sup.now c.args.free.now c.args.cpu from to file c.args.moved.now.from.target c.args.moved.now.from.name.now c.args.moved.now.name.now c.args.time) (λ S w. inl (is, w)) left (c.lessen_over.ensures.any_stop from to file held h k f at to_at there here other last settled left may)
+    left_made (LessenedAcross (g.P.Pmem.region c.args.memory.now) c.args.tables.now.layout c.args.free.now c.args.cpu from to file c.args.moved.now.from.target c.args.moved.now.from.name.now c.args.moved.now.name.now c.args.time) (ReplacedOver (g.P.Pmem.region c.args.memory.now) c.args.tables.now.layout c.args.free.now c.args.cpu from to file c.args.moved.now.from.target c.args.moved.now.from.name.now c.args.moved.now.name.now c.args.time) (λ S w. inl (is, w)) left (c.lessen_over.ensures.any_stop from to file held h k f at to_at there here other last settled left may)
 
 pub returns-then-keeps_others-clause-in_order : goal.returns-then-keeps_others-clause-in_order
 returns-then-keeps_others-clause-in_order g c from to file held h k f at to_at there here other last said = c.lessen_over.ensures.in_order from to file held h k f at to_at there here other last
@@ -67,7 +67,7 @@ returns-else-keeps_others-clause-refused g c from to file at to_at there =
 pub returns-else-keeps_others-clause-any_stop : goal.returns-else-keeps_others-clause-any_stop
 returns-else-keeps_others-clause-any_stop g c from to file held h k f at to_at there here other last settled left may =
     let is = stays_at false c.args.rows.now.items (place_in c.args.rows.now.items c.args.there) c.row.result.now c.keeps_others.result (at_place c.args.rows.now.items c.args.there ∙ c.row.ensures) c.keeps_others.ensures c.if-keeps_others.false file (at_place c.args.rows.now.items c.args.there ∙ there) in
-    left_made (TookAcross (g.P.Pmem.region c.args.memory.now) c.args.sup.now c.args.free.now c.args.cpu from to c.args.moved.now.from.target file.inode c.args.moved.now.from.name.now c.args.moved.now.name.now c.args.time) (ReplacedOver (g.P.Pmem.region c.args.memory.now) c.args.sup.now c.args.free.now c.args.cpu from to file c.args.moved.now.from.target c.args.moved.now.from.name.now c.args.moved.now.name.now c.args.time) (λ S w. inr (is, w)) left (c.take_over.ensures.any_stop from to file held h k at to_at there here other settled left may)
+    left_made (TookAcross (g.P.Pmem.region c.args.memory.now) c.args.tables.now.layout c.args.free.now c.args.cpu from to c.args.moved.now.from.target file.inode c.args.moved.now.from.name.now c.args.moved.now.name.now c.args.time) (ReplacedOver (g.P.Pmem.region c.args.memory.now) c.args.tables.now.layout c.args.free.now c.args.cpu from to file c.args.moved.now.from.target c.args.moved.now.from.name.now c.args.moved.now.name.now c.args.time) (λ S w. inr (is, w)) left (c.take_over.ensures.any_stop from to file held h k at to_at there here other settled left may)
 
 pub returns-else-keeps_others-clause-in_order : goal.returns-else-keeps_others-clause-in_order
 returns-else-keeps_others-clause-in_order g c from to file held h k f at to_at there here other last said =

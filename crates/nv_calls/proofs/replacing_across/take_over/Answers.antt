@@ -2,7 +2,6 @@ use Rattle.std.proofs.Common.{◌≡◌, ◌∙◌, ◌+◌, ◌≤◌, ℕ, Lis
 use Rattle.std.specs.Int.{div_ceil}
 use Rattle.std.proofs.lemmas.Option.{same_Some}
 use Rattle.std.proofs.lemmas.Result.{err_from_is_err_and}
-use Rattle.nv_super.specs.Layout.{fixed_layout, slot_address}
 use Rattle.nv_region.specs.Stops.{LeavesOnly}
 use Rattle.nv_alloc.specs.Taking.{all_blocks}
 use Rattle.nv_scan.specs.declared.piece.Row.{Row}
@@ -22,6 +21,7 @@ use Rattle.nv_calls.proofs.TwoOut.{third_out, third_row, third_used}
 use Rattle.nv_calls.proofs.TwoRows.{first_used, last_used, left_two, of_lent, row_stays, used_still}
 use Rattle.nv_steps.proofs.Kept.{kept_refused}
 use Rattle.nv_calls.proofs.replacing_across.take_over.Goals as goal
+use Rattle.nv_steps.specs.Slots.{slot_in}
 
 pub lend-to-requires : goal.lend-to-requires
 lend-to-requires g c = used_still c.args.rows.now.items c.lend-from.new.self.items c.args.moved.now.from.directory c.args.moved.now.directory c.requires.apart.0 c.requires.from c.lend-from.ensures.lent c.requires.directory
@@ -92,7 +92,7 @@ returns-clause-taken g c =
       at = at_place c.args.rows.now.items c.args.moved.now.from.directory ∙ c.lend-from.ensures.row;
       to_at = at_place c.args.rows.now.items c.args.moved.now.directory ∙ to_at;
       gone_at = at_place c.args.rows.now.items c.args.there ∙ at_there;
-      step = by_words (λ (i k : ℕ) (n o : List ℕ) (t : ℕ). TakesAcross (g.P.Pmem.region c.args.memory.now) (g.P.Pmem.region c.take_across-taken.new.memory) c.args.sup.now c.args.free.now c.take_across-taken.new.free c.args.cpu c.lend-from.result c.take_across-taken.new.from c.lend-to.result c.take_across-taken.new.to i k n o t) c.other_name-other.ensures.inode (sym c.take.ensures.number) c.other_name-other.ensures.name c.other_name-other.ensures.other c.other_name-other.ensures.time c.in_ok-taken.ensures.taken;
+      step = by_words (λ (i k : ℕ) (n o : List ℕ) (t : ℕ). TakesAcross (g.P.Pmem.region c.args.memory.now) (g.P.Pmem.region c.take_across-taken.new.memory) c.args.tables.now.layout c.args.free.now c.take_across-taken.new.free c.args.cpu c.lend-from.result c.take_across-taken.new.from c.lend-to.result c.take_across-taken.new.to i k n o t) c.other_name-other.ensures.inode (sym c.take.ensures.number) c.other_name-other.ensures.name c.other_name-other.ensures.other c.other_name-other.ensures.time c.in_ok-taken.ensures.taken;
       given = c.give_row.ensures.given;
       put = third_out c.args.rows.now.items c.give_back-2.new.self.items c.args.moved.now.from.directory c.args.moved.now.directory c.lend-from.result c.lend-to.result c.take_across-taken.new.from c.take_across-taken.new.to c.requires.apart.0 c.lend-from.ensures.row to_at (c.take_across-taken.ensures.inodes.0 ∙ c.lend-from.ensures.number) (c.take_across-taken.ensures.inodes.1 ∙ c.lend-to.ensures.number) put c.args.there c.requires.apart.1 c.requires.apart.2 c.take.ensures.rows;
     }
@@ -127,35 +127,35 @@ returns-clause-enough g c from to gone at to_at gone_at =
 pub returns-in_err-taken-clause-any_stop : goal.returns-in_err-taken-clause-any_stop
 returns-in_err-taken-clause-any_stop g c from to gone held h k at to_at gone_at here other settled =
     let number = sym (numbered c.args.rows.now.items c.args.there gone gone_at) in
-    of_lent c.args.rows.now.items c.lend-from.new.self.items c.args.moved.now.from.directory c.args.moved.now.directory c.requires.apart.0 c.requires.from c.lend-from.ensures.lent (λ (r d : Row). ShowsRow (g.P.Pmem.region c.args.memory.now) c.args.sup.now held h r c.args.free.now → ShowsRow (g.P.Pmem.region c.args.memory.now) c.args.sup.now held k d c.args.free.now → LeavesOnly (g.P.Pmem.region c.take_across-taken.new.memory) (g.P.Pmem.may_hold c.take_across-taken.new.memory) (LeavesEither (g.P.Pmem.region c.args.memory.now) (fixed_layout c.args.sup.now) held (TookAcross (g.P.Pmem.region c.args.memory.now) c.args.sup.now c.args.free.now c.args.cpu r d c.args.moved.now.from.target gone.inode c.args.moved.now.from.name.now c.args.moved.now.name.now c.args.time))) c.lend-from.result c.lend-to.result from to c.lend-from.ensures.row c.lend-to.ensures.row
-    (λ seen seen_to. by_words (λ (i m : ℕ) (n o : List ℕ) (t : ℕ). LeavesOnly (g.P.Pmem.region c.take_across-taken.new.memory) (g.P.Pmem.may_hold c.take_across-taken.new.memory) (LeavesEither (g.P.Pmem.region c.args.memory.now) (fixed_layout c.args.sup.now) held (TookAcross (g.P.Pmem.region c.args.memory.now) c.args.sup.now c.args.free.now c.args.cpu c.lend-from.result c.lend-to.result i m n o t))) c.other_name-other.ensures.inode number c.other_name-other.ensures.name c.other_name-other.ensures.other c.other_name-other.ensures.time (c.take_across-taken.ensures.any_stop held h k seen seen_to settled)) at to_at here other
+    of_lent c.args.rows.now.items c.lend-from.new.self.items c.args.moved.now.from.directory c.args.moved.now.directory c.requires.apart.0 c.requires.from c.lend-from.ensures.lent (λ (r d : Row). ShowsRow (g.P.Pmem.region c.args.memory.now) c.args.tables.now.layout held h r c.args.free.now → ShowsRow (g.P.Pmem.region c.args.memory.now) c.args.tables.now.layout held k d c.args.free.now → LeavesOnly (g.P.Pmem.region c.take_across-taken.new.memory) (g.P.Pmem.may_hold c.take_across-taken.new.memory) (LeavesEither (g.P.Pmem.region c.args.memory.now) c.args.tables.now.layout held (TookAcross (g.P.Pmem.region c.args.memory.now) c.args.tables.now.layout c.args.free.now c.args.cpu r d c.args.moved.now.from.target gone.inode c.args.moved.now.from.name.now c.args.moved.now.name.now c.args.time))) c.lend-from.result c.lend-to.result from to c.lend-from.ensures.row c.lend-to.ensures.row
+    (λ seen seen_to. by_words (λ (i m : ℕ) (n o : List ℕ) (t : ℕ). LeavesOnly (g.P.Pmem.region c.take_across-taken.new.memory) (g.P.Pmem.may_hold c.take_across-taken.new.memory) (LeavesEither (g.P.Pmem.region c.args.memory.now) c.args.tables.now.layout held (TookAcross (g.P.Pmem.region c.args.memory.now) c.args.tables.now.layout c.args.free.now c.args.cpu c.lend-from.result c.lend-to.result i m n o t))) c.other_name-other.ensures.inode number c.other_name-other.ensures.name c.other_name-other.ensures.other c.other_name-other.ensures.time (c.take_across-taken.ensures.any_stop held h k seen seen_to settled)) at to_at here other
 
 pub returns-in_err-taken-clause-in_order : goal.returns-in_err-taken-clause-in_order
 returns-in_err-taken-clause-in_order g c from to gone held h k at to_at gone_at here other =
     let number = sym (numbered c.args.rows.now.items c.args.there gone gone_at) in
-    of_lent c.args.rows.now.items c.lend-from.new.self.items c.args.moved.now.from.directory c.args.moved.now.directory c.requires.apart.0 c.requires.from c.lend-from.ensures.lent (λ (r d : Row). ShowsRow (g.P.Pmem.region c.args.memory.now) c.args.sup.now held h r c.args.free.now → ShowsRow (g.P.Pmem.region c.args.memory.now) c.args.sup.now held k d c.args.free.now → HandsInOrder (g.P.Pmem.region c.args.memory.now) (g.P.Pmem.region c.take_across-taken.new.memory) c.args.sup.now c.args.free.now c.args.cpu r d c.args.moved.now.from.target gone.inode c.args.moved.now.from.name.now c.args.moved.now.name.now c.args.time (slot_address c.args.sup.now gone.inode)) c.lend-from.result c.lend-to.result from to c.lend-from.ensures.row c.lend-to.ensures.row
-    (λ seen seen_to. by_words (λ (i m : ℕ) (n o : List ℕ) (t : ℕ). HandsInOrder (g.P.Pmem.region c.args.memory.now) (g.P.Pmem.region c.take_across-taken.new.memory) c.args.sup.now c.args.free.now c.args.cpu c.lend-from.result c.lend-to.result i m n o t (slot_address c.args.sup.now m)) c.other_name-other.ensures.inode number c.other_name-other.ensures.name c.other_name-other.ensures.other c.other_name-other.ensures.time (c.take_across-taken.ensures.in_order held h k seen seen_to)) at to_at here other
+    of_lent c.args.rows.now.items c.lend-from.new.self.items c.args.moved.now.from.directory c.args.moved.now.directory c.requires.apart.0 c.requires.from c.lend-from.ensures.lent (λ (r d : Row). ShowsRow (g.P.Pmem.region c.args.memory.now) c.args.tables.now.layout held h r c.args.free.now → ShowsRow (g.P.Pmem.region c.args.memory.now) c.args.tables.now.layout held k d c.args.free.now → HandsInOrder (g.P.Pmem.region c.args.memory.now) (g.P.Pmem.region c.take_across-taken.new.memory) c.args.tables.now.layout c.args.free.now c.args.cpu r d c.args.moved.now.from.target gone.inode c.args.moved.now.from.name.now c.args.moved.now.name.now c.args.time (slot_in c.args.tables.now.layout gone.inode)) c.lend-from.result c.lend-to.result from to c.lend-from.ensures.row c.lend-to.ensures.row
+    (λ seen seen_to. by_words (λ (i m : ℕ) (n o : List ℕ) (t : ℕ). HandsInOrder (g.P.Pmem.region c.args.memory.now) (g.P.Pmem.region c.take_across-taken.new.memory) c.args.tables.now.layout c.args.free.now c.args.cpu c.lend-from.result c.lend-to.result i m n o t (slot_in c.args.tables.now.layout m)) c.other_name-other.ensures.inode number c.other_name-other.ensures.name c.other_name-other.ensures.other c.other_name-other.ensures.time (c.take_across-taken.ensures.in_order held h k seen seen_to)) at to_at here other
 
 pub returns-in_err-taken-clause-wrote : goal.returns-in_err-taken-clause-wrote
 returns-in_err-taken-clause-wrote g c from to gone held h k at to_at gone_at here other =
     let number = sym (numbered c.args.rows.now.items c.args.there gone gone_at) in
-    of_lent c.args.rows.now.items c.lend-from.new.self.items c.args.moved.now.from.directory c.args.moved.now.directory c.requires.apart.0 c.requires.from c.lend-from.ensures.lent (λ (r d : Row). ShowsRow (g.P.Pmem.region c.args.memory.now) c.args.sup.now held h r c.args.free.now → ShowsRow (g.P.Pmem.region c.args.memory.now) c.args.sup.now held k d c.args.free.now → StoresIn c.args.sup.now held (two_less c.args.sup.now c.args.cpu r.inode d.inode gone.inode) (g.P.Pmem.region c.args.memory.now) (g.P.Pmem.region c.take_across-taken.new.memory)) c.lend-from.result c.lend-to.result from to c.lend-from.ensures.row c.lend-to.ensures.row
-    (λ seen seen_to. subst (λ (m : ℕ). StoresIn c.args.sup.now held (two_less c.args.sup.now c.args.cpu c.lend-from.result.inode c.lend-to.result.inode m) (g.P.Pmem.region c.args.memory.now) (g.P.Pmem.region c.take_across-taken.new.memory)) number (c.take_across-taken.ensures.wrote held h k seen seen_to)) at to_at here other
+    of_lent c.args.rows.now.items c.lend-from.new.self.items c.args.moved.now.from.directory c.args.moved.now.directory c.requires.apart.0 c.requires.from c.lend-from.ensures.lent (λ (r d : Row). ShowsRow (g.P.Pmem.region c.args.memory.now) c.args.tables.now.layout held h r c.args.free.now → ShowsRow (g.P.Pmem.region c.args.memory.now) c.args.tables.now.layout held k d c.args.free.now → StoresIn c.args.tables.now.layout held (two_less c.args.tables.now.layout c.args.cpu r.inode d.inode gone.inode) (g.P.Pmem.region c.args.memory.now) (g.P.Pmem.region c.take_across-taken.new.memory)) c.lend-from.result c.lend-to.result from to c.lend-from.ensures.row c.lend-to.ensures.row
+    (λ seen seen_to. subst (λ (m : ℕ). StoresIn c.args.tables.now.layout held (two_less c.args.tables.now.layout c.args.cpu c.lend-from.result.inode c.lend-to.result.inode m) (g.P.Pmem.region c.args.memory.now) (g.P.Pmem.region c.take_across-taken.new.memory)) number (c.take_across-taken.ensures.wrote held h k seen seen_to)) at to_at here other
 
 pub returns-clause-any_stop : goal.returns-clause-any_stop
 returns-clause-any_stop g c from to gone held h k at to_at gone_at here other settled =
     let number = sym (numbered c.args.rows.now.items c.args.there gone gone_at) in
-    of_lent c.args.rows.now.items c.lend-from.new.self.items c.args.moved.now.from.directory c.args.moved.now.directory c.requires.apart.0 c.requires.from c.lend-from.ensures.lent (λ (r d : Row). ShowsRow (g.P.Pmem.region c.args.memory.now) c.args.sup.now held h r c.args.free.now → ShowsRow (g.P.Pmem.region c.args.memory.now) c.args.sup.now held k d c.args.free.now → LeavesOnly (g.P.Pmem.region c.take_across-taken.new.memory) (g.P.Pmem.may_hold c.take_across-taken.new.memory) (LeavesEither (g.P.Pmem.region c.args.memory.now) (fixed_layout c.args.sup.now) held (TookAcross (g.P.Pmem.region c.args.memory.now) c.args.sup.now c.args.free.now c.args.cpu r d c.args.moved.now.from.target gone.inode c.args.moved.now.from.name.now c.args.moved.now.name.now c.args.time))) c.lend-from.result c.lend-to.result from to c.lend-from.ensures.row c.lend-to.ensures.row
-    (λ seen seen_to. by_words (λ (i m : ℕ) (n o : List ℕ) (t : ℕ). LeavesOnly (g.P.Pmem.region c.take_across-taken.new.memory) (g.P.Pmem.may_hold c.take_across-taken.new.memory) (LeavesEither (g.P.Pmem.region c.args.memory.now) (fixed_layout c.args.sup.now) held (TookAcross (g.P.Pmem.region c.args.memory.now) c.args.sup.now c.args.free.now c.args.cpu c.lend-from.result c.lend-to.result i m n o t))) c.other_name-other.ensures.inode number c.other_name-other.ensures.name c.other_name-other.ensures.other c.other_name-other.ensures.time (c.take_across-taken.ensures.any_stop held h k seen seen_to settled)) at to_at here other
+    of_lent c.args.rows.now.items c.lend-from.new.self.items c.args.moved.now.from.directory c.args.moved.now.directory c.requires.apart.0 c.requires.from c.lend-from.ensures.lent (λ (r d : Row). ShowsRow (g.P.Pmem.region c.args.memory.now) c.args.tables.now.layout held h r c.args.free.now → ShowsRow (g.P.Pmem.region c.args.memory.now) c.args.tables.now.layout held k d c.args.free.now → LeavesOnly (g.P.Pmem.region c.take_across-taken.new.memory) (g.P.Pmem.may_hold c.take_across-taken.new.memory) (LeavesEither (g.P.Pmem.region c.args.memory.now) c.args.tables.now.layout held (TookAcross (g.P.Pmem.region c.args.memory.now) c.args.tables.now.layout c.args.free.now c.args.cpu r d c.args.moved.now.from.target gone.inode c.args.moved.now.from.name.now c.args.moved.now.name.now c.args.time))) c.lend-from.result c.lend-to.result from to c.lend-from.ensures.row c.lend-to.ensures.row
+    (λ seen seen_to. by_words (λ (i m : ℕ) (n o : List ℕ) (t : ℕ). LeavesOnly (g.P.Pmem.region c.take_across-taken.new.memory) (g.P.Pmem.may_hold c.take_across-taken.new.memory) (LeavesEither (g.P.Pmem.region c.args.memory.now) c.args.tables.now.layout held (TookAcross (g.P.Pmem.region c.args.memory.now) c.args.tables.now.layout c.args.free.now c.args.cpu c.lend-from.result c.lend-to.result i m n o t))) c.other_name-other.ensures.inode number c.other_name-other.ensures.name c.other_name-other.ensures.other c.other_name-other.ensures.time (c.take_across-taken.ensures.any_stop held h k seen seen_to settled)) at to_at here other
 
 pub returns-clause-in_order : goal.returns-clause-in_order
 returns-clause-in_order g c from to gone held h k at to_at gone_at here other =
     let number = sym (numbered c.args.rows.now.items c.args.there gone gone_at) in
-    of_lent c.args.rows.now.items c.lend-from.new.self.items c.args.moved.now.from.directory c.args.moved.now.directory c.requires.apart.0 c.requires.from c.lend-from.ensures.lent (λ (r d : Row). ShowsRow (g.P.Pmem.region c.args.memory.now) c.args.sup.now held h r c.args.free.now → ShowsRow (g.P.Pmem.region c.args.memory.now) c.args.sup.now held k d c.args.free.now → HandsInOrder (g.P.Pmem.region c.args.memory.now) (g.P.Pmem.region c.take_across-taken.new.memory) c.args.sup.now c.args.free.now c.args.cpu r d c.args.moved.now.from.target gone.inode c.args.moved.now.from.name.now c.args.moved.now.name.now c.args.time (slot_address c.args.sup.now gone.inode)) c.lend-from.result c.lend-to.result from to c.lend-from.ensures.row c.lend-to.ensures.row
-    (λ seen seen_to. by_words (λ (i m : ℕ) (n o : List ℕ) (t : ℕ). HandsInOrder (g.P.Pmem.region c.args.memory.now) (g.P.Pmem.region c.take_across-taken.new.memory) c.args.sup.now c.args.free.now c.args.cpu c.lend-from.result c.lend-to.result i m n o t (slot_address c.args.sup.now m)) c.other_name-other.ensures.inode number c.other_name-other.ensures.name c.other_name-other.ensures.other c.other_name-other.ensures.time (c.take_across-taken.ensures.in_order held h k seen seen_to)) at to_at here other
+    of_lent c.args.rows.now.items c.lend-from.new.self.items c.args.moved.now.from.directory c.args.moved.now.directory c.requires.apart.0 c.requires.from c.lend-from.ensures.lent (λ (r d : Row). ShowsRow (g.P.Pmem.region c.args.memory.now) c.args.tables.now.layout held h r c.args.free.now → ShowsRow (g.P.Pmem.region c.args.memory.now) c.args.tables.now.layout held k d c.args.free.now → HandsInOrder (g.P.Pmem.region c.args.memory.now) (g.P.Pmem.region c.take_across-taken.new.memory) c.args.tables.now.layout c.args.free.now c.args.cpu r d c.args.moved.now.from.target gone.inode c.args.moved.now.from.name.now c.args.moved.now.name.now c.args.time (slot_in c.args.tables.now.layout gone.inode)) c.lend-from.result c.lend-to.result from to c.lend-from.ensures.row c.lend-to.ensures.row
+    (λ seen seen_to. by_words (λ (i m : ℕ) (n o : List ℕ) (t : ℕ). HandsInOrder (g.P.Pmem.region c.args.memory.now) (g.P.Pmem.region c.take_across-taken.new.memory) c.args.tables.now.layout c.args.free.now c.args.cpu c.lend-from.result c.lend-to.result i m n o t (slot_in c.args.tables.now.layout m)) c.other_name-other.ensures.inode number c.other_name-other.ensures.name c.other_name-other.ensures.other c.other_name-other.ensures.time (c.take_across-taken.ensures.in_order held h k seen seen_to)) at to_at here other
 
 pub returns-clause-wrote : goal.returns-clause-wrote
 returns-clause-wrote g c from to gone held h k at to_at gone_at here other =
     let number = sym (numbered c.args.rows.now.items c.args.there gone gone_at) in
-    of_lent c.args.rows.now.items c.lend-from.new.self.items c.args.moved.now.from.directory c.args.moved.now.directory c.requires.apart.0 c.requires.from c.lend-from.ensures.lent (λ (r d : Row). ShowsRow (g.P.Pmem.region c.args.memory.now) c.args.sup.now held h r c.args.free.now → ShowsRow (g.P.Pmem.region c.args.memory.now) c.args.sup.now held k d c.args.free.now → StoresIn c.args.sup.now held (two_less c.args.sup.now c.args.cpu r.inode d.inode gone.inode) (g.P.Pmem.region c.args.memory.now) (g.P.Pmem.region c.take_across-taken.new.memory)) c.lend-from.result c.lend-to.result from to c.lend-from.ensures.row c.lend-to.ensures.row
-    (λ seen seen_to. subst (λ (m : ℕ). StoresIn c.args.sup.now held (two_less c.args.sup.now c.args.cpu c.lend-from.result.inode c.lend-to.result.inode m) (g.P.Pmem.region c.args.memory.now) (g.P.Pmem.region c.take_across-taken.new.memory)) number (c.take_across-taken.ensures.wrote held h k seen seen_to)) at to_at here other
+    of_lent c.args.rows.now.items c.lend-from.new.self.items c.args.moved.now.from.directory c.args.moved.now.directory c.requires.apart.0 c.requires.from c.lend-from.ensures.lent (λ (r d : Row). ShowsRow (g.P.Pmem.region c.args.memory.now) c.args.tables.now.layout held h r c.args.free.now → ShowsRow (g.P.Pmem.region c.args.memory.now) c.args.tables.now.layout held k d c.args.free.now → StoresIn c.args.tables.now.layout held (two_less c.args.tables.now.layout c.args.cpu r.inode d.inode gone.inode) (g.P.Pmem.region c.args.memory.now) (g.P.Pmem.region c.take_across-taken.new.memory)) c.lend-from.result c.lend-to.result from to c.lend-from.ensures.row c.lend-to.ensures.row
+    (λ seen seen_to. subst (λ (m : ℕ). StoresIn c.args.tables.now.layout held (two_less c.args.tables.now.layout c.args.cpu c.lend-from.result.inode c.lend-to.result.inode m) (g.P.Pmem.region c.args.memory.now) (g.P.Pmem.region c.take_across-taken.new.memory)) number (c.take_across-taken.ensures.wrote held h k seen seen_to)) at to_at here other

@@ -2,7 +2,7 @@ use Rattle.std.proofs.Common.{inl, inr}
 use Rattle.nv_region.specs.Region.{Region}
 use Rattle.nv_super.specs.declared.superblock.SuperFault.TheVariants.{Magic}
 use Rattle.nv_super.specs.Super.{IsRefused}
-use Rattle.nv_held.specs.nv_outcome.Outcome.{Outcome, IsOutcome}
+use Rattle.nv_outcome.specs.Outcome.{Outcome, IsOutcome}
 use Rattle.nv_calls.proofs.stops.stopped_format.Goals as goal
 
 -- a region that is refused has no outcome

@@ -43,12 +43,12 @@ returns-else-has_more_links-clause-refused g c row file at there =
 pub returns-then-has_more_links-clause-any_stop : goal.returns-then-has_more_links-clause-any_stop
 returns-then-has_more_links-clause-any_stop g c row file held h f at there here other settled left may =
     let links = all_more c.args.rows.now.items (place_in c.args.rows.now.items c.args.named.now.target) c.row.result.now (at_place c.args.rows.now.items c.args.named.now.target ∙ c.row.ensures) c.has_more_links.result c.has_more_links.ensures c.if-has_more_links.true file (at_place c.args.rows.now.items c.args.named.now.target ∙ there) in
-    left_made (Unlinked (g.P.Pmem.region c.args.memory.now) c.args.sup.now c.args.free.now c.args.cpu row file c.args.named.now.name.now c.args.time) (Released (g.P.Pmem.region c.args.memory.now) c.args.sup.now c.args.free.now c.args.cpu row file c.args.named.now.name.now c.args.time) (λ S w. inl (links, w)) left (c.unlink_at.ensures.any_stop row file held h f at there here other settled left may)
+    left_made (Unlinked (g.P.Pmem.region c.args.memory.now) c.args.tables.now.layout c.args.free.now c.args.cpu row file c.args.named.now.name.now c.args.time) (Released (g.P.Pmem.region c.args.memory.now) c.args.tables.now.layout c.args.free.now c.args.cpu row file c.args.named.now.name.now c.args.time) (λ S w. inl (links, w)) left (c.unlink_at.ensures.any_stop row file held h f at there here other settled left may)
 
 pub returns-else-has_more_links-clause-any_stop : goal.returns-else-has_more_links-clause-any_stop
 returns-else-has_more_links-clause-any_stop g c row file held h f at there here other settled left may =
     let links = all_last c.args.rows.now.items (place_in c.args.rows.now.items c.args.named.now.target) c.row.result.now (at_place c.args.rows.now.items c.args.named.now.target ∙ c.row.ensures) c.has_more_links.result c.has_more_links.ensures c.if-has_more_links.false file (at_place c.args.rows.now.items c.args.named.now.target ∙ there) in
-    left_made (Cut (g.P.Pmem.region c.args.memory.now) c.args.sup.now c.args.free.now c.args.cpu row file.inode c.args.time c.args.named.now.name.now) (Released (g.P.Pmem.region c.args.memory.now) c.args.sup.now c.args.free.now c.args.cpu row file c.args.named.now.name.now c.args.time) (λ S w. inr (links, w)) left (c.remove_named.ensures.any_stop row file held h at there here settled left may)
+    left_made (Cut (g.P.Pmem.region c.args.memory.now) c.args.tables.now.layout c.args.free.now c.args.cpu row file.inode c.args.time c.args.named.now.name.now) (Released (g.P.Pmem.region c.args.memory.now) c.args.tables.now.layout c.args.free.now c.args.cpu row file c.args.named.now.name.now c.args.time) (λ S w. inr (links, w)) left (c.remove_named.ensures.any_stop row file held h at there here settled left may)
 
 pub returns-then-has_more_links-clause-in_order : goal.returns-then-has_more_links-clause-in_order
 returns-then-has_more_links-clause-in_order g c row file held h f at there here other some = c.unlink_at.ensures.in_order row file held h f at there here other

@@ -1,6 +1,5 @@
 use Rattle.std.proofs.Common.{◌≡◌, ◌∙◌, ◌+◌, ◌-◌, ◌%◌, ◌≤◌, ◌∷◌, [], ℕ, ap, subst, sym}
 use Rattle.nv_steps.specs.InOrder.{TailIsFirst, tail_address}
-use Rattle.nv_super.specs.Layout.{fixed_layout}
 use Rattle.std.proofs.lemmas.Result.{IfErr-weaker, on_ok_weaker}
 use Rattle.std.proofs.lemmas.Option.{same_Some}
 use Rattle.nv_alloc.specs.Taking.{all_blocks}
@@ -50,7 +49,7 @@ returns-clause-unlinked g c =
     let there = row_stays c.args.rows.now.items c.lend-directory.new.self.items c.args.named.now.directory c.args.named.now.target c.requires.apart c.requires.directory c.lend-directory.ensures.lent c.lend-file.result c.lend-file.ensures.row in
     let put = back_two c.args.rows.now.items c.lend-directory.new.self.items c.lend-file.new.self.items c.give_back.new.self.items c.give_back-2.new.self.items c.args.named.now.directory c.args.named.now.target c.unlink_both-done.new.directory c.unlink_both-done.new.file c.requires.apart c.requires.directory c.requires.target
     c.lend-directory.ensures.lent c.lend-file.ensures.lent (c.unlink_both-done.ensures.file_inode ∙ c.lend-file.ensures.number) c.give_back.ensures.rows (c.unlink_both-done.ensures.inode ∙ c.lend-directory.ensures.number) c.give_back-2.ensures.rows in
-    on_ok_weaker c.unlink_both-done.result (λ (step : UnlinksAt (g.P.Pmem.region c.args.memory.now) (g.P.Pmem.region c.unlink_both-done.new.memory) c.args.sup.now c.args.free.now c.unlink_both-done.new.free c.args.cpu (c.lend-directory.result ∷ c.lend-file.result ∷ []) (c.unlink_both-done.new.directory ∷ c.unlink_both-done.new.file ∷ []) 0 1 c.args.named.now.name.now c.args.time). record { directory = step.directory; file = step.file; step = lifted c.args.rows.now.items c.give_back-2.new.self.items c.args.named.now.directory c.args.named.now.target c.lend-directory.result c.lend-file.result c.unlink_both-done.new.directory c.unlink_both-done.new.file c.requires.apart c.lend-directory.ensures.row there put step.step }) c.unlink_both-done.ensures.unlinked
+    on_ok_weaker c.unlink_both-done.result (λ (step : UnlinksAt (g.P.Pmem.region c.args.memory.now) (g.P.Pmem.region c.unlink_both-done.new.memory) c.args.tables.now.layout c.args.free.now c.unlink_both-done.new.free c.args.cpu (c.lend-directory.result ∷ c.lend-file.result ∷ []) (c.unlink_both-done.new.directory ∷ c.unlink_both-done.new.file ∷ []) 0 1 c.args.named.now.name.now c.args.time). record { directory = step.directory; file = step.file; step = lifted c.args.rows.now.items c.give_back-2.new.self.items c.args.named.now.directory c.args.named.now.target c.lend-directory.result c.lend-file.result c.unlink_both-done.new.directory c.unlink_both-done.new.file c.requires.apart c.lend-directory.ensures.row there put step.step }) c.unlink_both-done.ensures.unlinked
 
 pub returns-clause-enough : goal.returns-clause-enough
 returns-clause-enough g c row file at other_at =
@@ -82,16 +81,16 @@ returns-clause-any_stop g c row file held h f at other_at here other settled =
     let there = row_stays c.args.rows.now.items c.lend-directory.new.self.items c.args.named.now.directory c.args.named.now.target c.requires.apart c.requires.directory c.lend-directory.ensures.lent c.lend-file.result c.lend-file.ensures.row in
     let same : c.lend-directory.result ≡ row = same_Some _ _ (sym c.lend-directory.ensures.row ∙ at) in
     let other_same : c.lend-file.result ≡ file = same_Some _ _ (sym there ∙ other_at) in
-    subst (λ (r : Row). ShowsRow (g.P.Pmem.region c.args.memory.now) c.args.sup.now held h r c.args.free.now → LeavesOnly (g.P.Pmem.region c.unlink_both-done.new.memory) (g.P.Pmem.may_hold c.unlink_both-done.new.memory) (LeavesEither (g.P.Pmem.region c.args.memory.now) (fixed_layout c.args.sup.now) held (Unlinked (g.P.Pmem.region c.args.memory.now) c.args.sup.now c.args.free.now c.args.cpu r file c.args.named.now.name.now c.args.time))) same
-    (λ seen. subst (λ (d : Row). ShowsRow (g.P.Pmem.region c.args.memory.now) c.args.sup.now held f d c.args.free.now → LeavesOnly (g.P.Pmem.region c.unlink_both-done.new.memory) (g.P.Pmem.may_hold c.unlink_both-done.new.memory) (LeavesEither (g.P.Pmem.region c.args.memory.now) (fixed_layout c.args.sup.now) held (Unlinked (g.P.Pmem.region c.args.memory.now) c.args.sup.now c.args.free.now c.args.cpu c.lend-directory.result d c.args.named.now.name.now c.args.time))) other_same
+    subst (λ (r : Row). ShowsRow (g.P.Pmem.region c.args.memory.now) c.args.tables.now.layout held h r c.args.free.now → LeavesOnly (g.P.Pmem.region c.unlink_both-done.new.memory) (g.P.Pmem.may_hold c.unlink_both-done.new.memory) (LeavesEither (g.P.Pmem.region c.args.memory.now) c.args.tables.now.layout held (Unlinked (g.P.Pmem.region c.args.memory.now) c.args.tables.now.layout c.args.free.now c.args.cpu r file c.args.named.now.name.now c.args.time))) same
+    (λ seen. subst (λ (d : Row). ShowsRow (g.P.Pmem.region c.args.memory.now) c.args.tables.now.layout held f d c.args.free.now → LeavesOnly (g.P.Pmem.region c.unlink_both-done.new.memory) (g.P.Pmem.may_hold c.unlink_both-done.new.memory) (LeavesEither (g.P.Pmem.region c.args.memory.now) c.args.tables.now.layout held (Unlinked (g.P.Pmem.region c.args.memory.now) c.args.tables.now.layout c.args.free.now c.args.cpu c.lend-directory.result d c.args.named.now.name.now c.args.time))) other_same
     (λ seen_other. c.unlink_both-done.ensures.any_stop held h f seen seen_other settled) other) here
 
 pub returns-clause-in_order : goal.returns-clause-in_order
 returns-clause-in_order g c row file held h f at other_at here other =
-    of_lent c.args.rows.now.items c.lend-directory.new.self.items c.args.named.now.directory c.args.named.now.target c.requires.apart c.requires.directory c.lend-directory.ensures.lent (λ (r d : Row). ShowsRow (g.P.Pmem.region c.args.memory.now) c.args.sup.now held h r c.args.free.now → ShowsRow (g.P.Pmem.region c.args.memory.now) c.args.sup.now held f d c.args.free.now → TailIsFirst (g.P.Pmem.region c.args.memory.now) (g.P.Pmem.region c.unlink_both-done.new.memory) c.args.sup.now c.args.free.now.pools c.args.cpu r.inode r.tail (name_entries Remove d.inode c.args.named.now.name.now c.args.time) (tail_address c.args.sup.now d.inode))
+    of_lent c.args.rows.now.items c.lend-directory.new.self.items c.args.named.now.directory c.args.named.now.target c.requires.apart c.requires.directory c.lend-directory.ensures.lent (λ (r d : Row). ShowsRow (g.P.Pmem.region c.args.memory.now) c.args.tables.now.layout held h r c.args.free.now → ShowsRow (g.P.Pmem.region c.args.memory.now) c.args.tables.now.layout held f d c.args.free.now → TailIsFirst (g.P.Pmem.region c.args.memory.now) (g.P.Pmem.region c.unlink_both-done.new.memory) c.args.tables.now.layout c.args.free.now.pools c.args.cpu r.inode r.tail (name_entries Remove d.inode c.args.named.now.name.now c.args.time) (tail_address c.args.tables.now.layout d.inode))
     c.lend-directory.result c.lend-file.result row file c.lend-directory.ensures.row c.lend-file.ensures.row (λ seen seen_other. c.unlink_both-done.ensures.in_order held h f seen seen_other) at other_at here other
 
 pub returns-clause-wrote : goal.returns-clause-wrote
 returns-clause-wrote g c row file held h f at other_at here other =
-    of_lent c.args.rows.now.items c.lend-directory.new.self.items c.args.named.now.directory c.args.named.now.target c.requires.apart c.requires.directory c.lend-directory.ensures.lent (λ (r d : Row). ShowsRow (g.P.Pmem.region c.args.memory.now) c.args.sup.now held h r c.args.free.now → ShowsRow (g.P.Pmem.region c.args.memory.now) c.args.sup.now held f d c.args.free.now → StoresIn c.args.sup.now held (two_logs c.args.sup.now c.args.cpu r.inode d.inode) (g.P.Pmem.region c.args.memory.now) (g.P.Pmem.region c.unlink_both-done.new.memory))
+    of_lent c.args.rows.now.items c.lend-directory.new.self.items c.args.named.now.directory c.args.named.now.target c.requires.apart c.requires.directory c.lend-directory.ensures.lent (λ (r d : Row). ShowsRow (g.P.Pmem.region c.args.memory.now) c.args.tables.now.layout held h r c.args.free.now → ShowsRow (g.P.Pmem.region c.args.memory.now) c.args.tables.now.layout held f d c.args.free.now → StoresIn c.args.tables.now.layout held (two_logs c.args.tables.now.layout c.args.cpu r.inode d.inode) (g.P.Pmem.region c.args.memory.now) (g.P.Pmem.region c.unlink_both-done.new.memory))
     c.lend-directory.result c.lend-file.result row file c.lend-directory.ensures.row c.lend-file.ensures.row (λ seen seen_other. c.unlink_both-done.ensures.wrote held h f seen seen_other) at other_at here other

@@ -1,5 +1,5 @@
 use Rattle.std.proofs.Common.{◌∙◌, inl, refl, sym}
-use Rattle.nv_cli.proofs.CleanedImage.{faulty, sound}
+use Rattle.nv_script.proofs.CleanedImage.{faulty, sound}
 use Rattle.nv_changes.proofs.changing.change_mount.Goals as goal
 
 pub change_sound-requires-clause-writes : goal.change_sound-requires-clause-writes

@@ -6,7 +6,7 @@ use Rattle.nv_paths.specs.Seen.{tree_of}
 use Rattle.nv_history.specs.Making.{AreMade}
 use Rattle.nv_history.specs.Halting.{HaltsAt}
 use Rattle.nv_history.specs.declared.calls.Call.{Call}
-use Rattle.nv_cli.specs.Cleaning.{CanClean}
+use Rattle.nv_script.specs.Cleaning.{CanClean}
 use Rattle.nv_changes.specs.Changing.{IsMade}
 use Rattle.nv_changes.proofs.Made.{all_made, as_refused, not_on, one_refused, unstopped}
 use Rattle.nv_changes.proofs.changing.change_sound.Goals as goal
@@ -19,7 +19,7 @@ returns-in-Ok c = λ R o is.
     let said = c.in-Ok.ensures in
     let runs : n.stopped ≡ false = said.run.runs ∙ c.requires.runs in
     let fuse = said.run.keeps_fuse in
-    let made = subst (λ (cs : List Call). AreMade m.sup cs (tree_of m.memory.region m.rows) (tree_of n.memory.region n.rows)) c.deref.ensures.value said.made in
+    let made = subst (λ (cs : List Call). AreMade m.layout cs (tree_of m.memory.region m.rows) (tree_of n.memory.region n.rows)) c.deref.ensures.value said.made in
     let can : CanClean n = record { runs = runs; writes = said.run.keeps.read_only ∙ c.requires.writes; steady = fuse.steady c.requires.steady } in (
       sym is.read_only ∙ c.requires.writes,
       subst (λ (left : RegionState). IsMade R o c.args.change.now c.args.cpu c.args.time left) (sym c.into_memory.ensures)
@@ -36,7 +36,7 @@ returns-in-Err c = λ R o is.
     let fuse = said.run.keeps_fuse in
     let never : IsTrue n.stopped → ⊥ = λ on. unstopped n.memory (fuse.steady c.requires.steady) (said.run.burnt c.requires.runs on) in
     let no_stop : halted.refusal ≢ Stopped = λ e. never (said.run.stopped.0 e) in
-    let halts = subst (λ (cs : List Call). HaltsAt m.sup (tree_of m.memory.region m.rows) cs halted n.memory.region n) c.deref.ensures.value (said.halted no_stop) in
+    let halts = subst (λ (cs : List Call). HaltsAt m.layout (tree_of m.memory.region m.rows) cs halted n.memory.region n) c.deref.ensures.value (said.halted no_stop) in
     IfOk-weaker c.refused.result _ _
     (as_refused R o c.args.change.now c.args.cpu c.args.time halted.refusal (sym is.read_only ∙ c.requires.writes)
     (one_refused R o m n is calls c.args.change.now c.args.cpu c.args.time halted (not_on n.stopped never) (said.run.keeps.read_only ∙ c.requires.writes) said.run.keeps c.in_ok-calls.ensures c.keeps.ensures no_stop halts))

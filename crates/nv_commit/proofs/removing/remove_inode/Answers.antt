@@ -4,17 +4,18 @@ use Rattle.nv_region.specs.Region.{Region, size, word}
 use Rattle.nv_region.proofs.Fuses.{keeps_more, keeps_within}
 use Rattle.nv_region.proofs.Stops.{refused_leaves}
 use Rattle.nv_region.proofs.Wordwise.{fenced_stores, stores_more, stores_within}
-use Rattle.nv_inode.specs.Permitted.{is_permitted}
+use Rattle.nv_inode.specs.Permitted.{is_permitted_by}
 use Rattle.nv_journal.specs.Pending.{IsEmpty}
 use Rattle.nv_journal.specs.Recorded.{Changes}
 use Rattle.nv_logpage.specs.Append.{AppendWords}
-use Rattle.nv_held.specs.Appended.{Appends}
+use Rattle.nv_mounted.specs.Appended.{Appends}
 use Rattle.nv_commit.specs.Removes.{BeforeOrRemoved, RemoveWords}
 use Rattle.nv_commit.proofs.BothTails.{sound_undone}
 use Rattle.nv_commit.proofs.Extends.{slots, sound_before}
 use Rattle.nv_commit.proofs.Removes.{can_undo, empty_there, faultless, left_undone, removed_idle, removed_undone}
 use Rattle.nv_journal.specs.InOrder.{FirstIsFirst}
 use Rattle.nv_journal.proofs.InOrder.{first_since}
+use Rattle.nv_commit.proofs.TwoWords.{stop_mixed}
 use Rattle.nv_commit.proofs.InOrder.{slots_differ, valid_same}
 use Rattle.nv_commit.proofs.removing.remove_inode.Goals as goal
 
@@ -33,7 +34,7 @@ change_two-requires g c =
     }
 
 pub returns-in_err-end-clause-moments : goal.returns-in_err-end-clause-moments
-returns-in_err-end-clause-moments g c s held i j h can = record {
+returns-in_err-end-clause-moments g c l held i j h can = record {
   reads = inl (sound_undone (sound_before can.parent _ c.append_entries.ensures.wrote.mixed));
   any_stop = λ settled. left_undone can _ _ _ c.append_entries.ensures.wrote settled;
 }
@@ -48,9 +49,9 @@ returns-in_err-end-clause-kept g c = record {
 }
 
 pub returns-in_err-fence-clause-moments : goal.returns-in_err-fence-clause-moments
-returns-in_err-fence-clause-moments g c s held i j h can = record {
-  reads = subst (BeforeOrRemoved s held i h c.args.directory.now j) (sym c.in_err-fence.ensures.same) (inl (sound_undone (sound_before can.parent _ c.append_entries.ensures.wrote.mixed)));
-  any_stop = λ settled. refused_leaves _ _ _ _ (BeforeOrRemoved s held i h c.args.directory.now j) c.fence.ensures.same c.in_err-fence.ensures.refused_keep (left_undone can _ _ _ c.append_entries.ensures.wrote settled);
+returns-in_err-fence-clause-moments g c l held i j h can = record {
+  reads = subst (BeforeOrRemoved l held i h c.args.directory.now j) (sym c.in_err-fence.ensures.same) (inl (sound_undone (sound_before can.parent _ c.append_entries.ensures.wrote.mixed)));
+  any_stop = λ settled. refused_leaves _ _ _ _ (BeforeOrRemoved l held i h c.args.directory.now j) c.fence.ensures.same c.in_err-fence.ensures.refused_keep (left_undone can _ _ _ c.append_entries.ensures.wrote settled);
 }
 
 pub returns-in_err-fence-clause-kept : goal.returns-in_err-fence-clause-kept
@@ -62,13 +63,13 @@ returns-in_err-fence-clause-kept g c = record {
 }
 
 pub returns-in_err-change_two-clause-moments : goal.returns-in_err-change_two-clause-moments
-returns-in_err-change_two-clause-moments g c s held i j h can = record {
+returns-in_err-change_two-clause-moments g c l held i j h can = record {
   reads = let appends : Appends (g.P.Pmem.region c.args.memory.now) (g.P.Pmem.region c.fence.new.self) c.args.directory.now.tail c.in_ok-end.end c.args.directory.now.entries.now c.args.directory.now.fresh.now = subst (λ (S : Region). Appends (g.P.Pmem.region c.args.memory.now) S c.args.directory.now.tail c.in_ok-end.end c.args.directory.now.entries.now c.args.directory.now.fresh.now) (sym c.in_ok-fence.ensures.same) c.in_ok-end.ensures.appends in
-      removed_undone can (g.P.Pmem.region c.fence.new.self) c.in_ok-end.end c.in_ok-end.ensures.end appends c.requires.directory.inside c.requires.slot.inside c.len-length.ensures.short (g.P.Pmem.region c.change_two.new.memory) ((c.change_two.ensures.undo_gives (is_permitted s) s.cpus (can_undo can (g.P.Pmem.region c.fence.new.self) c.in_ok-end.end c.in_ok-end.ensures.end appends c.len-length.ensures.short)).reads)
-      (((c.change_two.ensures.undo_gives (is_permitted s) s.cpus (can_undo can (g.P.Pmem.region c.fence.new.self) c.in_ok-end.end c.in_ok-end.ensures.end appends c.len-length.ensures.short)).faultless (faultless can (g.P.Pmem.region c.fence.new.self) c.in_ok-end.end c.in_ok-end.ensures.end appends)).reads);
+      removed_undone can (g.P.Pmem.region c.fence.new.self) c.in_ok-end.end c.in_ok-end.ensures.end appends c.requires.directory.inside c.requires.slot.inside c.len-length.ensures.short (g.P.Pmem.region c.change_two.new.memory) ((c.change_two.ensures.undo_gives (is_permitted_by l) l.sup.cpus (can_undo can (g.P.Pmem.region c.fence.new.self) c.in_ok-end.end c.in_ok-end.ensures.end appends c.len-length.ensures.short)).reads)
+      (((c.change_two.ensures.undo_gives (is_permitted_by l) l.sup.cpus (can_undo can (g.P.Pmem.region c.fence.new.self) c.in_ok-end.end c.in_ok-end.ensures.end appends c.len-length.ensures.short)).faultless (faultless can (g.P.Pmem.region c.fence.new.self) c.in_ok-end.end c.in_ok-end.ensures.end appends)).reads) c.change_two.ensures.kept.keeps_link.mixed;
   any_stop = λ settled left may. let appends : Appends (g.P.Pmem.region c.args.memory.now) (g.P.Pmem.region c.fence.new.self) c.args.directory.now.tail c.in_ok-end.end c.args.directory.now.entries.now c.args.directory.now.fresh.now = subst (λ (S : Region). Appends (g.P.Pmem.region c.args.memory.now) S c.args.directory.now.tail c.in_ok-end.end c.args.directory.now.entries.now c.args.directory.now.fresh.now) (sym c.in_ok-fence.ensures.same) c.in_ok-end.ensures.appends in
-      removed_undone can (g.P.Pmem.region c.fence.new.self) c.in_ok-end.end c.in_ok-end.ensures.end appends c.requires.directory.inside c.requires.slot.inside c.len-length.ensures.short left ((c.change_two.ensures.undo_gives (is_permitted s) s.cpus (can_undo can (g.P.Pmem.region c.fence.new.self) c.in_ok-end.end c.in_ok-end.ensures.end appends c.len-length.ensures.short)).any_stop c.in_ok-fence.ensures.fenced left may)
-      (((c.change_two.ensures.undo_gives (is_permitted s) s.cpus (can_undo can (g.P.Pmem.region c.fence.new.self) c.in_ok-end.end c.in_ok-end.ensures.end appends c.len-length.ensures.short)).faultless (faultless can (g.P.Pmem.region c.fence.new.self) c.in_ok-end.end c.in_ok-end.ensures.end appends)).any_stop c.in_ok-fence.ensures.fenced left may);
+      removed_undone can (g.P.Pmem.region c.fence.new.self) c.in_ok-end.end c.in_ok-end.ensures.end appends c.requires.directory.inside c.requires.slot.inside c.len-length.ensures.short left ((c.change_two.ensures.undo_gives (is_permitted_by l) l.sup.cpus (can_undo can (g.P.Pmem.region c.fence.new.self) c.in_ok-end.end c.in_ok-end.ensures.end appends c.len-length.ensures.short)).any_stop c.in_ok-fence.ensures.fenced left may)
+      (((c.change_two.ensures.undo_gives (is_permitted_by l) l.sup.cpus (can_undo can (g.P.Pmem.region c.fence.new.self) c.in_ok-end.end c.in_ok-end.ensures.end appends c.len-length.ensures.short)).faultless (faultless can (g.P.Pmem.region c.fence.new.self) c.in_ok-end.end c.in_ok-end.ensures.end appends)).any_stop c.in_ok-fence.ensures.fenced left may) (stop_mixed c.change_two.ensures.kept.keeps_link c.in_ok-fence.ensures.fenced left may);
 }
 
 pub returns-in_err-change_two-clause-kept : goal.returns-in_err-change_two-clause-kept
@@ -82,13 +83,13 @@ returns-in_err-change_two-clause-kept g c = record {
 }
 
 pub returns-clause-moments : goal.returns-clause-moments
-returns-clause-moments g c s held i j h can = record {
+returns-clause-moments g c l held i j h can = record {
   reads = let appends : Appends (g.P.Pmem.region c.args.memory.now) (g.P.Pmem.region c.fence.new.self) c.args.directory.now.tail c.in_ok-end.end c.args.directory.now.entries.now c.args.directory.now.fresh.now = subst (λ (S : Region). Appends (g.P.Pmem.region c.args.memory.now) S c.args.directory.now.tail c.in_ok-end.end c.args.directory.now.entries.now c.args.directory.now.fresh.now) (sym c.in_ok-fence.ensures.same) c.in_ok-end.ensures.appends in
-      removed_undone can (g.P.Pmem.region c.fence.new.self) c.in_ok-end.end c.in_ok-end.ensures.end appends c.requires.directory.inside c.requires.slot.inside c.len-length.ensures.short (g.P.Pmem.region c.change_two.new.memory) ((c.change_two.ensures.undo_gives (is_permitted s) s.cpus (can_undo can (g.P.Pmem.region c.fence.new.self) c.in_ok-end.end c.in_ok-end.ensures.end appends c.len-length.ensures.short)).reads)
-      (((c.change_two.ensures.undo_gives (is_permitted s) s.cpus (can_undo can (g.P.Pmem.region c.fence.new.self) c.in_ok-end.end c.in_ok-end.ensures.end appends c.len-length.ensures.short)).faultless (faultless can (g.P.Pmem.region c.fence.new.self) c.in_ok-end.end c.in_ok-end.ensures.end appends)).reads);
+      removed_undone can (g.P.Pmem.region c.fence.new.self) c.in_ok-end.end c.in_ok-end.ensures.end appends c.requires.directory.inside c.requires.slot.inside c.len-length.ensures.short (g.P.Pmem.region c.change_two.new.memory) ((c.change_two.ensures.undo_gives (is_permitted_by l) l.sup.cpus (can_undo can (g.P.Pmem.region c.fence.new.self) c.in_ok-end.end c.in_ok-end.ensures.end appends c.len-length.ensures.short)).reads)
+      (((c.change_two.ensures.undo_gives (is_permitted_by l) l.sup.cpus (can_undo can (g.P.Pmem.region c.fence.new.self) c.in_ok-end.end c.in_ok-end.ensures.end appends c.len-length.ensures.short)).faultless (faultless can (g.P.Pmem.region c.fence.new.self) c.in_ok-end.end c.in_ok-end.ensures.end appends)).reads) c.change_two.ensures.kept.keeps_link.mixed;
   any_stop = λ settled left may. let appends : Appends (g.P.Pmem.region c.args.memory.now) (g.P.Pmem.region c.fence.new.self) c.args.directory.now.tail c.in_ok-end.end c.args.directory.now.entries.now c.args.directory.now.fresh.now = subst (λ (S : Region). Appends (g.P.Pmem.region c.args.memory.now) S c.args.directory.now.tail c.in_ok-end.end c.args.directory.now.entries.now c.args.directory.now.fresh.now) (sym c.in_ok-fence.ensures.same) c.in_ok-end.ensures.appends in
-      removed_undone can (g.P.Pmem.region c.fence.new.self) c.in_ok-end.end c.in_ok-end.ensures.end appends c.requires.directory.inside c.requires.slot.inside c.len-length.ensures.short left ((c.change_two.ensures.undo_gives (is_permitted s) s.cpus (can_undo can (g.P.Pmem.region c.fence.new.self) c.in_ok-end.end c.in_ok-end.ensures.end appends c.len-length.ensures.short)).any_stop c.in_ok-fence.ensures.fenced left may)
-      (((c.change_two.ensures.undo_gives (is_permitted s) s.cpus (can_undo can (g.P.Pmem.region c.fence.new.self) c.in_ok-end.end c.in_ok-end.ensures.end appends c.len-length.ensures.short)).faultless (faultless can (g.P.Pmem.region c.fence.new.self) c.in_ok-end.end c.in_ok-end.ensures.end appends)).any_stop c.in_ok-fence.ensures.fenced left may);
+      removed_undone can (g.P.Pmem.region c.fence.new.self) c.in_ok-end.end c.in_ok-end.ensures.end appends c.requires.directory.inside c.requires.slot.inside c.len-length.ensures.short left ((c.change_two.ensures.undo_gives (is_permitted_by l) l.sup.cpus (can_undo can (g.P.Pmem.region c.fence.new.self) c.in_ok-end.end c.in_ok-end.ensures.end appends c.len-length.ensures.short)).any_stop c.in_ok-fence.ensures.fenced left may)
+      (((c.change_two.ensures.undo_gives (is_permitted_by l) l.sup.cpus (can_undo can (g.P.Pmem.region c.fence.new.self) c.in_ok-end.end c.in_ok-end.ensures.end appends c.len-length.ensures.short)).faultless (faultless can (g.P.Pmem.region c.fence.new.self) c.in_ok-end.end c.in_ok-end.ensures.end appends)).any_stop c.in_ok-fence.ensures.fenced left may) (stop_mixed c.change_two.ensures.kept.keeps_link c.in_ok-fence.ensures.fenced left may);
 }
 
 pub returns-clause-kept : goal.returns-clause-kept
@@ -102,18 +103,18 @@ returns-clause-kept g c = record {
 }
 
 pub returns-clause-shows : goal.returns-clause-shows
-returns-clause-shows g c s held i j h can =
+returns-clause-shows g c l held i j h can =
     let appends : Appends (g.P.Pmem.region c.args.memory.now) (g.P.Pmem.region c.fence.new.self) c.args.directory.now.tail c.in_ok-end.end c.args.directory.now.entries.now c.args.directory.now.fresh.now = subst (λ (S : Region). Appends (g.P.Pmem.region c.args.memory.now) S c.args.directory.now.tail c.in_ok-end.end c.args.directory.now.entries.now c.args.directory.now.fresh.now) (sym c.in_ok-fence.ensures.same) c.in_ok-end.ensures.appends in
-    removed_idle can (g.P.Pmem.region c.fence.new.self) c.in_ok-end.end c.in_ok-end.ensures.end appends c.requires.directory.inside c.requires.slot.inside c.len-length.ensures.short (g.P.Pmem.region c.change_two.new.memory) c.in_ok-change_two.ensures.done c.in_ok-change_two.ensures.kept.empty
+    removed_idle can (g.P.Pmem.region c.fence.new.self) c.in_ok-end.end c.in_ok-end.ensures.end appends c.requires.directory.inside c.requires.slot.inside c.len-length.ensures.short (g.P.Pmem.region c.change_two.new.memory) c.in_ok-change_two.ensures.done c.in_ok-change_two.ensures.kept.empty c.change_two.ensures.kept.keeps_link.mixed
 
 pub returns-in_err-end-clause-in_order : goal.returns-in_err-end-clause-in_order
-returns-in_err-end-clause-in_order g c s held i j h can = inl (valid_same can.parent (g.P.Pmem.region c.append_entries.new.memory) j c.args.slot can.at c.append_entries.ensures.wrote.mixed)
+returns-in_err-end-clause-in_order g c l held i j h can = inl (valid_same can.parent (g.P.Pmem.region c.append_entries.new.memory) j c.args.slot can.at c.append_entries.ensures.wrote.mixed)
 
 pub returns-in_err-fence-clause-in_order : goal.returns-in_err-fence-clause-in_order
-returns-in_err-fence-clause-in_order g c s held i j h can = inl (ap (λ (S : Region). word S c.args.slot) c.in_err-fence.ensures.same ∙ valid_same can.parent (g.P.Pmem.region c.append_entries.new.memory) j c.args.slot can.at c.append_entries.ensures.wrote.mixed)
+returns-in_err-fence-clause-in_order g c l held i j h can = inl (ap (λ (S : Region). word S c.args.slot) c.in_err-fence.ensures.same ∙ valid_same can.parent (g.P.Pmem.region c.append_entries.new.memory) j c.args.slot can.at c.append_entries.ensures.wrote.mixed)
 
 pub returns-in_err-change_two-clause-in_order : goal.returns-in_err-change_two-clause-in_order
-returns-in_err-change_two-clause-in_order g c s held i j h can =
+returns-in_err-change_two-clause-in_order g c l held i j h can =
     let clear = slots can.parent in
     let same : word (g.P.Pmem.region c.fence.new.self) c.args.slot ≡ word (g.P.Pmem.region c.args.memory.now) c.args.slot = ap (λ (S : Region). word S c.args.slot) c.in_ok-fence.ensures.same ∙ valid_same can.parent (g.P.Pmem.region c.append_entries.new.memory) j c.args.slot can.at c.append_entries.ensures.wrote.mixed in
     let none : c.args.slot + 0 ≡ c.args.slot = omega arith in
@@ -122,7 +123,7 @@ returns-in_err-change_two-clause-in_order g c s held i j h can =
     (first_since (g.P.Pmem.region c.args.memory.now) (g.P.Pmem.region c.fence.new.self) (g.P.Pmem.region c.change_two.new.memory) (c.args.directory.now.slot + 24) c.in_ok-end.end c.args.slot same (c.change_two.ensures.in_order (λ e. apart (e ∙ sym none))))
 
 pub returns-clause-in_order : goal.returns-clause-in_order
-returns-clause-in_order g c s held i j h can =
+returns-clause-in_order g c l held i j h can =
     let clear = slots can.parent in
     let same : word (g.P.Pmem.region c.fence.new.self) c.args.slot ≡ word (g.P.Pmem.region c.args.memory.now) c.args.slot = ap (λ (S : Region). word S c.args.slot) c.in_ok-fence.ensures.same ∙ valid_same can.parent (g.P.Pmem.region c.append_entries.new.memory) j c.args.slot can.at c.append_entries.ensures.wrote.mixed in
     let none : c.args.slot + 0 ≡ c.args.slot = omega arith in

@@ -2,16 +2,17 @@ use Rattle.std.proofs.Common.{rules, ℕ, ◌+◌, ◌∷◌, [], ◌≡◌, ◌
 use Rattle.nv_region.specs.Region.{size}
 use Rattle.nv_region.proofs.Fuses.{keeps_more, keeps_within}
 use Rattle.nv_region.proofs.Wordwise.{stores_more, stores_within}
-use Rattle.nv_inode.specs.Permitted.{is_permitted}
+use Rattle.nv_inode.specs.Permitted.{is_permitted_by}
 use Rattle.nv_journal.specs.InOrder.{ThreeInOrder}
 use Rattle.nv_journal.specs.Several.{ChangesAll}
 use Rattle.nv_journal.proofs.InOrder.{three_since}
 use Rattle.nv_logpage.specs.Append.{end_of}
-use Rattle.nv_held.proofs.BytesKept.{mixed_size}
+use Rattle.nv_mounted.proofs.BytesKept.{mixed_size}
 use Rattle.nv_commit.specs.Together.{BothWords}
 use Rattle.nv_commit.specs.Replaces.{ReplaceWords, new_tail}
 use Rattle.nv_commit.proofs.BothTails.{both_before, faultless, sound_undone, still_empty}
 use Rattle.nv_commit.proofs.Extends.{slots}
+use Rattle.nv_commit.proofs.TwoWords.{stop_mixed}
 use Rattle.nv_commit.proofs.InOrder.{slots_differ, tail_same}
 use Rattle.nv_commit.proofs.Replaces.{can_undo_all, replaced_idle, replaced_left, replaced_undone, valid_stays}
 use Rattle.nv_commit.proofs.replacing.replace_inode.Goals as goal
@@ -33,7 +34,7 @@ change_three-requires g c =
     }
 
 pub returns-in_err-ends-clause-moments : goal.returns-in_err-ends-clause-moments
-returns-in_err-ends-clause-moments g c s held i j k h p can = record {
+returns-in_err-ends-clause-moments g c l held i j k h p can = record {
   reads = inl (sound_undone (both_before can.two _ c.append_both.ensures.wrote.mixed));
   any_stop = λ settled. replaced_left can _ _ _ c.append_both.ensures.wrote settled;
 }
@@ -47,11 +48,11 @@ returns-in_err-ends-clause-kept g c = record {
 }
 
 pub returns-clause-moments : goal.returns-clause-moments
-returns-clause-moments g c s held i j k h p can = record {
-  reads = replaced_undone can c.in_ok-ends.ensures.appended c.requires.first.inside c.requires.second.inside c.requires.slot.inside c.len-length.ensures.short _ ((c.change_three.ensures.undo_gives (is_permitted s) s.cpus (can_undo_all can c.in_ok-ends.ensures.appended c.requires.first.inside c.requires.second.inside c.requires.slot.inside c.len-length.ensures.short)).reads)
-      (((c.change_three.ensures.undo_gives (is_permitted s) s.cpus (can_undo_all can c.in_ok-ends.ensures.appended c.requires.first.inside c.requires.second.inside c.requires.slot.inside c.len-length.ensures.short)).faultless (faultless can.two c.in_ok-ends.ensures.appended)).reads);
-  any_stop = λ settled left may. replaced_undone can c.in_ok-ends.ensures.appended c.requires.first.inside c.requires.second.inside c.requires.slot.inside c.len-length.ensures.short left ((c.change_three.ensures.undo_gives (is_permitted s) s.cpus (can_undo_all can c.in_ok-ends.ensures.appended c.requires.first.inside c.requires.second.inside c.requires.slot.inside c.len-length.ensures.short)).any_stop c.in_ok-ends.ensures.settled left may)
-      (((c.change_three.ensures.undo_gives (is_permitted s) s.cpus (can_undo_all can c.in_ok-ends.ensures.appended c.requires.first.inside c.requires.second.inside c.requires.slot.inside c.len-length.ensures.short)).faultless (faultless can.two c.in_ok-ends.ensures.appended)).any_stop c.in_ok-ends.ensures.settled left may);
+returns-clause-moments g c l held i j k h p can = record {
+  reads = replaced_undone can c.in_ok-ends.ensures.appended c.requires.first.inside c.requires.second.inside c.requires.slot.inside c.len-length.ensures.short _ ((c.change_three.ensures.undo_gives (is_permitted_by l) l.sup.cpus (can_undo_all can c.in_ok-ends.ensures.appended c.requires.first.inside c.requires.second.inside c.requires.slot.inside c.len-length.ensures.short)).reads)
+      (((c.change_three.ensures.undo_gives (is_permitted_by l) l.sup.cpus (can_undo_all can c.in_ok-ends.ensures.appended c.requires.first.inside c.requires.second.inside c.requires.slot.inside c.len-length.ensures.short)).faultless (faultless can.two c.in_ok-ends.ensures.appended)).reads) c.change_three.ensures.kept.keeps_link.mixed;
+  any_stop = λ settled left may. replaced_undone can c.in_ok-ends.ensures.appended c.requires.first.inside c.requires.second.inside c.requires.slot.inside c.len-length.ensures.short left ((c.change_three.ensures.undo_gives (is_permitted_by l) l.sup.cpus (can_undo_all can c.in_ok-ends.ensures.appended c.requires.first.inside c.requires.second.inside c.requires.slot.inside c.len-length.ensures.short)).any_stop c.in_ok-ends.ensures.settled left may)
+      (((c.change_three.ensures.undo_gives (is_permitted_by l) l.sup.cpus (can_undo_all can c.in_ok-ends.ensures.appended c.requires.first.inside c.requires.second.inside c.requires.slot.inside c.len-length.ensures.short)).faultless (faultless can.two c.in_ok-ends.ensures.appended)).any_stop c.in_ok-ends.ensures.settled left may) (stop_mixed c.change_three.ensures.kept.keeps_link c.in_ok-ends.ensures.settled left may);
 }
 
 pub returns-clause-kept : goal.returns-clause-kept
@@ -65,11 +66,11 @@ returns-clause-kept g c = record {
 }
 
 pub returns-in_err-change_three-clause-moments : goal.returns-in_err-change_three-clause-moments
-returns-in_err-change_three-clause-moments g c s held i j k h p can = record {
-  reads = replaced_undone can c.in_ok-ends.ensures.appended c.requires.first.inside c.requires.second.inside c.requires.slot.inside c.len-length.ensures.short _ ((c.change_three.ensures.undo_gives (is_permitted s) s.cpus (can_undo_all can c.in_ok-ends.ensures.appended c.requires.first.inside c.requires.second.inside c.requires.slot.inside c.len-length.ensures.short)).reads)
-      (((c.change_three.ensures.undo_gives (is_permitted s) s.cpus (can_undo_all can c.in_ok-ends.ensures.appended c.requires.first.inside c.requires.second.inside c.requires.slot.inside c.len-length.ensures.short)).faultless (faultless can.two c.in_ok-ends.ensures.appended)).reads);
-  any_stop = λ settled left may. replaced_undone can c.in_ok-ends.ensures.appended c.requires.first.inside c.requires.second.inside c.requires.slot.inside c.len-length.ensures.short left ((c.change_three.ensures.undo_gives (is_permitted s) s.cpus (can_undo_all can c.in_ok-ends.ensures.appended c.requires.first.inside c.requires.second.inside c.requires.slot.inside c.len-length.ensures.short)).any_stop c.in_ok-ends.ensures.settled left may)
-      (((c.change_three.ensures.undo_gives (is_permitted s) s.cpus (can_undo_all can c.in_ok-ends.ensures.appended c.requires.first.inside c.requires.second.inside c.requires.slot.inside c.len-length.ensures.short)).faultless (faultless can.two c.in_ok-ends.ensures.appended)).any_stop c.in_ok-ends.ensures.settled left may);
+returns-in_err-change_three-clause-moments g c l held i j k h p can = record {
+  reads = replaced_undone can c.in_ok-ends.ensures.appended c.requires.first.inside c.requires.second.inside c.requires.slot.inside c.len-length.ensures.short _ ((c.change_three.ensures.undo_gives (is_permitted_by l) l.sup.cpus (can_undo_all can c.in_ok-ends.ensures.appended c.requires.first.inside c.requires.second.inside c.requires.slot.inside c.len-length.ensures.short)).reads)
+      (((c.change_three.ensures.undo_gives (is_permitted_by l) l.sup.cpus (can_undo_all can c.in_ok-ends.ensures.appended c.requires.first.inside c.requires.second.inside c.requires.slot.inside c.len-length.ensures.short)).faultless (faultless can.two c.in_ok-ends.ensures.appended)).reads) c.change_three.ensures.kept.keeps_link.mixed;
+  any_stop = λ settled left may. replaced_undone can c.in_ok-ends.ensures.appended c.requires.first.inside c.requires.second.inside c.requires.slot.inside c.len-length.ensures.short left ((c.change_three.ensures.undo_gives (is_permitted_by l) l.sup.cpus (can_undo_all can c.in_ok-ends.ensures.appended c.requires.first.inside c.requires.second.inside c.requires.slot.inside c.len-length.ensures.short)).any_stop c.in_ok-ends.ensures.settled left may)
+      (((c.change_three.ensures.undo_gives (is_permitted_by l) l.sup.cpus (can_undo_all can c.in_ok-ends.ensures.appended c.requires.first.inside c.requires.second.inside c.requires.slot.inside c.len-length.ensures.short)).faultless (faultless can.two c.in_ok-ends.ensures.appended)).any_stop c.in_ok-ends.ensures.settled left may) (stop_mixed c.change_three.ensures.kept.keeps_link c.in_ok-ends.ensures.settled left may);
 }
 
 pub returns-in_err-change_three-clause-kept : goal.returns-in_err-change_three-clause-kept
@@ -83,16 +84,16 @@ returns-in_err-change_three-clause-kept g c = record {
 }
 
 pub returns-in_err-ends-clause-in_order : goal.returns-in_err-ends-clause-in_order
-returns-in_err-ends-clause-in_order g c s held i j k h p can = (inl (tail_same can.two.second.sound (both_before can.two (g.P.Pmem.region c.append_both.new.memory) c.append_both.ensures.wrote.mixed) can.two.second.at can.two.second.holds), inl (valid_stays can (g.P.Pmem.region c.append_both.new.memory) c.append_both.ensures.wrote.mixed))
+returns-in_err-ends-clause-in_order g c l held i j k h p can = (inl (tail_same can.two.second.sound (both_before can.two (g.P.Pmem.region c.append_both.new.memory) c.append_both.ensures.wrote.mixed) can.two.second.at can.two.second.holds), inl (valid_stays can (g.P.Pmem.region c.append_both.new.memory) c.append_both.ensures.wrote.mixed))
 
 pub returns-clause-ends : goal.returns-clause-ends
 returns-clause-ends g c = (c.in_ok-ends.ensures.appended.first_end, c.in_ok-ends.ensures.appended.second_end)
 
 pub returns-clause-shows : goal.returns-clause-shows
-returns-clause-shows g c s held i j k h p can = replaced_idle can c.in_ok-ends.ensures.appended c.requires.first.inside c.requires.second.inside c.requires.slot.inside c.len-length.ensures.short _ c.in_ok-change_three.ensures.done c.in_ok-change_three.ensures.kept.empty
+returns-clause-shows g c l held i j k h p can = replaced_idle can c.in_ok-ends.ensures.appended c.requires.first.inside c.requires.second.inside c.requires.slot.inside c.len-length.ensures.short _ c.in_ok-change_three.ensures.done c.in_ok-change_three.ensures.kept.empty c.change_three.ensures.kept.keeps_link.mixed
 
 pub returns-in_err-change_three-clause-in_order : goal.returns-in_err-change_three-clause-in_order
-returns-in_err-change_three-clause-in_order g c s held i j k h p can =
+returns-in_err-change_three-clause-in_order g c l held i j k h p can =
     let clear = slots can.two.first in
     let none : c.args.slot + 0 ≡ c.args.slot = omega arith in
     let two = slots_differ clear.stand i j c.args.first.now.slot c.args.second.now.slot can.two.first.at can.two.second.at can.two.differ 24 24 (omega arith) (omega arith) in
@@ -103,7 +104,7 @@ returns-in_err-change_three-clause-in_order g c s held i j k h p can =
     (subst (λ (n : ℕ). ThreeInOrder (g.P.Pmem.region c.args.memory.now) (c.args.first.now.slot + 24, c.in_ok-ends.ends.0) (c.args.second.now.slot + 24, n) (c.args.slot, 0) (g.P.Pmem.region c.change_three.new.memory)) c.in_ok-ends.ensures.appended.second_end ordered)
 
 pub returns-clause-in_order : goal.returns-clause-in_order
-returns-clause-in_order g c s held i j k h p can =
+returns-clause-in_order g c l held i j k h p can =
     let clear = slots can.two.first in
     let none : c.args.slot + 0 ≡ c.args.slot = omega arith in
     let two = slots_differ clear.stand i j c.args.first.now.slot c.args.second.now.slot can.two.first.at can.two.second.at can.two.differ 24 24 (omega arith) (omega arith) in

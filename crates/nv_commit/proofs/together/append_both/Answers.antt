@@ -4,7 +4,7 @@ use Rattle.nv_region.specs.Region.{Region}
 use Rattle.nv_region.proofs.Fuses.{keeps_more, keeps_within}
 use Rattle.nv_region.proofs.Wordwise.{fenced_stores, stores_more, stores_within}
 use Rattle.nv_logpage.specs.Append.{AppendWords}
-use Rattle.nv_held.specs.Appended.{Appends}
+use Rattle.nv_mounted.specs.Appended.{Appends}
 use Rattle.nv_commit.specs.Together.{BothWords}
 use Rattle.nv_commit.proofs.together.append_both.Goals as goal
 

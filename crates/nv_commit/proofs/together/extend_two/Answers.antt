@@ -2,15 +2,16 @@ use Rattle.std.proofs.Common.{rules, ℕ, ◌+◌, inr, subst, ◌≡◌, inl, a
 use Rattle.nv_region.specs.Region.{size}
 use Rattle.nv_region.proofs.Fuses.{keeps_more, keeps_within}
 use Rattle.nv_region.proofs.Wordwise.{stores_more, stores_within}
-use Rattle.nv_inode.specs.Permitted.{is_permitted}
+use Rattle.nv_inode.specs.Permitted.{is_permitted_by}
 use Rattle.nv_journal.specs.Recorded.{Changes}
 use Rattle.nv_logpage.specs.Append.{end_of}
-use Rattle.nv_held.proofs.BytesKept.{mixed_size}
+use Rattle.nv_mounted.proofs.BytesKept.{mixed_size}
 use Rattle.nv_commit.specs.Together.{BothWords, TogetherWords}
 use Rattle.nv_commit.proofs.BothTails.{both_before, both_idle, both_left, can_undo, faultless, sound_undone, still_empty, undone_either}
 use Rattle.nv_journal.specs.InOrder.{FirstIsFirst}
 use Rattle.nv_journal.proofs.InOrder.{first_since}
 use Rattle.nv_commit.proofs.Extends.{slots}
+use Rattle.nv_commit.proofs.TwoWords.{stop_mixed}
 use Rattle.nv_commit.proofs.InOrder.{slots_differ, tail_same}
 use Rattle.nv_commit.proofs.together.extend_two.Goals as goal
 
@@ -30,7 +31,7 @@ change_two-requires g c =
     }
 
 pub returns-in_err-ends-clause-moments : goal.returns-in_err-ends-clause-moments
-returns-in_err-ends-clause-moments g c s held i j h k can = record {
+returns-in_err-ends-clause-moments g c l held i j h k can = record {
   reads = inl (sound_undone (both_before can _ c.append_both.ensures.wrote.mixed));
   any_stop = λ settled. both_left can _ _ _ c.append_both.ensures.wrote settled;
 }
@@ -44,11 +45,11 @@ returns-in_err-ends-clause-kept g c = record {
 }
 
 pub returns-in_err-change_two-clause-moments : goal.returns-in_err-change_two-clause-moments
-returns-in_err-change_two-clause-moments g c s held i j h k can = record {
-  reads = undone_either can c.in_ok-ends.ensures.appended c.requires.first.inside c.requires.second.inside c.len-length.ensures.short _ ((c.change_two.ensures.undo_gives (is_permitted s) s.cpus (can_undo can c.in_ok-ends.ensures.appended c.len-length.ensures.short)).reads)
-      (((c.change_two.ensures.undo_gives (is_permitted s) s.cpus (can_undo can c.in_ok-ends.ensures.appended c.len-length.ensures.short)).faultless (faultless can c.in_ok-ends.ensures.appended)).reads);
-  any_stop = λ settled left may. undone_either can c.in_ok-ends.ensures.appended c.requires.first.inside c.requires.second.inside c.len-length.ensures.short left ((c.change_two.ensures.undo_gives (is_permitted s) s.cpus (can_undo can c.in_ok-ends.ensures.appended c.len-length.ensures.short)).any_stop c.in_ok-ends.ensures.settled left may)
-      (((c.change_two.ensures.undo_gives (is_permitted s) s.cpus (can_undo can c.in_ok-ends.ensures.appended c.len-length.ensures.short)).faultless (faultless can c.in_ok-ends.ensures.appended)).any_stop c.in_ok-ends.ensures.settled left may);
+returns-in_err-change_two-clause-moments g c l held i j h k can = record {
+  reads = undone_either can c.in_ok-ends.ensures.appended c.requires.first.inside c.requires.second.inside c.len-length.ensures.short _ ((c.change_two.ensures.undo_gives (is_permitted_by l) l.sup.cpus (can_undo can c.in_ok-ends.ensures.appended c.len-length.ensures.short)).reads)
+      (((c.change_two.ensures.undo_gives (is_permitted_by l) l.sup.cpus (can_undo can c.in_ok-ends.ensures.appended c.len-length.ensures.short)).faultless (faultless can c.in_ok-ends.ensures.appended)).reads) c.change_two.ensures.kept.keeps_link.mixed;
+  any_stop = λ settled left may. undone_either can c.in_ok-ends.ensures.appended c.requires.first.inside c.requires.second.inside c.len-length.ensures.short left ((c.change_two.ensures.undo_gives (is_permitted_by l) l.sup.cpus (can_undo can c.in_ok-ends.ensures.appended c.len-length.ensures.short)).any_stop c.in_ok-ends.ensures.settled left may)
+      (((c.change_two.ensures.undo_gives (is_permitted_by l) l.sup.cpus (can_undo can c.in_ok-ends.ensures.appended c.len-length.ensures.short)).faultless (faultless can c.in_ok-ends.ensures.appended)).any_stop c.in_ok-ends.ensures.settled left may) (stop_mixed c.change_two.ensures.kept.keeps_link c.in_ok-ends.ensures.settled left may);
 }
 
 pub returns-in_err-change_two-clause-kept : goal.returns-in_err-change_two-clause-kept
@@ -63,11 +64,11 @@ returns-in_err-change_two-clause-kept g c = record {
 }
 
 pub returns-clause-moments : goal.returns-clause-moments
-returns-clause-moments g c s held i j h k can = record {
-  reads = undone_either can c.in_ok-ends.ensures.appended c.requires.first.inside c.requires.second.inside c.len-length.ensures.short _ ((c.change_two.ensures.undo_gives (is_permitted s) s.cpus (can_undo can c.in_ok-ends.ensures.appended c.len-length.ensures.short)).reads)
-      (((c.change_two.ensures.undo_gives (is_permitted s) s.cpus (can_undo can c.in_ok-ends.ensures.appended c.len-length.ensures.short)).faultless (faultless can c.in_ok-ends.ensures.appended)).reads);
-  any_stop = λ settled left may. undone_either can c.in_ok-ends.ensures.appended c.requires.first.inside c.requires.second.inside c.len-length.ensures.short left ((c.change_two.ensures.undo_gives (is_permitted s) s.cpus (can_undo can c.in_ok-ends.ensures.appended c.len-length.ensures.short)).any_stop c.in_ok-ends.ensures.settled left may)
-      (((c.change_two.ensures.undo_gives (is_permitted s) s.cpus (can_undo can c.in_ok-ends.ensures.appended c.len-length.ensures.short)).faultless (faultless can c.in_ok-ends.ensures.appended)).any_stop c.in_ok-ends.ensures.settled left may);
+returns-clause-moments g c l held i j h k can = record {
+  reads = undone_either can c.in_ok-ends.ensures.appended c.requires.first.inside c.requires.second.inside c.len-length.ensures.short _ ((c.change_two.ensures.undo_gives (is_permitted_by l) l.sup.cpus (can_undo can c.in_ok-ends.ensures.appended c.len-length.ensures.short)).reads)
+      (((c.change_two.ensures.undo_gives (is_permitted_by l) l.sup.cpus (can_undo can c.in_ok-ends.ensures.appended c.len-length.ensures.short)).faultless (faultless can c.in_ok-ends.ensures.appended)).reads) c.change_two.ensures.kept.keeps_link.mixed;
+  any_stop = λ settled left may. undone_either can c.in_ok-ends.ensures.appended c.requires.first.inside c.requires.second.inside c.len-length.ensures.short left ((c.change_two.ensures.undo_gives (is_permitted_by l) l.sup.cpus (can_undo can c.in_ok-ends.ensures.appended c.len-length.ensures.short)).any_stop c.in_ok-ends.ensures.settled left may)
+      (((c.change_two.ensures.undo_gives (is_permitted_by l) l.sup.cpus (can_undo can c.in_ok-ends.ensures.appended c.len-length.ensures.short)).faultless (faultless can c.in_ok-ends.ensures.appended)).any_stop c.in_ok-ends.ensures.settled left may) (stop_mixed c.change_two.ensures.kept.keeps_link c.in_ok-ends.ensures.settled left may);
 }
 
 pub returns-clause-kept : goal.returns-clause-kept
@@ -85,14 +86,14 @@ pub returns-clause-ends : goal.returns-clause-ends
 returns-clause-ends g c = (c.in_ok-ends.ensures.appended.first_end, c.in_ok-ends.ensures.appended.second_end)
 
 pub returns-clause-shows : goal.returns-clause-shows
-returns-clause-shows g c s held i j h k can =
-    both_idle can c.in_ok-ends.ensures.appended c.requires.first.inside c.requires.second.inside c.len-length.ensures.short _ c.in_ok-change_two.ensures.done c.in_ok-change_two.ensures.kept.empty
+returns-clause-shows g c l held i j h k can =
+    both_idle can c.in_ok-ends.ensures.appended c.requires.first.inside c.requires.second.inside c.len-length.ensures.short _ c.in_ok-change_two.ensures.done c.in_ok-change_two.ensures.kept.empty c.change_two.ensures.kept.keeps_link.mixed
 
 pub returns-in_err-ends-clause-in_order : goal.returns-in_err-ends-clause-in_order
-returns-in_err-ends-clause-in_order g c s held i j h k can = inl (tail_same can.second.sound (both_before can (g.P.Pmem.region c.append_both.new.memory) c.append_both.ensures.wrote.mixed) can.second.at can.second.holds)
+returns-in_err-ends-clause-in_order g c l held i j h k can = inl (tail_same can.second.sound (both_before can (g.P.Pmem.region c.append_both.new.memory) c.append_both.ensures.wrote.mixed) can.second.at can.second.holds)
 
 pub returns-in_err-change_two-clause-in_order : goal.returns-in_err-change_two-clause-in_order
-returns-in_err-change_two-clause-in_order g c s held i j h k can =
+returns-in_err-change_two-clause-in_order g c l held i j h k can =
     let clear = slots can.first in
     let same = tail_same can.second.sound (both_before can (g.P.Pmem.region c.append_both.new.memory) c.append_both.ensures.wrote.mixed) can.second.at can.second.holds in
     let differ = slots_differ clear.stand i j c.args.first.now.slot c.args.second.now.slot can.first.at can.second.at can.differ 24 24 (omega arith) (omega arith) in
@@ -100,7 +101,7 @@ returns-in_err-change_two-clause-in_order g c s held i j h k can =
     (first_since (g.P.Pmem.region c.args.memory.now) (g.P.Pmem.region c.append_both.new.memory) (g.P.Pmem.region c.change_two.new.memory) (c.args.first.now.slot + 24) c.in_ok-ends.ends.0 (c.args.second.now.slot + 24) same (c.change_two.ensures.in_order differ))
 
 pub returns-clause-in_order : goal.returns-clause-in_order
-returns-clause-in_order g c s held i j h k can =
+returns-clause-in_order g c l held i j h k can =
     let clear = slots can.first in
     let same = tail_same can.second.sound (both_before can (g.P.Pmem.region c.append_both.new.memory) c.append_both.ensures.wrote.mixed) can.second.at can.second.holds in
     let differ = slots_differ clear.stand i j c.args.first.now.slot c.args.second.now.slot can.first.at can.second.at can.differ 24 24 (omega arith) (omega arith) in

@@ -1,9 +1,7 @@
 use Rattle.std.proofs.Common.{string_bytes}
 use Rattle.std.proofs.lemmas.Result.{IfOk-weaker}
 use Rattle.nv_region.specs.Region.{region_of}
-use Rattle.nv_outcome.specs.Answer.{outcome_of}
-use Rattle.nv_checking.proofs.Found.{as_found}
-use Rattle.nv_comparing.proofs.Rows.{areas_of, rows_below}
+use Rattle.nv_image_check.proofs.Found.{as_found}
 use Rattle.nv_comparing.proofs.Images.{first_refused, held_in}
 use Rattle.nv_comparing.proofs.comparing.look_at_images.Goals as goal
 
@@ -11,7 +9,7 @@ pub look_beside-requires : goal.look_beside-requires
 look_beside-requires c =
     let found = c.in-Recovered.found in
     let is = as_found (region_of c.args.a.now) c.in_ok-image.image c.in-Recovered.memory found c.in-Recovered.is c.in_ok-image.ensures in
-    record { areas = areas_of (region_of c.args.a.now) (outcome_of found) is.0; below = rows_below (region_of c.args.a.now) (outcome_of found) is.0; held = held_in c.args.a.now c.in-Recovered.memory found is }
+    held_in c.args.a.now c.in-Recovered.memory found is
 
 pub returns-in-Recovered : goal.returns-in-Recovered
 returns-in-Recovered c =

@@ -2,9 +2,8 @@ use Rattle.std.proofs.Common.{◌∙◌, string_bytes}
 use Rattle.std.proofs.lemmas.Result.{IfOk-weaker}
 use Rattle.nv_region.specs.Region.{region_of}
 use Rattle.nv_outcome.specs.Answer.{outcome_of}
-use Rattle.nv_outcome.specs.nv_journal.Undo.{undone}
-use Rattle.nv_checking.proofs.Found.{as_found}
-use Rattle.nv_comparing.proofs.Rows.{areas_of, rows_below}
+use Rattle.nv_journal.specs.Undo.{undone}
+use Rattle.nv_image_check.proofs.Found.{as_found}
 use Rattle.nv_comparing.proofs.Images.{both_compared, held_in, second_refused, tree_as}
 use Rattle.nv_comparing.proofs.comparing.look_beside.Goals as goal
 
@@ -12,7 +11,7 @@ pub shown-second-requires : goal.shown-second-requires
 shown-second-requires c =
     let others = c.in-Recovered.others in
     let is = as_found (region_of c.args.b.now) c.in_ok-image.image c.in-Recovered.other others c.in-Recovered.is c.in_ok-image.ensures in
-    record { areas = areas_of (region_of c.args.b.now) (outcome_of others) is.0; below = rows_below (region_of c.args.b.now) (outcome_of others) is.0; held = held_in c.args.b.now c.in-Recovered.other others is }
+    held_in c.args.b.now c.in-Recovered.other others is
 
 pub returns-in-Refused : goal.returns-in-Refused
 returns-in-Refused c R of undo = IfOk-weaker c.refused_look.result _ _

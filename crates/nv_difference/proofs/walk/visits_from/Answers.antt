@@ -9,12 +9,11 @@ pub finish-requires : goal.finish-requires
 finish-requires g c =
     let t = g.S.Inodes.tree c.args.first.now in
     let u = g.T.Inodes.tree c.args.second.now in
-    rw (c.in_ok-walk.ensures.pending, c.in_ok-walk.ensures.partners, c.in_ok-walk.ensures.owners)
-    (start_ready t u c.in_ok-walk.walk.visits.items c.args.pending.items c.limit.result c.limit-2.result c.in_ok-walk.ensures.visits c.limit.ensures c.limit-2.ensures c.requires)
+    rw c.new-walk.ensures.pending (start_ready t u c.new-walk.result.visits.items c.args.pending.items _ _ c.new-walk.ensures.visits c.new-walk.ensures.partners c.new-walk.ensures.owners c.requires)
 
 pub returns : goal.returns
 returns g c =
     let t = g.S.Inodes.tree c.args.first.now in
     let u = g.T.Inodes.tree c.args.second.now in
-    subst (λ (p : List Pair). AreVisited t u [] (waiting p) (map visit_of c.finish.new.self.visits.items)) c.in_ok-walk.ensures.pending
-    (all_on t u c.in_ok-walk.walk.visits.items c.finish.new.self.visits.items c.in_ok-walk.walk.pending.items c.finish.new.self.pending.items c.in_ok-walk.ensures.visits c.in_ok-finish.ensures.done c.in_ok-finish.ensures.leads)
+    subst (λ (p : List Pair). AreVisited t u [] (waiting p) (map visit_of c.finish.new.self.visits.items)) c.new-walk.ensures.pending
+    (all_on t u c.new-walk.result.visits.items c.finish.new.self.visits.items c.new-walk.result.pending.items c.finish.new.self.pending.items c.new-walk.ensures.visits c.in_ok-finish.ensures.done c.in_ok-finish.ensures.leads)

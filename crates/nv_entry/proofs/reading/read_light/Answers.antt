@@ -1,6 +1,6 @@
 use Rattle.std.proofs.Common.{arith, ◌≡◌, ◌%◌}
 use Rattle.std.proofs.lemmas.Result.{on_err_weaker}
-use Rattle.nv_super.specs.nv_region.Region.{word}
+use Rattle.nv_region.specs.Region.{word}
 use Rattle.nv_entry.proofs.ByKind.{no_write, no_attr, no_links}
 use Rattle.nv_entry.proofs.reading.read_light.Goals as goal
 

@@ -1,5 +1,5 @@
 use Rattle.std.proofs.Common.{◌≡◌, ◌+◌, ◌*◌, ◌≤◌, ◌∙◌, ap, sym, arith, length}
-use Rattle.nv_super.specs.nv_region.Region.{word}
+use Rattle.nv_region.specs.Region.{word}
 use Rattle.nv_entry.specs.Spelling.{operation_code, words_for, first_word}
 use Rattle.nv_entry.specs.Light.{text_at}
 use Rattle.nv_entry.proofs.Texts.{text_length, text_is_name}

@@ -1,7 +1,7 @@
 use Rattle.std.proofs.Common.{rules, ℕ, suc, List, [], ◌∷◌, ◌++◌, ◌+◌, ◌*◌, ◌≡◌, ◌<◌, ◌∙◌, ap, arith, length, length-take, take, get_or, append-nil}
 use Rattle.std.proofs.lemmas.List.{get_or-take}
 use Rattle.std.proofs.lemmas.Result.{on_ok_weaker}
-use Rattle.nv_super.specs.nv_region.Region.{Region, word}
+use Rattle.nv_region.specs.Region.{Region, word}
 use Rattle.nv_entry.specs.Name.{IsName}
 use Rattle.nv_entry.specs.Text.{text_word}
 use Rattle.nv_entry.specs.Spelling.{IsNameAt, first_word, operation_code, words_for}

@@ -1,5 +1,5 @@
 use Rattle.std.proofs.lemmas.Result.{on_ok_weaker}
-use Rattle.nv_super.proofs.nv_region.RowStores.{row_stores}
+use Rattle.nv_region.proofs.RowStores.{row_stores}
 use Rattle.nv_entry.proofs.Rows.{words_held, others_stay}
 use Rattle.nv_entry.proofs.writing.store_words.Goals as goal
 

@@ -1,9 +1,9 @@
 use Rattle.std.proofs.Common.{◌+◌, ◌*◌, ◌≤◌, ℕ, OnOk, arith, length, subst, sym}
 use Rattle.std.proofs.lemmas.Result.{on_ok_weaker}
-use Rattle.nv_super.specs.nv_region.Region.{size}
-use Rattle.nv_super.specs.nv_region.Fuses.{KeepsFuse}
-use Rattle.nv_super.specs.nv_region.Stored.{SameOutside, StoresOnly, Within}
-use Rattle.nv_super.proofs.nv_region.Fuses.{keeps_within}
+use Rattle.nv_region.specs.Region.{size}
+use Rattle.nv_region.specs.Fuses.{KeepsFuse}
+use Rattle.nv_region.specs.Stored.{SameOutside, StoresOnly, Within}
+use Rattle.nv_region.proofs.Fuses.{keeps_within}
 use Rattle.nv_entry.specs.Spelling.{Stands, entry_length, words_for}
 use Rattle.nv_entry.specs.declared.entry.Entry.{Entry}
 use Rattle.nv_entry.proofs.Spelled.{next_held, write_held, attr_held, links_held}

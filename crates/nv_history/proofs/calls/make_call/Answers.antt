@@ -34,9 +34,9 @@ returns-in-Create-clause-made g c =
     let t = tree_of (g.P.Pmem.region m.memory) m.rows in
     let n = c.create.new.self in
     let u = tree_of (g.P.Pmem.region n.memory) n.rows in
-    subst (λ (call : Call). OnOk c.create.result (IsMadeBy m.sup call t u)) (sym a.is)
-    (by_path c.create.result a.path.now (λ p. create_tests (world_of m) t a.cpu p (create_blocks m.rows t p)) (λ names. created File (lowest_unused m.sup t a.cpu) names a.mode a.time t) u (refuses_bad (world_of m) a.cpu) c.create.ensures.allowed
-    (λ names is. subst (λ (o : Option ℕ). OnOk c.create.result (SameTree u (created File o names a.mode a.time t))) (sym (lowest_is m.sup (g.P.Pmem.region m.memory) m.rows a.cpu)) (c.create.ensures.changed names is)))
+    subst (λ (call : Call). OnOk c.create.result (IsMadeBy m.layout call t u)) (sym a.is)
+    (by_path c.create.result a.path.now (λ p. create_tests (world_of m) t a.cpu p (create_blocks m.rows t p)) (λ names. created File (lowest_unused m.layout t a.cpu) names a.mode a.time t) u (refuses_bad (world_of m) a.cpu) c.create.ensures.allowed
+    (λ names is. subst (λ (o : Option ℕ). OnOk c.create.result (SameTree u (created File o names a.mode a.time t))) (sym (lowest_is m.layout (g.P.Pmem.region m.memory) m.rows a.cpu)) (c.create.ensures.changed names is)))
 
 pub returns-in-Create-clause-refused : goal.returns-in-Create-clause-refused
 returns-in-Create-clause-refused g c = λ runs.
@@ -55,8 +55,8 @@ returns-in-Create-clause-any_stop g c = λ runs writes.
     let a = c.in-Create in
     let t = tree_of (g.P.Pmem.region m.memory) m.rows in
     let n = c.create.new.self in
-    subst (λ (call : Call). LeavesOnly (g.P.Pmem.region n.memory) (g.P.Pmem.may_hold n.memory) (BeforeOrMade m.sup call t)) (sym a.is)
-    (left_by_path g.P.Pmem.region g.P.Pmem.may_hold m n (ByPath a.path.now (λ names. created File (lowest_unused m.sup t a.cpu) names a.mode a.time t)) a.path.now (makes_inode File a.cpu a.mode a.time) (logs_inode File a.cpu a.mode a.time) (λ names u is same. (names, is, subst (λ (o : Option ℕ). SameTree u (created File o names a.mode a.time t)) (sym (lowest_is m.sup (g.P.Pmem.region m.memory) m.rows a.cpu)) same))
+    subst (λ (call : Call). LeavesOnly (g.P.Pmem.region n.memory) (g.P.Pmem.may_hold n.memory) (BeforeOrMade m.layout call t)) (sym a.is)
+    (left_by_path g.P.Pmem.region g.P.Pmem.may_hold m n (ByPath a.path.now (λ names. created File (lowest_unused m.layout t a.cpu) names a.mode a.time t)) a.path.now (makes_inode File a.cpu a.mode a.time) (logs_inode File a.cpu a.mode a.time) (λ names u is same. (names, is, subst (λ (o : Option ℕ). SameTree u (created File o names a.mode a.time t)) (sym (lowest_is m.layout (g.P.Pmem.region m.memory) m.rows a.cpu)) same))
     (c.recovers_as_mounted.ensures runs writes) c.create.ensures.call.bad_text (λ names is. c.create.ensures.any_stop names is runs writes))
 
 -- ---- `mkdir`
@@ -67,9 +67,9 @@ returns-in-MakeDirectory-clause-made g c =
     let t = tree_of (g.P.Pmem.region m.memory) m.rows in
     let n = c.mkdir.new.self in
     let u = tree_of (g.P.Pmem.region n.memory) n.rows in
-    subst (λ (call : Call). OnOk c.mkdir.result (IsMadeBy m.sup call t u)) (sym a.is)
-    (by_path c.mkdir.result a.path.now (λ p. create_tests (world_of m) t a.cpu p (create_blocks m.rows t p)) (λ names. created Directory (lowest_unused m.sup t a.cpu) names a.mode a.time t) u (refuses_bad (world_of m) a.cpu) c.mkdir.ensures.allowed
-    (λ names is. subst (λ (o : Option ℕ). OnOk c.mkdir.result (SameTree u (created Directory o names a.mode a.time t))) (sym (lowest_is m.sup (g.P.Pmem.region m.memory) m.rows a.cpu)) (c.mkdir.ensures.changed names is)))
+    subst (λ (call : Call). OnOk c.mkdir.result (IsMadeBy m.layout call t u)) (sym a.is)
+    (by_path c.mkdir.result a.path.now (λ p. create_tests (world_of m) t a.cpu p (create_blocks m.rows t p)) (λ names. created Directory (lowest_unused m.layout t a.cpu) names a.mode a.time t) u (refuses_bad (world_of m) a.cpu) c.mkdir.ensures.allowed
+    (λ names is. subst (λ (o : Option ℕ). OnOk c.mkdir.result (SameTree u (created Directory o names a.mode a.time t))) (sym (lowest_is m.layout (g.P.Pmem.region m.memory) m.rows a.cpu)) (c.mkdir.ensures.changed names is)))
 
 pub returns-in-MakeDirectory-clause-refused : goal.returns-in-MakeDirectory-clause-refused
 returns-in-MakeDirectory-clause-refused g c = λ runs.
@@ -88,8 +88,8 @@ returns-in-MakeDirectory-clause-any_stop g c = λ runs writes.
     let a = c.in-MakeDirectory in
     let t = tree_of (g.P.Pmem.region m.memory) m.rows in
     let n = c.mkdir.new.self in
-    subst (λ (call : Call). LeavesOnly (g.P.Pmem.region n.memory) (g.P.Pmem.may_hold n.memory) (BeforeOrMade m.sup call t)) (sym a.is)
-    (left_by_path g.P.Pmem.region g.P.Pmem.may_hold m n (ByPath a.path.now (λ names. created Directory (lowest_unused m.sup t a.cpu) names a.mode a.time t)) a.path.now (makes_inode Directory a.cpu a.mode a.time) (logs_inode Directory a.cpu a.mode a.time) (λ names u is same. (names, is, subst (λ (o : Option ℕ). SameTree u (created Directory o names a.mode a.time t)) (sym (lowest_is m.sup (g.P.Pmem.region m.memory) m.rows a.cpu)) same))
+    subst (λ (call : Call). LeavesOnly (g.P.Pmem.region n.memory) (g.P.Pmem.may_hold n.memory) (BeforeOrMade m.layout call t)) (sym a.is)
+    (left_by_path g.P.Pmem.region g.P.Pmem.may_hold m n (ByPath a.path.now (λ names. created Directory (lowest_unused m.layout t a.cpu) names a.mode a.time t)) a.path.now (makes_inode Directory a.cpu a.mode a.time) (logs_inode Directory a.cpu a.mode a.time) (λ names u is same. (names, is, subst (λ (o : Option ℕ). SameTree u (created Directory o names a.mode a.time t)) (sym (lowest_is m.layout (g.P.Pmem.region m.memory) m.rows a.cpu)) same))
     (c.recovers_as_mounted.ensures runs writes) c.mkdir.ensures.call.bad_text (λ names is. c.mkdir.ensures.any_stop names is runs writes))
 
 -- ---- `set_size`
@@ -100,7 +100,7 @@ returns-in-SetSize-clause-made g c =
     let t = tree_of (g.P.Pmem.region m.memory) m.rows in
     let n = c.set_size.new.self in
     let u = tree_of (g.P.Pmem.region n.memory) n.rows in
-    subst (λ (call : Call). OnOk c.set_size.result (IsMadeBy m.sup call t u)) (sym a.is)
+    subst (λ (call : Call). OnOk c.set_size.result (IsMadeBy m.layout call t u)) (sym a.is)
     (by_path c.set_size.result a.path.now (λ p. set_size_tests (world_of m) t a.cpu p a.size (resized_blocks m.rows t p a.size)) (λ names. resized names a.size a.time t) u (refuses_bad (world_of m) a.cpu) c.set_size.ensures.allowed c.set_size.ensures.changed)
 
 pub returns-in-SetSize-clause-refused : goal.returns-in-SetSize-clause-refused
@@ -120,7 +120,7 @@ returns-in-SetSize-clause-any_stop g c = λ runs writes.
     let a = c.in-SetSize in
     let t = tree_of (g.P.Pmem.region m.memory) m.rows in
     let n = c.set_size.new.self in
-    subst (λ (call : Call). LeavesOnly (g.P.Pmem.region n.memory) (g.P.Pmem.may_hold n.memory) (BeforeOrMade m.sup call t)) (sym a.is)
+    subst (λ (call : Call). LeavesOnly (g.P.Pmem.region n.memory) (g.P.Pmem.may_hold n.memory) (BeforeOrMade m.layout call t)) (sym a.is)
     (left_by_path g.P.Pmem.region g.P.Pmem.may_hold m n (ByPath a.path.now (λ names. resized names a.size a.time t)) a.path.now (makes_size a.size a.time) (logs_size a.cpu a.size a.time) (λ names u is same. (names, is, same))
     (c.recovers_as_mounted.ensures runs writes) c.set_size.ensures.call.bad_text (λ names is. c.set_size.ensures.any_stop names is runs writes))
 
@@ -132,7 +132,7 @@ returns-in-SetAttributes-clause-made g c =
     let t = tree_of (g.P.Pmem.region m.memory) m.rows in
     let n = c.set_attr.new.self in
     let u = tree_of (g.P.Pmem.region n.memory) n.rows in
-    subst (λ (call : Call). OnOk c.set_attr.result (IsMadeBy m.sup call t u)) (sym a.is)
+    subst (λ (call : Call). OnOk c.set_attr.result (IsMadeBy m.layout call t u)) (sym a.is)
     (by_path c.set_attr.result a.path.now (λ p. set_attr_tests (world_of m) t a.cpu p (attributes_blocks m.rows t p)) (λ names. attributed names a.mode a.owner a.group a.time t) u (refuses_bad (world_of m) a.cpu) c.set_attr.ensures.allowed c.set_attr.ensures.changed)
 
 pub returns-in-SetAttributes-clause-refused : goal.returns-in-SetAttributes-clause-refused
@@ -152,7 +152,7 @@ returns-in-SetAttributes-clause-any_stop g c = λ runs writes.
     let a = c.in-SetAttributes in
     let t = tree_of (g.P.Pmem.region m.memory) m.rows in
     let n = c.set_attr.new.self in
-    subst (λ (call : Call). LeavesOnly (g.P.Pmem.region n.memory) (g.P.Pmem.may_hold n.memory) (BeforeOrMade m.sup call t)) (sym a.is)
+    subst (λ (call : Call). LeavesOnly (g.P.Pmem.region n.memory) (g.P.Pmem.may_hold n.memory) (BeforeOrMade m.layout call t)) (sym a.is)
     (left_by_path g.P.Pmem.region g.P.Pmem.may_hold m n (ByPath a.path.now (λ names. attributed names a.mode a.owner a.group a.time t)) a.path.now (makes_attributes a.mode a.owner a.group a.time) (logs_attributes a.cpu a.mode a.owner a.group a.time) (λ names u is same. (names, is, same))
     (c.recovers_as_mounted.ensures runs writes) c.set_attr.ensures.call.bad_text (λ names is. c.set_attr.ensures.any_stop names is runs writes))
 
@@ -164,7 +164,7 @@ returns-in-Unlink-clause-made g c =
     let t = tree_of (g.P.Pmem.region m.memory) m.rows in
     let n = c.unlink.new.self in
     let u = tree_of (g.P.Pmem.region n.memory) n.rows in
-    subst (λ (call : Call). OnOk c.unlink.result (IsMadeBy m.sup call t u)) (sym a.is)
+    subst (λ (call : Call). OnOk c.unlink.result (IsMadeBy m.layout call t u)) (sym a.is)
     (by_path c.unlink.result a.path.now (λ p. unlink_tests (world_of m) t a.cpu p (unlink_blocks m.rows t p)) (λ names. unlinked names a.time t) u (refuses_bad (world_of m) a.cpu) c.unlink.ensures.allowed c.unlink.ensures.changed)
 
 pub returns-in-Unlink-clause-refused : goal.returns-in-Unlink-clause-refused
@@ -184,7 +184,7 @@ returns-in-Unlink-clause-any_stop g c = λ runs writes.
     let a = c.in-Unlink in
     let t = tree_of (g.P.Pmem.region m.memory) m.rows in
     let n = c.unlink.new.self in
-    subst (λ (call : Call). LeavesOnly (g.P.Pmem.region n.memory) (g.P.Pmem.may_hold n.memory) (BeforeOrMade m.sup call t)) (sym a.is)
+    subst (λ (call : Call). LeavesOnly (g.P.Pmem.region n.memory) (g.P.Pmem.may_hold n.memory) (BeforeOrMade m.layout call t)) (sym a.is)
     (left_by_path g.P.Pmem.region g.P.Pmem.may_hold m n (ByPath a.path.now (λ names. unlinked names a.time t)) a.path.now (makes_unlink a.time) (LogsUnlink a.cpu a.time) (λ names u is same. (names, is, same))
     (c.recovers_as_mounted.ensures runs writes) c.unlink.ensures.call.bad_text (λ names is. c.unlink.ensures.any_stop names is runs writes))
 
@@ -196,7 +196,7 @@ returns-in-RemoveDirectory-clause-made g c =
     let t = tree_of (g.P.Pmem.region m.memory) m.rows in
     let n = c.rmdir.new.self in
     let u = tree_of (g.P.Pmem.region n.memory) n.rows in
-    subst (λ (call : Call). OnOk c.rmdir.result (IsMadeBy m.sup call t u)) (sym a.is)
+    subst (λ (call : Call). OnOk c.rmdir.result (IsMadeBy m.layout call t u)) (sym a.is)
     (by_path c.rmdir.result a.path.now (λ p. rmdir_tests (world_of m) t a.cpu p (name_blocks m.rows t p)) (λ names. removed names a.time t) u (refuses_bad (world_of m) a.cpu) c.rmdir.ensures.allowed c.rmdir.ensures.changed)
 
 pub returns-in-RemoveDirectory-clause-refused : goal.returns-in-RemoveDirectory-clause-refused
@@ -216,7 +216,7 @@ returns-in-RemoveDirectory-clause-any_stop g c = λ runs writes.
     let a = c.in-RemoveDirectory in
     let t = tree_of (g.P.Pmem.region m.memory) m.rows in
     let n = c.rmdir.new.self in
-    subst (λ (call : Call). LeavesOnly (g.P.Pmem.region n.memory) (g.P.Pmem.may_hold n.memory) (BeforeOrMade m.sup call t)) (sym a.is)
+    subst (λ (call : Call). LeavesOnly (g.P.Pmem.region n.memory) (g.P.Pmem.may_hold n.memory) (BeforeOrMade m.layout call t)) (sym a.is)
     (left_by_path g.P.Pmem.region g.P.Pmem.may_hold m n (ByPath a.path.now (λ names. removed names a.time t)) a.path.now (makes_removal a.time) (logs_removal a.cpu a.time) (λ names u is same. (names, is, same))
     (c.recovers_as_mounted.ensures runs writes) c.rmdir.ensures.call.bad_text (λ names is. c.rmdir.ensures.any_stop names is runs writes))
 
@@ -229,7 +229,7 @@ returns-in-Write-clause-made g c =
     let n = c.write.new.self in
     let u = tree_of (g.P.Pmem.region n.memory) n.rows in
     let R = g.P.Pmem.region m.memory in
-    subst (λ (call : Call). OnOk c.write.result (IsMadeBy m.sup call t u)) (sym a.is)
+    subst (λ (call : Call). OnOk c.write.result (IsMadeBy m.layout call t u)) (sym a.is)
     (by_path c.write.result a.path.now (λ p. write_tests (world_of m) t a.cpu p (a.offset + length a.bytes.now) (write_needs R m a.cpu p a.offset (length a.bytes.now) a.time).0) (λ names. written names a.offset a.bytes.now a.time t) u (refuses_bad (world_of m) a.cpu)
     (λ p says. (let w = write_needs R m a.cpu p a.offset (length a.bytes.now) a.time in c.write.ensures.allowed p w.0 says w.1)) c.write.ensures.changed)
 
@@ -253,7 +253,7 @@ returns-in-Write-clause-any_stop g c = λ runs writes.
     let a = c.in-Write in
     let t = tree_of (g.P.Pmem.region m.memory) m.rows in
     let n = c.write.new.self in
-    subst (λ (call : Call). LeavesOnly (g.P.Pmem.region n.memory) (g.P.Pmem.may_hold n.memory) (BeforeOrMade m.sup call t)) (sym a.is)
+    subst (λ (call : Call). LeavesOnly (g.P.Pmem.region n.memory) (g.P.Pmem.may_hold n.memory) (BeforeOrMade m.layout call t)) (sym a.is)
     (left_by_path g.P.Pmem.region g.P.Pmem.may_hold m n (ByPath a.path.now (λ names. written names a.offset a.bytes.now a.time t)) a.path.now (makes_bytes a.offset a.bytes.now a.time) (LogsBytes a.cpu a.offset (length a.bytes.now) a.time) (λ names u is same. (names, is, same))
     (c.recovers_as_mounted.ensures runs writes) c.write.ensures.call.bad_text (λ names is. c.write.ensures.any_stop names is runs writes))
 
@@ -265,7 +265,7 @@ returns-in-Link-clause-made g c =
     let t = tree_of (g.P.Pmem.region m.memory) m.rows in
     let n = c.link.new.self in
     let u = tree_of (g.P.Pmem.region n.memory) n.rows in
-    subst (λ (call : Call). OnOk c.link.result (IsMadeBy m.sup call t u)) (sym a.is)
+    subst (λ (call : Call). OnOk c.link.result (IsMadeBy m.layout call t u)) (sym a.is)
     (by_paths c.link.result a.old.now a.new.now (λ p q. link_tests (world_of m) t a.cpu p q (link_blocks m.rows t p q)) (λ names others. linked names others a.time t) u (λ q. refuses_bad (world_of m) a.cpu) (λ names. refuses_bad (world_of m) a.cpu) c.link.ensures.allowed c.link.ensures.changed)
 
 pub returns-in-Link-clause-refused : goal.returns-in-Link-clause-refused
@@ -285,7 +285,7 @@ returns-in-Link-clause-any_stop g c = λ runs writes.
     let a = c.in-Link in
     let t = tree_of (g.P.Pmem.region m.memory) m.rows in
     let n = c.link.new.self in
-    subst (λ (call : Call). LeavesOnly (g.P.Pmem.region n.memory) (g.P.Pmem.may_hold n.memory) (BeforeOrMade m.sup call t)) (sym a.is)
+    subst (λ (call : Call). LeavesOnly (g.P.Pmem.region n.memory) (g.P.Pmem.may_hold n.memory) (BeforeOrMade m.layout call t)) (sym a.is)
     (left_by_paths g.P.Pmem.region g.P.Pmem.may_hold m n (ByPaths a.old.now a.new.now (λ names others. linked names others a.time t)) a.old.now a.new.now (λ others. makes_link a.time (Some others)) (λ others. logs_link a.cpu a.time (Some others)) (λ names others u is are same. (names, others, is, are, same))
     (c.recovers_as_mounted.ensures runs writes) c.link.ensures.call.bad_text (λ names others is are. c.link.ensures.any_stop names others is are runs writes))
 
@@ -297,7 +297,7 @@ returns-in-Rename-clause-made g c =
     let t = tree_of (g.P.Pmem.region m.memory) m.rows in
     let n = c.rename.new.self in
     let u = tree_of (g.P.Pmem.region n.memory) n.rows in
-    subst (λ (call : Call). OnOk c.rename.result (IsMadeBy m.sup call t u)) (sym a.is)
+    subst (λ (call : Call). OnOk c.rename.result (IsMadeBy m.layout call t u)) (sym a.is)
     (by_paths c.rename.result a.old.now a.new.now (λ p q. rename_tests (world_of m) t a.cpu p q (rename_blocks m.rows t p q)) (λ names others. renamed names others a.time t) u (λ q. refuses_bad (world_of m) a.cpu) (refuses_second (world_of m) a.cpu) c.rename.ensures.allowed c.rename.ensures.changed)
 
 pub returns-in-Rename-clause-refused : goal.returns-in-Rename-clause-refused
@@ -317,7 +317,7 @@ returns-in-Rename-clause-any_stop g c = λ runs writes.
     let a = c.in-Rename in
     let t = tree_of (g.P.Pmem.region m.memory) m.rows in
     let n = c.rename.new.self in
-    subst (λ (call : Call). LeavesOnly (g.P.Pmem.region n.memory) (g.P.Pmem.may_hold n.memory) (BeforeOrMade m.sup call t)) (sym a.is)
+    subst (λ (call : Call). LeavesOnly (g.P.Pmem.region n.memory) (g.P.Pmem.may_hold n.memory) (BeforeOrMade m.layout call t)) (sym a.is)
     (left_by_paths g.P.Pmem.region g.P.Pmem.may_hold m n (ByPaths a.old.now a.new.now (λ names others. renamed names others a.time t)) a.old.now a.new.now (λ others. makes_rename a.time (Some others)) (λ others. logs_rename a.cpu a.time (Some others)) (λ names others u is are same. (names, others, is, are, same))
     (c.recovers_as_mounted.ensures runs writes) c.rename.ensures.call.bad_text (λ names others is are. c.rename.ensures.any_stop names others is are runs writes))
 
@@ -330,7 +330,7 @@ returns-in-Ok-clause-made g c =
     let t = tree_of (g.P.Pmem.region m.memory) m.rows in
     let n = c.clean.new.self in
     let u = tree_of (g.P.Pmem.region n.memory) n.rows in
-    subst (λ (call : Call). IsMadeBy m.sup call t u) (sym a.is)
+    subst (λ (call : Call). IsMadeBy m.layout call t u) (sym a.is)
     (by_path {A = Option ℕ} (Ok c.in-Ok.field-0) a.path.now (λ p. clean_tests (world_of m) t p) (λ names. t) u (refuses_clean (world_of m)) c.in-Ok.ensures.allowed (λ names is. c.in-Ok.ensures.same_tree))
 
 pub returns-in-Err-clause-refused : goal.returns-in-Err-clause-refused
@@ -350,7 +350,7 @@ returns-in-Ok-clause-any_stop g c = λ runs writes.
     let a = c.in-Clean in
     let t = tree_of (g.P.Pmem.region m.memory) m.rows in
     let n = c.clean.new.self in
-    subst (λ (call : Call). LeavesOnly (g.P.Pmem.region n.memory) (g.P.Pmem.may_hold n.memory) (BeforeOrMade m.sup call t)) (sym a.is)
+    subst (λ (call : Call). LeavesOnly (g.P.Pmem.region n.memory) (g.P.Pmem.may_hold n.memory) (BeforeOrMade m.layout call t)) (sym a.is)
     (left_by_path g.P.Pmem.region g.P.Pmem.may_hold m n (ByPath a.path.now (λ names. t)) a.path.now makes_no_change logs_page_less (λ names u is same. (names, is, same))
     (c.recovers_as_mounted.ensures runs writes) c.clean.ensures.call.bad_text (λ names is. c.clean.ensures.any_stop names is runs writes))
 
@@ -363,6 +363,6 @@ returns-in-Err-clause-any_stop g c = λ runs writes.
     let a = c.in-Clean in
     let t = tree_of (g.P.Pmem.region m.memory) m.rows in
     let n = c.clean.new.self in
-    subst (λ (call : Call). LeavesOnly (g.P.Pmem.region n.memory) (g.P.Pmem.may_hold n.memory) (BeforeOrMade m.sup call t)) (sym a.is)
+    subst (λ (call : Call). LeavesOnly (g.P.Pmem.region n.memory) (g.P.Pmem.may_hold n.memory) (BeforeOrMade m.layout call t)) (sym a.is)
     (left_by_path g.P.Pmem.region g.P.Pmem.may_hold m n (ByPath a.path.now (λ names. t)) a.path.now makes_no_change logs_page_less (λ names u is same. (names, is, same))
     (c.recovers_as_mounted.ensures runs writes) c.clean.ensures.call.bad_text (λ names is. c.clean.ensures.any_stop names is runs writes))

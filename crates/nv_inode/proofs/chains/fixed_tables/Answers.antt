@@ -2,7 +2,7 @@ use Rattle.std.proofs.Common.{◌≡◌, ◌==◌, ◌++◌, ◌∷◌, ◌∙�
 use Rattle.std.specs.Global.{Vec}
 use Rattle.std.proofs.lemmas.List.{replicate-append-replicate}
 use Rattle.nv_blockset.proofs.Lists.{none_set}
-use Rattle.nv_super.specs.nv_region.Region.{Region}
+use Rattle.nv_region.specs.Region.{Region}
 use Rattle.nv_super.specs.declared.superblock.Super.{Super}
 use Rattle.nv_super.specs.Layout.{IsLayout, Layout}
 use Rattle.nv_inode.specs.Chains.{IsLaid, chains_in, in_chains, layout_of}

@@ -2,7 +2,7 @@ use Rattle.std.proofs.Common.{◌≡◌, ◌∙◌, ℕ, List, map, ap, sym, sub
 use Rattle.std.specs.List.{range_with_len}
 use Rattle.std.specs.Global.{Vec}
 use Rattle.nv_blockset.specs.BlockSet.{is_set}
-use Rattle.nv_super.specs.nv_region.Region.{Region}
+use Rattle.nv_region.specs.Region.{Region}
 use Rattle.nv_super.specs.declared.superblock.Super.{Super}
 use Rattle.nv_super.specs.Layout.{IsLayout}
 use Rattle.nv_inode.specs.Chains.{IsLaid, chain_in, chains_in, in_chains}

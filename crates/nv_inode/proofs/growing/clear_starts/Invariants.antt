@@ -1,7 +1,7 @@
 use Rattle.std.proofs.Common.{◌≡◌, ◌+◌, ◌*◌, ◌<◌, ◌≤◌, ℕ}
-use Rattle.nv_super.specs.nv_region.Region.{size, word}
-use Rattle.nv_super.specs.nv_region.Fuses.{KeepsFuse}
-use Rattle.nv_super.specs.nv_region.Stored.{StoresOnly, Within}
+use Rattle.nv_region.specs.Region.{size, word}
+use Rattle.nv_region.specs.Fuses.{KeepsFuse}
+use Rattle.nv_region.specs.Stored.{StoresOnly, Within}
 use Rattle.nv_inode.proofs.growing.clear_starts.Given as goal
 
 abbrev pub invariant-loop-k : goal.invariant-loop-k

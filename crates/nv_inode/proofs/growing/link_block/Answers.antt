@@ -1,6 +1,6 @@
 use Rattle.std.proofs.Common.{sym, ap, ◌∙◌, ◌*◌, subst}
 use Rattle.std.proofs.lemmas.Result.{on_ok_weaker}
-use Rattle.nv_super.specs.nv_region.Region.{Region, put}
+use Rattle.nv_region.specs.Region.{Region, put}
 use Rattle.nv_inode.specs.Growing.{IsLinked}
 use Rattle.nv_inode.proofs.LinkedBlocks.{linked, linking_leaves}
 use Rattle.nv_inode.proofs.growing.link_block.Goals as goal

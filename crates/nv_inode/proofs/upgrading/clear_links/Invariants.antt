@@ -1,7 +1,7 @@
 use Rattle.std.proofs.Common.{◌≡◌, ◌+◌, ◌*◌, ◌<◌, ◌≤◌, ℕ}
-use Rattle.nv_super.specs.nv_region.Region.{HasBlocks, word}
-use Rattle.nv_super.specs.nv_region.Fuses.{KeepsFuse}
-use Rattle.nv_super.specs.nv_region.Stored.{StoresOnly}
+use Rattle.nv_region.specs.Region.{HasBlocks, word}
+use Rattle.nv_region.specs.Fuses.{KeepsFuse}
+use Rattle.nv_region.specs.Stored.{StoresOnly}
 use Rattle.nv_inode.specs.Chains.{first_link}
 use Rattle.nv_inode.specs.Upgraded.{NoLinks}
 use Rattle.nv_inode.proofs.upgrading.clear_links.Given as goal

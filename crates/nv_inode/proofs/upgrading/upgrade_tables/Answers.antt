@@ -1,6 +1,6 @@
 use Rattle.std.proofs.Common.{sym, ap, ◌∙◌, ◌≤◌, ◌*◌, length, subst, arith}
 use Rattle.std.proofs.lemmas.Result.{on_ok_weaker}
-use Rattle.nv_super.specs.nv_region.Region.{Region, put}
+use Rattle.nv_region.specs.Region.{Region, put}
 use Rattle.nv_inode.specs.Upgraded.{IsUpgraded}
 use Rattle.nv_inode.proofs.UpgradedTables.{is_upgraded, upgrading_leaves}
 use Rattle.nv_inode.proofs.upgrading.upgrade_tables.Goals as goal

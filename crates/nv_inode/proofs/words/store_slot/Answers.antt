@@ -1,5 +1,5 @@
 use Rattle.std.proofs.Common.{◌+◌, arith}
-use Rattle.nv_super.proofs.nv_region.RowStores.{row_stores}
+use Rattle.nv_region.proofs.RowStores.{row_stores}
 use Rattle.nv_inode.proofs.words.store_slot.Goals as goal
 
 pub returns-clause-wrote : goal.returns-clause-wrote

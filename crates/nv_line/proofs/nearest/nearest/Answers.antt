@@ -1,14 +1,14 @@
 use Rattle.std.proofs.Common.{refl, inl, inr, drop, ap, sym, ◌∙◌, ◌≡◌, []}
 use Rattle.std.proofs.lemmas.List.{drop_all}
-use Rattle.nv_line.specs.declared.nearest.Named.{Named}
-use Rattle.nv_line.specs.Nearest.{Near, look_through, names}
-use Rattle.nv_line.specs.Table.{rows, recovery_rows, showing_rows, more_rows, writing_rows, naming_rows}
+use Rattle.nv_line.specs.declared.table.Named.{Named}
+use Rattle.nv_line.specs.Nearest.{Near, look_through}
+use Rattle.nv_line.specs.Table.{row_of, commands, names}
 use Rattle.nv_line.proofs.Near.{looked, looked_on}
 use Rattle.nv_line.proofs.nearest.nearest.Goals as goal
 use Rattle.nv_line.proofs.nearest.nearest.Goals.{then-edits-below, else-edits-below}
 
 pub loop-command-init : goal.loop-command-init
-unfolding names rows recovery_rows showing_rows more_rows writing_rows naming_rows
+unfolding names commands row_of
 loop-command-init c = record { all = record { same = refl }; near = refl }
 
 pub loop-command-preserved : goal.loop-command-preserved
@@ -24,7 +24,7 @@ loop-command-preserved c = record {
 }
 
 pub returns : goal.returns
-unfolding look_through names rows recovery_rows showing_rows more_rows writing_rows naming_rows
+unfolding look_through names commands row_of
 returns c =
     let none : drop c.loop-command.command-index names ≡ [] = drop_all c.loop-command.command-index names (c.loop-command-test.false) in
     ap (λ (n : Near). n.form) (sym (ap (look_through c.args.word.now (record { form = c.loop-command.found; below = c.loop-command.below })) none) ∙ c.loop-command.invariant.near)

@@ -1,6 +1,7 @@
 use Rattle.std.proofs.Common.{◌≡◌, ◌+◌, ◌/◌, None, drop, length}
-use Rattle.nv_line.specs.declared.nearest.Named.{Named}
-use Rattle.nv_line.specs.Nearest.{look_through, names}
+use Rattle.nv_line.specs.declared.table.Named.{Named}
+use Rattle.nv_line.specs.Nearest.{look_through}
+use Rattle.nv_line.specs.Table.{names}
 use Rattle.nv_line.proofs.Near.{AreNamed}
 use Rattle.nv_line.proofs.nearest.nearest.Given as goal
 

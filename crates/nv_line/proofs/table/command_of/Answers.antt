@@ -1,70 +1,196 @@
+use Rattle.nv_line.specs.Request.{Format, Time, Poke, Cut, Recover, Tree, Free, Faults, Report, Peek, ListNames, Stat, Read, Create, MakeDirectory, Write, SetSize, SetAttributes, Clean, Upgrade, Link, Unlink, RemoveDirectory, Rename}
+use Rattle.nv_line.specs.Reading.{request_as}
+use Rattle.nv_line.specs.Table.{row_of}
 use Rattle.nv_line.proofs.table.command_of.Goals as goal
 
-pub returns-in-Format : goal.returns-in-Format
-returns-in-Format c = rw c.in-Format.is c.format.ensures
+pub returns-in-Some : goal.returns-in-Some
+unfolding request_as row_of
+returns-in-Some c = rw c.in-Format.is (c.in-Some.ensures Format)
 
-pub returns-in-Time : goal.returns-in-Time
-returns-in-Time c = rw c.in-Time.is c.time.ensures
+pub returns-in-None : goal.returns-in-None
+unfolding request_as row_of
+returns-in-None c = rw c.in-Format.is (c.in-None.ensures Format)
 
-pub returns-in-Poke : goal.returns-in-Poke
-returns-in-Poke c = rw c.in-Poke.is c.poke.ensures
+pub returns-in-Some-one_number : goal.returns-in-Some-one_number
+unfolding request_as row_of
+returns-in-Some-one_number c = rw c.in-Time.is (c.in-Some-one_number.ensures Time)
 
-pub returns-in-Cut : goal.returns-in-Cut
-returns-in-Cut c = rw c.in-Cut.is c.cut.ensures
+pub returns-in-None-one_number : goal.returns-in-None-one_number
+unfolding request_as row_of
+returns-in-None-one_number c = rw c.in-Time.is (c.in-None-one_number.ensures Time)
 
-pub returns-in-Recover : goal.returns-in-Recover
-returns-in-Recover c = rw c.in-Recover.is c.recover.ensures
+pub returns-in-Some-two_numbers : goal.returns-in-Some-two_numbers
+unfolding request_as row_of
+returns-in-Some-two_numbers c = rw c.in-Poke.is (c.in-Some-two_numbers.ensures Poke)
 
-pub returns-in-Replay : goal.returns-in-Replay
-returns-in-Replay c = rw c.in-Replay.is c.replay.ensures
+pub returns-in-None-two_numbers : goal.returns-in-None-two_numbers
+unfolding request_as row_of
+returns-in-None-two_numbers c = rw c.in-Poke.is (c.in-None-two_numbers.ensures Poke)
 
-pub returns-in-ListNames : goal.returns-in-ListNames
-returns-in-ListNames c = rw c.in-ListNames.is c.list_names.ensures
+pub returns-in-Some-one_number-2 : goal.returns-in-Some-one_number-2
+unfolding request_as row_of
+returns-in-Some-one_number-2 c = rw c.in-Cut.is (c.in-Some-one_number-2.ensures Cut)
 
-pub returns-in-Stat : goal.returns-in-Stat
-returns-in-Stat c = rw c.in-Stat.is c.stat.ensures
+pub returns-in-None-one_number-2 : goal.returns-in-None-one_number-2
+unfolding request_as row_of
+returns-in-None-one_number-2 c = rw c.in-Cut.is (c.in-None-one_number-2.ensures Cut)
 
-pub returns-in-Read : goal.returns-in-Read
-returns-in-Read c = rw c.in-Read.is c.read.ensures
+pub returns-in-Some-one_number-3 : goal.returns-in-Some-one_number-3
+unfolding request_as row_of
+returns-in-Some-one_number-3 c = rw c.in-Recover.is (c.in-Some-one_number-3.ensures Recover)
 
-pub returns-in-Create : goal.returns-in-Create
-returns-in-Create c = rw c.in-Create.is c.create.ensures
+pub returns-in-None-one_number-3 : goal.returns-in-None-one_number-3
+unfolding request_as row_of
+returns-in-None-one_number-3 c = rw c.in-Recover.is (c.in-None-one_number-3.ensures Recover)
 
-pub returns-in-MakeDirectory : goal.returns-in-MakeDirectory
-returns-in-MakeDirectory c = rw c.in-MakeDirectory.is c.make_directory.ensures
+pub returns-in-Some-no_words : goal.returns-in-Some-no_words
+unfolding request_as row_of
+returns-in-Some-no_words c = rw c.in-Tree.is (c.in-Some-no_words.ensures Tree)
 
-pub returns-in-Write : goal.returns-in-Write
-returns-in-Write c = rw c.in-Write.is c.write.ensures
+pub returns-in-None-no_words : goal.returns-in-None-no_words
+unfolding request_as row_of
+returns-in-None-no_words c = rw c.in-Tree.is (c.in-None-no_words.ensures Tree)
 
-pub returns-in-SetSize : goal.returns-in-SetSize
-returns-in-SetSize c = rw c.in-SetSize.is c.set_size.ensures
+pub returns-in-Some-no_words-2 : goal.returns-in-Some-no_words-2
+unfolding request_as row_of
+returns-in-Some-no_words-2 c = rw c.in-Free.is (c.in-Some-no_words-2.ensures Free)
 
-pub returns-in-SetAttributes : goal.returns-in-SetAttributes
-returns-in-SetAttributes c = rw c.in-SetAttributes.is c.set_attributes.ensures
+pub returns-in-None-no_words-2 : goal.returns-in-None-no_words-2
+unfolding request_as row_of
+returns-in-None-no_words-2 c = rw c.in-Free.is (c.in-None-no_words-2.ensures Free)
 
-pub returns-in-Link : goal.returns-in-Link
-returns-in-Link c = rw c.in-Link.is c.link.ensures
+pub returns-in-Some-no_words-3 : goal.returns-in-Some-no_words-3
+unfolding request_as row_of
+returns-in-Some-no_words-3 c = rw c.in-Faults.is (c.in-Some-no_words-3.ensures Faults)
 
-pub returns-in-Unlink : goal.returns-in-Unlink
-returns-in-Unlink c = rw c.in-Unlink.is c.unlink.ensures
+pub returns-in-None-no_words-3 : goal.returns-in-None-no_words-3
+unfolding request_as row_of
+returns-in-None-no_words-3 c = rw c.in-Faults.is (c.in-None-no_words-3.ensures Faults)
 
-pub returns-in-RemoveDirectory : goal.returns-in-RemoveDirectory
-returns-in-RemoveDirectory c = rw c.in-RemoveDirectory.is c.remove_directory.ensures
+pub returns-in-Some-no_words-4 : goal.returns-in-Some-no_words-4
+unfolding request_as row_of
+returns-in-Some-no_words-4 c = rw c.in-Report.is (c.in-Some-no_words-4.ensures Report)
 
-pub returns-in-Rename : goal.returns-in-Rename
-returns-in-Rename c = rw c.in-Rename.is c.rename.ensures
+pub returns-in-None-no_words-4 : goal.returns-in-None-no_words-4
+unfolding request_as row_of
+returns-in-None-no_words-4 c = rw c.in-Report.is (c.in-None-no_words-4.ensures Report)
 
-pub returns-in-Clean : goal.returns-in-Clean
-returns-in-Clean c = rw c.in-Clean.is c.clean.ensures
+pub returns-in-Some-one_number-4 : goal.returns-in-Some-one_number-4
+unfolding request_as row_of
+returns-in-Some-one_number-4 c = rw c.in-Peek.is (c.in-Some-one_number-4.ensures Peek)
 
-pub returns-in-Tree : goal.returns-in-Tree
-returns-in-Tree c = rw c.in-Tree.is c.tree.ensures
+pub returns-in-None-one_number-4 : goal.returns-in-None-one_number-4
+unfolding request_as row_of
+returns-in-None-one_number-4 c = rw c.in-Peek.is (c.in-None-one_number-4.ensures Peek)
 
-pub returns-in-Free : goal.returns-in-Free
-returns-in-Free c = rw c.in-Free.is c.free.ensures
+pub returns-in-Some-one_path : goal.returns-in-Some-one_path
+unfolding request_as row_of
+returns-in-Some-one_path c = rw c.in-ListNames.is (c.in-Some-one_path.ensures ListNames)
 
-pub returns-in-Faults : goal.returns-in-Faults
-returns-in-Faults c = rw c.in-Faults.is c.faults.ensures
+pub returns-in-None-one_path : goal.returns-in-None-one_path
+unfolding request_as row_of
+returns-in-None-one_path c = rw c.in-ListNames.is (c.in-None-one_path.ensures ListNames)
 
-pub returns-in-Stop : goal.returns-in-Stop
-returns-in-Stop c = rw c.in-Stop.is c.stop.ensures
+pub returns-in-Some-one_path-2 : goal.returns-in-Some-one_path-2
+unfolding request_as row_of
+returns-in-Some-one_path-2 c = rw c.in-Stat.is (c.in-Some-one_path-2.ensures Stat)
+
+pub returns-in-None-one_path-2 : goal.returns-in-None-one_path-2
+unfolding request_as row_of
+returns-in-None-one_path-2 c = rw c.in-Stat.is (c.in-None-one_path-2.ensures Stat)
+
+pub returns-in-Some-path_and_two_numbers : goal.returns-in-Some-path_and_two_numbers
+unfolding request_as row_of
+returns-in-Some-path_and_two_numbers c = rw c.in-Read.is (c.in-Some-path_and_two_numbers.ensures Read)
+
+pub returns-in-None-path_and_two_numbers : goal.returns-in-None-path_and_two_numbers
+unfolding request_as row_of
+returns-in-None-path_and_two_numbers c = rw c.in-Read.is (c.in-None-path_and_two_numbers.ensures Read)
+
+pub returns-in-Some-cpu_and_path : goal.returns-in-Some-cpu_and_path
+unfolding request_as row_of
+returns-in-Some-cpu_and_path c = rw c.in-Create.is (c.in-Some-cpu_and_path.ensures Create)
+
+pub returns-in-None-cpu_and_path : goal.returns-in-None-cpu_and_path
+unfolding request_as row_of
+returns-in-None-cpu_and_path c = rw c.in-Create.is (c.in-None-cpu_and_path.ensures Create)
+
+pub returns-in-Some-cpu_and_path-2 : goal.returns-in-Some-cpu_and_path-2
+unfolding request_as row_of
+returns-in-Some-cpu_and_path-2 c = rw c.in-MakeDirectory.is (c.in-Some-cpu_and_path-2.ensures MakeDirectory)
+
+pub returns-in-None-cpu_and_path-2 : goal.returns-in-None-cpu_and_path-2
+unfolding request_as row_of
+returns-in-None-cpu_and_path-2 c = rw c.in-MakeDirectory.is (c.in-None-cpu_and_path-2.ensures MakeDirectory)
+
+pub returns-in-Some-write_words : goal.returns-in-Some-write_words
+unfolding request_as row_of
+returns-in-Some-write_words c = rw c.in-Write.is (c.in-Some-write_words.ensures Write)
+
+pub returns-in-None-write_words : goal.returns-in-None-write_words
+unfolding request_as row_of
+returns-in-None-write_words c = rw c.in-Write.is (c.in-None-write_words.ensures Write)
+
+pub returns-in-Some-cpu_path_and_number : goal.returns-in-Some-cpu_path_and_number
+unfolding request_as row_of
+returns-in-Some-cpu_path_and_number c = rw c.in-SetSize.is (c.in-Some-cpu_path_and_number.ensures SetSize)
+
+pub returns-in-None-cpu_path_and_number : goal.returns-in-None-cpu_path_and_number
+unfolding request_as row_of
+returns-in-None-cpu_path_and_number c = rw c.in-SetSize.is (c.in-None-cpu_path_and_number.ensures SetSize)
+
+pub returns-in-Some-attribute_words : goal.returns-in-Some-attribute_words
+unfolding request_as row_of
+returns-in-Some-attribute_words c = rw c.in-SetAttributes.is (c.in-Some-attribute_words.ensures SetAttributes)
+
+pub returns-in-None-attribute_words : goal.returns-in-None-attribute_words
+unfolding request_as row_of
+returns-in-None-attribute_words c = rw c.in-SetAttributes.is (c.in-None-attribute_words.ensures SetAttributes)
+
+pub returns-in-Some-one_path-3 : goal.returns-in-Some-one_path-3
+unfolding request_as row_of
+returns-in-Some-one_path-3 c = rw c.in-Clean.is (c.in-Some-one_path-3.ensures Clean)
+
+pub returns-in-None-one_path-3 : goal.returns-in-None-one_path-3
+unfolding request_as row_of
+returns-in-None-one_path-3 c = rw c.in-Clean.is (c.in-None-one_path-3.ensures Clean)
+
+pub returns-in-Some-no_words-5 : goal.returns-in-Some-no_words-5
+unfolding request_as row_of
+returns-in-Some-no_words-5 c = rw c.in-Upgrade.is (c.in-Some-no_words-5.ensures Upgrade)
+
+pub returns-in-None-no_words-5 : goal.returns-in-None-no_words-5
+unfolding request_as row_of
+returns-in-None-no_words-5 c = rw c.in-Upgrade.is (c.in-None-no_words-5.ensures Upgrade)
+
+pub returns-in-Some-cpu_and_two_paths : goal.returns-in-Some-cpu_and_two_paths
+unfolding request_as row_of
+returns-in-Some-cpu_and_two_paths c = rw c.in-Link.is (c.in-Some-cpu_and_two_paths.ensures Link)
+
+pub returns-in-None-cpu_and_two_paths : goal.returns-in-None-cpu_and_two_paths
+unfolding request_as row_of
+returns-in-None-cpu_and_two_paths c = rw c.in-Link.is (c.in-None-cpu_and_two_paths.ensures Link)
+
+pub returns-in-Some-cpu_and_path-3 : goal.returns-in-Some-cpu_and_path-3
+unfolding request_as row_of
+returns-in-Some-cpu_and_path-3 c = rw c.in-Unlink.is (c.in-Some-cpu_and_path-3.ensures Unlink)
+
+pub returns-in-None-cpu_and_path-3 : goal.returns-in-None-cpu_and_path-3
+unfolding request_as row_of
+returns-in-None-cpu_and_path-3 c = rw c.in-Unlink.is (c.in-None-cpu_and_path-3.ensures Unlink)
+
+pub returns-in-Some-cpu_and_path-4 : goal.returns-in-Some-cpu_and_path-4
+unfolding request_as row_of
+returns-in-Some-cpu_and_path-4 c = rw c.in-RemoveDirectory.is (c.in-Some-cpu_and_path-4.ensures RemoveDirectory)
+
+pub returns-in-None-cpu_and_path-4 : goal.returns-in-None-cpu_and_path-4
+unfolding request_as row_of
+returns-in-None-cpu_and_path-4 c = rw c.in-RemoveDirectory.is (c.in-None-cpu_and_path-4.ensures RemoveDirectory)
+
+pub returns-in-Some-cpu_and_two_paths-2 : goal.returns-in-Some-cpu_and_two_paths-2
+unfolding request_as row_of
+returns-in-Some-cpu_and_two_paths-2 c = rw c.in-Rename.is (c.in-Some-cpu_and_two_paths-2.ensures Rename)
+
+pub returns-in-None-cpu_and_two_paths-2 : goal.returns-in-None-cpu_and_two_paths-2
+unfolding request_as row_of
+returns-in-None-cpu_and_two_paths-2 c = rw c.in-Rename.is (c.in-None-cpu_and_two_paths-2.ensures Rename)

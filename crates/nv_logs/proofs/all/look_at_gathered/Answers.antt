@@ -1,6 +1,6 @@
 use Rattle.std.proofs.Common.{string_bytes, subst}
 use Rattle.std.proofs.lemmas.Result.{IfOk-weaker}
-use Rattle.nv_checking.specs.GatheredImage.{IsFoundIn}
+use Rattle.nv_image_check.specs.GatheredImage.{IsFoundIn}
 use Rattle.nv_logs.proofs.Looks.{found_areas, found_blocks}
 use Rattle.nv_logs.proofs.AllLooks.{found_answer, unfound_look}
 use Rattle.nv_logs.proofs.all.look_at_gathered.Goals as goal

@@ -1,8 +1,8 @@
 use Rattle.std.proofs.Common.{string_bytes}
 use Rattle.std.proofs.lemmas.Result.{IfOk-weaker}
 use Rattle.nv_region.specs.Region.{region_of}
-use Rattle.nv_outcome.specs.nv_journal.Undo.{undone}
-use Rattle.nv_checking.proofs.Found.{as_found}
+use Rattle.nv_journal.specs.Undo.{undone}
+use Rattle.nv_image_check.proofs.Found.{as_found}
 use Rattle.nv_logs.proofs.BlockLooks.{found_block, found_rows, refused_block}
 use Rattle.nv_logs.proofs.block.look_at_block.Goals as goal
 

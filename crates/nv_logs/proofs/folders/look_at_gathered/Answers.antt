@@ -1,13 +1,9 @@
 use Rattle.std.proofs.Common.{string_bytes, subst}
 use Rattle.std.proofs.lemmas.Result.{IfOk-weaker}
-use Rattle.nv_checking.specs.GatheredImage.{IsFoundIn}
-use Rattle.nv_logs.proofs.LowRows.{found_low}
+use Rattle.nv_image_check.specs.GatheredImage.{IsFoundIn}
 use Rattle.nv_logs.specs.Folders.{TellsFolders}
 use Rattle.nv_logs.proofs.RowLooks.{found_rows, unfound_rows}
 use Rattle.nv_logs.proofs.folders.look_at_gathered.Goals as goal
-
-pub look_in-requires : goal.look_in-requires
-look_in-requires c = found_low c.args.gathered c.in-Recovered._memory c.in-Recovered.found (subst (IsFoundIn c.args.gathered) c.in-Recovered.is c.in_ok-image.ensures)
 
 pub returns-in-Recovered : goal.returns-in-Recovered
 returns-in-Recovered c R are =

@@ -1,18 +1,10 @@
 use Rattle.std.proofs.Common.{string_bytes}
 use Rattle.std.proofs.lemmas.Result.{IfOk-weaker}
 use Rattle.nv_region.specs.Region.{region_of}
-use Rattle.nv_outcome.specs.Answer.{outcome_of}
-use Rattle.nv_checking.proofs.Found.{as_found}
-use Rattle.nv_logs.proofs.LowRows.{low_rows}
+use Rattle.nv_image_check.proofs.Found.{as_found}
 use Rattle.nv_logs.specs.Folders.{TellsFolders}
 use Rattle.nv_logs.proofs.RowLooks.{image_rows, refused_rows}
 use Rattle.nv_logs.proofs.folders.look_at_image.Goals as goal
-
-pub look_in-requires : goal.look_in-requires
-look_in-requires c =
-    let found = c.in-Recovered.found in
-    let is = as_found (region_of c.args.bytes.now) c.in_ok-image.image c.in-Recovered._memory found c.in-Recovered.is c.in_ok-image.ensures in
-    low_rows (region_of c.args.bytes.now) (outcome_of found) is.0
 
 pub returns-in-Recovered : goal.returns-in-Recovered
 returns-in-Recovered c =

@@ -1,6 +1,6 @@
 use Rattle.std.proofs.Common.{string_bytes, subst}
 use Rattle.std.proofs.lemmas.Result.{IfOk-weaker}
-use Rattle.nv_checking.specs.GatheredImage.{IsFoundIn}
+use Rattle.nv_image_check.specs.GatheredImage.{IsFoundIn}
 use Rattle.nv_logs.specs.Listing.{TellsList}
 use Rattle.nv_logs.proofs.RowLooks.{found_rows, unfound_rows}
 use Rattle.nv_logs.proofs.listing.look_at_gathered.Goals as goal

@@ -1,7 +1,7 @@
 use Rattle.std.proofs.Common.{string_bytes}
 use Rattle.std.proofs.lemmas.Result.{IfOk-weaker}
 use Rattle.nv_region.specs.Region.{region_of}
-use Rattle.nv_checking.proofs.Found.{as_found}
+use Rattle.nv_image_check.proofs.Found.{as_found}
 use Rattle.nv_logs.specs.Listing.{TellsList}
 use Rattle.nv_logs.proofs.RowLooks.{image_rows, refused_rows}
 use Rattle.nv_logs.proofs.listing.look_at_image.Goals as goal

@@ -1,6 +1,6 @@
 use Rattle.std.proofs.Common.{string_bytes, subst}
 use Rattle.std.proofs.lemmas.Result.{IfOk-weaker}
-use Rattle.nv_checking.specs.GatheredImage.{IsFoundIn}
+use Rattle.nv_image_check.specs.GatheredImage.{IsFoundIn}
 use Rattle.nv_logs.proofs.Looks.{found_answer, found_areas, found_blocks, unfound_look}
 use Rattle.nv_logs.proofs.looking.look_at_gathered.Goals as goal
 

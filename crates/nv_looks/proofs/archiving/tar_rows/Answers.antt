@@ -1,7 +1,7 @@
 use Rattle.std.proofs.Common.{[], Ok}
 use Rattle.std.proofs.lemmas.Result.{err_from_is_err_and}
 use Rattle.nv_region.specs.Region.{region_of}
-use Rattle.nv_session.specs.nv_paths.Seen.{tree_of}
+use Rattle.nv_paths.specs.Seen.{tree_of}
 use Rattle.nv_archive.specs.Shown.{bytes_or_none}
 use Rattle.nv_looks.proofs.Archived.{archive_ok, archive_err, is_named, refused_ok, refused_err, tests_of}
 use Rattle.nv_looks.proofs.archiving.tar_rows.Goals as goal
@@ -12,8 +12,7 @@ write_archive-requires g c =
     let t = tree_of R c.args.rows.now.items in
     let tests = tests_of t c.args.chosen in
     record {
-      small = c.requires.small;
-      low = c.requires.low;
+      small = c.requires;
       used = c.in-Ok.ensures.used;
       named = is_named t c.args.chosen tests.0 tests.1 (c.in-Ok.ensures.tests R tests.0 tests.1) c.in-Ok.inode (c.in-Ok.ensures.found R);
     }

@@ -2,7 +2,7 @@ use Rattle.std.proofs.Common.{inr, Ok, Err}
 use Rattle.std.proofs.lemmas.Result.{err_from_is_err_and}
 use Rattle.nv_region.specs.Region.{region_of}
 use Rattle.nv_calls.proofs.RowChange.{row_there}
-use Rattle.nv_session.specs.nv_paths.Seen.{tree_of}
+use Rattle.nv_paths.specs.Seen.{tree_of}
 use Rattle.nv_looks.proofs.Cats.{refusal_ok, refusal_err}
 use Rattle.nv_looks.proofs.Filed.{file_of_row, row_ok, row_err}
 use Rattle.nv_looks.proofs.catting.cat_file.Goals as goal

@@ -2,7 +2,7 @@ use Rattle.std.proofs.Common.{◌∙◌, ap, length, string_bytes, subst}
 use Rattle.std.proofs.lemmas.Result.{IfOk-weaker}
 use Rattle.nv_tree.specs.Refusals.{stat_tests}
 use Rattle.nv_session.specs.Machine.{TellsStat}
-use Rattle.nv_session.specs.nv_paths.Seen.{tree_of}
+use Rattle.nv_paths.specs.Seen.{tree_of}
 use Rattle.nv_looks.specs.Looking.{TellsNumbers}
 use Rattle.nv_looks.specs.Gathered.{IsOpenedOf}
 use Rattle.nv_looks.proofs.Looks.{call_by_path}

@@ -1,5 +1,5 @@
 use Rattle.std.proofs.Common.{subst}
-use Rattle.nv_checking.specs.GatheredImage.{IsFoundIn}
+use Rattle.nv_image_check.specs.GatheredImage.{IsFoundIn}
 use Rattle.nv_looks.proofs.Opened.{can_open, open_mounted, open_refused}
 use Rattle.nv_looks.proofs.gathered.open_gathered.Goals as goal
 

@@ -1,4 +1,4 @@
-use Rattle.nv_session.specs.nv_paths.Seen.{tree_of}
+use Rattle.nv_paths.specs.Seen.{tree_of}
 use Rattle.nv_looks.proofs.Cats.{file_ok, file_err, refusal_ok, refusal_err}
 use Rattle.nv_looks.proofs.looking.cat_file.Goals as goal
 

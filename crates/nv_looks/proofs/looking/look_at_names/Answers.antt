@@ -3,7 +3,7 @@ use Rattle.std.proofs.lemmas.Result.{IfOk-weaker}
 use Rattle.nv_region.specs.Region.{region_of}
 use Rattle.nv_tree.specs.Refusals.{list_tests}
 use Rattle.nv_session.specs.Machine.{TellsNames}
-use Rattle.nv_session.specs.nv_paths.Seen.{tree_of}
+use Rattle.nv_paths.specs.Seen.{tree_of}
 use Rattle.nv_looks.specs.Looking.{ListsNames}
 use Rattle.nv_looks.proofs.Looks.{refused_look, mounted_look, call_by_path}
 use Rattle.nv_looks.proofs.looking.look_at_names.Goals as goal

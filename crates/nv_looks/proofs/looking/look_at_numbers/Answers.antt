@@ -3,7 +3,7 @@ use Rattle.std.proofs.lemmas.Result.{IfOk-weaker}
 use Rattle.nv_region.specs.Region.{region_of}
 use Rattle.nv_tree.specs.Refusals.{stat_tests}
 use Rattle.nv_session.specs.Machine.{TellsStat}
-use Rattle.nv_session.specs.nv_paths.Seen.{tree_of}
+use Rattle.nv_paths.specs.Seen.{tree_of}
 use Rattle.nv_looks.specs.Looking.{TellsNumbers}
 use Rattle.nv_looks.proofs.Looks.{refused_look, mounted_look, call_by_path}
 use Rattle.nv_looks.proofs.looking.look_at_numbers.Goals as goal

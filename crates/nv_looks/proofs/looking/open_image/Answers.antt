@@ -1,8 +1,8 @@
 use Rattle.std.proofs.Common.{subst}
 use Rattle.nv_region.specs.Region.{region_of}
-use Rattle.nv_checking.specs.Recovering.{IsRecovered}
-use Rattle.nv_checking.specs.declared.imaging.Image.{Image}
-use Rattle.nv_checking.proofs.Found.{as_found}
+use Rattle.nv_image_check.specs.Recovering.{IsRecovered}
+use Rattle.nv_image_check.specs.declared.imaging.Image.{Image}
+use Rattle.nv_image_check.proofs.Found.{as_found}
 use Rattle.nv_looks.proofs.Opens.{opens, mounted}
 use Rattle.nv_looks.proofs.looking.open_image.Goals as goal
 

@@ -1,7 +1,7 @@
 use Rattle.std.proofs.Common.{◌≤◌, ◌-◌, ℕ, List}
 use Rattle.std.specs.Io.KnownBytes.{Appends}
 use Rattle.nv_tree.specs.Path.{IsPath}
-use Rattle.nv_session.specs.nv_paths.Seen.{tree_of}
+use Rattle.nv_paths.specs.Seen.{tree_of}
 use Rattle.nv_looks.specs.Looking.{IsSized}
 use Rattle.nv_tar.proofs.FileFronts.{first_bytes}
 use Rattle.nv_looks.proofs.looking.write_file.Given as goal

@@ -1,4 +1,4 @@
-use Rattle.nv_session.specs.nv_paths.Seen.{tree_of}
+use Rattle.nv_paths.specs.Seen.{tree_of}
 use Rattle.nv_looks.proofs.CatsByNumber.{file_ok, file_err, refusal_ok, refusal_err}
 use Rattle.nv_looks.proofs.looking_by_number.cat_inode.Goals as goal
 

@@ -1,9 +1,9 @@
 use Rattle.std.proofs.Common.{◌∙◌, ap, length, string_bytes}
 use Rattle.std.proofs.lemmas.Result.{IfOk-weaker}
 use Rattle.nv_region.specs.Region.{region_of}
-use Rattle.nv_session.specs.nv_calls.ByNumber.{list_inode_tests}
+use Rattle.nv_calls.specs.ByNumber.{list_inode_tests}
 use Rattle.nv_session.specs.ByNumber.{TellsInodeNames}
-use Rattle.nv_session.specs.nv_paths.Seen.{tree_of}
+use Rattle.nv_paths.specs.Seen.{tree_of}
 use Rattle.nv_looks.specs.LookingByNumber.{ListsInodeNames}
 use Rattle.nv_looks.proofs.Looks.{refused_look, mounted_look, call_by_number}
 use Rattle.nv_looks.proofs.looking_by_number.look_at_inode_names.Goals as goal

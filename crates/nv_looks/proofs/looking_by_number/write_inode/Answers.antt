@@ -1,6 +1,6 @@
 use Rattle.std.proofs.Common.{◌≤◌, ◌+◌, arith}
 use Rattle.std.proofs.lemmas.Result.{err_from_is_err_and}
-use Rattle.nv_session.specs.nv_paths.Seen.{tree_of}
+use Rattle.nv_paths.specs.Seen.{tree_of}
 use Rattle.nv_looks.proofs.PiecesByNumber.{fails_between, fails_inside, ends_file, piece_more}
 use Rattle.nv_looks.proofs.looking_by_number.write_inode.Goals as goal
 

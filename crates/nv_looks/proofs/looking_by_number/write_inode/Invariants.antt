@@ -1,6 +1,6 @@
 use Rattle.std.proofs.Common.{◌≤◌, ◌-◌}
 use Rattle.std.specs.Io.KnownBytes.{Appends}
-use Rattle.nv_session.specs.nv_paths.Seen.{tree_of}
+use Rattle.nv_paths.specs.Seen.{tree_of}
 use Rattle.nv_looks.specs.LookingByNumber.{IsInodeSized}
 use Rattle.nv_tar.proofs.FileFronts.{first_bytes}
 use Rattle.nv_looks.proofs.looking_by_number.write_inode.Given as goal

@@ -5,8 +5,6 @@ use Rattle.byteorder.specs.Endian.{little_number}
 use Rattle.nv_region.specs.Region.{region_of, word}
 use Rattle.nv_region.proofs.Bytes.{size_of_bytes}
 use Rattle.nv_super.specs.Layout.{most_blocks}
-use Rattle.nv_outcome.proofs.SuperOf.{version_of_super}
-use Rattle.nv_metadata.specs.Gathered.{SaysSuper}
 use Rattle.nv_metadata.proofs.Refused.{length_refused, refused_there}
 use Rattle.nv_metadata.proofs.Ready.{says}
 use Rattle.nv_metadata.proofs.HandedOn.{passed_on}
@@ -21,31 +19,26 @@ returns-then-length-ne0-clause-read g c image known =
       | inr other ↦ elim other [ inl few ↦ inr (inl few.1) | inr many ↦ inr (inr many.2) ]
     ]))
 
-pub returns-in_ok-front-in-Ok-clause-sound : goal.returns-in_ok-front-in-Ok-clause-sound
-returns-in_ok-front-in-Ok-clause-sound g c =
+pub read_accepted-requires-clause-says : goal.read_accepted-requires-clause-says
+read_accepted-requires-clause-says g c =
     let made = c.new-alone.ensures in
     let items = c.deref.ensures.value in
-    let s = c.in-Ok.sup in
-    let count = c.in_ok-front-in-Ok.ensures.count in
-    let first_says : SaysSuper c.in_ok-first.first.items s = says s c.in_ok-first.first.items c.new-alone.result.region c.in_ok-first.ensures.count c.in-Ok.ensures.blocks
-    (λ at aligned within. made.front at aligned (omega (arith, within, ap length items)) ∙ ap (λ (l : List ℕ). little_number 8 (drop at l)) items) c.in-Ok.ensures.accepted in (
-      c.in-Ok.ensures.layout,
-      version_of_super c.new-alone.result.region s c.in-Ok.ensures.accepted,
-      record {
-        begins = omega (arith, count);
-        whole = omega (arith, count);
-        ends = omega (arith, count);
-        superblock = subst (λ (l : List ℕ). SaysSuper l s) (sym c.in_ok-front-in-Ok.ensures.begins) first_says;
-      },
-      count,
-    )
+    says c.in-Ok.sup c.in_ok-first.first.items c.new-alone.result.region c.in_ok-first.ensures.count c.in-Ok.ensures.blocks
+    (λ at aligned within. made.front at aligned (omega (arith, within, ap length items)) ∙ ap (λ (l : List ℕ). little_number 8 (drop at l)) items) c.in-Ok.ensures.accepted
 
-pub returns-in_ok-front-in-Ok-clause-read : goal.returns-in_ok-front-in-Ok-clause-read
-returns-in_ok-front-in-Ok-clause-read g c image known =
+pub returns-in-Ok-clause-read : goal.returns-in-Ok-clause-read
+returns-in-Ok-clause-read g c image known =
     let as_long : c.in_ok-length.length ≡ length image = c.in_ok-length.ensures.count image known in
     let words = c.in-Ok.ensures.blocks.0 in
     let same_words = c.new-alone.ensures.blocks.0 in
-    (omega (arith, as_long, words, same_words, c.if-length-ne0.false), c.in_ok-front-in-Ok.ensures.read image known (c.in_ok-first.ensures.read image known))
+    c.read_accepted.ensures.read image known (omega (arith, as_long, words, same_words, c.if-length-ne0.false)) (c.in_ok-first.ensures.read image known)
+
+pub returns-in-Ok-clause-known : goal.returns-in-Ok-clause-known
+returns-in-Ok-clause-known g c image known =
+    let as_long : c.in_ok-length.length ≡ length image = c.in_ok-length.ensures.count image known in
+    let words = c.in-Ok.ensures.blocks.0 in
+    let same_words = c.new-alone.ensures.blocks.0 in
+    c.read_accepted.ensures.known image known (omega (arith, as_long, words, same_words, c.if-length-ne0.false))
 
 pub returns-in-Err-clause-read : goal.returns-in-Err-clause-read
 returns-in-Err-clause-read g c image known =
@@ -68,11 +61,3 @@ returns-in_err-first-clause-known g c image known =
     let as_long : c.in_ok-length.length ≡ length image = c.in_ok-length.ensures.count image known in
     let error = err_from_is_err_and c.from_residual-in_err-first.result c.from_residual-in_err-first.ensures.1 in
     passed_on c.from_residual-in_err-first.result c.in_err-first.field-0.0 error.0 error.1 error.2 (c.in_err-first.ensures.known image known (omega (arith, as_long, c.if-blocks-lt-LEAST_BLOCKS.false)))
-
-pub returns-in_err-front-in-Ok-clause-known : goal.returns-in_err-front-in-Ok-clause-known
-returns-in_err-front-in-Ok-clause-known g c image known =
-    let as_long : c.in_ok-length.length ≡ length image = c.in_ok-length.ensures.count image known in
-    let words = c.in-Ok.ensures.blocks.0 in
-    let same_words = c.new-alone.ensures.blocks.0 in
-    let error = err_from_is_err_and c.from_residual-in_err-front-in-Ok.result c.from_residual-in_err-front-in-Ok.ensures.1 in
-    passed_on c.from_residual-in_err-front-in-Ok.result c.in_err-front-in-Ok.field-0.0 error.0 error.1 error.2 (c.in_err-front-in-Ok.ensures.known image known (omega (arith, as_long, words, same_words, c.if-length-ne0.false)))

@@ -16,7 +16,7 @@ loop-place-preserved g c =
     elim c.match-right_log.branch [
       | in-Some+in_ok-push w ↦ subst (λ (xs : List LogEnds). LogsBelow U s (n + 1) xs) (sym (ap (λ (v : _). v.items) w.logs-is ∙ w.in_ok-push.ensures.items))
           (below_some U s n c.loop-place.logs.items w.in-Some.log c.requires.layout c.loop-place.invariant
-          (λ i head tail l. same_Some w.in-Some.log (record { head = head; tail = tail }) (sym w.in-Some.is ∙ c.right_log.ensures.all i head tail l)) w.in-Some.ensures.only)
+          (λ i head tail l. same_Some w.in-Some.log (record { head = head; tail = tail }) (sym w.in-Some.is ∙ c.right_log.ensures.all i head tail l)) (w.in-Some.ensures.only.0, _, w.in-Some.ensures.only.1))
       | in_default w ↦ subst (λ (xs : List LogEnds). LogsBelow U s (n + 1) xs) (sym (ap (λ (v : _). v.items) w.logs-is))
           (below_none U s n c.loop-place.logs.items c.requires.layout c.loop-place.invariant (λ i head tail l. w.in_default.not-Some (record { head = head; tail = tail }) (c.right_log.ensures.all i head tail l)))
     ]

@@ -1,6 +1,6 @@
 use Rattle.std.proofs.Common.{◌∙◌, ap}
 use Rattle.std.specs.Prelude.{Err}
-use Rattle.nv_checking.proofs.Checked.{too_long}
+use Rattle.nv_image_check.proofs.Checked.{too_long}
 use Rattle.nv_super.specs.declared.superblock.SuperFault.TheVariants.{Length}
 use Rattle.nv_records.specs.declared.rolling.Journals.TheVariants.{Refused}
 use Rattle.nv_pending.proofs.checking.journals_text.Goals as goal

@@ -1,5 +1,5 @@
 use Rattle.std.proofs.Common.{refl}
-use Rattle.nv_outcome.proofs.nv_rows.UsedRows.{slots_below}
+use Rattle.nv_rows.proofs.UsedRows.{slots_below}
 use Rattle.nv_recover.proofs.Claims.{claims_covered}
 use Rattle.nv_recover.proofs.Inodes.{rows_slotted}
 use Rattle.nv_recover.proofs.Owned.{owned_claimed}

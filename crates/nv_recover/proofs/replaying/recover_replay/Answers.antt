@@ -1,10 +1,10 @@
-use Rattle.std.proofs.Common.{◌≡◌, ◌≢◌, IsTrue, refl}
+use Rattle.std.proofs.Common.{◌≡◌, ◌≢◌, ◌∙◌, IsTrue, refl, sym}
 use Rattle.std.proofs.lemmas.Result.{IfOk-from_err}
 use Rattle.nv_recover.specs.Errors.{Fails, comes_first}
 use Rattle.nv_recover.specs.declared.errors.RecoverError.{RecoverError}
 use Rattle.nv_recover.specs.declared.errors.RecoverError.TheVariants.{Stopped, Workers, Schedule}
 use Rattle.nv_recover.proofs.Answers.{tables_blocks, tables_sup}
-use Rattle.nv_recover.proofs.Handed.{goes_on, handed, memory_fails, memory_goes_on, memory_not_burnt, memory_not_first}
+use Rattle.nv_recover.proofs.Handed.{goes_by, goes_on, handed, memory_fails, memory_goes_on, memory_not_burnt, memory_not_first, stranger_first}
 use Rattle.nv_recover.proofs.Stops.{stop_before}
 use Rattle.nv_region.proofs.Wordwise.{stores_none}
 use Rattle.nv_recover.proofs.replaying.recover_replay.Goals as goal
@@ -131,23 +131,23 @@ returns-in_err-scanned-clause-err g c = memory_fails c.from_residual-in_err-scan
 pub returns-in_err-finish-clause-err : goal.returns-in_err-finish-clause-err
 returns-in_err-finish-clause-err g c = memory_fails c.from_residual-in_err-finish.result c.from_residual-in_err-finish.ensures.1 c.args.workers c.args.schedule.now (g.P.Pmem.region c.args.memory.now) (g.P.Pmem.region c.start.new.memory) c.in_ok-started.started.sup c.in_ok-started.ensures.ok.sup c.in_ok-started.ensures.ok.rolled_back
 
-pub returns-in_err-started-clause-workers : goal.returns-in_err-started-clause-workers
-returns-in_err-started-clause-workers g c = λ bad. absurd (c.is_worker_count.ensures.good c.if-not-is_worker_count.false bad)
+pub returns-in_err-started-clause-first : goal.returns-in_err-started-clause-first
+returns-in_err-started-clause-first g c = goes_by (c.is_worker_count.ensures.good c.if-not-is_worker_count.false) (sym c.first_stranger.ensures ∙ c.in_default.is)
 
-pub returns-in_err-scanned-clause-workers : goal.returns-in_err-scanned-clause-workers
-returns-in_err-scanned-clause-workers g c = λ bad. absurd (c.is_worker_count.ensures.good c.if-not-is_worker_count.false bad)
+pub returns-in_err-scanned-clause-first : goal.returns-in_err-scanned-clause-first
+returns-in_err-scanned-clause-first g c = goes_by (c.is_worker_count.ensures.good c.if-not-is_worker_count.false) (sym c.first_stranger.ensures ∙ c.in_default.is)
 
-pub returns-in_err-finish-clause-workers : goal.returns-in_err-finish-clause-workers
-returns-in_err-finish-clause-workers g c = λ bad. absurd (c.is_worker_count.ensures.good c.if-not-is_worker_count.false bad)
+pub returns-in_err-finish-clause-first : goal.returns-in_err-finish-clause-first
+returns-in_err-finish-clause-first g c = goes_by (c.is_worker_count.ensures.good c.if-not-is_worker_count.false) (sym c.first_stranger.ensures ∙ c.in_default.is)
 
-pub returns-clause-workers : goal.returns-clause-workers
-returns-clause-workers g c = λ bad. absurd (c.is_worker_count.ensures.good c.if-not-is_worker_count.false bad)
+pub returns-clause-first : goal.returns-clause-first
+returns-clause-first g c = goes_by (c.is_worker_count.ensures.good c.if-not-is_worker_count.false) (sym c.first_stranger.ensures ∙ c.in_default.is)
 
-pub returns-in-Some-clause-workers : goal.returns-in-Some-clause-workers
-returns-in-Some-clause-workers g c = λ bad. absurd (c.is_worker_count.ensures.good c.if-not-is_worker_count.false bad)
+pub returns-in-Some-clause-first : goal.returns-in-Some-clause-first
+returns-in-Some-clause-first g c = stranger_first (c.is_worker_count.ensures.good c.if-not-is_worker_count.false) (sym c.first_stranger.ensures ∙ c.in-Some.is)
 
-pub returns-then-not-is_worker_count-clause-workers : goal.returns-then-not-is_worker_count-clause-workers
-returns-then-not-is_worker_count-clause-workers g c = λ bad. (tt, refl)
+pub returns-then-not-is_worker_count-clause-first : goal.returns-then-not-is_worker_count-clause-first
+returns-then-not-is_worker_count-clause-first g c = record { count = λ bad. (tt, refl); stranger = λ place good is. absurd (good (c.is_worker_count.ensures.bad c.if-not-is_worker_count.true)) }
 
 pub returns-then-not-is_worker_count-clause-err : goal.returns-then-not-is_worker_count-clause-err
 returns-then-not-is_worker_count-clause-err g c = (c.is_worker_count.ensures.bad c.if-not-is_worker_count.true, refl)

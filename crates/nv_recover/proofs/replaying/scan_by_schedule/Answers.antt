@@ -1,7 +1,7 @@
 use Rattle.std.proofs.Common.{refl, subst, sym}
 use Rattle.nv_super.specs.declared.superblock.Super.{Super}
 use Rattle.nv_claimcore.specs.Replay.{Inside, lists}
-use Rattle.nv_outcome.proofs.nv_rows.UsedRows.{slots_below}
+use Rattle.nv_rows.proofs.UsedRows.{slots_below}
 use Rattle.nv_recover.proofs.Claims.{work_inside, claims_covered, claimed_by_sets}
 use Rattle.nv_recover.proofs.Inodes.{rows_slotted}
 use Rattle.nv_recover.proofs.Owned.{owned_claimed}

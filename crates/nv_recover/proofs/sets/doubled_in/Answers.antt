@@ -2,7 +2,7 @@ use Rattle.std.proofs.Common.{ℕ, List, ap, arith, sym, subst}
 use Rattle.std.proofs.lemmas.Result.{IfOk-weaker}
 use Rattle.nv_super.specs.declared.superblock.Super.{Super}
 use Rattle.nv_scan.specs.Work.{claims_in}
-use Rattle.nv_outcome.specs.nv_check.Doubled.{AreDoubled}
+use Rattle.nv_cross_check.specs.Doubled.{AreDoubled}
 use Rattle.nv_recover.proofs.Owned.{doubled_same, none_doubled, second_covers}
 use Rattle.nv_recover.proofs.sets.doubled_in.Goals as goal
 

@@ -1,6 +1,6 @@
 use Rattle.std.proofs.Common.{◌≡◌, take}
 use Rattle.std.specs.Prelude.{bytes_eq, count_by}
-use Rattle.nv_report.specs.Summary.{class_of}
+use Rattle.nv_super.specs.Classes.{class_of}
 use Rattle.nv_report.proofs.summary.count_class.Given as goal
 
 abbrev pub invariant-loop-fault : goal.invariant-loop-fault

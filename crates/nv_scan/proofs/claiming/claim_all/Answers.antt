@@ -1,7 +1,7 @@
 use Rattle.std.proofs.Common.{List, ℕ, sym, subst}
 use Rattle.std.proofs.lemmas.Result.{on_ok_weaker}
 use Rattle.nv_super.specs.declared.owners.Owner.{Owner}
-use Rattle.nv_claimmap.specs.nv_claimcore.Spans.{Adds}
+use Rattle.nv_claimcore.specs.Spans.{Adds}
 use Rattle.nv_scan.specs.Claiming.{IsClaimable}
 use Rattle.nv_scan.proofs.Runs.{adds_both, claims_split}
 use Rattle.nv_scan.proofs.claiming.claim_all.Goals as goal

@@ -2,8 +2,8 @@ use Rattle.std.proofs.Common.{ℕ, List, take, refl, sym, ◌∙◌, subst}
 use Rattle.std.specs.List.{All}
 use Rattle.std.proofs.lemmas.List.{take_all}
 use Rattle.nv_super.specs.declared.owners.Owner.{Owner}
-use Rattle.nv_claimmap.specs.nv_claimcore.Spans.{Adds}
-use Rattle.nv_claimmap.proofs.nv_claimcore.Runs.{adds_none}
+use Rattle.nv_claimcore.specs.Spans.{Adds}
+use Rattle.nv_claimcore.proofs.Runs.{adds_none}
 use Rattle.nv_scan.specs.ClaimList.{ClaimList}
 use Rattle.nv_scan.specs.Claiming.{IsClaimable}
 use Rattle.nv_scan.specs.Work.{claims_among}

@@ -2,7 +2,7 @@ use Rattle.std.proofs.Common.{◌∷◌, [], ℕ, List, get_or, take, sym, ◌�
 use Rattle.std.proofs.lemmas.List.{take_all}
 use Rattle.nv_super.specs.declared.owners.Owner.{Owner}
 use Rattle.nv_super.specs.declared.owners.Owner.TheVariants.{Log}
-use Rattle.nv_claimmap.specs.nv_claimcore.Spans.{Adds}
+use Rattle.nv_claimcore.specs.Spans.{Adds}
 use Rattle.nv_scan.specs.Claiming.{IsClaimable}
 use Rattle.nv_scan.specs.Claims.{log_claims}
 use Rattle.nv_scan.proofs.ClaimLists.{log_claims-more}

@@ -2,7 +2,7 @@ use Rattle.std.proofs.Common.{ℕ, List, get_or, take, sym, ◌∙◌, subst}
 use Rattle.std.proofs.lemmas.List.{get_or_default, take_all}
 use Rattle.nv_super.specs.declared.owners.Owner.{Owner}
 use Rattle.nv_radix.specs.declared.extent.Extent.{Extent}
-use Rattle.nv_claimmap.specs.nv_claimcore.Spans.{Adds}
+use Rattle.nv_claimcore.specs.Spans.{Adds}
 use Rattle.nv_scan.specs.Claims.{data_claims, run_claims}
 use Rattle.nv_scan.proofs.ClaimLists.{data_claims-more}
 use Rattle.nv_scan.proofs.Runs.{no_run, adds_both, run_claimable}

@@ -1,5 +1,5 @@
 use Rattle.std.proofs.Common.{◌≡◌, take}
-use Rattle.nv_claimmap.specs.nv_claimcore.Spans.{Adds}
+use Rattle.nv_claimcore.specs.Spans.{Adds}
 use Rattle.nv_scan.specs.Claims.{data_claims}
 use Rattle.nv_scan.proofs.claiming.claim_runs.Given as goal
 

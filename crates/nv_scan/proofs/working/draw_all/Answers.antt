@@ -1,7 +1,7 @@
 use Rattle.std.proofs.Common.{◌<◌, ◌≤◌, ◌∙◌, ℕ, sym, ap, subst, ⊎_elim, refl}
 use Rattle.nv_super.specs.Layout.{IsLayout}
-use Rattle.nv_claimmap.specs.nv_claimcore.declared.view.View.{View}
-use Rattle.nv_claimmap.specs.nv_claimcore.Claims.{past}
+use Rattle.nv_claimcore.specs.declared.view.View.{View}
+use Rattle.nv_claimcore.specs.Claims.{past}
 use Rattle.nv_scan.specs.Tickets.{ticket_count, numbers_of}
 use Rattle.std.specs.List.{All}
 use Rattle.nv_scan.specs.Work.{IsWork, rows_in, tickets_among}
@@ -28,7 +28,7 @@ pub scan_ticket-requires-clause-own : goal.scan_ticket-requires-clause-own
 scan_ticket-requires-clause-own g c = c.in-Some.ensures.map ∙ c.loop-ticket.invariant.map
 
 pub scan_ticket-requires-clause-ticket : goal.scan_ticket-requires-clause-ticket
-scan_ticket-requires-clause-ticket g c = subst (λ (n : ℕ). c.in-Some.ticket < n) c.requires.sizes.1 c.in-Some.ensures.some
+scan_ticket-requires-clause-ticket g c = subst (λ (n : ℕ). c.in-Some.ticket < n) c.requires.sizes.1 c.in-Some.ensures.ticket.below
 
 pub scan_ticket-requires-clause-room : goal.scan_ticket-requires-clause-room
 scan_ticket-requires-clause-room g c = c.loop-ticket.invariant.room
@@ -41,7 +41,7 @@ push_heads-requires g c =
 pub loop-ticket-smaller : goal.loop-ticket-smaller
 loop-ticket-smaller g c = let d = c.in-Some.ensures in
     nearer (g.P.Pmem.region c.args.memory.now) c.args.tables.now.layout c.args.map.now.sizes.tickets c.in-Some.ticket (numbers_of c.args.tables.now.layout c.in-Some.ticket) c.loop-ticket.seat.view c.draw.new.seat.view c.scan_ticket.new.seat.view
-    d.rises d.some d.joins c.in_ok-scan_ticket.ensures.done
+    d.ticket.rises d.ticket.below d.joins c.in_ok-scan_ticket.ensures.done
 
 pub loop-ticket-preserved : goal.loop-ticket-preserved
 loop-ticket-preserved g c =
@@ -57,10 +57,10 @@ loop-ticket-preserved g c =
       seats = c.scan_ticket.ensures.seat.2 ∙ ap (λ (x : View). x.seats) d.joins ∙ was.seats;
       room = c.scan_ticket.ensures.room;
       heads = c.in_ok-push_heads.ensures;
-      work = work_more R l v u w old new before after t was.work (subst (λ (n : ℕ). t < n) c.requires.sizes.1 d.some) d.joins c.in_ok-scan_ticket.ensures.done;
+      work = work_more R l v u w old new before after t was.work (subst (λ (n : ℕ). t < n) c.requires.sizes.1 d.ticket.below) d.joins c.in_ok-scan_ticket.ensures.done;
       entered = each_more (g.G.Gate.entered c.args.gate.now c.args.seat.now.number) R l v u w (numbers_of l t) t was.entered
           (subst (λ (n : ℕ). g.G.Gate.entered c.args.gate.now n t) (c.number.ensures ∙ d.number ∙ was.number) c.enter.ensures)
-          (subst (λ (n : ℕ). t < n) c.requires.sizes.1 d.some) d.joins c.in_ok-scan_ticket.ensures.done;
+          (subst (λ (n : ℕ). t < n) c.requires.sizes.1 d.ticket.below) d.joins c.in_ok-scan_ticket.ensures.done;
     }
 
 pub returns-clause-seat : goal.returns-clause-seat

@@ -1,5 +1,5 @@
 use Rattle.std.proofs.Common.{◌≡◌, ◌-◌, length}
-use Rattle.nv_claimmap.specs.nv_claimcore.Claims.{above}
+use Rattle.nv_claimcore.specs.Claims.{above}
 use Rattle.nv_scan.specs.Heads.{heads_of}
 use Rattle.std.specs.List.{All}
 use Rattle.nv_scan.specs.Tickets.{ticket_count}

@@ -1,12 +1,11 @@
 use Rattle.std.proofs.Common.{◌∙◌, ◌+◌, ◌-◌, ◌%◌, ◌∷◌, [], ap, subst, ◌≡◌, ◌≤◌, sym, refl, List, arith}
-use Rattle.nv_super.specs.Layout.{fixed_layout}
 use Rattle.std.proofs.lemmas.Result.{err_from_is_err_and, IfOk-from_err}
 use Rattle.nv_entry.specs.declared.entry.Entry.{Entry}
 use Rattle.nv_entry.specs.declared.entry.Operation.TheVariants.{Remove}
 use Rattle.nv_entry.specs.Spelling.{entry_length}
 use Rattle.nv_logpage.specs.Append.{needed}
 use Rattle.nv_alloc.specs.Taking.{all_blocks}
-use Rattle.nv_held.specs.nv_outcome.Same.{SameRow}
+use Rattle.nv_outcome.specs.Same.{SameRow}
 use Rattle.nv_tree.specs.declared.refusal.Refusal.TheVariants.{Stopped}
 use Rattle.nv_tree.specs.declared.refusal.Refusal.{Refusal}
 use Rattle.nv_tree.proofs.Replies.{refused_by}
@@ -59,7 +58,7 @@ returns-clause-lessened g c =
     let one : c.name_entry.result ∷ [] ≡ name_entries Remove c.args.moved.now.inode c.args.moved.now.name.now c.args.moved.now.time = (λ t. c.name_entry.ensures t ∷ []) in
     let two : c.name_entry-2.result ∷ c.name_entry-3.result ∷ [] ≡ handed_entries c.args.moved.now.inode c.args.file.now.inode c.args.moved.now.other.now c.args.moved.now.time = (λ t. c.name_entry-2.ensures t ∷ c.name_entry-3.ensures t ∷ []) in
     lessens_across c.args.moved.now.inode c.args.moved.now.name.now c.args.moved.now.other.now c.args.moved.now.time c.length.result
-    (both_as (λ (es fs : List Entry). AppendsThreeLogs (g.P.Pmem.region c.args.memory.now) (g.P.Pmem.region c.append_three_logs.new.memory) c.args.sup.now c.args.free.now c.append_three_logs.new.free c.args.cpu c.args.from.now c.append_three_logs.new.row es c.args.to.now c.append_three_logs.new.other fs c.args.file.now c.append_three_logs.new.last (links_entries (c.args.file.now.numbers.links - 1) c.args.moved.now.time)) one two c.in_ok-append_three_logs.ensures.appended)
+    (both_as (λ (es fs : List Entry). AppendsThreeLogs (g.P.Pmem.region c.args.memory.now) (g.P.Pmem.region c.append_three_logs.new.memory) c.args.tables.now.layout c.args.free.now c.append_three_logs.new.free c.args.cpu c.args.from.now c.append_three_logs.new.row es c.args.to.now c.append_three_logs.new.other fs c.args.file.now c.append_three_logs.new.last (links_entries (c.args.file.now.numbers.links - 1) c.args.moved.now.time)) one two c.in_ok-append_three_logs.ensures.appended)
     (c.length.ensures.value ∙ ap entry_length c.name_entry-3.ensures) c.remove_name.ensures.row c.remove_name.ensures.once c.remove_name-2.ensures.row c.remove_name-2.ensures.once c.add_name.ensures.row c.add_name.ensures.once c.set_links.ensures
 
 pub returns-clause-needs : goal.returns-clause-needs
@@ -114,15 +113,15 @@ pub returns-clause-in_order : goal.returns-clause-in_order
 returns-clause-in_order g c held h k f here there also =
     let one : c.name_entry.result ∷ [] ≡ name_entries Remove c.args.moved.now.inode c.args.moved.now.name.now c.args.moved.now.time = (λ t. c.name_entry.ensures t ∷ []) in
     let two : c.name_entry-2.result ∷ c.name_entry-3.result ∷ [] ≡ handed_entries c.args.moved.now.inode c.args.file.now.inode c.args.moved.now.other.now c.args.moved.now.time = (λ t. c.name_entry-2.ensures t ∷ c.name_entry-3.ensures t ∷ []) in
-    both_as (λ (es fs : List Entry). TailIsFirst (g.P.Pmem.region c.args.memory.now) (g.P.Pmem.region c.append_three_logs.new.memory) c.args.sup.now c.args.free.now.pools c.args.cpu c.args.from.now.inode c.args.from.now.tail es (tail_address c.args.sup.now c.args.to.now.inode)
-    × TailIsNext (g.P.Pmem.region c.args.memory.now) (g.P.Pmem.region c.append_three_logs.new.memory) c.args.sup.now c.args.free.now.pools c.args.cpu (needed (c.args.from.now.tail % 4096) es) c.args.to.now.inode c.args.to.now.tail fs (tail_address c.args.sup.now c.args.file.now.inode)) one two (c.append_three_logs.ensures.in_order held h k f here there also)
+    both_as (λ (es fs : List Entry). TailIsFirst (g.P.Pmem.region c.args.memory.now) (g.P.Pmem.region c.append_three_logs.new.memory) c.args.tables.now.layout c.args.free.now.pools c.args.cpu c.args.from.now.inode c.args.from.now.tail es (tail_address c.args.tables.now.layout c.args.to.now.inode)
+    × TailIsNext (g.P.Pmem.region c.args.memory.now) (g.P.Pmem.region c.append_three_logs.new.memory) c.args.tables.now.layout c.args.free.now.pools c.args.cpu (needed (c.args.from.now.tail % 4096) es) c.args.to.now.inode c.args.to.now.tail fs (tail_address c.args.tables.now.layout c.args.file.now.inode)) one two (c.append_three_logs.ensures.in_order held h k f here there also)
 
 pub returns-clause-any_stop : goal.returns-clause-any_stop
 returns-clause-any_stop g c held h k f here there also settled left may =
     let one : c.name_entry.result ∷ [] ≡ name_entries Remove c.args.moved.now.inode c.args.moved.now.name.now c.args.moved.now.time = (λ t. c.name_entry.ensures t ∷ []) in
     let two : c.name_entry-2.result ∷ c.name_entry-3.result ∷ [] ≡ handed_entries c.args.moved.now.inode c.args.file.now.inode c.args.moved.now.other.now c.args.moved.now.time = (λ t. c.name_entry-2.ensures t ∷ c.name_entry-3.ensures t ∷ []) in
     left_lessened c.args.from.now c.args.to.now c.args.file.now c.args.moved.now.inode c.args.moved.now.name.now c.args.moved.now.other.now c.args.moved.now.time left
-    (both_as (λ (es fs : List Entry). LeavesEither (g.P.Pmem.region c.args.memory.now) (fixed_layout c.args.sup.now) held (AppendedThreeLogs (g.P.Pmem.region c.args.memory.now) c.args.sup.now c.args.free.now c.args.cpu c.args.from.now es c.args.to.now fs c.args.file.now (links_entries (c.args.file.now.numbers.links - 1) c.args.moved.now.time)) left) one two (c.append_three_logs.ensures.any_stop held h k f here there also settled left may))
+    (both_as (λ (es fs : List Entry). LeavesEither (g.P.Pmem.region c.args.memory.now) c.args.tables.now.layout held (AppendedThreeLogs (g.P.Pmem.region c.args.memory.now) c.args.tables.now.layout c.args.free.now c.args.cpu c.args.from.now es c.args.to.now fs c.args.file.now (links_entries (c.args.file.now.numbers.links - 1) c.args.moved.now.time)) left) one two (c.append_three_logs.ensures.any_stop held h k f here there also settled left may))
 
 pub returns-in_err-append_three_logs-clause-wrote : goal.returns-in_err-append_three_logs-clause-wrote
 returns-in_err-append_three_logs-clause-wrote g c held h k f here there also = c.append_three_logs.ensures.wrote held h k f here there also
@@ -131,15 +130,15 @@ pub returns-in_err-append_three_logs-clause-in_order : goal.returns-in_err-appen
 returns-in_err-append_three_logs-clause-in_order g c held h k f here there also =
     let one : c.name_entry.result ∷ [] ≡ name_entries Remove c.args.moved.now.inode c.args.moved.now.name.now c.args.moved.now.time = (λ t. c.name_entry.ensures t ∷ []) in
     let two : c.name_entry-2.result ∷ c.name_entry-3.result ∷ [] ≡ handed_entries c.args.moved.now.inode c.args.file.now.inode c.args.moved.now.other.now c.args.moved.now.time = (λ t. c.name_entry-2.ensures t ∷ c.name_entry-3.ensures t ∷ []) in
-    both_as (λ (es fs : List Entry). TailIsFirst (g.P.Pmem.region c.args.memory.now) (g.P.Pmem.region c.append_three_logs.new.memory) c.args.sup.now c.args.free.now.pools c.args.cpu c.args.from.now.inode c.args.from.now.tail es (tail_address c.args.sup.now c.args.to.now.inode)
-    × TailIsNext (g.P.Pmem.region c.args.memory.now) (g.P.Pmem.region c.append_three_logs.new.memory) c.args.sup.now c.args.free.now.pools c.args.cpu (needed (c.args.from.now.tail % 4096) es) c.args.to.now.inode c.args.to.now.tail fs (tail_address c.args.sup.now c.args.file.now.inode)) one two (c.append_three_logs.ensures.in_order held h k f here there also)
+    both_as (λ (es fs : List Entry). TailIsFirst (g.P.Pmem.region c.args.memory.now) (g.P.Pmem.region c.append_three_logs.new.memory) c.args.tables.now.layout c.args.free.now.pools c.args.cpu c.args.from.now.inode c.args.from.now.tail es (tail_address c.args.tables.now.layout c.args.to.now.inode)
+    × TailIsNext (g.P.Pmem.region c.args.memory.now) (g.P.Pmem.region c.append_three_logs.new.memory) c.args.tables.now.layout c.args.free.now.pools c.args.cpu (needed (c.args.from.now.tail % 4096) es) c.args.to.now.inode c.args.to.now.tail fs (tail_address c.args.tables.now.layout c.args.file.now.inode)) one two (c.append_three_logs.ensures.in_order held h k f here there also)
 
 pub returns-in_err-append_three_logs-clause-any_stop : goal.returns-in_err-append_three_logs-clause-any_stop
 returns-in_err-append_three_logs-clause-any_stop g c held h k f here there also settled left may =
     let one : c.name_entry.result ∷ [] ≡ name_entries Remove c.args.moved.now.inode c.args.moved.now.name.now c.args.moved.now.time = (λ t. c.name_entry.ensures t ∷ []) in
     let two : c.name_entry-2.result ∷ c.name_entry-3.result ∷ [] ≡ handed_entries c.args.moved.now.inode c.args.file.now.inode c.args.moved.now.other.now c.args.moved.now.time = (λ t. c.name_entry-2.ensures t ∷ c.name_entry-3.ensures t ∷ []) in
     left_lessened c.args.from.now c.args.to.now c.args.file.now c.args.moved.now.inode c.args.moved.now.name.now c.args.moved.now.other.now c.args.moved.now.time left
-    (both_as (λ (es fs : List Entry). LeavesEither (g.P.Pmem.region c.args.memory.now) (fixed_layout c.args.sup.now) held (AppendedThreeLogs (g.P.Pmem.region c.args.memory.now) c.args.sup.now c.args.free.now c.args.cpu c.args.from.now es c.args.to.now fs c.args.file.now (links_entries (c.args.file.now.numbers.links - 1) c.args.moved.now.time)) left) one two (c.append_three_logs.ensures.any_stop held h k f here there also settled left may))
+    (both_as (λ (es fs : List Entry). LeavesEither (g.P.Pmem.region c.args.memory.now) c.args.tables.now.layout held (AppendedThreeLogs (g.P.Pmem.region c.args.memory.now) c.args.tables.now.layout c.args.free.now c.args.cpu c.args.from.now es c.args.to.now fs c.args.file.now (links_entries (c.args.file.now.numbers.links - 1) c.args.moved.now.time)) left) one two (c.append_three_logs.ensures.any_stop held h k f here there also settled left may))
 
 pub add_name-requires-clause-room : goal.add_name-requires-clause-room
 add_name-requires-clause-room g c = omega (arith, c.in_ok-append_three_logs.ensures.room, c.remove_name-2.ensures.room)

@@ -1,12 +1,11 @@
 use Rattle.std.proofs.Common.{◌∙◌, ◌+◌, ◌%◌, ◌∷◌, [], ap, subst, ◌≡◌, ◌≤◌, sym, refl, List, arith}
-use Rattle.nv_super.specs.Layout.{fixed_layout, slot_address}
 use Rattle.std.proofs.lemmas.Result.{err_from_is_err_and, IfOk-from_err}
 use Rattle.nv_entry.specs.declared.entry.Entry.{Entry}
 use Rattle.nv_entry.specs.declared.entry.Operation.TheVariants.{Remove}
 use Rattle.nv_entry.specs.Spelling.{entry_length}
 use Rattle.nv_logpage.specs.Append.{needed}
 use Rattle.nv_alloc.specs.Taking.{all_blocks}
-use Rattle.nv_held.specs.nv_outcome.Same.{SameRow}
+use Rattle.nv_outcome.specs.Same.{SameRow}
 use Rattle.nv_tree.specs.declared.refusal.Refusal.TheVariants.{Stopped}
 use Rattle.nv_tree.specs.declared.refusal.Refusal.{Refusal}
 use Rattle.nv_tree.proofs.Replies.{refused_by}
@@ -19,6 +18,7 @@ use Rattle.nv_steps.specs.Steps.{LeavesStep, RefusesStep}
 use Rattle.nv_steps.proofs.AppendedLogs.{few_one}
 use Rattle.nv_steps.proofs.Kept.{kept_done, kept_refused}
 use Rattle.nv_steps.proofs.TookAcross.{both_as, few_two, left_across, takes_across}
+use Rattle.nv_steps.specs.Slots.{slot_in}
 use Rattle.nv_steps.proofs.across.take_across.Goals as goal
 
 pub append_logs_less-requires-clause-apart : goal.append_logs_less-requires-clause-apart
@@ -61,7 +61,7 @@ returns-clause-taken g c =
     let one : c.name_entry.result ∷ [] ≡ name_entries Remove c.args.moved.now.inode c.args.moved.now.name.now c.args.moved.now.time = (λ t. c.name_entry.ensures t ∷ []) in
     let two : c.name_entry-2.result ∷ c.name_entry-3.result ∷ [] ≡ handed_entries c.args.moved.now.inode c.args.gone.inode c.args.moved.now.other.now c.args.moved.now.time = (λ t. c.name_entry-2.ensures t ∷ c.name_entry-3.ensures t ∷ []) in
     takes_across c.args.moved.now.inode c.args.gone.inode c.args.moved.now.name.now c.args.moved.now.other.now c.args.moved.now.time c.length.result
-    (both_as (λ (es fs : List Entry). AppendsLogsLess (g.P.Pmem.region c.args.memory.now) (g.P.Pmem.region c.append_logs_less.new.memory) c.args.sup.now c.args.free.now c.append_logs_less.new.free c.args.cpu c.args.from.now c.append_logs_less.new.row es c.args.to.now c.append_logs_less.new.other fs c.args.gone.inode) one two c.in_ok-append_logs_less.ensures.appended)
+    (both_as (λ (es fs : List Entry). AppendsLogsLess (g.P.Pmem.region c.args.memory.now) (g.P.Pmem.region c.append_logs_less.new.memory) c.args.tables.now.layout c.args.free.now c.append_logs_less.new.free c.args.cpu c.args.from.now c.append_logs_less.new.row es c.args.to.now c.append_logs_less.new.other fs c.args.gone.inode) one two c.in_ok-append_logs_less.ensures.appended)
     (c.length.ensures.value ∙ ap entry_length c.name_entry-3.ensures) c.remove_name.ensures.row c.remove_name.ensures.once c.remove_name-2.ensures.row c.remove_name-2.ensures.once c.add_name.ensures.row c.add_name.ensures.once
 
 pub returns-clause-room : goal.returns-clause-room
@@ -122,15 +122,15 @@ pub returns-clause-in_order : goal.returns-clause-in_order
 returns-clause-in_order g c held h k here there =
     let one : c.name_entry.result ∷ [] ≡ name_entries Remove c.args.moved.now.inode c.args.moved.now.name.now c.args.moved.now.time = (λ t. c.name_entry.ensures t ∷ []) in
     let two : c.name_entry-2.result ∷ c.name_entry-3.result ∷ [] ≡ handed_entries c.args.moved.now.inode c.args.gone.inode c.args.moved.now.other.now c.args.moved.now.time = (λ t. c.name_entry-2.ensures t ∷ c.name_entry-3.ensures t ∷ []) in
-    both_as (λ (es fs : List Entry). TailIsFirst (g.P.Pmem.region c.args.memory.now) (g.P.Pmem.region c.append_logs_less.new.memory) c.args.sup.now c.args.free.now.pools c.args.cpu c.args.from.now.inode c.args.from.now.tail es (tail_address c.args.sup.now c.args.to.now.inode)
-    × TailIsNext (g.P.Pmem.region c.args.memory.now) (g.P.Pmem.region c.append_logs_less.new.memory) c.args.sup.now c.args.free.now.pools c.args.cpu (needed (c.args.from.now.tail % 4096) es) c.args.to.now.inode c.args.to.now.tail fs (slot_address c.args.sup.now c.args.gone.inode)) one two (c.append_logs_less.ensures.in_order held h k here there)
+    both_as (λ (es fs : List Entry). TailIsFirst (g.P.Pmem.region c.args.memory.now) (g.P.Pmem.region c.append_logs_less.new.memory) c.args.tables.now.layout c.args.free.now.pools c.args.cpu c.args.from.now.inode c.args.from.now.tail es (tail_address c.args.tables.now.layout c.args.to.now.inode)
+    × TailIsNext (g.P.Pmem.region c.args.memory.now) (g.P.Pmem.region c.append_logs_less.new.memory) c.args.tables.now.layout c.args.free.now.pools c.args.cpu (needed (c.args.from.now.tail % 4096) es) c.args.to.now.inode c.args.to.now.tail fs (slot_in c.args.tables.now.layout c.args.gone.inode)) one two (c.append_logs_less.ensures.in_order held h k here there)
 
 pub returns-clause-any_stop : goal.returns-clause-any_stop
 returns-clause-any_stop g c held h k here there settled left may =
     let one : c.name_entry.result ∷ [] ≡ name_entries Remove c.args.moved.now.inode c.args.moved.now.name.now c.args.moved.now.time = (λ t. c.name_entry.ensures t ∷ []) in
     let two : c.name_entry-2.result ∷ c.name_entry-3.result ∷ [] ≡ handed_entries c.args.moved.now.inode c.args.gone.inode c.args.moved.now.other.now c.args.moved.now.time = (λ t. c.name_entry-2.ensures t ∷ c.name_entry-3.ensures t ∷ []) in
     left_across c.args.from.now c.args.to.now c.args.moved.now.inode c.args.gone.inode c.args.moved.now.name.now c.args.moved.now.other.now c.args.moved.now.time left
-    (both_as (λ (es fs : List Entry). LeavesEither (g.P.Pmem.region c.args.memory.now) (fixed_layout c.args.sup.now) held (AppendedLogsLess (g.P.Pmem.region c.args.memory.now) c.args.sup.now c.args.free.now c.args.cpu c.args.from.now es c.args.to.now fs c.args.gone.inode) left) one two (c.append_logs_less.ensures.any_stop held h k here there settled left may))
+    (both_as (λ (es fs : List Entry). LeavesEither (g.P.Pmem.region c.args.memory.now) c.args.tables.now.layout held (AppendedLogsLess (g.P.Pmem.region c.args.memory.now) c.args.tables.now.layout c.args.free.now c.args.cpu c.args.from.now es c.args.to.now fs c.args.gone.inode) left) one two (c.append_logs_less.ensures.any_stop held h k here there settled left may))
 
 pub returns-in_err-append_logs_less-clause-wrote : goal.returns-in_err-append_logs_less-clause-wrote
 returns-in_err-append_logs_less-clause-wrote g c held h k here there = c.append_logs_less.ensures.wrote held h k here there
@@ -139,15 +139,15 @@ pub returns-in_err-append_logs_less-clause-in_order : goal.returns-in_err-append
 returns-in_err-append_logs_less-clause-in_order g c held h k here there =
     let one : c.name_entry.result ∷ [] ≡ name_entries Remove c.args.moved.now.inode c.args.moved.now.name.now c.args.moved.now.time = (λ t. c.name_entry.ensures t ∷ []) in
     let two : c.name_entry-2.result ∷ c.name_entry-3.result ∷ [] ≡ handed_entries c.args.moved.now.inode c.args.gone.inode c.args.moved.now.other.now c.args.moved.now.time = (λ t. c.name_entry-2.ensures t ∷ c.name_entry-3.ensures t ∷ []) in
-    both_as (λ (es fs : List Entry). TailIsFirst (g.P.Pmem.region c.args.memory.now) (g.P.Pmem.region c.append_logs_less.new.memory) c.args.sup.now c.args.free.now.pools c.args.cpu c.args.from.now.inode c.args.from.now.tail es (tail_address c.args.sup.now c.args.to.now.inode)
-    × TailIsNext (g.P.Pmem.region c.args.memory.now) (g.P.Pmem.region c.append_logs_less.new.memory) c.args.sup.now c.args.free.now.pools c.args.cpu (needed (c.args.from.now.tail % 4096) es) c.args.to.now.inode c.args.to.now.tail fs (slot_address c.args.sup.now c.args.gone.inode)) one two (c.append_logs_less.ensures.in_order held h k here there)
+    both_as (λ (es fs : List Entry). TailIsFirst (g.P.Pmem.region c.args.memory.now) (g.P.Pmem.region c.append_logs_less.new.memory) c.args.tables.now.layout c.args.free.now.pools c.args.cpu c.args.from.now.inode c.args.from.now.tail es (tail_address c.args.tables.now.layout c.args.to.now.inode)
+    × TailIsNext (g.P.Pmem.region c.args.memory.now) (g.P.Pmem.region c.append_logs_less.new.memory) c.args.tables.now.layout c.args.free.now.pools c.args.cpu (needed (c.args.from.now.tail % 4096) es) c.args.to.now.inode c.args.to.now.tail fs (slot_in c.args.tables.now.layout c.args.gone.inode)) one two (c.append_logs_less.ensures.in_order held h k here there)
 
 pub returns-in_err-append_logs_less-clause-any_stop : goal.returns-in_err-append_logs_less-clause-any_stop
 returns-in_err-append_logs_less-clause-any_stop g c held h k here there settled left may =
     let one : c.name_entry.result ∷ [] ≡ name_entries Remove c.args.moved.now.inode c.args.moved.now.name.now c.args.moved.now.time = (λ t. c.name_entry.ensures t ∷ []) in
     let two : c.name_entry-2.result ∷ c.name_entry-3.result ∷ [] ≡ handed_entries c.args.moved.now.inode c.args.gone.inode c.args.moved.now.other.now c.args.moved.now.time = (λ t. c.name_entry-2.ensures t ∷ c.name_entry-3.ensures t ∷ []) in
     left_across c.args.from.now c.args.to.now c.args.moved.now.inode c.args.gone.inode c.args.moved.now.name.now c.args.moved.now.other.now c.args.moved.now.time left
-    (both_as (λ (es fs : List Entry). LeavesEither (g.P.Pmem.region c.args.memory.now) (fixed_layout c.args.sup.now) held (AppendedLogsLess (g.P.Pmem.region c.args.memory.now) c.args.sup.now c.args.free.now c.args.cpu c.args.from.now es c.args.to.now fs c.args.gone.inode) left) one two (c.append_logs_less.ensures.any_stop held h k here there settled left may))
+    (both_as (λ (es fs : List Entry). LeavesEither (g.P.Pmem.region c.args.memory.now) c.args.tables.now.layout held (AppendedLogsLess (g.P.Pmem.region c.args.memory.now) c.args.tables.now.layout c.args.free.now c.args.cpu c.args.from.now es c.args.to.now fs c.args.gone.inode) left) one two (c.append_logs_less.ensures.any_stop held h k here there settled left may))
 
 pub add_name-requires-clause-room : goal.add_name-requires-clause-room
 add_name-requires-clause-room g c = omega (arith, c.in_ok-append_logs_less.ensures.rooms.0, c.remove_name-2.ensures.room)

@@ -2,7 +2,7 @@ use Rattle.std.proofs.lemmas.Grind.{common_steps}
 use Rattle.std.proofs.Common.{arith, ◌++◌, ◌∙◌, List, ℕ, ap, inl, inr, length, refl, subst, sym}
 use Rattle.smallvec.specs.SmallVec.{HasRoomFor}
 use Rattle.nv_region.proofs.Fuses.{keeps_within}
-use Rattle.nv_held.proofs.BytesKept.{mixed_size}
+use Rattle.nv_mounted.proofs.BytesKept.{mixed_size}
 use Rattle.nv_commit.proofs.Left.{still}
 use Rattle.nv_steps.specs.Stopped.{Appended}
 use Rattle.nv_steps.proofs.LogGrows.{appends_log, can_append, stores_within_region}
@@ -19,7 +19,7 @@ extend_log-requires-clause-can g c = rw c.deref.ensures.value (can_append c.args
 pub returns-in-Ok-extend_log-clause-appended : goal.returns-in-Ok-extend_log-clause-appended
 returns-in-Ok-extend_log-clause-appended g c =
     let settled = c.settle_log.ensures in
-    appends_log c.args.entries.now c.in-Ok.fresh.items c.deref.result.now c.slot_address-slot.result c.in-Ok-extend_log.end c.deref.ensures.value c.slot_address-slot.ensures c.in-Ok.ensures.taken c.in-Ok.ensures.count c.in-Ok-extend_log.ensures.end
+    appends_log c.args.entries.now c.in-Ok.fresh.items c.deref.result.now c.slot_of_row-slot.result c.in-Ok-extend_log.end c.deref.ensures.value c.slot_of_row-slot.ensures.value c.in-Ok.ensures.taken c.in-Ok.ensures.count c.in-Ok-extend_log.ensures.end
     (record {
       inode = settled.inode;
       kind = settled.kind;
@@ -30,7 +30,7 @@ returns-in-Ok-extend_log-clause-appended g c =
       index = settled.index;
       names = settled.names;
     })
-    (λ held h can. c.in-Ok-extend_log.ensures.shows c.args.sup.now held c.args.row.now.inode h can) c.in-Ok-extend_log.ensures.kept.wrote.mixed
+    (λ held h can. c.in-Ok-extend_log.ensures.shows c.args.tables.now.layout held c.args.row.now.inode h can) c.in-Ok-extend_log.ensures.kept.wrote.mixed
 
 pub returns-in-Ok-extend_log-clause-kept : goal.returns-in-Ok-extend_log-clause-kept
 returns-in-Ok-extend_log-clause-kept g c =
@@ -39,7 +39,7 @@ returns-in-Ok-extend_log-clause-kept g c =
         stopped = tt;
         lists = taken_sup c.in-Ok.ensures.taken;
         length = mixed_size c.extend_log.ensures.kept.wrote.mixed;
-        keeps_fuse = keeps_within (stores_within_region c.args.entries.now c.deref.result.now c.slot_address-slot.result c.requires.stands c.in-Ok.ensures.taken c.in-Ok.ensures.count c.requires.given c.deref.ensures.value c.slot_address-slot.ensures) c.extend_log.ensures.kept.keeps_fuse;
+        keeps_fuse = keeps_within (stores_within_region c.args.entries.now c.deref.result.now c.slot_of_row-slot.result c.requires.stands c.in-Ok.ensures.taken c.in-Ok.ensures.count c.requires.given c.deref.ensures.value c.slot_of_row-slot.ensures.value) c.extend_log.ensures.kept.keeps_fuse;
       };
       settled = c.in-Ok-extend_log.ensures.kept.settled;
     }
@@ -51,19 +51,16 @@ returns-clause-kept g c =
         stopped = grind (arith, common_steps);
         lists = taken_sup c.in-Ok.ensures.taken;
         length = mixed_size c.extend_log.ensures.kept.wrote.mixed;
-        keeps_fuse = keeps_within (stores_within_region c.args.entries.now c.deref.result.now c.slot_address-slot.result c.requires.stands c.in-Ok.ensures.taken c.in-Ok.ensures.count c.requires.given c.deref.ensures.value c.slot_address-slot.ensures) c.extend_log.ensures.kept.keeps_fuse;
+        keeps_fuse = keeps_within (stores_within_region c.args.entries.now c.deref.result.now c.slot_of_row-slot.result c.requires.stands c.in-Ok.ensures.taken c.in-Ok.ensures.count c.requires.given c.deref.ensures.value c.slot_of_row-slot.ensures.value) c.extend_log.ensures.kept.keeps_fuse;
       };
       settled = tt;
     }
 
-pub slot_address-slot-requires-clause-layout : goal.slot_address-slot-requires-clause-layout
-slot_address-slot-requires-clause-layout g c = c.requires.stands.layout
-
-pub slot_address-slot-requires-clause-inode : goal.slot_address-slot-requires-clause-inode
-slot_address-slot-requires-clause-inode g c = c.requires.stands.number
+pub slot_of_row-slot-requires : goal.slot_of_row-slot-requires
+slot_of_row-slot-requires g c = c.requires.stands.number
 
 pub extend_log-requires-clause-inside : goal.extend_log-requires-clause-inside
-extend_log-requires-clause-inside g c = slot_word_inside c.slot_address-slot.result _ _ c.slot_address-slot.ensures c.requires.stands.inside
+extend_log-requires-clause-inside g c = slot_word_inside c.slot_of_row-slot.result _ _ c.slot_of_row-slot.ensures.value c.requires.stands.inside
 
 pub settle_log-requires : goal.settle_log-requires
 settle_log-requires g c = subst (λ (blocks : List ℕ). HasRoomFor c.prepare_log.new.pages (length blocks)) (sym c.deref-in-Ok-extend_log.ensures.value) c.in-Ok.ensures.room
@@ -150,23 +147,23 @@ pub returns-clause-inode : goal.returns-clause-inode
 returns-clause-inode g c = refl
 
 pub extend_log-requires-clause-whole : goal.extend_log-requires-clause-whole
-extend_log-requires-clause-whole g c = slot_word_whole c.slot_address-slot.result _ c.slot_address-slot.ensures c.requires.stands.whole
+extend_log-requires-clause-whole g c = slot_word_whole c.slot_of_row-slot.result _ c.slot_of_row-slot.ensures.value c.requires.stands.whole
 
 pub returns-in-Err-NoSpace-clause-any_stop : goal.returns-in-Err-NoSpace-clause-any_stop
-returns-in-Err-NoSpace-clause-any_stop g c held h shows some settled = still _ _ c.args.sup.now held (Appended (g.P.Pmem.region c.args.memory.now) c.args.sup.now c.args.free.now c.args.cpu c.args.row.now c.args.entries.now) shows.sound settled
+returns-in-Err-NoSpace-clause-any_stop g c held h shows some settled = still _ _ c.args.tables.now.layout held (Appended (g.P.Pmem.region c.args.memory.now) c.args.tables.now.layout c.args.free.now c.args.cpu c.args.row.now c.args.entries.now) shows.sound settled
 
 pub returns-in-Err-Memory-clause-any_stop : goal.returns-in-Err-Memory-clause-any_stop
-returns-in-Err-Memory-clause-any_stop g c held h shows some settled = still _ _ c.args.sup.now held (Appended (g.P.Pmem.region c.args.memory.now) c.args.sup.now c.args.free.now c.args.cpu c.args.row.now c.args.entries.now) shows.sound settled
+returns-in-Err-Memory-clause-any_stop g c held h shows some settled = still _ _ c.args.tables.now.layout held (Appended (g.P.Pmem.region c.args.memory.now) c.args.tables.now.layout c.args.free.now c.args.cpu c.args.row.now c.args.entries.now) shows.sound settled
 
 pub returns-in-Ok-extend_log-clause-any_stop : goal.returns-in-Ok-extend_log-clause-any_stop
 returns-in-Ok-extend_log-clause-any_stop g c held h shows some settled =
-    left_log c.args.entries.now c.in-Ok.fresh.items c.deref.result.now c.slot_address-slot.result c.deref.ensures.value c.slot_address-slot.ensures shows c.requires.stands.lists c.in-Ok.ensures.taken c.in-Ok.ensures.count c.requires.given some
-    _ _ _ c.extend_log.ensures.kept.wrote settled (λ can. (c.extend_log.ensures.moments c.args.sup.now held c.args.row.now.inode h can).any_stop)
+    left_log c.args.entries.now c.in-Ok.fresh.items c.deref.result.now c.slot_of_row-slot.result c.deref.ensures.value c.slot_of_row-slot.ensures.value shows c.requires.stands.lists c.in-Ok.ensures.taken c.in-Ok.ensures.count c.requires.given some
+    _ _ _ c.extend_log.ensures.kept.wrote settled (λ can. (c.extend_log.ensures.moments c.args.tables.now.layout held c.args.row.now.inode h can).any_stop)
 
 pub returns-clause-any_stop : goal.returns-clause-any_stop
 returns-clause-any_stop g c held h shows some settled =
-    left_log c.args.entries.now c.in-Ok.fresh.items c.deref.result.now c.slot_address-slot.result c.deref.ensures.value c.slot_address-slot.ensures shows c.requires.stands.lists c.in-Ok.ensures.taken c.in-Ok.ensures.count c.requires.given some
-    _ _ _ c.extend_log.ensures.kept.wrote settled (λ can. (c.extend_log.ensures.moments c.args.sup.now held c.args.row.now.inode h can).any_stop)
+    left_log c.args.entries.now c.in-Ok.fresh.items c.deref.result.now c.slot_of_row-slot.result c.deref.ensures.value c.slot_of_row-slot.ensures.value shows c.requires.stands.lists c.in-Ok.ensures.taken c.in-Ok.ensures.count c.requires.given some
+    _ _ _ c.extend_log.ensures.kept.wrote settled (λ can. (c.extend_log.ensures.moments c.args.tables.now.layout held c.args.row.now.inode h can).any_stop)
 
 pub returns-in-Err-NoSpace-clause-wrote : goal.returns-in-Err-NoSpace-clause-wrote
 returns-in-Err-NoSpace-clause-wrote g c held h shows some at whole away = refl
@@ -175,7 +172,7 @@ pub returns-in-Err-Memory-clause-wrote : goal.returns-in-Err-Memory-clause-wrote
 returns-in-Err-Memory-clause-wrote g c held h shows some at whole away = refl
 
 pub returns-in-Ok-extend_log-clause-wrote : goal.returns-in-Ok-extend_log-clause-wrote
-returns-in-Ok-extend_log-clause-wrote g c held h shows some = log_stores c.args.entries.now c.in-Ok.fresh.items c.deref.result.now c.slot_address-slot.result c.deref.ensures.value c.slot_address-slot.ensures shows c.requires.stands.lists c.in-Ok.ensures.taken c.in-Ok.ensures.count c.requires.given some (g.P.Pmem.region c.extend_log.new.memory) c.extend_log.ensures.kept.wrote.mixed
+returns-in-Ok-extend_log-clause-wrote g c held h shows some = log_stores c.args.entries.now c.in-Ok.fresh.items c.deref.result.now c.slot_of_row-slot.result c.deref.ensures.value c.slot_of_row-slot.ensures.value shows c.requires.stands.lists c.in-Ok.ensures.taken c.in-Ok.ensures.count c.requires.given some (g.P.Pmem.region c.extend_log.new.memory) c.extend_log.ensures.kept.wrote.mixed
 
 pub returns-clause-wrote : goal.returns-clause-wrote
-returns-clause-wrote g c held h shows some = log_stores c.args.entries.now c.in-Ok.fresh.items c.deref.result.now c.slot_address-slot.result c.deref.ensures.value c.slot_address-slot.ensures shows c.requires.stands.lists c.in-Ok.ensures.taken c.in-Ok.ensures.count c.requires.given some (g.P.Pmem.region c.extend_log.new.memory) c.extend_log.ensures.kept.wrote.mixed
+returns-clause-wrote g c held h shows some = log_stores c.args.entries.now c.in-Ok.fresh.items c.deref.result.now c.slot_of_row-slot.result c.deref.ensures.value c.slot_of_row-slot.ensures.value shows c.requires.stands.lists c.in-Ok.ensures.taken c.in-Ok.ensures.count c.requires.given some (g.P.Pmem.region c.extend_log.new.memory) c.extend_log.ensures.kept.wrote.mixed

@@ -2,13 +2,12 @@ use Rattle.std.proofs.Common.{◌≡◌, ◌∙◌, ◌∷◌, ◌+◌, ◌/◌,
 use Rattle.std.proofs.lemmas.Result.{IfOk-from_err}
 use Rattle.nv_region.proofs.Fuses.{keeps_more, keeps_within}
 use Rattle.nv_logpage.specs.Append.{EndBy}
-use Rattle.nv_held.proofs.BytesKept.{mixed_size}
+use Rattle.nv_mounted.proofs.BytesKept.{mixed_size}
 use Rattle.nv_region.specs.Region.{Region}
 use Rattle.nv_steps.specs.Sizes.{CopiesEnd}
 use Rattle.nv_steps.proofs.CopiedEnd.{copies_end}
 use Rattle.nv_steps.proofs.CopyStops.{end_left, page_left}
-use Rattle.nv_super.specs.Layout.{fixed_layout}
-use Rattle.nv_held.specs.Blocks.{IsUnowned}
+use Rattle.nv_mounted.specs.Blocks.{IsUnowned}
 use Rattle.nv_steps.specs.Stores.{one_log}
 use Rattle.nv_steps.proofs.Stores.{data_stores, data_then_log}
 use Rattle.nv_steps.proofs.copying.copy_end.Goals as goal
@@ -81,15 +80,15 @@ pub returns-in_err-copy_page-clause-keeps_fuse : goal.returns-in_err-copy_page-c
 returns-in_err-copy_page-clause-keeps_fuse g c = keeps_within (λ limit past. omega (arith, past, c.requires.to)) c.copy_page.ensures.keeps_fuse
 
 pub returns-in_err-copy_page-clause-any_stop : goal.returns-in_err-copy_page-clause-any_stop
-returns-in_err-copy_page-clause-any_stop g c s held i h can free settled =
+returns-in_err-copy_page-clause-any_stop g c l held i h can free settled =
     page_left c.args.from c.args.to c.args.bytes can free _ settled _ _ (λ (S : Region). CopiesEnd (g.P.Pmem.region c.args.memory.now) S c.args.from c.args.to c.args.bytes c.args.log.now.slot c.args.log.now.tail c.args.log.now.entries.now c.args.log.now.fresh.now) c.copy_page.ensures.wrote
 
 pub returns-clause-any_stop : goal.returns-clause-any_stop
-returns-clause-any_stop g c s held i h can free settled =
-    end_left c.args.from c.args.to c.args.bytes can free _ settled _ c.copy_page.ensures.wrote c.in_ok-copy_page.ensures.stored _ _ (λ there pending. c.extend_log.ensures.loose_stop s held i h there pending)
+returns-clause-any_stop g c l held i h can free settled =
+    end_left c.args.from c.args.to c.args.bytes can free _ settled _ c.copy_page.ensures.wrote c.in_ok-copy_page.ensures.stored _ _ (λ there pending. c.extend_log.ensures.loose_stop l held i h there pending)
 
 pub returns-in_err-copy_page-clause-wrote : goal.returns-in_err-copy_page-clause-wrote
-returns-in_err-copy_page-clause-wrote g c s held i h can free = data_stores s held (one_log s i) (λ b. b ≡ c.args.to) (λ b is. subst (IsUnowned (fixed_layout s) held) (sym is) free) c.copy_page.ensures.wrote.mixed
+returns-in_err-copy_page-clause-wrote g c l held i h can free = data_stores l held (one_log l i) (λ b. b ≡ c.args.to) (λ b is. subst (IsUnowned l held) (sym is) free) c.copy_page.ensures.wrote.mixed
 
 pub returns-clause-wrote : goal.returns-clause-wrote
-returns-clause-wrote g c s held i h can free = data_then_log (λ b. b ≡ c.args.to) can (λ b is. subst (IsUnowned (fixed_layout s) held) (sym is) free) c.copy_page.ensures.wrote.mixed c.extend_log.ensures.kept.wrote.mixed
+returns-clause-wrote g c l held i h can free = data_then_log (λ b. b ≡ c.args.to) can (λ b is. subst (IsUnowned l held) (sym is) free) c.copy_page.ensures.wrote.mixed c.extend_log.ensures.kept.wrote.mixed

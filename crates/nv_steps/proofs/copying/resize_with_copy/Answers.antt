@@ -29,7 +29,7 @@ pub returns-in-Ok-copy_end-clause-resized : goal.returns-in-Ok-copy_end-clause-r
 returns-in-Ok-copy_end-clause-resized g c =
     let settled = c.settle_log.ensures in
     copy_resizes c.args.attributes c.requires.can c.args.from _ c.in-Ok-copy_end.end c.requires.ends c.in-Ok.ensures.taken (let count = c.in-Ok.ensures.count in omega (arith, count))
-    (copies_as c.slot_address-slot.ensures c.copy_entries-entries.ensures c.deref.ensures.value c.in-Ok-copy_end.ensures.copies)
+    (copies_as c.slot_of_row-slot.ensures.value c.copy_entries-entries.ensures c.deref.ensures.value c.in-Ok-copy_end.ensures.copies)
     (ends_as c.args.row.now.tail c.deref.ensures.value c.copy_entries-entries.ensures c.in-Ok-copy_end.ensures.end)
     (record {
       inode = settled.inode;
@@ -135,27 +135,24 @@ returns-in-Err-Memory-clause-unchanged g c = λ _. record { memory = refl; free 
 pub returns-in-Err-Memory-clause-inode : goal.returns-in-Err-Memory-clause-inode
 returns-in-Err-Memory-clause-inode g c = refl
 
-pub slot_address-slot-requires-clause-layout : goal.slot_address-slot-requires-clause-layout
-slot_address-slot-requires-clause-layout g c = c.requires.can.stands.layout
-
-pub slot_address-slot-requires-clause-inode : goal.slot_address-slot-requires-clause-inode
-slot_address-slot-requires-clause-inode g c = c.requires.can.stands.number
+pub slot_of_row-slot-requires : goal.slot_of_row-slot-requires
+slot_of_row-slot-requires g c = c.requires.can.stands.number
 
 pub returns-in-Err-NoSpace-clause-any_stop : goal.returns-in-Err-NoSpace-clause-any_stop
-returns-in-Err-NoSpace-clause-any_stop g c held h shows settled = still _ _ c.args.sup.now held (Resized (g.P.Pmem.region c.args.memory.now) c.args.sup.now c.args.free.now c.args.cpu c.args.row.now c.args.attributes) shows.sound settled
+returns-in-Err-NoSpace-clause-any_stop g c held h shows settled = still _ _ c.args.tables.now.layout held (Resized (g.P.Pmem.region c.args.memory.now) c.args.tables.now.layout c.args.free.now c.args.cpu c.args.row.now c.args.attributes) shows.sound settled
 
 pub returns-in-Err-Memory-clause-any_stop : goal.returns-in-Err-Memory-clause-any_stop
-returns-in-Err-Memory-clause-any_stop g c held h shows settled = still _ _ c.args.sup.now held (Resized (g.P.Pmem.region c.args.memory.now) c.args.sup.now c.args.free.now c.args.cpu c.args.row.now c.args.attributes) shows.sound settled
+returns-in-Err-Memory-clause-any_stop g c held h shows settled = still _ _ c.args.tables.now.layout held (Resized (g.P.Pmem.region c.args.memory.now) c.args.tables.now.layout c.args.free.now c.args.cpu c.args.row.now c.args.attributes) shows.sound settled
 
 pub returns-in-Ok-copy_end-clause-any_stop : goal.returns-in-Ok-copy_end-clause-any_stop
 returns-in-Ok-copy_end-clause-any_stop g c held h shows settled =
-    left_copied c.args.attributes c.requires.can c.args.from _ c.requires.ends c.in-Ok.ensures.taken (let count = c.in-Ok.ensures.count in omega (arith, count)) shows c.slot_address-slot.ensures c.copy_entries-entries.ensures c.deref.ensures.value _ _
-    (λ can free. c.copy_end.ensures.any_stop c.args.sup.now held c.args.row.now.inode h can free settled)
+    left_copied c.args.attributes c.requires.can c.args.from _ c.requires.ends c.in-Ok.ensures.taken (let count = c.in-Ok.ensures.count in omega (arith, count)) shows c.slot_of_row-slot.ensures.value c.copy_entries-entries.ensures c.deref.ensures.value _ _
+    (λ can free. c.copy_end.ensures.any_stop c.args.tables.now.layout held c.args.row.now.inode h can free settled)
 
 pub returns-clause-any_stop : goal.returns-clause-any_stop
 returns-clause-any_stop g c held h shows settled =
-    left_copied c.args.attributes c.requires.can c.args.from _ c.requires.ends c.in-Ok.ensures.taken (let count = c.in-Ok.ensures.count in omega (arith, count)) shows c.slot_address-slot.ensures c.copy_entries-entries.ensures c.deref.ensures.value _ _
-    (λ can free. c.copy_end.ensures.any_stop c.args.sup.now held c.args.row.now.inode h can free settled)
+    left_copied c.args.attributes c.requires.can c.args.from _ c.requires.ends c.in-Ok.ensures.taken (let count = c.in-Ok.ensures.count in omega (arith, count)) shows c.slot_of_row-slot.ensures.value c.copy_entries-entries.ensures c.deref.ensures.value _ _
+    (λ can free. c.copy_end.ensures.any_stop c.args.tables.now.layout held c.args.row.now.inode h can free settled)
 
 pub returns-in-Err-NoSpace-clause-wrote : goal.returns-in-Err-NoSpace-clause-wrote
 returns-in-Err-NoSpace-clause-wrote g c held h shows at whole away = refl
@@ -165,10 +162,10 @@ returns-in-Err-Memory-clause-wrote g c held h shows at whole away = refl
 
 pub returns-in-Ok-copy_end-clause-wrote : goal.returns-in-Ok-copy_end-clause-wrote
 returns-in-Ok-copy_end-clause-wrote g c held h shows =
-    copied_stores c.args.attributes c.requires.can c.args.from _ c.requires.ends c.in-Ok.ensures.taken (let count = c.in-Ok.ensures.count in omega (arith, count)) shows c.slot_address-slot.ensures c.copy_entries-entries.ensures c.deref.ensures.value (g.P.Pmem.region c.copy_end.new.memory)
-    (λ can free. c.copy_end.ensures.wrote c.args.sup.now held c.args.row.now.inode h can free)
+    copied_stores c.args.attributes c.requires.can c.args.from _ c.requires.ends c.in-Ok.ensures.taken (let count = c.in-Ok.ensures.count in omega (arith, count)) shows c.slot_of_row-slot.ensures.value c.copy_entries-entries.ensures c.deref.ensures.value (g.P.Pmem.region c.copy_end.new.memory)
+    (λ can free. c.copy_end.ensures.wrote c.args.tables.now.layout held c.args.row.now.inode h can free)
 
 pub returns-clause-wrote : goal.returns-clause-wrote
 returns-clause-wrote g c held h shows =
-    copied_stores c.args.attributes c.requires.can c.args.from _ c.requires.ends c.in-Ok.ensures.taken (let count = c.in-Ok.ensures.count in omega (arith, count)) shows c.slot_address-slot.ensures c.copy_entries-entries.ensures c.deref.ensures.value (g.P.Pmem.region c.copy_end.new.memory)
-    (λ can free. c.copy_end.ensures.wrote c.args.sup.now held c.args.row.now.inode h can free)
+    copied_stores c.args.attributes c.requires.can c.args.from _ c.requires.ends c.in-Ok.ensures.taken (let count = c.in-Ok.ensures.count in omega (arith, count)) shows c.slot_of_row-slot.ensures.value c.copy_entries-entries.ensures c.deref.ensures.value (g.P.Pmem.region c.copy_end.new.memory)
+    (λ can free. c.copy_end.ensures.wrote c.args.tables.now.layout held c.args.row.now.inode h can free)

@@ -2,8 +2,8 @@ use Rattle.std.proofs.lemmas.Grind.{common_steps}
 use Rattle.std.proofs.Common.{arith, ◌∙◌, ◌+◌, ◌<◌, ◌≤◌, subst, sym, ◌≡◌, ◌%◌, refl, inl, inr, IsTrue}
 use Rattle.std.proofs.lemmas.Result.{err_from_is_err_and, IfOk-from_err}
 use Rattle.nv_logpage.specs.Append.{needed}
-use Rattle.nv_held.specs.nv_outcome.Same.{SameRow}
-use Rattle.nv_held.proofs.BytesKept.{mixed_size}
+use Rattle.nv_outcome.specs.Same.{SameRow}
+use Rattle.nv_mounted.proofs.BytesKept.{mixed_size}
 use Rattle.nv_tree.specs.declared.refusal.Refusal.{Refusal}
 use Rattle.nv_tree.specs.declared.refusal.Refusal.TheVariants.{Stopped}
 use Rattle.nv_tree.proofs.Replies.{refused_by}
@@ -70,7 +70,7 @@ pub returns-clause-appended : goal.returns-clause-appended
 returns-clause-appended g c =
     let ends = c.in-Ok.ensures.ends in
     appends_logs c.in_ok-blocks.ensures.ready c.in_ok-blocks.ensures.other_ready c.requires.stands c.requires.other_stands c.in_ok-blocks.ensures.taken c.in_ok-blocks.ensures.count c.requires.apart c.requires.given.given c.requires.more_given.given c.requires.given.some c.requires.more_given.some c.blocks_for-count.ensures c.deref.ensures.value c.split_at.ensures.front c.split_at.ensures.back c.extension-one.result c.extension-two.result c.extension-one.ensures.slot c.extension-one.ensures.tail c.extension-one.ensures.entries c.extension-one.ensures.fresh c.extension-two.ensures.slot c.extension-two.ensures.tail c.extension-two.ensures.entries c.extension-two.ensures.fresh ends.0 ends.1 c.settle_log.ensures c.settle_log-2.ensures
-    (λ held a b h k can. c.in-Ok.ensures.shows c.args.sup.now held a b h k can) c.extend_two.ensures.kept.wrote.mixed
+    (λ held a b h k can. c.in-Ok.ensures.shows c.args.tables.now.layout held a b h k can) c.extend_two.ensures.kept.wrote.mixed
 
 pub returns-clause-rooms : goal.returns-clause-rooms
 returns-clause-rooms g c = (
@@ -149,31 +149,31 @@ pub returns-in_err-blocks-clause-rooms : goal.returns-in_err-blocks-clause-rooms
 returns-in_err-blocks-clause-rooms g c = IfOk-from_err c.from_residual.result _ c.from_residual.ensures.0
 
 pub returns-in_err-blocks-clause-any_stop : goal.returns-in_err-blocks-clause-any_stop
-returns-in_err-blocks-clause-any_stop g c held h k here there settled = still _ _ c.args.sup.now held (AppendedBoth (g.P.Pmem.region c.args.memory.now) c.args.sup.now c.args.free.now c.args.cpu c.args.row.now c.args.first.now.entries.now c.args.other.now c.args.second.now.entries.now) here.sound settled
+returns-in_err-blocks-clause-any_stop g c held h k here there settled = still _ _ c.args.tables.now.layout held (AppendedBoth (g.P.Pmem.region c.args.memory.now) c.args.tables.now.layout c.args.free.now c.args.cpu c.args.row.now c.args.first.now.entries.now c.args.other.now c.args.second.now.entries.now) here.sound settled
 
 pub returns-in_default-clause-any_stop : goal.returns-in_default-clause-any_stop
 returns-in_default-clause-any_stop g c held h k here there settled =
     left_logs c.in_ok-blocks.ensures.ready c.in_ok-blocks.ensures.other_ready c.requires.stands c.requires.other_stands c.in_ok-blocks.ensures.taken c.in_ok-blocks.ensures.count c.requires.apart c.requires.given.given c.requires.more_given.given c.requires.given.some c.requires.more_given.some c.blocks_for-count.ensures c.deref.ensures.value c.split_at.ensures.front c.split_at.ensures.back c.extension-one.result c.extension-two.result c.extension-one.ensures.slot c.extension-one.ensures.tail c.extension-one.ensures.entries c.extension-one.ensures.fresh c.extension-two.ensures.slot c.extension-two.ensures.tail c.extension-two.ensures.entries c.extension-two.ensures.fresh
-    here there _ _ _ c.extend_two.ensures.kept.wrote settled (λ a b f e can pending. (c.extend_two.ensures.moments c.args.sup.now held a b f e can).any_stop pending)
+    here there _ _ _ c.extend_two.ensures.kept.wrote settled (λ a b f e can pending. (c.extend_two.ensures.moments c.args.tables.now.layout held a b f e can).any_stop pending)
 
 pub returns-clause-any_stop : goal.returns-clause-any_stop
 returns-clause-any_stop g c held h k here there settled =
     left_logs c.in_ok-blocks.ensures.ready c.in_ok-blocks.ensures.other_ready c.requires.stands c.requires.other_stands c.in_ok-blocks.ensures.taken c.in_ok-blocks.ensures.count c.requires.apart c.requires.given.given c.requires.more_given.given c.requires.given.some c.requires.more_given.some c.blocks_for-count.ensures c.deref.ensures.value c.split_at.ensures.front c.split_at.ensures.back c.extension-one.result c.extension-two.result c.extension-one.ensures.slot c.extension-one.ensures.tail c.extension-one.ensures.entries c.extension-one.ensures.fresh c.extension-two.ensures.slot c.extension-two.ensures.tail c.extension-two.ensures.entries c.extension-two.ensures.fresh
-    here there _ _ _ c.extend_two.ensures.kept.wrote settled (λ a b f e can pending. (c.extend_two.ensures.moments c.args.sup.now held a b f e can).any_stop pending)
+    here there _ _ _ c.extend_two.ensures.kept.wrote settled (λ a b f e can pending. (c.extend_two.ensures.moments c.args.tables.now.layout held a b f e can).any_stop pending)
 
 pub returns-in_err-blocks-clause-in_order : goal.returns-in_err-blocks-clause-in_order
 returns-in_err-blocks-clause-in_order g c held h k here there = inl refl
 
 pub returns-in_default-clause-in_order : goal.returns-in_default-clause-in_order
 returns-in_default-clause-in_order g c held h k here there =
-    logs_in_order c.in_ok-blocks.ensures.ready c.in_ok-blocks.ensures.other_ready c.requires.stands c.requires.other_stands c.in_ok-blocks.ensures.taken c.in_ok-blocks.ensures.count c.requires.apart c.requires.given.given c.requires.more_given.given c.requires.given.some c.requires.more_given.some c.blocks_for-count.ensures c.deref.ensures.value c.split_at.ensures.front c.split_at.ensures.back c.extension-one.result c.extension-two.result c.extension-one.ensures.slot c.extension-one.ensures.tail c.extension-one.ensures.entries c.extension-one.ensures.fresh c.extension-two.ensures.slot c.extension-two.ensures.tail c.extension-two.ensures.entries c.extension-two.ensures.fresh here there (λ a b f e can. c.extend_two.ensures.in_order c.args.sup.now held a b f e can)
+    logs_in_order c.in_ok-blocks.ensures.ready c.in_ok-blocks.ensures.other_ready c.requires.stands c.requires.other_stands c.in_ok-blocks.ensures.taken c.in_ok-blocks.ensures.count c.requires.apart c.requires.given.given c.requires.more_given.given c.requires.given.some c.requires.more_given.some c.blocks_for-count.ensures c.deref.ensures.value c.split_at.ensures.front c.split_at.ensures.back c.extension-one.result c.extension-two.result c.extension-one.ensures.slot c.extension-one.ensures.tail c.extension-one.ensures.entries c.extension-one.ensures.fresh c.extension-two.ensures.slot c.extension-two.ensures.tail c.extension-two.ensures.entries c.extension-two.ensures.fresh here there (λ a b f e can. c.extend_two.ensures.in_order c.args.tables.now.layout held a b f e can)
 
 pub returns-clause-in_order : goal.returns-clause-in_order
 returns-clause-in_order g c held h k here there =
-    logs_in_order c.in_ok-blocks.ensures.ready c.in_ok-blocks.ensures.other_ready c.requires.stands c.requires.other_stands c.in_ok-blocks.ensures.taken c.in_ok-blocks.ensures.count c.requires.apart c.requires.given.given c.requires.more_given.given c.requires.given.some c.requires.more_given.some c.blocks_for-count.ensures c.deref.ensures.value c.split_at.ensures.front c.split_at.ensures.back c.extension-one.result c.extension-two.result c.extension-one.ensures.slot c.extension-one.ensures.tail c.extension-one.ensures.entries c.extension-one.ensures.fresh c.extension-two.ensures.slot c.extension-two.ensures.tail c.extension-two.ensures.entries c.extension-two.ensures.fresh here there (λ a b f e can. c.extend_two.ensures.in_order c.args.sup.now held a b f e can)
+    logs_in_order c.in_ok-blocks.ensures.ready c.in_ok-blocks.ensures.other_ready c.requires.stands c.requires.other_stands c.in_ok-blocks.ensures.taken c.in_ok-blocks.ensures.count c.requires.apart c.requires.given.given c.requires.more_given.given c.requires.given.some c.requires.more_given.some c.blocks_for-count.ensures c.deref.ensures.value c.split_at.ensures.front c.split_at.ensures.back c.extension-one.result c.extension-two.result c.extension-one.ensures.slot c.extension-one.ensures.tail c.extension-one.ensures.entries c.extension-one.ensures.fresh c.extension-two.ensures.slot c.extension-two.ensures.tail c.extension-two.ensures.entries c.extension-two.ensures.fresh here there (λ a b f e can. c.extend_two.ensures.in_order c.args.tables.now.layout held a b f e can)
 
 pub returns-in_err-blocks-clause-wrote : goal.returns-in_err-blocks-clause-wrote
-returns-in_err-blocks-clause-wrote g c held h k here there = stores_nothing c.args.sup.now held (two_logs c.args.sup.now c.args.cpu c.args.row.now.inode c.args.other.now.inode) (g.P.Pmem.region c.args.memory.now)
+returns-in_err-blocks-clause-wrote g c held h k here there = stores_nothing c.args.tables.now.layout held (two_logs c.args.tables.now.layout c.args.cpu c.args.row.now.inode c.args.other.now.inode) (g.P.Pmem.region c.args.memory.now)
 
 pub returns-in_default-clause-wrote : goal.returns-in_default-clause-wrote
 returns-in_default-clause-wrote g c held h k here there =

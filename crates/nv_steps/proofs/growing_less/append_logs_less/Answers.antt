@@ -5,8 +5,8 @@ use Rattle.nv_region.proofs.Fuses.{keeps_within}
 use Rattle.nv_super.specs.declared.superblock.Super.{Super}
 use Rattle.nv_logpage.specs.Append.{needed}
 use Rattle.nv_names.specs.Names.{Names}
-use Rattle.nv_held.specs.nv_outcome.Same.{SameRow}
-use Rattle.nv_held.proofs.BytesKept.{mixed_size}
+use Rattle.nv_outcome.specs.Same.{SameRow}
+use Rattle.nv_mounted.proofs.BytesKept.{mixed_size}
 use Rattle.nv_tree.specs.declared.refusal.Refusal.{Refusal}
 use Rattle.nv_tree.specs.declared.refusal.Refusal.TheVariants.{Stopped}
 use Rattle.nv_tree.proofs.Replies.{refused_by}
@@ -15,7 +15,6 @@ use Rattle.nv_steps.specs.Across.{AppendedLogsLess}
 use Rattle.nv_steps.specs.Steps.{LeavesStep, RefusesStep}
 use Rattle.nv_steps.specs.Stores.{two_less}
 use Rattle.nv_steps.proofs.LogsLess.{appends_less, gone_behind, gone_inside, gone_whole, left_less, less_ordered, less_stored, less_within}
-use Rattle.nv_steps.proofs.NumbersOwed.{number_below}
 use Rattle.nv_steps.proofs.Owed.{commits, has_room, owes_two}
 use Rattle.nv_steps.proofs.Stores.{stores_nothing}
 use Rattle.nv_steps.proofs.Kept.{nothing_stored}
@@ -34,11 +33,8 @@ prepare_logs_less-requires-clause-few g c = c.requires.given.few
 pub prepare_logs_less-requires-clause-more_few : goal.prepare_logs_less-requires-clause-more_few
 prepare_logs_less-requires-clause-more_few g c = c.requires.more_given.few
 
-pub slot_address-slot-requires-clause-layout : goal.slot_address-slot-requires-clause-layout
-slot_address-slot-requires-clause-layout g c = let stands = c.requires.stands.0 in stands.layout
-
-pub slot_address-slot-requires-clause-inode : goal.slot_address-slot-requires-clause-inode
-slot_address-slot-requires-clause-inode g c = number_below c.args.sup.now c.args.gone.inode c.requires.number
+pub slot_of_row-slot-requires : goal.slot_of_row-slot-requires
+slot_of_row-slot-requires g c = c.requires.number
 
 pub replace_inode-requires-clause-empty : goal.replace_inode-requires-clause-empty
 replace_inode-requires-clause-empty g c = let can = c.requires.stands.1 in can.journal_empty
@@ -55,9 +51,9 @@ replace_inode-requires-clause-second g c =
 
 pub replace_inode-requires-clause-slot : goal.replace_inode-requires-clause-slot
 replace_inode-requires-clause-slot g c = record {
-  whole = (gone_whole (owes_two c.in_ok-blocks.ensures.ready c.in_ok-blocks.ensures.other_ready c.requires.stands c.requires.other_stands c.in_ok-blocks.ensures.taken c.in_ok-blocks.ensures.count c.requires.apart c.requires.given c.requires.more_given c.blocks_for-count.ensures c.deref.ensures.value c.split_at.ensures.front c.split_at.ensures.back c.extension-one.result c.extension-two.result c.extension-one.ensures.slot c.extension-one.ensures.tail c.extension-one.ensures.entries c.extension-one.ensures.fresh c.extension-two.ensures.slot c.extension-two.ensures.tail c.extension-two.ensures.entries c.extension-two.ensures.fresh) c.args.gone.inode c.slot_address-slot.result c.requires.number c.slot_address-slot.ensures);
-  inside = (gone_inside (owes_two c.in_ok-blocks.ensures.ready c.in_ok-blocks.ensures.other_ready c.requires.stands c.requires.other_stands c.in_ok-blocks.ensures.taken c.in_ok-blocks.ensures.count c.requires.apart c.requires.given c.requires.more_given c.blocks_for-count.ensures c.deref.ensures.value c.split_at.ensures.front c.split_at.ensures.back c.extension-one.result c.extension-two.result c.extension-one.ensures.slot c.extension-one.ensures.tail c.extension-one.ensures.entries c.extension-one.ensures.fresh c.extension-two.ensures.slot c.extension-two.ensures.tail c.extension-two.ensures.entries c.extension-two.ensures.fresh) c.args.gone.inode c.slot_address-slot.result c.requires.number c.slot_address-slot.ensures);
-  behind = (gone_behind (owes_two c.in_ok-blocks.ensures.ready c.in_ok-blocks.ensures.other_ready c.requires.stands c.requires.other_stands c.in_ok-blocks.ensures.taken c.in_ok-blocks.ensures.count c.requires.apart c.requires.given c.requires.more_given c.blocks_for-count.ensures c.deref.ensures.value c.split_at.ensures.front c.split_at.ensures.back c.extension-one.result c.extension-two.result c.extension-one.ensures.slot c.extension-one.ensures.tail c.extension-one.ensures.entries c.extension-one.ensures.fresh c.extension-two.ensures.slot c.extension-two.ensures.tail c.extension-two.ensures.entries c.extension-two.ensures.fresh) c.args.gone.inode c.slot_address-slot.result c.requires.number c.slot_address-slot.ensures);
+  whole = (gone_whole (owes_two c.in_ok-blocks.ensures.ready c.in_ok-blocks.ensures.other_ready c.requires.stands c.requires.other_stands c.in_ok-blocks.ensures.taken c.in_ok-blocks.ensures.count c.requires.apart c.requires.given c.requires.more_given c.blocks_for-count.ensures c.deref.ensures.value c.split_at.ensures.front c.split_at.ensures.back c.extension-one.result c.extension-two.result c.extension-one.ensures.slot c.extension-one.ensures.tail c.extension-one.ensures.entries c.extension-one.ensures.fresh c.extension-two.ensures.slot c.extension-two.ensures.tail c.extension-two.ensures.entries c.extension-two.ensures.fresh) c.args.gone.inode c.slot_of_row-slot.result c.requires.number c.slot_of_row-slot.ensures.value);
+  inside = (gone_inside (owes_two c.in_ok-blocks.ensures.ready c.in_ok-blocks.ensures.other_ready c.requires.stands c.requires.other_stands c.in_ok-blocks.ensures.taken c.in_ok-blocks.ensures.count c.requires.apart c.requires.given c.requires.more_given c.blocks_for-count.ensures c.deref.ensures.value c.split_at.ensures.front c.split_at.ensures.back c.extension-one.result c.extension-two.result c.extension-one.ensures.slot c.extension-one.ensures.tail c.extension-one.ensures.entries c.extension-one.ensures.fresh c.extension-two.ensures.slot c.extension-two.ensures.tail c.extension-two.ensures.entries c.extension-two.ensures.fresh) c.args.gone.inode c.slot_of_row-slot.result c.requires.number c.slot_of_row-slot.ensures.value);
+  behind = (gone_behind (owes_two c.in_ok-blocks.ensures.ready c.in_ok-blocks.ensures.other_ready c.requires.stands c.requires.other_stands c.in_ok-blocks.ensures.taken c.in_ok-blocks.ensures.count c.requires.apart c.requires.given c.requires.more_given c.blocks_for-count.ensures c.deref.ensures.value c.split_at.ensures.front c.split_at.ensures.back c.extension-one.result c.extension-two.result c.extension-one.ensures.slot c.extension-one.ensures.tail c.extension-one.ensures.entries c.extension-one.ensures.fresh c.extension-two.ensures.slot c.extension-two.ensures.tail c.extension-two.ensures.entries c.extension-two.ensures.fresh) c.args.gone.inode c.slot_of_row-slot.result c.requires.number c.slot_of_row-slot.ensures.value);
 }
 
 pub settle_log-requires : goal.settle_log-requires
@@ -73,8 +69,8 @@ settle_log-requires-2 g c =
 pub returns-clause-appended : goal.returns-clause-appended
 returns-clause-appended g c =
     let ends = c.in-Ok.ensures.ends in
-    appends_less (owes_two c.in_ok-blocks.ensures.ready c.in_ok-blocks.ensures.other_ready c.requires.stands c.requires.other_stands c.in_ok-blocks.ensures.taken c.in_ok-blocks.ensures.count c.requires.apart c.requires.given c.requires.more_given c.blocks_for-count.ensures c.deref.ensures.value c.split_at.ensures.front c.split_at.ensures.back c.extension-one.result c.extension-two.result c.extension-one.ensures.slot c.extension-one.ensures.tail c.extension-one.ensures.entries c.extension-one.ensures.fresh c.extension-two.ensures.slot c.extension-two.ensures.tail c.extension-two.ensures.entries c.extension-two.ensures.fresh) c.args.gone.inode c.slot_address-slot.result c.requires.number c.slot_address-slot.ensures c.requires.differ c.requires.other_differs
-    c.settle_log.ensures c.extension-one.ensures.fresh ends.0 c.settle_log-2.ensures c.extension-two.ensures.fresh ends.1 (λ held a b h k can. c.in-Ok.ensures.shows c.args.sup.now held a b c.args.gone.inode h k can) c.replace_inode.ensures.kept.wrote.mixed
+    appends_less (owes_two c.in_ok-blocks.ensures.ready c.in_ok-blocks.ensures.other_ready c.requires.stands c.requires.other_stands c.in_ok-blocks.ensures.taken c.in_ok-blocks.ensures.count c.requires.apart c.requires.given c.requires.more_given c.blocks_for-count.ensures c.deref.ensures.value c.split_at.ensures.front c.split_at.ensures.back c.extension-one.result c.extension-two.result c.extension-one.ensures.slot c.extension-one.ensures.tail c.extension-one.ensures.entries c.extension-one.ensures.fresh c.extension-two.ensures.slot c.extension-two.ensures.tail c.extension-two.ensures.entries c.extension-two.ensures.fresh) c.args.gone.inode c.slot_of_row-slot.result c.requires.number c.slot_of_row-slot.ensures.value c.requires.differ c.requires.other_differs
+    c.settle_log.ensures c.extension-one.ensures.fresh ends.0 c.settle_log-2.ensures c.extension-two.ensures.fresh ends.1 (λ held a b h k can. c.in-Ok.ensures.shows c.args.tables.now.layout held a b c.args.gone.inode h k can) c.replace_inode.ensures.kept.wrote.mixed
 
 pub returns-clause-rooms : goal.returns-clause-rooms
 returns-clause-rooms g c = (
@@ -98,7 +94,7 @@ returns-clause-kept g c =
         stopped = tt;
         lists = taken_sup c.in_ok-blocks.ensures.taken;
         length = mixed_size c.replace_inode.ensures.kept.wrote.mixed;
-        keeps_fuse = keeps_within (less_within (owes_two c.in_ok-blocks.ensures.ready c.in_ok-blocks.ensures.other_ready c.requires.stands c.requires.other_stands c.in_ok-blocks.ensures.taken c.in_ok-blocks.ensures.count c.requires.apart c.requires.given c.requires.more_given c.blocks_for-count.ensures c.deref.ensures.value c.split_at.ensures.front c.split_at.ensures.back c.extension-one.result c.extension-two.result c.extension-one.ensures.slot c.extension-one.ensures.tail c.extension-one.ensures.entries c.extension-one.ensures.fresh c.extension-two.ensures.slot c.extension-two.ensures.tail c.extension-two.ensures.entries c.extension-two.ensures.fresh) c.args.gone.inode c.slot_address-slot.result c.requires.number c.slot_address-slot.ensures) c.replace_inode.ensures.kept.keeps_fuse;
+        keeps_fuse = keeps_within (less_within (owes_two c.in_ok-blocks.ensures.ready c.in_ok-blocks.ensures.other_ready c.requires.stands c.requires.other_stands c.in_ok-blocks.ensures.taken c.in_ok-blocks.ensures.count c.requires.apart c.requires.given c.requires.more_given c.blocks_for-count.ensures c.deref.ensures.value c.split_at.ensures.front c.split_at.ensures.back c.extension-one.result c.extension-two.result c.extension-one.ensures.slot c.extension-one.ensures.tail c.extension-one.ensures.entries c.extension-one.ensures.fresh c.extension-two.ensures.slot c.extension-two.ensures.tail c.extension-two.ensures.entries c.extension-two.ensures.fresh) c.args.gone.inode c.slot_of_row-slot.result c.requires.number c.slot_of_row-slot.ensures.value) c.replace_inode.ensures.kept.keeps_fuse;
       };
       settled = c.in-Ok.ensures.kept.settled;
     }
@@ -129,7 +125,7 @@ returns-in_default-clause-kept g c =
         stopped = grind (arith, common_steps);
         lists = taken_sup c.in_ok-blocks.ensures.taken;
         length = mixed_size c.replace_inode.ensures.kept.wrote.mixed;
-        keeps_fuse = keeps_within (less_within (owes_two c.in_ok-blocks.ensures.ready c.in_ok-blocks.ensures.other_ready c.requires.stands c.requires.other_stands c.in_ok-blocks.ensures.taken c.in_ok-blocks.ensures.count c.requires.apart c.requires.given c.requires.more_given c.blocks_for-count.ensures c.deref.ensures.value c.split_at.ensures.front c.split_at.ensures.back c.extension-one.result c.extension-two.result c.extension-one.ensures.slot c.extension-one.ensures.tail c.extension-one.ensures.entries c.extension-one.ensures.fresh c.extension-two.ensures.slot c.extension-two.ensures.tail c.extension-two.ensures.entries c.extension-two.ensures.fresh) c.args.gone.inode c.slot_address-slot.result c.requires.number c.slot_address-slot.ensures) c.replace_inode.ensures.kept.keeps_fuse;
+        keeps_fuse = keeps_within (less_within (owes_two c.in_ok-blocks.ensures.ready c.in_ok-blocks.ensures.other_ready c.requires.stands c.requires.other_stands c.in_ok-blocks.ensures.taken c.in_ok-blocks.ensures.count c.requires.apart c.requires.given c.requires.more_given c.blocks_for-count.ensures c.deref.ensures.value c.split_at.ensures.front c.split_at.ensures.back c.extension-one.result c.extension-two.result c.extension-one.ensures.slot c.extension-one.ensures.tail c.extension-one.ensures.entries c.extension-one.ensures.fresh c.extension-two.ensures.slot c.extension-two.ensures.tail c.extension-two.ensures.entries c.extension-two.ensures.fresh) c.args.gone.inode c.slot_of_row-slot.result c.requires.number c.slot_of_row-slot.ensures.value) c.replace_inode.ensures.kept.keeps_fuse;
       };
       settled = tt;
     }
@@ -142,31 +138,31 @@ returns-in_default-clause-inodes g c = (c.in_ok-blocks.ensures.rows.0.inode, c.i
 
 pub returns-clause-wrote : goal.returns-clause-wrote
 returns-clause-wrote g c held h k here there =
-    less_stored (owes_two c.in_ok-blocks.ensures.ready c.in_ok-blocks.ensures.other_ready c.requires.stands c.requires.other_stands c.in_ok-blocks.ensures.taken c.in_ok-blocks.ensures.count c.requires.apart c.requires.given c.requires.more_given c.blocks_for-count.ensures c.deref.ensures.value c.split_at.ensures.front c.split_at.ensures.back c.extension-one.result c.extension-two.result c.extension-one.ensures.slot c.extension-one.ensures.tail c.extension-one.ensures.entries c.extension-one.ensures.fresh c.extension-two.ensures.slot c.extension-two.ensures.tail c.extension-two.ensures.entries c.extension-two.ensures.fresh) c.args.gone.inode c.slot_address-slot.result c.requires.number c.slot_address-slot.ensures c.requires.differ c.requires.other_differs here there c.replace_inode.ensures.kept.wrote.mixed
+    less_stored (owes_two c.in_ok-blocks.ensures.ready c.in_ok-blocks.ensures.other_ready c.requires.stands c.requires.other_stands c.in_ok-blocks.ensures.taken c.in_ok-blocks.ensures.count c.requires.apart c.requires.given c.requires.more_given c.blocks_for-count.ensures c.deref.ensures.value c.split_at.ensures.front c.split_at.ensures.back c.extension-one.result c.extension-two.result c.extension-one.ensures.slot c.extension-one.ensures.tail c.extension-one.ensures.entries c.extension-one.ensures.fresh c.extension-two.ensures.slot c.extension-two.ensures.tail c.extension-two.ensures.entries c.extension-two.ensures.fresh) c.args.gone.inode c.slot_of_row-slot.result c.requires.number c.slot_of_row-slot.ensures.value c.requires.differ c.requires.other_differs here there c.replace_inode.ensures.kept.wrote.mixed
 
 pub returns-clause-in_order : goal.returns-clause-in_order
 returns-clause-in_order g c held h k here there =
-    less_ordered (owes_two c.in_ok-blocks.ensures.ready c.in_ok-blocks.ensures.other_ready c.requires.stands c.requires.other_stands c.in_ok-blocks.ensures.taken c.in_ok-blocks.ensures.count c.requires.apart c.requires.given c.requires.more_given c.blocks_for-count.ensures c.deref.ensures.value c.split_at.ensures.front c.split_at.ensures.back c.extension-one.result c.extension-two.result c.extension-one.ensures.slot c.extension-one.ensures.tail c.extension-one.ensures.entries c.extension-one.ensures.fresh c.extension-two.ensures.slot c.extension-two.ensures.tail c.extension-two.ensures.entries c.extension-two.ensures.fresh) c.args.gone.inode c.slot_address-slot.result c.requires.number c.slot_address-slot.ensures c.requires.differ c.requires.other_differs here there
-    (λ a b f e can. c.replace_inode.ensures.in_order c.args.sup.now held a b c.args.gone.inode f e can)
+    less_ordered (owes_two c.in_ok-blocks.ensures.ready c.in_ok-blocks.ensures.other_ready c.requires.stands c.requires.other_stands c.in_ok-blocks.ensures.taken c.in_ok-blocks.ensures.count c.requires.apart c.requires.given c.requires.more_given c.blocks_for-count.ensures c.deref.ensures.value c.split_at.ensures.front c.split_at.ensures.back c.extension-one.result c.extension-two.result c.extension-one.ensures.slot c.extension-one.ensures.tail c.extension-one.ensures.entries c.extension-one.ensures.fresh c.extension-two.ensures.slot c.extension-two.ensures.tail c.extension-two.ensures.entries c.extension-two.ensures.fresh) c.args.gone.inode c.slot_of_row-slot.result c.requires.number c.slot_of_row-slot.ensures.value c.requires.differ c.requires.other_differs here there
+    (λ a b f e can. c.replace_inode.ensures.in_order c.args.tables.now.layout held a b c.args.gone.inode f e can)
 
 pub returns-clause-any_stop : goal.returns-clause-any_stop
 returns-clause-any_stop g c held h k here there settled =
-    left_less (owes_two c.in_ok-blocks.ensures.ready c.in_ok-blocks.ensures.other_ready c.requires.stands c.requires.other_stands c.in_ok-blocks.ensures.taken c.in_ok-blocks.ensures.count c.requires.apart c.requires.given c.requires.more_given c.blocks_for-count.ensures c.deref.ensures.value c.split_at.ensures.front c.split_at.ensures.back c.extension-one.result c.extension-two.result c.extension-one.ensures.slot c.extension-one.ensures.tail c.extension-one.ensures.entries c.extension-one.ensures.fresh c.extension-two.ensures.slot c.extension-two.ensures.tail c.extension-two.ensures.entries c.extension-two.ensures.fresh) c.args.gone.inode c.slot_address-slot.result c.requires.number c.slot_address-slot.ensures c.requires.differ c.requires.other_differs here there _ _ _ c.replace_inode.ensures.kept.wrote settled
-    (λ a b f e can pending. (c.replace_inode.ensures.moments c.args.sup.now held a b c.args.gone.inode f e can).any_stop pending)
+    left_less (owes_two c.in_ok-blocks.ensures.ready c.in_ok-blocks.ensures.other_ready c.requires.stands c.requires.other_stands c.in_ok-blocks.ensures.taken c.in_ok-blocks.ensures.count c.requires.apart c.requires.given c.requires.more_given c.blocks_for-count.ensures c.deref.ensures.value c.split_at.ensures.front c.split_at.ensures.back c.extension-one.result c.extension-two.result c.extension-one.ensures.slot c.extension-one.ensures.tail c.extension-one.ensures.entries c.extension-one.ensures.fresh c.extension-two.ensures.slot c.extension-two.ensures.tail c.extension-two.ensures.entries c.extension-two.ensures.fresh) c.args.gone.inode c.slot_of_row-slot.result c.requires.number c.slot_of_row-slot.ensures.value c.requires.differ c.requires.other_differs here there _ _ _ c.replace_inode.ensures.kept.wrote settled
+    (λ a b f e can pending. (c.replace_inode.ensures.moments c.args.tables.now.layout held a b c.args.gone.inode f e can).any_stop pending)
 
 pub returns-in_default-clause-wrote : goal.returns-in_default-clause-wrote
 returns-in_default-clause-wrote g c held h k here there =
-    less_stored (owes_two c.in_ok-blocks.ensures.ready c.in_ok-blocks.ensures.other_ready c.requires.stands c.requires.other_stands c.in_ok-blocks.ensures.taken c.in_ok-blocks.ensures.count c.requires.apart c.requires.given c.requires.more_given c.blocks_for-count.ensures c.deref.ensures.value c.split_at.ensures.front c.split_at.ensures.back c.extension-one.result c.extension-two.result c.extension-one.ensures.slot c.extension-one.ensures.tail c.extension-one.ensures.entries c.extension-one.ensures.fresh c.extension-two.ensures.slot c.extension-two.ensures.tail c.extension-two.ensures.entries c.extension-two.ensures.fresh) c.args.gone.inode c.slot_address-slot.result c.requires.number c.slot_address-slot.ensures c.requires.differ c.requires.other_differs here there c.replace_inode.ensures.kept.wrote.mixed
+    less_stored (owes_two c.in_ok-blocks.ensures.ready c.in_ok-blocks.ensures.other_ready c.requires.stands c.requires.other_stands c.in_ok-blocks.ensures.taken c.in_ok-blocks.ensures.count c.requires.apart c.requires.given c.requires.more_given c.blocks_for-count.ensures c.deref.ensures.value c.split_at.ensures.front c.split_at.ensures.back c.extension-one.result c.extension-two.result c.extension-one.ensures.slot c.extension-one.ensures.tail c.extension-one.ensures.entries c.extension-one.ensures.fresh c.extension-two.ensures.slot c.extension-two.ensures.tail c.extension-two.ensures.entries c.extension-two.ensures.fresh) c.args.gone.inode c.slot_of_row-slot.result c.requires.number c.slot_of_row-slot.ensures.value c.requires.differ c.requires.other_differs here there c.replace_inode.ensures.kept.wrote.mixed
 
 pub returns-in_default-clause-in_order : goal.returns-in_default-clause-in_order
 returns-in_default-clause-in_order g c held h k here there =
-    less_ordered (owes_two c.in_ok-blocks.ensures.ready c.in_ok-blocks.ensures.other_ready c.requires.stands c.requires.other_stands c.in_ok-blocks.ensures.taken c.in_ok-blocks.ensures.count c.requires.apart c.requires.given c.requires.more_given c.blocks_for-count.ensures c.deref.ensures.value c.split_at.ensures.front c.split_at.ensures.back c.extension-one.result c.extension-two.result c.extension-one.ensures.slot c.extension-one.ensures.tail c.extension-one.ensures.entries c.extension-one.ensures.fresh c.extension-two.ensures.slot c.extension-two.ensures.tail c.extension-two.ensures.entries c.extension-two.ensures.fresh) c.args.gone.inode c.slot_address-slot.result c.requires.number c.slot_address-slot.ensures c.requires.differ c.requires.other_differs here there
-    (λ a b f e can. c.replace_inode.ensures.in_order c.args.sup.now held a b c.args.gone.inode f e can)
+    less_ordered (owes_two c.in_ok-blocks.ensures.ready c.in_ok-blocks.ensures.other_ready c.requires.stands c.requires.other_stands c.in_ok-blocks.ensures.taken c.in_ok-blocks.ensures.count c.requires.apart c.requires.given c.requires.more_given c.blocks_for-count.ensures c.deref.ensures.value c.split_at.ensures.front c.split_at.ensures.back c.extension-one.result c.extension-two.result c.extension-one.ensures.slot c.extension-one.ensures.tail c.extension-one.ensures.entries c.extension-one.ensures.fresh c.extension-two.ensures.slot c.extension-two.ensures.tail c.extension-two.ensures.entries c.extension-two.ensures.fresh) c.args.gone.inode c.slot_of_row-slot.result c.requires.number c.slot_of_row-slot.ensures.value c.requires.differ c.requires.other_differs here there
+    (λ a b f e can. c.replace_inode.ensures.in_order c.args.tables.now.layout held a b c.args.gone.inode f e can)
 
 pub returns-in_default-clause-any_stop : goal.returns-in_default-clause-any_stop
 returns-in_default-clause-any_stop g c held h k here there settled =
-    left_less (owes_two c.in_ok-blocks.ensures.ready c.in_ok-blocks.ensures.other_ready c.requires.stands c.requires.other_stands c.in_ok-blocks.ensures.taken c.in_ok-blocks.ensures.count c.requires.apart c.requires.given c.requires.more_given c.blocks_for-count.ensures c.deref.ensures.value c.split_at.ensures.front c.split_at.ensures.back c.extension-one.result c.extension-two.result c.extension-one.ensures.slot c.extension-one.ensures.tail c.extension-one.ensures.entries c.extension-one.ensures.fresh c.extension-two.ensures.slot c.extension-two.ensures.tail c.extension-two.ensures.entries c.extension-two.ensures.fresh) c.args.gone.inode c.slot_address-slot.result c.requires.number c.slot_address-slot.ensures c.requires.differ c.requires.other_differs here there _ _ _ c.replace_inode.ensures.kept.wrote settled
-    (λ a b f e can pending. (c.replace_inode.ensures.moments c.args.sup.now held a b c.args.gone.inode f e can).any_stop pending)
+    left_less (owes_two c.in_ok-blocks.ensures.ready c.in_ok-blocks.ensures.other_ready c.requires.stands c.requires.other_stands c.in_ok-blocks.ensures.taken c.in_ok-blocks.ensures.count c.requires.apart c.requires.given c.requires.more_given c.blocks_for-count.ensures c.deref.ensures.value c.split_at.ensures.front c.split_at.ensures.back c.extension-one.result c.extension-two.result c.extension-one.ensures.slot c.extension-one.ensures.tail c.extension-one.ensures.entries c.extension-one.ensures.fresh c.extension-two.ensures.slot c.extension-two.ensures.tail c.extension-two.ensures.entries c.extension-two.ensures.fresh) c.args.gone.inode c.slot_of_row-slot.result c.requires.number c.slot_of_row-slot.ensures.value c.requires.differ c.requires.other_differs here there _ _ _ c.replace_inode.ensures.kept.wrote settled
+    (λ a b f e can pending. (c.replace_inode.ensures.moments c.args.tables.now.layout held a b c.args.gone.inode f e can).any_stop pending)
 
 pub returns-in_err-blocks-clause-appended : goal.returns-in_err-blocks-clause-appended
 returns-in_err-blocks-clause-appended g c = IfOk-from_err c.from_residual.result _ c.from_residual.ensures.0
@@ -197,10 +193,10 @@ pub returns-in_err-blocks-clause-inodes : goal.returns-in_err-blocks-clause-inod
 returns-in_err-blocks-clause-inodes g c = (c.in_err-blocks.ensures.rows.0.inode, c.in_err-blocks.ensures.rows.1.inode)
 
 pub returns-in_err-blocks-clause-wrote : goal.returns-in_err-blocks-clause-wrote
-returns-in_err-blocks-clause-wrote g c held h k here there = stores_nothing c.args.sup.now held (two_less c.args.sup.now c.args.cpu c.args.row.now.inode c.args.other.now.inode c.args.gone.inode) (g.P.Pmem.region c.args.memory.now)
+returns-in_err-blocks-clause-wrote g c held h k here there = stores_nothing c.args.tables.now.layout held (two_less c.args.tables.now.layout c.args.cpu c.args.row.now.inode c.args.other.now.inode c.args.gone.inode) (g.P.Pmem.region c.args.memory.now)
 
 pub returns-in_err-blocks-clause-in_order : goal.returns-in_err-blocks-clause-in_order
 returns-in_err-blocks-clause-in_order g c held h k here there = (inl refl, inl refl)
 
 pub returns-in_err-blocks-clause-any_stop : goal.returns-in_err-blocks-clause-any_stop
-returns-in_err-blocks-clause-any_stop g c held h k here there settled = still _ _ c.args.sup.now held (AppendedLogsLess (g.P.Pmem.region c.args.memory.now) c.args.sup.now c.args.free.now c.args.cpu c.args.row.now c.args.first.now.entries.now c.args.other.now c.args.second.now.entries.now c.args.gone.inode) here.sound settled
+returns-in_err-blocks-clause-any_stop g c held h k here there settled = still _ _ c.args.tables.now.layout held (AppendedLogsLess (g.P.Pmem.region c.args.memory.now) c.args.tables.now.layout c.args.free.now c.args.cpu c.args.row.now c.args.first.now.entries.now c.args.other.now c.args.second.now.entries.now c.args.gone.inode) here.sound settled

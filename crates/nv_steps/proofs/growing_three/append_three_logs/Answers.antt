@@ -5,8 +5,8 @@ use Rattle.nv_region.proofs.Fuses.{keeps_within}
 use Rattle.nv_super.specs.declared.superblock.Super.{Super}
 use Rattle.nv_logpage.specs.Append.{needed}
 use Rattle.nv_names.specs.Names.{Names}
-use Rattle.nv_held.specs.nv_outcome.Same.{SameRow}
-use Rattle.nv_held.proofs.BytesKept.{mixed_size}
+use Rattle.nv_outcome.specs.Same.{SameRow}
+use Rattle.nv_mounted.proofs.BytesKept.{mixed_size}
 use Rattle.nv_tree.specs.declared.refusal.Refusal.{Refusal}
 use Rattle.nv_tree.specs.declared.refusal.Refusal.TheVariants.{Stopped}
 use Rattle.nv_tree.proofs.Replies.{refused_by}
@@ -77,7 +77,7 @@ pub returns-clause-appended : goal.returns-clause-appended
 returns-clause-appended g c =
     let ends = c.in-Ok.ensures.ends in
     appends_three (owes_three c.in_ok-blocks.ensures.ready c.in_ok-blocks.ensures.other_ready c.in_ok-blocks.ensures.last_ready c.requires.stands c.requires.other_stands c.requires.last_stands c.in_ok-blocks.ensures.taken c.in_ok-blocks.ensures.count c.requires.apart c.requires.given c.requires.more_given c.requires.last_given c.blocks_for-count.ensures c.deref.ensures.value c.split_at.ensures.front c.split_at.ensures.back c.blocks_for-next.ensures c.split_at-2.ensures.front c.split_at-2.ensures.back c.extension-one.result c.extension-two.result c.extension-three.result c.extension-one.ensures.slot c.extension-one.ensures.tail c.extension-one.ensures.entries c.extension-one.ensures.fresh c.extension-two.ensures.slot c.extension-two.ensures.tail c.extension-two.ensures.entries c.extension-two.ensures.fresh c.extension-three.ensures.slot c.extension-three.ensures.tail c.extension-three.ensures.entries c.extension-three.ensures.fresh)
-    c.settle_log.ensures c.extension-one.ensures.fresh ends.0 c.settle_log-2.ensures c.extension-two.ensures.fresh ends.1 c.settle_log-3.ensures c.extension-three.ensures.fresh ends.2 (λ held i j k h m f can. c.in-Ok.ensures.shows c.args.sup.now held i j k h m f can) c.extend_three.ensures.kept.wrote.mixed
+    c.settle_log.ensures c.extension-one.ensures.fresh ends.0 c.settle_log-2.ensures c.extension-two.ensures.fresh ends.1 c.settle_log-3.ensures c.extension-three.ensures.fresh ends.2 (λ held i j k h m f can. c.in-Ok.ensures.shows c.args.tables.now.layout held i j k h m f can) c.extend_three.ensures.kept.wrote.mixed
 
 pub returns-clause-room : goal.returns-clause-room
 returns-clause-room g c =
@@ -158,12 +158,12 @@ returns-clause-wrote g c held h m f here there also =
 pub returns-clause-in_order : goal.returns-clause-in_order
 returns-clause-in_order g c held h m f here there also =
     three_ordered (owes_three c.in_ok-blocks.ensures.ready c.in_ok-blocks.ensures.other_ready c.in_ok-blocks.ensures.last_ready c.requires.stands c.requires.other_stands c.requires.last_stands c.in_ok-blocks.ensures.taken c.in_ok-blocks.ensures.count c.requires.apart c.requires.given c.requires.more_given c.requires.last_given c.blocks_for-count.ensures c.deref.ensures.value c.split_at.ensures.front c.split_at.ensures.back c.blocks_for-next.ensures c.split_at-2.ensures.front c.split_at-2.ensures.back c.extension-one.result c.extension-two.result c.extension-three.result c.extension-one.ensures.slot c.extension-one.ensures.tail c.extension-one.ensures.entries c.extension-one.ensures.fresh c.extension-two.ensures.slot c.extension-two.ensures.tail c.extension-two.ensures.entries c.extension-two.ensures.fresh c.extension-three.ensures.slot c.extension-three.ensures.tail c.extension-three.ensures.entries c.extension-three.ensures.fresh) here there also
-    (λ i j k a b d can. c.extend_three.ensures.in_order c.args.sup.now held i j k a b d can)
+    (λ i j k a b d can. c.extend_three.ensures.in_order c.args.tables.now.layout held i j k a b d can)
 
 pub returns-clause-any_stop : goal.returns-clause-any_stop
 returns-clause-any_stop g c held h m f here there also settled =
     left_three (owes_three c.in_ok-blocks.ensures.ready c.in_ok-blocks.ensures.other_ready c.in_ok-blocks.ensures.last_ready c.requires.stands c.requires.other_stands c.requires.last_stands c.in_ok-blocks.ensures.taken c.in_ok-blocks.ensures.count c.requires.apart c.requires.given c.requires.more_given c.requires.last_given c.blocks_for-count.ensures c.deref.ensures.value c.split_at.ensures.front c.split_at.ensures.back c.blocks_for-next.ensures c.split_at-2.ensures.front c.split_at-2.ensures.back c.extension-one.result c.extension-two.result c.extension-three.result c.extension-one.ensures.slot c.extension-one.ensures.tail c.extension-one.ensures.entries c.extension-one.ensures.fresh c.extension-two.ensures.slot c.extension-two.ensures.tail c.extension-two.ensures.entries c.extension-two.ensures.fresh c.extension-three.ensures.slot c.extension-three.ensures.tail c.extension-three.ensures.entries c.extension-three.ensures.fresh) here there also _ _ _ c.extend_three.ensures.kept.wrote settled
-    (λ i j k a b d can pending. (c.extend_three.ensures.moments c.args.sup.now held i j k a b d can).any_stop pending)
+    (λ i j k a b d can pending. (c.extend_three.ensures.moments c.args.tables.now.layout held i j k a b d can).any_stop pending)
 
 pub returns-in_default-clause-wrote : goal.returns-in_default-clause-wrote
 returns-in_default-clause-wrote g c held h m f here there also =
@@ -172,12 +172,12 @@ returns-in_default-clause-wrote g c held h m f here there also =
 pub returns-in_default-clause-in_order : goal.returns-in_default-clause-in_order
 returns-in_default-clause-in_order g c held h m f here there also =
     three_ordered (owes_three c.in_ok-blocks.ensures.ready c.in_ok-blocks.ensures.other_ready c.in_ok-blocks.ensures.last_ready c.requires.stands c.requires.other_stands c.requires.last_stands c.in_ok-blocks.ensures.taken c.in_ok-blocks.ensures.count c.requires.apart c.requires.given c.requires.more_given c.requires.last_given c.blocks_for-count.ensures c.deref.ensures.value c.split_at.ensures.front c.split_at.ensures.back c.blocks_for-next.ensures c.split_at-2.ensures.front c.split_at-2.ensures.back c.extension-one.result c.extension-two.result c.extension-three.result c.extension-one.ensures.slot c.extension-one.ensures.tail c.extension-one.ensures.entries c.extension-one.ensures.fresh c.extension-two.ensures.slot c.extension-two.ensures.tail c.extension-two.ensures.entries c.extension-two.ensures.fresh c.extension-three.ensures.slot c.extension-three.ensures.tail c.extension-three.ensures.entries c.extension-three.ensures.fresh) here there also
-    (λ i j k a b d can. c.extend_three.ensures.in_order c.args.sup.now held i j k a b d can)
+    (λ i j k a b d can. c.extend_three.ensures.in_order c.args.tables.now.layout held i j k a b d can)
 
 pub returns-in_default-clause-any_stop : goal.returns-in_default-clause-any_stop
 returns-in_default-clause-any_stop g c held h m f here there also settled =
     left_three (owes_three c.in_ok-blocks.ensures.ready c.in_ok-blocks.ensures.other_ready c.in_ok-blocks.ensures.last_ready c.requires.stands c.requires.other_stands c.requires.last_stands c.in_ok-blocks.ensures.taken c.in_ok-blocks.ensures.count c.requires.apart c.requires.given c.requires.more_given c.requires.last_given c.blocks_for-count.ensures c.deref.ensures.value c.split_at.ensures.front c.split_at.ensures.back c.blocks_for-next.ensures c.split_at-2.ensures.front c.split_at-2.ensures.back c.extension-one.result c.extension-two.result c.extension-three.result c.extension-one.ensures.slot c.extension-one.ensures.tail c.extension-one.ensures.entries c.extension-one.ensures.fresh c.extension-two.ensures.slot c.extension-two.ensures.tail c.extension-two.ensures.entries c.extension-two.ensures.fresh c.extension-three.ensures.slot c.extension-three.ensures.tail c.extension-three.ensures.entries c.extension-three.ensures.fresh) here there also _ _ _ c.extend_three.ensures.kept.wrote settled
-    (λ i j k a b d can pending. (c.extend_three.ensures.moments c.args.sup.now held i j k a b d can).any_stop pending)
+    (λ i j k a b d can pending. (c.extend_three.ensures.moments c.args.tables.now.layout held i j k a b d can).any_stop pending)
 
 pub returns-in_err-blocks-clause-appended : goal.returns-in_err-blocks-clause-appended
 returns-in_err-blocks-clause-appended g c = IfOk-from_err c.from_residual.result _ c.from_residual.ensures.0
@@ -214,10 +214,10 @@ returns-in_err-blocks-clause-inodes g c =
     (one.inode, two.inode, three.inode)
 
 pub returns-in_err-blocks-clause-wrote : goal.returns-in_err-blocks-clause-wrote
-returns-in_err-blocks-clause-wrote g c held h m f here there also = stores_nothing c.args.sup.now held (three_logs c.args.sup.now c.args.cpu c.args.row.now.inode c.args.other.now.inode c.args.last.now.inode) (g.P.Pmem.region c.args.memory.now)
+returns-in_err-blocks-clause-wrote g c held h m f here there also = stores_nothing c.args.tables.now.layout held (three_logs c.args.tables.now.layout c.args.cpu c.args.row.now.inode c.args.other.now.inode c.args.last.now.inode) (g.P.Pmem.region c.args.memory.now)
 
 pub returns-in_err-blocks-clause-in_order : goal.returns-in_err-blocks-clause-in_order
 returns-in_err-blocks-clause-in_order g c held h m f here there also = (inl refl, inl refl)
 
 pub returns-in_err-blocks-clause-any_stop : goal.returns-in_err-blocks-clause-any_stop
-returns-in_err-blocks-clause-any_stop g c held h m f here there also settled = still _ _ c.args.sup.now held (AppendedThreeLogs (g.P.Pmem.region c.args.memory.now) c.args.sup.now c.args.free.now c.args.cpu c.args.row.now c.args.first.now.entries.now c.args.other.now c.args.second.now.entries.now c.args.last.now c.args.third.now.entries.now) here.sound settled
+returns-in_err-blocks-clause-any_stop g c held h m f here there also settled = still _ _ c.args.tables.now.layout held (AppendedThreeLogs (g.P.Pmem.region c.args.memory.now) c.args.tables.now.layout c.args.free.now c.args.cpu c.args.row.now c.args.first.now.entries.now c.args.other.now c.args.second.now.entries.now c.args.last.now c.args.third.now.entries.now) here.sound settled

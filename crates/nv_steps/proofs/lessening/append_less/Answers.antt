@@ -5,11 +5,11 @@ use Rattle.smallvec.specs.SmallVec.{HasRoomFor}
 use Rattle.nv_region.specs.Region.{size}
 use Rattle.nv_region.proofs.Fuses.{keeps_within}
 use Rattle.nv_super.specs.declared.superblock.Super.{Super}
-use Rattle.nv_super.specs.Layout.{inode_limit}
+use Rattle.nv_inode.specs.Numbers.{has_slot}
 use Rattle.nv_journal.specs.Undo.{journal}
 use Rattle.nv_logpage.specs.Append.{needed}
 use Rattle.nv_names.specs.Names.{Names}
-use Rattle.nv_held.proofs.BytesKept.{mixed_size}
+use Rattle.nv_mounted.proofs.BytesKept.{mixed_size}
 use Rattle.nv_tree.specs.declared.refusal.Refusal.{Refusal}
 use Rattle.nv_tree.specs.declared.refusal.Refusal.TheVariants.{Stopped}
 use Rattle.nv_tree.proofs.Replies.{refused_by}
@@ -17,7 +17,6 @@ use Rattle.nv_steps.specs.Steps.{LeavesStep, RefusesStep}
 use Rattle.nv_commit.proofs.Left.{still}
 use Rattle.nv_steps.specs.Takes.{AppendedLess}
 use Rattle.nv_steps.proofs.Less.{appends_less, commits, left_less, less_told, less_within, slot_behind, slot_inside, slot_whole}
-use Rattle.nv_steps.proofs.NumbersOwed.{number_below}
 use Rattle.nv_steps.proofs.TakenBlocks.{taken_sup}
 use Rattle.nv_steps.proofs.lessening.append_less.Goals as goal
 use Rattle.nv_steps.specs.Stores.{one_less}
@@ -50,17 +49,11 @@ returns-in_err-fresh-clause-kept g c =
 pub returns-in_err-fresh-clause-row : goal.returns-in_err-fresh-clause-row
 returns-in_err-fresh-clause-row g c = (c.in_err-fresh.ensures.row.0.inode, c.prepare_cut.ensures.row.1)
 
-pub slot_address-requires-clause-layout : goal.slot_address-requires-clause-layout
-slot_address-requires-clause-layout g c = c.requires.stands.layout
+pub slot_of_row-requires : goal.slot_of_row-requires
+slot_of_row-requires g c = subst (λ (i : ℕ). IsTrue (has_slot c.args.tables.now.layout i)) (sym c.in_ok-fresh.ensures.row.0.inode) c.requires.stands.number
 
-pub slot_address-requires-clause-inode : goal.slot_address-requires-clause-inode
-slot_address-requires-clause-inode g c = subst (λ (i : ℕ). i < inode_limit c.args.sup.now) (sym c.in_ok-fresh.ensures.row.0.inode) c.requires.stands.number
-
-pub slot_address-requires-2-clause-layout : goal.slot_address-requires-2-clause-layout
-slot_address-requires-2-clause-layout g c = c.requires.stands.layout
-
-pub slot_address-requires-2-clause-inode : goal.slot_address-requires-2-clause-inode
-slot_address-requires-2-clause-inode g c = number_below c.args.sup.now c.args.gone c.requires.can.number
+pub slot_of_row-requires-2 : goal.slot_of_row-requires-2
+slot_of_row-requires-2 g c = c.requires.can.number
 
 pub remove_inode-requires-clause-empty : goal.remove_inode-requires-clause-empty
 remove_inode-requires-clause-empty g c = c.requires.can.journal_empty
@@ -68,11 +61,11 @@ remove_inode-requires-clause-empty g c = c.requires.can.journal_empty
 pub remove_inode-requires-clause-slot : goal.remove_inode-requires-clause-slot
 remove_inode-requires-clause-slot g c = record {
   whole = (let count : length c.in_ok-fresh.fresh.items ≡ needed (c.args.row.now.tail % 4096) c.args.entries.now = c.in_ok-fresh.ensures.count in
-      subst (λ (a : ℕ). a % 8 ≡ 0) (sym c.slot_address-2.ensures) (slot_whole c.requires.stands c.requires.can c.in_ok-fresh.ensures.taken c.args.entries.now c.requires.given c.requires.some count c.in_ok-fresh.ensures.row.0));
+      subst (λ (a : ℕ). a % 8 ≡ 0) (sym c.slot_of_row-2.ensures.value) (slot_whole c.requires.stands c.requires.can c.in_ok-fresh.ensures.taken c.args.entries.now c.requires.given c.requires.some count c.in_ok-fresh.ensures.row.0));
   inside = (let count : length c.in_ok-fresh.fresh.items ≡ needed (c.args.row.now.tail % 4096) c.args.entries.now = c.in_ok-fresh.ensures.count in
-      subst (λ (a : ℕ). a + 8 ≤ size (g.P.Pmem.region c.args.memory.now)) (sym c.slot_address-2.ensures) (slot_inside c.requires.stands c.requires.can c.in_ok-fresh.ensures.taken c.args.entries.now c.requires.given c.requires.some count c.in_ok-fresh.ensures.row.0));
+      subst (λ (a : ℕ). a + 8 ≤ size (g.P.Pmem.region c.args.memory.now)) (sym c.slot_of_row-2.ensures.value) (slot_inside c.requires.stands c.requires.can c.in_ok-fresh.ensures.taken c.args.entries.now c.requires.given c.requires.some count c.in_ok-fresh.ensures.row.0));
   behind = (let count : length c.in_ok-fresh.fresh.items ≡ needed (c.args.row.now.tail % 4096) c.args.entries.now = c.in_ok-fresh.ensures.count in
-      subst (λ (a : ℕ). journal c.args.cpu + 4096 ≤ a) (sym c.slot_address-2.ensures) (slot_behind c.requires.stands c.requires.can c.in_ok-fresh.ensures.taken c.args.entries.now c.requires.given c.requires.some count c.in_ok-fresh.ensures.row.0));
+      subst (λ (a : ℕ). journal c.args.cpu + 4096 ≤ a) (sym c.slot_of_row-2.ensures.value) (slot_behind c.requires.stands c.requires.can c.in_ok-fresh.ensures.taken c.args.entries.now c.requires.given c.requires.some count c.in_ok-fresh.ensures.row.0));
 }
 
 pub returns-in_default-clause-appended : goal.returns-in_default-clause-appended
@@ -96,8 +89,8 @@ returns-in_default-clause-kept g c =
         lists = taken_sup c.in_ok-fresh.ensures.taken;
         length = mixed_size c.remove_inode.ensures.kept.wrote.mixed;
         keeps_fuse = let count : length c.in_ok-fresh.fresh.items ≡ needed (c.args.row.now.tail % 4096) c.args.entries.now = c.in_ok-fresh.ensures.count in
-            keeps_within (less_within c.requires.stands c.requires.can c.in_ok-fresh.ensures.taken c.args.entries.now c.requires.given c.requires.some count c.in_ok-fresh.ensures.row.0 c.slot_address-2.result c.slot_address.result c.prepare_cut.new.row.tail _
-            c.slot_address-2.ensures c.slot_address.ensures refl c.deref.ensures.value) c.remove_inode.ensures.kept.keeps_fuse;
+            keeps_within (less_within c.requires.stands c.requires.can c.in_ok-fresh.ensures.taken c.args.entries.now c.requires.given c.requires.some count c.in_ok-fresh.ensures.row.0 c.slot_of_row-2.result c.slot_of_row.result c.prepare_cut.new.row.tail _
+            c.slot_of_row-2.ensures.value c.slot_of_row.ensures.value refl c.deref.ensures.value) c.remove_inode.ensures.kept.keeps_fuse;
       };
       settled = tt;
     }
@@ -130,8 +123,8 @@ returns-clause-kept g c =
         lists = taken_sup c.in_ok-fresh.ensures.taken;
         length = mixed_size c.remove_inode.ensures.kept.wrote.mixed;
         keeps_fuse = let count : length c.in_ok-fresh.fresh.items ≡ needed (c.args.row.now.tail % 4096) c.args.entries.now = c.in_ok-fresh.ensures.count in
-            keeps_within (less_within c.requires.stands c.requires.can c.in_ok-fresh.ensures.taken c.args.entries.now c.requires.given c.requires.some count c.in_ok-fresh.ensures.row.0 c.slot_address-2.result c.slot_address.result c.prepare_cut.new.row.tail _
-            c.slot_address-2.ensures c.slot_address.ensures refl c.deref.ensures.value) c.remove_inode.ensures.kept.keeps_fuse;
+            keeps_within (less_within c.requires.stands c.requires.can c.in_ok-fresh.ensures.taken c.args.entries.now c.requires.given c.requires.some count c.in_ok-fresh.ensures.row.0 c.slot_of_row-2.result c.slot_of_row.result c.prepare_cut.new.row.tail _
+            c.slot_of_row-2.ensures.value c.slot_of_row.ensures.value refl c.deref.ensures.value) c.remove_inode.ensures.kept.keeps_fuse;
       };
       settled = c.in-Ok.ensures.kept.settled;
     }
@@ -145,14 +138,14 @@ returns-clause-row g c = (c.settle_less.ensures.row.inode ∙ c.in_ok-fresh.ensu
 pub remove_inode-requires-clause-directory : goal.remove_inode-requires-clause-directory
 remove_inode-requires-clause-directory g c =
     let count : length c.in_ok-fresh.fresh.items ≡ needed (c.args.row.now.tail % 4096) c.args.entries.now = c.in_ok-fresh.ensures.count in
-    commits c.requires.stands c.requires.can c.in_ok-fresh.ensures.taken c.args.entries.now c.requires.given c.requires.some count c.in_ok-fresh.ensures.row.0 _ c.slot_address.ensures refl refl c.deref.ensures.value
+    commits c.requires.stands c.requires.can c.in_ok-fresh.ensures.taken c.args.entries.now c.requires.given c.requires.some count c.in_ok-fresh.ensures.row.0 _ c.slot_of_row.ensures.value refl refl c.deref.ensures.value
 
 pub returns-clause-appended : goal.returns-clause-appended
 returns-clause-appended g c =
     let count : length c.in_ok-fresh.fresh.items ≡ needed (c.args.row.now.tail % 4096) c.args.entries.now = c.in_ok-fresh.ensures.count in
-    appends_less c.requires.stands c.requires.can c.in_ok-fresh.ensures.taken c.args.entries.now c.requires.given c.requires.some count c.in_ok-fresh.ensures.row.0 _ c.slot_address.ensures refl refl c.deref.ensures.value
-    c.slot_address-2.result c.in-Ok.end _ c.slot_address-2.ensures c.requires.differ c.deref-2.ensures.value c.in-Ok.ensures.end c.settle_less.ensures.row c.in_ok-fresh.ensures.once c.settle_less.ensures.once
-    (λ held h can. c.in-Ok.ensures.shows c.args.sup.now held c.prepare_cut.new.row.inode c.args.gone h can) c.remove_inode.ensures.kept.wrote.mixed
+    appends_less c.requires.stands c.requires.can c.in_ok-fresh.ensures.taken c.args.entries.now c.requires.given c.requires.some count c.in_ok-fresh.ensures.row.0 _ c.slot_of_row.ensures.value refl refl c.deref.ensures.value
+    c.slot_of_row-2.result c.in-Ok.end _ c.slot_of_row-2.ensures.value c.requires.differ c.deref-2.ensures.value c.in-Ok.ensures.end c.settle_less.ensures.row c.in_ok-fresh.ensures.once c.settle_less.ensures.once
+    (λ held h can. c.in-Ok.ensures.shows c.args.tables.now.layout held c.prepare_cut.new.row.inode c.args.gone h can) c.remove_inode.ensures.kept.wrote.mixed
 
 pub returns-in_err-fresh-clause-appended : goal.returns-in_err-fresh-clause-appended
 returns-in_err-fresh-clause-appended g c = IfOk-from_err c.from_residual.result _ c.from_residual.ensures.0
@@ -162,21 +155,21 @@ returns-in_err-fresh-clause-room g c = IfOk-from_err c.from_residual.result _ c.
 
 pub returns-in_err-fresh-clause-any_stop : goal.returns-in_err-fresh-clause-any_stop
 returns-in_err-fresh-clause-any_stop g c held h shows settled =
-    still _ _ c.args.sup.now held (AppendedLess (g.P.Pmem.region c.args.memory.now) c.args.sup.now c.args.free.now c.args.cpu c.args.row.now c.args.gone c.args.entries.now) shows.sound settled
+    still _ _ c.args.tables.now.layout held (AppendedLess (g.P.Pmem.region c.args.memory.now) c.args.tables.now.layout c.args.free.now c.args.cpu c.args.row.now c.args.gone c.args.entries.now) shows.sound settled
 
 pub returns-in_default-clause-any_stop : goal.returns-in_default-clause-any_stop
 returns-in_default-clause-any_stop g c held h shows settled =
     let count : length c.in_ok-fresh.fresh.items ≡ needed (c.args.row.now.tail % 4096) c.args.entries.now = c.in_ok-fresh.ensures.count in
-    left_less c.requires.stands c.requires.can c.in_ok-fresh.ensures.taken c.args.entries.now c.requires.given c.requires.some count c.in_ok-fresh.ensures.row.0 _ c.slot_address.ensures refl refl c.deref.ensures.value
-    c.slot_address-2.result c.slot_address-2.ensures c.requires.differ shows c.in_ok-fresh.ensures.once _ _ _ c.remove_inode.ensures.kept.wrote settled
-    (λ can pending. (c.remove_inode.ensures.moments c.args.sup.now held c.prepare_cut.new.row.inode c.args.gone h can).any_stop pending)
+    left_less c.requires.stands c.requires.can c.in_ok-fresh.ensures.taken c.args.entries.now c.requires.given c.requires.some count c.in_ok-fresh.ensures.row.0 _ c.slot_of_row.ensures.value refl refl c.deref.ensures.value
+    c.slot_of_row-2.result c.slot_of_row-2.ensures.value c.requires.differ shows c.in_ok-fresh.ensures.once _ _ _ c.remove_inode.ensures.kept.wrote settled
+    (λ can pending. (c.remove_inode.ensures.moments c.args.tables.now.layout held c.prepare_cut.new.row.inode c.args.gone h can).any_stop pending)
 
 pub returns-clause-any_stop : goal.returns-clause-any_stop
 returns-clause-any_stop g c held h shows settled =
     let count : length c.in_ok-fresh.fresh.items ≡ needed (c.args.row.now.tail % 4096) c.args.entries.now = c.in_ok-fresh.ensures.count in
-    left_less c.requires.stands c.requires.can c.in_ok-fresh.ensures.taken c.args.entries.now c.requires.given c.requires.some count c.in_ok-fresh.ensures.row.0 _ c.slot_address.ensures refl refl c.deref.ensures.value
-    c.slot_address-2.result c.slot_address-2.ensures c.requires.differ shows c.in_ok-fresh.ensures.once _ _ _ c.remove_inode.ensures.kept.wrote settled
-    (λ can pending. (c.remove_inode.ensures.moments c.args.sup.now held c.prepare_cut.new.row.inode c.args.gone h can).any_stop pending)
+    left_less c.requires.stands c.requires.can c.in_ok-fresh.ensures.taken c.args.entries.now c.requires.given c.requires.some count c.in_ok-fresh.ensures.row.0 _ c.slot_of_row.ensures.value refl refl c.deref.ensures.value
+    c.slot_of_row-2.result c.slot_of_row-2.ensures.value c.requires.differ shows c.in_ok-fresh.ensures.once _ _ _ c.remove_inode.ensures.kept.wrote settled
+    (λ can pending. (c.remove_inode.ensures.moments c.args.tables.now.layout held c.prepare_cut.new.row.inode c.args.gone h can).any_stop pending)
 
 pub returns-in_err-fresh-clause-in_order : goal.returns-in_err-fresh-clause-in_order
 returns-in_err-fresh-clause-in_order g c held h shows = inl refl
@@ -184,26 +177,26 @@ returns-in_err-fresh-clause-in_order g c held h shows = inl refl
 pub returns-in_default-clause-in_order : goal.returns-in_default-clause-in_order
 returns-in_default-clause-in_order g c held h shows =
     let count : length c.in_ok-fresh.fresh.items ≡ needed (c.args.row.now.tail % 4096) c.args.entries.now = c.in_ok-fresh.ensures.count in
-    (less_told c.requires.stands c.requires.can c.in_ok-fresh.ensures.taken c.args.entries.now c.requires.given c.requires.some count c.in_ok-fresh.ensures.row.0 _ c.slot_address.ensures refl refl c.deref.ensures.value
-    (g.P.Pmem.region c.remove_inode.new.memory) c.slot_address-2.result c.slot_address-2.ensures c.requires.differ shows (c.remove_inode.ensures.in_order c.args.sup.now held c.prepare_cut.new.row.inode c.args.gone h) c.remove_inode.ensures.kept.wrote.mixed).0
+    (less_told c.requires.stands c.requires.can c.in_ok-fresh.ensures.taken c.args.entries.now c.requires.given c.requires.some count c.in_ok-fresh.ensures.row.0 _ c.slot_of_row.ensures.value refl refl c.deref.ensures.value
+    (g.P.Pmem.region c.remove_inode.new.memory) c.slot_of_row-2.result c.slot_of_row-2.ensures.value c.requires.differ shows (c.remove_inode.ensures.in_order c.args.tables.now.layout held c.prepare_cut.new.row.inode c.args.gone h) c.remove_inode.ensures.kept.wrote.mixed).0
 
 pub returns-clause-in_order : goal.returns-clause-in_order
 returns-clause-in_order g c held h shows =
     let count : length c.in_ok-fresh.fresh.items ≡ needed (c.args.row.now.tail % 4096) c.args.entries.now = c.in_ok-fresh.ensures.count in
-    (less_told c.requires.stands c.requires.can c.in_ok-fresh.ensures.taken c.args.entries.now c.requires.given c.requires.some count c.in_ok-fresh.ensures.row.0 _ c.slot_address.ensures refl refl c.deref.ensures.value
-    (g.P.Pmem.region c.remove_inode.new.memory) c.slot_address-2.result c.slot_address-2.ensures c.requires.differ shows (c.remove_inode.ensures.in_order c.args.sup.now held c.prepare_cut.new.row.inode c.args.gone h) c.remove_inode.ensures.kept.wrote.mixed).0
+    (less_told c.requires.stands c.requires.can c.in_ok-fresh.ensures.taken c.args.entries.now c.requires.given c.requires.some count c.in_ok-fresh.ensures.row.0 _ c.slot_of_row.ensures.value refl refl c.deref.ensures.value
+    (g.P.Pmem.region c.remove_inode.new.memory) c.slot_of_row-2.result c.slot_of_row-2.ensures.value c.requires.differ shows (c.remove_inode.ensures.in_order c.args.tables.now.layout held c.prepare_cut.new.row.inode c.args.gone h) c.remove_inode.ensures.kept.wrote.mixed).0
 
 pub returns-in_err-fresh-clause-wrote : goal.returns-in_err-fresh-clause-wrote
-returns-in_err-fresh-clause-wrote g c held h shows = stores_nothing c.args.sup.now held (one_less c.args.sup.now c.args.cpu c.args.row.now.inode c.args.gone) (g.P.Pmem.region c.args.memory.now)
+returns-in_err-fresh-clause-wrote g c held h shows = stores_nothing c.args.tables.now.layout held (one_less c.args.tables.now.layout c.args.cpu c.args.row.now.inode c.args.gone) (g.P.Pmem.region c.args.memory.now)
 
 pub returns-in_default-clause-wrote : goal.returns-in_default-clause-wrote
 returns-in_default-clause-wrote g c held h shows =
     let count : length c.in_ok-fresh.fresh.items ≡ needed (c.args.row.now.tail % 4096) c.args.entries.now = c.in_ok-fresh.ensures.count in
-    (less_told c.requires.stands c.requires.can c.in_ok-fresh.ensures.taken c.args.entries.now c.requires.given c.requires.some count c.in_ok-fresh.ensures.row.0 _ c.slot_address.ensures refl refl c.deref.ensures.value
-    (g.P.Pmem.region c.remove_inode.new.memory) c.slot_address-2.result c.slot_address-2.ensures c.requires.differ shows (c.remove_inode.ensures.in_order c.args.sup.now held c.prepare_cut.new.row.inode c.args.gone h) c.remove_inode.ensures.kept.wrote.mixed).1
+    (less_told c.requires.stands c.requires.can c.in_ok-fresh.ensures.taken c.args.entries.now c.requires.given c.requires.some count c.in_ok-fresh.ensures.row.0 _ c.slot_of_row.ensures.value refl refl c.deref.ensures.value
+    (g.P.Pmem.region c.remove_inode.new.memory) c.slot_of_row-2.result c.slot_of_row-2.ensures.value c.requires.differ shows (c.remove_inode.ensures.in_order c.args.tables.now.layout held c.prepare_cut.new.row.inode c.args.gone h) c.remove_inode.ensures.kept.wrote.mixed).1
 
 pub returns-clause-wrote : goal.returns-clause-wrote
 returns-clause-wrote g c held h shows =
     let count : length c.in_ok-fresh.fresh.items ≡ needed (c.args.row.now.tail % 4096) c.args.entries.now = c.in_ok-fresh.ensures.count in
-    (less_told c.requires.stands c.requires.can c.in_ok-fresh.ensures.taken c.args.entries.now c.requires.given c.requires.some count c.in_ok-fresh.ensures.row.0 _ c.slot_address.ensures refl refl c.deref.ensures.value
-    (g.P.Pmem.region c.remove_inode.new.memory) c.slot_address-2.result c.slot_address-2.ensures c.requires.differ shows (c.remove_inode.ensures.in_order c.args.sup.now held c.prepare_cut.new.row.inode c.args.gone h) c.remove_inode.ensures.kept.wrote.mixed).1
+    (less_told c.requires.stands c.requires.can c.in_ok-fresh.ensures.taken c.args.entries.now c.requires.given c.requires.some count c.in_ok-fresh.ensures.row.0 _ c.slot_of_row.ensures.value refl refl c.deref.ensures.value
+    (g.P.Pmem.region c.remove_inode.new.memory) c.slot_of_row-2.result c.slot_of_row-2.ensures.value c.requires.differ shows (c.remove_inode.ensures.in_order c.args.tables.now.layout held c.prepare_cut.new.row.inode c.args.gone h) c.remove_inode.ensures.kept.wrote.mixed).1

@@ -1,12 +1,11 @@
 use Rattle.std.proofs.Common.{◌∙◌, ◌+◌, ◌%◌, ◌∷◌, [], ap, refl, subst, arith, ◌≡◌, ◌≤◌, sym}
-use Rattle.nv_super.specs.Layout.{fixed_layout}
 use Rattle.std.proofs.lemmas.Result.{err_from_is_err_and, IfOk-from_err}
 use Rattle.nv_entry.specs.declared.entry.Entry.{Entry}
 use Rattle.nv_entry.specs.declared.entry.Operation.TheVariants.{Add}
 use Rattle.nv_entry.specs.Spelling.{entry_length}
 use Rattle.nv_logpage.specs.Append.{needed}
 use Rattle.nv_alloc.specs.Taking.{all_blocks}
-use Rattle.nv_held.specs.nv_outcome.Same.{SameRow}
+use Rattle.nv_outcome.specs.Same.{SameRow}
 use Rattle.nv_tree.specs.declared.refusal.Refusal.TheVariants.{Stopped}
 use Rattle.nv_tree.specs.declared.refusal.Refusal.{Refusal}
 use Rattle.nv_steps.specs.NameEntries.{links_entries, name_entries}
@@ -33,7 +32,7 @@ returns-in_err-append_logs-clause-needs g c =
 pub returns-clause-linked : goal.returns-clause-linked
 returns-clause-linked g c =
     let grew = c.in_ok-append_logs.ensures.appended in
-    let both = subst (λ (x : Entry). AppendsLogs (g.P.Pmem.region c.args.memory.now) (g.P.Pmem.region c.append_logs.new.memory) c.args.sup.now c.args.free.now c.append_logs.new.free c.args.cpu (c.args.file.now ∷ c.args.directory.now ∷ []) (c.append_logs.new.row ∷ c.append_logs.new.other ∷ []) 0 (links_entries (c.args.file.now.numbers.links + 1) c.args.time) 1 (x ∷ [])) c.name_entry.ensures grew in
+    let both = subst (λ (x : Entry). AppendsLogs (g.P.Pmem.region c.args.memory.now) (g.P.Pmem.region c.append_logs.new.memory) c.args.tables.now.layout c.args.free.now c.append_logs.new.free c.args.cpu (c.args.file.now ∷ c.args.directory.now ∷ []) (c.append_logs.new.row ∷ c.append_logs.new.other ∷ []) 0 (links_entries (c.args.file.now.numbers.links + 1) c.args.time) 1 (x ∷ [])) c.name_entry.ensures grew in
     links_at_places c.args.file.now both refl (λ e. omega (arith, e)) c.append_logs.new.row c.append_logs.new.other c.append_logs.new.other c.length.result refl c.set_links.ensures refl (c.length.ensures.value ∙ ap entry_length c.name_entry.ensures) refl c.add_name.ensures.row c.add_name.ensures.once
 
 pub append_logs-requires-clause-apart : goal.append_logs-requires-clause-apart
@@ -95,13 +94,13 @@ name_entry-requires g c = record { some = c.requires.name.some; fits = c.require
 pub returns-in_err-append_logs-clause-any_stop : goal.returns-in_err-append_logs-clause-any_stop
 returns-in_err-append_logs-clause-any_stop g c held h k here there absent settled left may =
     left_linked c.args.file.now c.args.directory.now c.args.name.now c.args.time absent left
-    (subst (λ (x : Entry). LeavesEither (g.P.Pmem.region c.args.memory.now) (fixed_layout c.args.sup.now) held (AppendedBoth (g.P.Pmem.region c.args.memory.now) c.args.sup.now c.args.free.now c.args.cpu c.args.file.now (links_entries (c.args.file.now.numbers.links + 1) c.args.time) c.args.directory.now (x ∷ [])) left) c.name_entry.ensures
+    (subst (λ (x : Entry). LeavesEither (g.P.Pmem.region c.args.memory.now) c.args.tables.now.layout held (AppendedBoth (g.P.Pmem.region c.args.memory.now) c.args.tables.now.layout c.args.free.now c.args.cpu c.args.file.now (links_entries (c.args.file.now.numbers.links + 1) c.args.time) c.args.directory.now (x ∷ [])) left) c.name_entry.ensures
     (c.append_logs.ensures.any_stop held h k here there settled left may))
 
 pub returns-clause-any_stop : goal.returns-clause-any_stop
 returns-clause-any_stop g c held h k here there absent settled left may =
     left_linked c.args.file.now c.args.directory.now c.args.name.now c.args.time absent left
-    (subst (λ (x : Entry). LeavesEither (g.P.Pmem.region c.args.memory.now) (fixed_layout c.args.sup.now) held (AppendedBoth (g.P.Pmem.region c.args.memory.now) c.args.sup.now c.args.free.now c.args.cpu c.args.file.now (links_entries (c.args.file.now.numbers.links + 1) c.args.time) c.args.directory.now (x ∷ [])) left) c.name_entry.ensures
+    (subst (λ (x : Entry). LeavesEither (g.P.Pmem.region c.args.memory.now) c.args.tables.now.layout held (AppendedBoth (g.P.Pmem.region c.args.memory.now) c.args.tables.now.layout c.args.free.now c.args.cpu c.args.file.now (links_entries (c.args.file.now.numbers.links + 1) c.args.time) c.args.directory.now (x ∷ [])) left) c.name_entry.ensures
     (c.append_logs.ensures.any_stop held h k here there settled left may))
 
 pub returns-in_err-append_logs-clause-in_order : goal.returns-in_err-append_logs-clause-in_order

@@ -3,13 +3,13 @@ use Rattle.std.proofs.Common.{arith, ◌≡◌, ◌+◌, ◌-◌, ◌%◌, ◌<�
 use Rattle.std.proofs.lemmas.Result.{err_from_is_err_and, IfOk-from_err}
 use Rattle.nv_region.proofs.Fuses.{keeps_within}
 use Rattle.nv_super.specs.declared.superblock.Super.{Super}
-use Rattle.nv_super.specs.Layout.{inode_limit}
+use Rattle.nv_inode.specs.Numbers.{has_slot}
 use Rattle.nv_alloc.specs.Taking.{all_blocks}
 use Rattle.nv_entry.specs.declared.entry.Entry.{Entry}
 use Rattle.nv_entry.specs.declared.entry.Operation.TheVariants.{Add}
 use Rattle.nv_entry.specs.Spelling.{entry_length}
 use Rattle.nv_logpage.specs.Append.{end_of, needed}
-use Rattle.nv_held.proofs.BytesKept.{mixed_size}
+use Rattle.nv_mounted.proofs.BytesKept.{mixed_size}
 use Rattle.nv_tree.specs.declared.refusal.Refusal.{Refusal}
 use Rattle.nv_tree.specs.declared.refusal.Refusal.TheVariants.{Stopped}
 use Rattle.nv_tree.proofs.Replies.{refused_by}
@@ -19,7 +19,7 @@ use Rattle.nv_steps.proofs.AppendedLogs.{needed_one}
 use Rattle.nv_commit.proofs.Left.{still}
 use Rattle.nv_steps.specs.Stopped.{Named}
 use Rattle.nv_steps.proofs.MadeNamed.{all_others, begins, commits, first_is, left_named, makes_named, makes_within, named_told, place_is}
-use Rattle.nv_steps.proofs.NumbersOwed.{ends_behind, has_one, number_below, others_fit}
+use Rattle.nv_steps.proofs.NumbersOwed.{ends_behind, has_one, others_fit}
 use Rattle.nv_steps.proofs.TakenBlocks.{taken_sup}
 use Rattle.nv_steps.proofs.making.make_named.Goals as goal
 use Rattle.nv_steps.specs.Stores.{one_more}
@@ -58,17 +58,11 @@ returns-in_err-blocks-clause-kept g c =
 pub returns-in_err-blocks-clause-inode : goal.returns-in_err-blocks-clause-inode
 returns-in_err-blocks-clause-inode g c = c.in_err-blocks.ensures.row.inode
 
-pub slot_address-requires-clause-layout : goal.slot_address-requires-clause-layout
-slot_address-requires-clause-layout g c = c.requires.stands.layout
+pub slot_of_row-requires : goal.slot_of_row-requires
+slot_of_row-requires g c = c.requires.can.number
 
-pub slot_address-requires-clause-inode : goal.slot_address-requires-clause-inode
-slot_address-requires-clause-inode g c = number_below c.args.sup.now c.args.new.now.inode c.requires.can.number
-
-pub slot_address-requires-2-clause-layout : goal.slot_address-requires-2-clause-layout
-slot_address-requires-2-clause-layout g c = c.requires.stands.layout
-
-pub slot_address-requires-2-clause-inode : goal.slot_address-requires-2-clause-inode
-slot_address-requires-2-clause-inode g c = subst (λ (i : ℕ). i < inode_limit c.args.sup.now) (sym c.in_ok-blocks.ensures.row.inode) c.requires.stands.number
+pub slot_of_row-requires-2 : goal.slot_of_row-requires-2
+slot_of_row-requires-2 g c = subst (λ (i : ℕ). IsTrue (has_slot c.args.tables.now.layout i)) (sym c.in_ok-blocks.ensures.row.inode) c.requires.stands.number
 
 pub slice_bounds-parent-count : goal.slice_bounds-parent-count
 slice_bounds-parent-count g c = subst (λ (xs : List ℕ). 1 ≤ length xs) (sym c.deref.ensures.value) (has_one c.in_ok-blocks.blocks.items _ c.in_ok-blocks.ensures.count)
@@ -79,12 +73,12 @@ make_inode-requires-clause-empty g c = c.requires.can.journal_empty
 pub make_inode-requires-clause-inode : goal.make_inode-requires-clause-inode
 make_inode-requires-clause-inode g c =
     let count : length c.in_ok-blocks.blocks.items ≡ 1 + needed (c.args.directory.now.tail % 4096) (name_entries Add c.args.new.now.inode c.args.new.now.name.now c.args.new.now.time) = c.in_ok-blocks.ensures.count ∙ ap (λ (e : Entry). 1 + needed (c.args.directory.now.tail % 4096) (e ∷ [])) c.name_entry.ensures in
-    begins c.requires.stands c.requires.can c.in_ok-blocks.ensures.taken c.args.new.now.name.now c.args.new.now.time count c.in_ok-blocks.ensures.row c.args.new.now.mode c.slot_address.ensures (first_is c.in_ok-blocks.blocks.items _ c.index.result.now count c.index.ensures) c.first_attributes.ensures
+    begins c.requires.stands c.requires.can c.in_ok-blocks.ensures.taken c.args.new.now.name.now c.args.new.now.time count c.in_ok-blocks.ensures.row c.args.new.now.mode c.slot_of_row.ensures.value (first_is c.in_ok-blocks.blocks.items _ c.index.result.now count c.index.ensures) c.first_attributes.ensures
 
 pub make_inode-requires-clause-directory : goal.make_inode-requires-clause-directory
 make_inode-requires-clause-directory g c =
     let count : length c.in_ok-blocks.blocks.items ≡ 1 + needed (c.args.directory.now.tail % 4096) (name_entries Add c.args.new.now.inode c.args.new.now.name.now c.args.new.now.time) = c.in_ok-blocks.ensures.count ∙ ap (λ (e : Entry). 1 + needed (c.args.directory.now.tail % 4096) (e ∷ [])) c.name_entry.ensures in
-    commits c.requires.stands c.requires.can c.in_ok-blocks.ensures.taken c.args.new.now.name.now c.args.new.now.time count c.in_ok-blocks.ensures.row _ c.slot_address-2.ensures refl (ap (λ (e : Entry). e ∷ []) c.name_entry.ensures)
+    commits c.requires.stands c.requires.can c.in_ok-blocks.ensures.taken c.args.new.now.name.now c.args.new.now.time count c.in_ok-blocks.ensures.row _ c.slot_of_row-2.ensures.value refl (ap (λ (e : Entry). e ∷ []) c.name_entry.ensures)
     (all_others c.deref.result.now (length c.deref.result.now) refl ∙ ap (drop 1) c.deref.ensures.value)
 
 pub returns-in_default-clause-made : goal.returns-in_default-clause-made
@@ -105,8 +99,8 @@ returns-in_default-clause-kept g c =
         lists = taken_sup c.in_ok-blocks.ensures.taken;
         length = mixed_size c.make_inode.ensures.kept.wrote.mixed;
         keeps_fuse = let count : length c.in_ok-blocks.blocks.items ≡ 1 + needed (c.args.directory.now.tail % 4096) (name_entries Add c.args.new.now.inode c.args.new.now.name.now c.args.new.now.time) = c.in_ok-blocks.ensures.count ∙ ap (λ (e : Entry). 1 + needed (c.args.directory.now.tail % 4096) (e ∷ [])) c.name_entry.ensures in
-            keeps_within (makes_within c.requires.stands c.requires.can c.in_ok-blocks.ensures.taken c.args.new.now.name.now c.args.new.now.time count c.in_ok-blocks.ensures.row c.index.result.now c.slot_address.result c.slot_address-2.result c.prepare_name.new.directory.tail _
-            (first_is c.in_ok-blocks.blocks.items _ c.index.result.now count c.index.ensures) c.slot_address.ensures c.slot_address-2.ensures refl (all_others c.deref.result.now (length c.deref.result.now) refl ∙ ap (drop 1) c.deref.ensures.value)) c.make_inode.ensures.kept.keeps_fuse;
+            keeps_within (makes_within c.requires.stands c.requires.can c.in_ok-blocks.ensures.taken c.args.new.now.name.now c.args.new.now.time count c.in_ok-blocks.ensures.row c.index.result.now c.slot_of_row.result c.slot_of_row-2.result c.prepare_name.new.directory.tail _
+            (first_is c.in_ok-blocks.blocks.items _ c.index.result.now count c.index.ensures) c.slot_of_row.ensures.value c.slot_of_row-2.ensures.value refl (all_others c.deref.result.now (length c.deref.result.now) refl ∙ ap (drop 1) c.deref.ensures.value)) c.make_inode.ensures.kept.keeps_fuse;
       };
       settled = tt;
     }
@@ -125,8 +119,8 @@ returns-clause-kept g c =
         lists = taken_sup c.in_ok-blocks.ensures.taken;
         length = mixed_size c.make_inode.ensures.kept.wrote.mixed;
         keeps_fuse = let count : length c.in_ok-blocks.blocks.items ≡ 1 + needed (c.args.directory.now.tail % 4096) (name_entries Add c.args.new.now.inode c.args.new.now.name.now c.args.new.now.time) = c.in_ok-blocks.ensures.count ∙ ap (λ (e : Entry). 1 + needed (c.args.directory.now.tail % 4096) (e ∷ [])) c.name_entry.ensures in
-            keeps_within (makes_within c.requires.stands c.requires.can c.in_ok-blocks.ensures.taken c.args.new.now.name.now c.args.new.now.time count c.in_ok-blocks.ensures.row c.index.result.now c.slot_address.result c.slot_address-2.result c.prepare_name.new.directory.tail _
-            (first_is c.in_ok-blocks.blocks.items _ c.index.result.now count c.index.ensures) c.slot_address.ensures c.slot_address-2.ensures refl (all_others c.deref.result.now (length c.deref.result.now) refl ∙ ap (drop 1) c.deref.ensures.value)) c.make_inode.ensures.kept.keeps_fuse;
+            keeps_within (makes_within c.requires.stands c.requires.can c.in_ok-blocks.ensures.taken c.args.new.now.name.now c.args.new.now.time count c.in_ok-blocks.ensures.row c.index.result.now c.slot_of_row.result c.slot_of_row-2.result c.prepare_name.new.directory.tail _
+            (first_is c.in_ok-blocks.blocks.items _ c.index.result.now count c.index.ensures) c.slot_of_row.ensures.value c.slot_of_row-2.ensures.value refl (all_others c.deref.result.now (length c.deref.result.now) refl ∙ ap (drop 1) c.deref.ensures.value)) c.make_inode.ensures.kept.keeps_fuse;
       };
       settled = c.in-Ok.ensures.kept.settled;
     }
@@ -137,12 +131,12 @@ returns-clause-made g c =
     let blocks = all_others c.deref.result.now (length c.deref.result.now) refl ∙ ap (drop 1) c.deref.ensures.value in
     let ends = c.in-Ok.ensures.ends in
     let same = c.in_ok-blocks.ensures.row in
-    makes_named c.requires.stands c.requires.can c.in_ok-blocks.ensures.taken c.args.new.now.name.now c.args.new.now.time count same _ c.slot_address-2.ensures refl (ap (λ (e : Entry). e ∷ []) c.name_entry.ensures) blocks c.args.new.now.kind c.args.new.now.mode _ c.slot_address.ensures refl refl
+    makes_named c.requires.stands c.requires.can c.in_ok-blocks.ensures.taken c.args.new.now.name.now c.args.new.now.time count same _ c.slot_of_row-2.ensures.value refl (ap (λ (e : Entry). e ∷ []) c.name_entry.ensures) blocks c.args.new.now.kind c.args.new.now.mode _ c.slot_of_row.ensures.value refl refl
     (first_is c.in_ok-blocks.blocks.items _ c.index.result.now count c.index.ensures) c.first_attributes.ensures c.in-Ok.end c.in-Ok.tail _ _ _ (all_others c.deref-2.result.now (length c.deref-2.result.now) refl ∙ ap (drop 1) c.deref-2.ensures.value) ends.0 ends.1 c.settle_name.ensures.row
     (place_is c.in-Ok.end c.length.result (drop 1 c.in_ok-blocks.blocks.items) c.args.directory.now.tail c.args.new.now.inode c.args.new.now.name.now c.args.new.now.time
     (ends.1 ∙ (λ t. end_of (blocks t) 0 (same.tail t) (c.name_entry.ensures t ∷ []))) (c.length.ensures.value ∙ ap entry_length c.name_entry.ensures))
     c.in_ok-blocks.ensures.once c.settle_name.ensures.once (first_is c.in_ok-blocks.blocks.items _ c.index.result.now count c.index.ensures) c.new_row.ensures
-    (λ held h can. c.in-Ok.ensures.shows c.args.sup.now held c.args.new.now.inode c.prepare_name.new.directory.inode h can) c.make_inode.ensures.kept.wrote.mixed
+    (λ held h can. c.in-Ok.ensures.shows c.args.tables.now.layout held c.args.new.now.inode c.prepare_name.new.directory.inode h can) c.make_inode.ensures.kept.wrote.mixed
 
 pub slice_bounds-settle_name-count : goal.slice_bounds-settle_name-count
 slice_bounds-settle_name-count g c = subst (λ (xs : List ℕ). 1 ≤ length xs) (sym c.deref-2.ensures.value) (has_one c.in_ok-blocks.blocks.items _ c.in_ok-blocks.ensures.count)
@@ -177,23 +171,23 @@ returns-in_err-blocks-clause-made g c = IfOk-from_err c.from_residual.result _ c
 
 pub returns-in_err-blocks-clause-any_stop : goal.returns-in_err-blocks-clause-any_stop
 returns-in_err-blocks-clause-any_stop g c held h shows out absent settled =
-    still _ _ c.args.sup.now held (Named (g.P.Pmem.region c.args.memory.now) c.args.sup.now c.args.free.now c.args.cpu c.args.directory.now c.args.new.now.kind c.args.new.now.mode c.args.new.now.time c.args.new.now.inode c.args.new.now.name.now) shows.sound settled
+    still _ _ c.args.tables.now.layout held (Named (g.P.Pmem.region c.args.memory.now) c.args.tables.now.layout c.args.free.now c.args.cpu c.args.directory.now c.args.new.now.kind c.args.new.now.mode c.args.new.now.time c.args.new.now.inode c.args.new.now.name.now) shows.sound settled
 
 pub returns-in_default-clause-any_stop : goal.returns-in_default-clause-any_stop
 returns-in_default-clause-any_stop g c held h shows out absent settled =
     let count : length c.in_ok-blocks.blocks.items ≡ 1 + needed (c.args.directory.now.tail % 4096) (name_entries Add c.args.new.now.inode c.args.new.now.name.now c.args.new.now.time) = c.in_ok-blocks.ensures.count ∙ ap (λ (e : Entry). 1 + needed (c.args.directory.now.tail % 4096) (e ∷ [])) c.name_entry.ensures in
     let blocks = all_others c.deref.result.now (length c.deref.result.now) refl ∙ ap (drop 1) c.deref.ensures.value in
-    left_named c.requires.stands c.requires.can c.in_ok-blocks.ensures.taken c.args.new.now.name.now c.args.new.now.time count c.in_ok-blocks.ensures.row _ c.slot_address-2.ensures refl (ap (λ (e : Entry). e ∷ []) c.name_entry.ensures) blocks c.args.new.now.kind c.args.new.now.mode _ c.slot_address.ensures refl refl
+    left_named c.requires.stands c.requires.can c.in_ok-blocks.ensures.taken c.args.new.now.name.now c.args.new.now.time count c.in_ok-blocks.ensures.row _ c.slot_of_row-2.ensures.value refl (ap (λ (e : Entry). e ∷ []) c.name_entry.ensures) blocks c.args.new.now.kind c.args.new.now.mode _ c.slot_of_row.ensures.value refl refl
     (first_is c.in_ok-blocks.blocks.items _ c.index.result.now count c.index.ensures) c.first_attributes.ensures shows out c.in_ok-blocks.ensures.once absent _ _ _ c.make_inode.ensures.kept.wrote settled
-    (λ can. (c.make_inode.ensures.moments c.args.sup.now held c.args.new.now.inode c.prepare_name.new.directory.inode h can).any_stop)
+    (λ can. (c.make_inode.ensures.moments c.args.tables.now.layout held c.args.new.now.inode c.prepare_name.new.directory.inode h can).any_stop)
 
 pub returns-clause-any_stop : goal.returns-clause-any_stop
 returns-clause-any_stop g c held h shows out absent settled =
     let count : length c.in_ok-blocks.blocks.items ≡ 1 + needed (c.args.directory.now.tail % 4096) (name_entries Add c.args.new.now.inode c.args.new.now.name.now c.args.new.now.time) = c.in_ok-blocks.ensures.count ∙ ap (λ (e : Entry). 1 + needed (c.args.directory.now.tail % 4096) (e ∷ [])) c.name_entry.ensures in
     let blocks = all_others c.deref.result.now (length c.deref.result.now) refl ∙ ap (drop 1) c.deref.ensures.value in
-    left_named c.requires.stands c.requires.can c.in_ok-blocks.ensures.taken c.args.new.now.name.now c.args.new.now.time count c.in_ok-blocks.ensures.row _ c.slot_address-2.ensures refl (ap (λ (e : Entry). e ∷ []) c.name_entry.ensures) blocks c.args.new.now.kind c.args.new.now.mode _ c.slot_address.ensures refl refl
+    left_named c.requires.stands c.requires.can c.in_ok-blocks.ensures.taken c.args.new.now.name.now c.args.new.now.time count c.in_ok-blocks.ensures.row _ c.slot_of_row-2.ensures.value refl (ap (λ (e : Entry). e ∷ []) c.name_entry.ensures) blocks c.args.new.now.kind c.args.new.now.mode _ c.slot_of_row.ensures.value refl refl
     (first_is c.in_ok-blocks.blocks.items _ c.index.result.now count c.index.ensures) c.first_attributes.ensures shows out c.in_ok-blocks.ensures.once absent _ _ _ c.make_inode.ensures.kept.wrote settled
-    (λ can. (c.make_inode.ensures.moments c.args.sup.now held c.args.new.now.inode c.prepare_name.new.directory.inode h can).any_stop)
+    (λ can. (c.make_inode.ensures.moments c.args.tables.now.layout held c.args.new.now.inode c.prepare_name.new.directory.inode h can).any_stop)
 
 pub returns-in_err-blocks-clause-in_order : goal.returns-in_err-blocks-clause-in_order
 returns-in_err-blocks-clause-in_order g c held h shows out = inl refl
@@ -202,29 +196,29 @@ pub returns-in_default-clause-in_order : goal.returns-in_default-clause-in_order
 returns-in_default-clause-in_order g c held h shows out =
     let count : length c.in_ok-blocks.blocks.items ≡ 1 + needed (c.args.directory.now.tail % 4096) (name_entries Add c.args.new.now.inode c.args.new.now.name.now c.args.new.now.time) = c.in_ok-blocks.ensures.count ∙ ap (λ (e : Entry). 1 + needed (c.args.directory.now.tail % 4096) (e ∷ [])) c.name_entry.ensures in
     let blocks = all_others c.deref.result.now (length c.deref.result.now) refl ∙ ap (drop 1) c.deref.ensures.value in
-    (named_told c.requires.stands c.requires.can c.in_ok-blocks.ensures.taken c.args.new.now.name.now c.args.new.now.time count c.in_ok-blocks.ensures.row _ c.slot_address-2.ensures refl (ap (λ (e : Entry). e ∷ []) c.name_entry.ensures) blocks c.args.new.now.kind c.args.new.now.mode _ c.slot_address.ensures refl refl
-    (first_is c.in_ok-blocks.blocks.items _ c.index.result.now count c.index.ensures) c.first_attributes.ensures (g.P.Pmem.region c.make_inode.new.memory) shows out (c.make_inode.ensures.in_order c.args.sup.now held c.args.new.now.inode c.prepare_name.new.directory.inode h) c.make_inode.ensures.kept.wrote.mixed).0
+    (named_told c.requires.stands c.requires.can c.in_ok-blocks.ensures.taken c.args.new.now.name.now c.args.new.now.time count c.in_ok-blocks.ensures.row _ c.slot_of_row-2.ensures.value refl (ap (λ (e : Entry). e ∷ []) c.name_entry.ensures) blocks c.args.new.now.kind c.args.new.now.mode _ c.slot_of_row.ensures.value refl refl
+    (first_is c.in_ok-blocks.blocks.items _ c.index.result.now count c.index.ensures) c.first_attributes.ensures (g.P.Pmem.region c.make_inode.new.memory) shows out (c.make_inode.ensures.in_order c.args.tables.now.layout held c.args.new.now.inode c.prepare_name.new.directory.inode h) c.make_inode.ensures.kept.wrote.mixed).0
 
 pub returns-clause-in_order : goal.returns-clause-in_order
 returns-clause-in_order g c held h shows out =
     let count : length c.in_ok-blocks.blocks.items ≡ 1 + needed (c.args.directory.now.tail % 4096) (name_entries Add c.args.new.now.inode c.args.new.now.name.now c.args.new.now.time) = c.in_ok-blocks.ensures.count ∙ ap (λ (e : Entry). 1 + needed (c.args.directory.now.tail % 4096) (e ∷ [])) c.name_entry.ensures in
     let blocks = all_others c.deref.result.now (length c.deref.result.now) refl ∙ ap (drop 1) c.deref.ensures.value in
-    (named_told c.requires.stands c.requires.can c.in_ok-blocks.ensures.taken c.args.new.now.name.now c.args.new.now.time count c.in_ok-blocks.ensures.row _ c.slot_address-2.ensures refl (ap (λ (e : Entry). e ∷ []) c.name_entry.ensures) blocks c.args.new.now.kind c.args.new.now.mode _ c.slot_address.ensures refl refl
-    (first_is c.in_ok-blocks.blocks.items _ c.index.result.now count c.index.ensures) c.first_attributes.ensures (g.P.Pmem.region c.make_inode.new.memory) shows out (c.make_inode.ensures.in_order c.args.sup.now held c.args.new.now.inode c.prepare_name.new.directory.inode h) c.make_inode.ensures.kept.wrote.mixed).0
+    (named_told c.requires.stands c.requires.can c.in_ok-blocks.ensures.taken c.args.new.now.name.now c.args.new.now.time count c.in_ok-blocks.ensures.row _ c.slot_of_row-2.ensures.value refl (ap (λ (e : Entry). e ∷ []) c.name_entry.ensures) blocks c.args.new.now.kind c.args.new.now.mode _ c.slot_of_row.ensures.value refl refl
+    (first_is c.in_ok-blocks.blocks.items _ c.index.result.now count c.index.ensures) c.first_attributes.ensures (g.P.Pmem.region c.make_inode.new.memory) shows out (c.make_inode.ensures.in_order c.args.tables.now.layout held c.args.new.now.inode c.prepare_name.new.directory.inode h) c.make_inode.ensures.kept.wrote.mixed).0
 
 pub returns-in_err-blocks-clause-wrote : goal.returns-in_err-blocks-clause-wrote
-returns-in_err-blocks-clause-wrote g c held h shows out = stores_nothing c.args.sup.now held (one_more c.args.sup.now c.args.cpu c.args.new.now.inode c.args.directory.now.inode) (g.P.Pmem.region c.args.memory.now)
+returns-in_err-blocks-clause-wrote g c held h shows out = stores_nothing c.args.tables.now.layout held (one_more c.args.tables.now.layout c.args.cpu c.args.new.now.inode c.args.directory.now.inode) (g.P.Pmem.region c.args.memory.now)
 
 pub returns-in_default-clause-wrote : goal.returns-in_default-clause-wrote
 returns-in_default-clause-wrote g c held h shows out =
     let count : length c.in_ok-blocks.blocks.items ≡ 1 + needed (c.args.directory.now.tail % 4096) (name_entries Add c.args.new.now.inode c.args.new.now.name.now c.args.new.now.time) = c.in_ok-blocks.ensures.count ∙ ap (λ (e : Entry). 1 + needed (c.args.directory.now.tail % 4096) (e ∷ [])) c.name_entry.ensures in
     let blocks = all_others c.deref.result.now (length c.deref.result.now) refl ∙ ap (drop 1) c.deref.ensures.value in
-    (named_told c.requires.stands c.requires.can c.in_ok-blocks.ensures.taken c.args.new.now.name.now c.args.new.now.time count c.in_ok-blocks.ensures.row _ c.slot_address-2.ensures refl (ap (λ (e : Entry). e ∷ []) c.name_entry.ensures) blocks c.args.new.now.kind c.args.new.now.mode _ c.slot_address.ensures refl refl
-    (first_is c.in_ok-blocks.blocks.items _ c.index.result.now count c.index.ensures) c.first_attributes.ensures (g.P.Pmem.region c.make_inode.new.memory) shows out (c.make_inode.ensures.in_order c.args.sup.now held c.args.new.now.inode c.prepare_name.new.directory.inode h) c.make_inode.ensures.kept.wrote.mixed).1
+    (named_told c.requires.stands c.requires.can c.in_ok-blocks.ensures.taken c.args.new.now.name.now c.args.new.now.time count c.in_ok-blocks.ensures.row _ c.slot_of_row-2.ensures.value refl (ap (λ (e : Entry). e ∷ []) c.name_entry.ensures) blocks c.args.new.now.kind c.args.new.now.mode _ c.slot_of_row.ensures.value refl refl
+    (first_is c.in_ok-blocks.blocks.items _ c.index.result.now count c.index.ensures) c.first_attributes.ensures (g.P.Pmem.region c.make_inode.new.memory) shows out (c.make_inode.ensures.in_order c.args.tables.now.layout held c.args.new.now.inode c.prepare_name.new.directory.inode h) c.make_inode.ensures.kept.wrote.mixed).1
 
 pub returns-clause-wrote : goal.returns-clause-wrote
 returns-clause-wrote g c held h shows out =
     let count : length c.in_ok-blocks.blocks.items ≡ 1 + needed (c.args.directory.now.tail % 4096) (name_entries Add c.args.new.now.inode c.args.new.now.name.now c.args.new.now.time) = c.in_ok-blocks.ensures.count ∙ ap (λ (e : Entry). 1 + needed (c.args.directory.now.tail % 4096) (e ∷ [])) c.name_entry.ensures in
     let blocks = all_others c.deref.result.now (length c.deref.result.now) refl ∙ ap (drop 1) c.deref.ensures.value in
-    (named_told c.requires.stands c.requires.can c.in_ok-blocks.ensures.taken c.args.new.now.name.now c.args.new.now.time count c.in_ok-blocks.ensures.row _ c.slot_address-2.ensures refl (ap (λ (e : Entry). e ∷ []) c.name_entry.ensures) blocks c.args.new.now.kind c.args.new.now.mode _ c.slot_address.ensures refl refl
-    (first_is c.in_ok-blocks.blocks.items _ c.index.result.now count c.index.ensures) c.first_attributes.ensures (g.P.Pmem.region c.make_inode.new.memory) shows out (c.make_inode.ensures.in_order c.args.sup.now held c.args.new.now.inode c.prepare_name.new.directory.inode h) c.make_inode.ensures.kept.wrote.mixed).1
+    (named_told c.requires.stands c.requires.can c.in_ok-blocks.ensures.taken c.args.new.now.name.now c.args.new.now.time count c.in_ok-blocks.ensures.row _ c.slot_of_row-2.ensures.value refl (ap (λ (e : Entry). e ∷ []) c.name_entry.ensures) blocks c.args.new.now.kind c.args.new.now.mode _ c.slot_of_row.ensures.value refl refl
+    (first_is c.in_ok-blocks.blocks.items _ c.index.result.now count c.index.ensures) c.first_attributes.ensures (g.P.Pmem.region c.make_inode.new.memory) shows out (c.make_inode.ensures.in_order c.args.tables.now.layout held c.args.new.now.inode c.prepare_name.new.directory.inode h) c.make_inode.ensures.kept.wrote.mixed).1

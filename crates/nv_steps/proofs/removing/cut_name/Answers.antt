@@ -1,6 +1,5 @@
 use Rattle.std.proofs.Common.{◌≡◌, ◌∙◌, ◌∷◌, [], ◌≤◌, ◌%◌, refl, subst, sym}
 use Rattle.std.proofs.lemmas.Result.{err_from_is_err_and, IfOk-from_err}
-use Rattle.nv_super.specs.Layout.{fixed_layout, slot_address}
 use Rattle.nv_alloc.specs.Taking.{all_blocks}
 use Rattle.nv_entry.specs.declared.entry.Entry.{Entry}
 use Rattle.nv_entry.specs.declared.entry.Operation.TheVariants.{Remove}
@@ -15,6 +14,7 @@ use Rattle.nv_steps.specs.Steps.{LeavesStep, RefusesStep}
 use Rattle.nv_steps.specs.Takes.{AppendedLess, AppendsLess}
 use Rattle.nv_steps.proofs.Kept.{kept_done, kept_refused}
 use Rattle.nv_steps.proofs.CutNames.{cuts_name, left_cut}
+use Rattle.nv_steps.specs.Slots.{slot_in}
 use Rattle.nv_steps.proofs.removing.cut_name.Goals as goal
 
 pub name_entry-requires : goal.name_entry-requires
@@ -34,7 +34,7 @@ append_less-requires-clause-given g c = subst (λ (x : Entry). AreGiven (x ∷ [
 
 pub returns-clause-cut : goal.returns-clause-cut
 returns-clause-cut g c =
-    cuts_name c.args.gone.now.inode c.args.gone.now.name.now c.args.gone.now.time (subst (λ (x : Entry). AppendsLess (g.P.Pmem.region c.args.memory.now) (g.P.Pmem.region c.append_less.new.memory) c.args.sup.now c.args.free.now c.append_less.new.free c.args.cpu c.args.directory.now c.append_less.new.row c.args.gone.now.inode (x ∷ [])) c.name_entry.ensures c.in_ok-append_less.ensures.appended)
+    cuts_name c.args.gone.now.inode c.args.gone.now.name.now c.args.gone.now.time (subst (λ (x : Entry). AppendsLess (g.P.Pmem.region c.args.memory.now) (g.P.Pmem.region c.append_less.new.memory) c.args.tables.now.layout c.args.free.now c.append_less.new.free c.args.cpu c.args.directory.now c.append_less.new.row c.args.gone.now.inode (x ∷ [])) c.name_entry.ensures c.in_ok-append_less.ensures.appended)
     c.remove_name.ensures.row c.remove_name.ensures.once
 
 pub returns-clause-room : goal.returns-clause-room
@@ -89,21 +89,21 @@ returns-in_err-append_less-clause-wrote g c held h shows = c.append_less.ensures
 
 pub returns-in_err-append_less-clause-in_order : goal.returns-in_err-append_less-clause-in_order
 returns-in_err-append_less-clause-in_order g c held h shows =
-    subst (λ (x : Entry). TailIsFirst (g.P.Pmem.region c.args.memory.now) (g.P.Pmem.region c.append_less.new.memory) c.args.sup.now c.args.free.now.pools c.args.cpu c.args.directory.now.inode c.args.directory.now.tail (x ∷ []) (slot_address c.args.sup.now c.args.gone.now.inode)) c.name_entry.ensures (c.append_less.ensures.in_order held h shows)
+    subst (λ (x : Entry). TailIsFirst (g.P.Pmem.region c.args.memory.now) (g.P.Pmem.region c.append_less.new.memory) c.args.tables.now.layout c.args.free.now.pools c.args.cpu c.args.directory.now.inode c.args.directory.now.tail (x ∷ []) (slot_in c.args.tables.now.layout c.args.gone.now.inode)) c.name_entry.ensures (c.append_less.ensures.in_order held h shows)
 
 pub returns-in_err-append_less-clause-any_stop : goal.returns-in_err-append_less-clause-any_stop
 returns-in_err-append_less-clause-any_stop g c held h shows settled left may =
     left_cut c.args.directory.now c.args.gone.now.inode c.args.gone.now.name.now c.args.gone.now.time left
-    (subst (λ (x : Entry). LeavesEither (g.P.Pmem.region c.args.memory.now) (fixed_layout c.args.sup.now) held (AppendedLess (g.P.Pmem.region c.args.memory.now) c.args.sup.now c.args.free.now c.args.cpu c.args.directory.now c.args.gone.now.inode (x ∷ [])) left) c.name_entry.ensures (c.append_less.ensures.any_stop held h shows settled left may))
+    (subst (λ (x : Entry). LeavesEither (g.P.Pmem.region c.args.memory.now) c.args.tables.now.layout held (AppendedLess (g.P.Pmem.region c.args.memory.now) c.args.tables.now.layout c.args.free.now c.args.cpu c.args.directory.now c.args.gone.now.inode (x ∷ [])) left) c.name_entry.ensures (c.append_less.ensures.any_stop held h shows settled left may))
 
 pub returns-clause-wrote : goal.returns-clause-wrote
 returns-clause-wrote g c held h shows = c.append_less.ensures.wrote held h shows
 
 pub returns-clause-in_order : goal.returns-clause-in_order
 returns-clause-in_order g c held h shows =
-    subst (λ (x : Entry). TailIsFirst (g.P.Pmem.region c.args.memory.now) (g.P.Pmem.region c.append_less.new.memory) c.args.sup.now c.args.free.now.pools c.args.cpu c.args.directory.now.inode c.args.directory.now.tail (x ∷ []) (slot_address c.args.sup.now c.args.gone.now.inode)) c.name_entry.ensures (c.append_less.ensures.in_order held h shows)
+    subst (λ (x : Entry). TailIsFirst (g.P.Pmem.region c.args.memory.now) (g.P.Pmem.region c.append_less.new.memory) c.args.tables.now.layout c.args.free.now.pools c.args.cpu c.args.directory.now.inode c.args.directory.now.tail (x ∷ []) (slot_in c.args.tables.now.layout c.args.gone.now.inode)) c.name_entry.ensures (c.append_less.ensures.in_order held h shows)
 
 pub returns-clause-any_stop : goal.returns-clause-any_stop
 returns-clause-any_stop g c held h shows settled left may =
     left_cut c.args.directory.now c.args.gone.now.inode c.args.gone.now.name.now c.args.gone.now.time left
-    (subst (λ (x : Entry). LeavesEither (g.P.Pmem.region c.args.memory.now) (fixed_layout c.args.sup.now) held (AppendedLess (g.P.Pmem.region c.args.memory.now) c.args.sup.now c.args.free.now c.args.cpu c.args.directory.now c.args.gone.now.inode (x ∷ [])) left) c.name_entry.ensures (c.append_less.ensures.any_stop held h shows settled left may))
+    (subst (λ (x : Entry). LeavesEither (g.P.Pmem.region c.args.memory.now) c.args.tables.now.layout held (AppendedLess (g.P.Pmem.region c.args.memory.now) c.args.tables.now.layout c.args.free.now c.args.cpu c.args.directory.now c.args.gone.now.inode (x ∷ [])) left) c.name_entry.ensures (c.append_less.ensures.any_stop held h shows settled left may))

@@ -1,12 +1,11 @@
 use Rattle.std.proofs.Common.{◌∙◌, ◌+◌, ◌%◌, ◌∷◌, [], ap, subst, ◌≡◌, ◌≤◌, sym, refl}
-use Rattle.nv_super.specs.Layout.{fixed_layout}
 use Rattle.std.proofs.lemmas.Result.{err_from_is_err_and, IfOk-from_err}
 use Rattle.nv_entry.specs.declared.entry.Entry.{Entry}
 use Rattle.nv_entry.specs.declared.entry.Operation.TheVariants.{Add, Remove}
 use Rattle.nv_entry.specs.Spelling.{entry_length}
 use Rattle.nv_logpage.specs.Append.{needed}
 use Rattle.nv_alloc.specs.Taking.{all_blocks}
-use Rattle.nv_held.specs.nv_outcome.Same.{SameRow}
+use Rattle.nv_outcome.specs.Same.{SameRow}
 use Rattle.nv_tree.specs.declared.refusal.Refusal.TheVariants.{Stopped}
 use Rattle.nv_tree.specs.declared.refusal.Refusal.{Refusal}
 use Rattle.nv_steps.specs.MoreNames.{AppendsLogs, AreFew}
@@ -34,8 +33,8 @@ returns-in_err-append_logs-clause-needs g c =
 
 pub returns-clause-moved : goal.returns-clause-moved
 returns-clause-moved g c =
-    let one = subst (λ (x : Entry). AppendsLogs (g.P.Pmem.region c.args.memory.now) (g.P.Pmem.region c.append_logs.new.memory) c.args.sup.now c.args.free.now c.append_logs.new.free c.args.cpu (c.args.from.now ∷ c.args.to.now ∷ []) (c.append_logs.new.row ∷ c.append_logs.new.other ∷ []) 0 (x ∷ []) 1 (c.name_entry-2.result ∷ [])) c.name_entry.ensures c.in_ok-append_logs.ensures.appended in
-    let both = subst (λ (x : Entry). AppendsLogs (g.P.Pmem.region c.args.memory.now) (g.P.Pmem.region c.append_logs.new.memory) c.args.sup.now c.args.free.now c.append_logs.new.free c.args.cpu (c.args.from.now ∷ c.args.to.now ∷ []) (c.append_logs.new.row ∷ c.append_logs.new.other ∷ []) 0 (name_entries Remove c.args.moved.now.inode c.args.moved.now.name.now c.args.moved.now.time) 1 (x ∷ [])) c.name_entry-2.ensures one in
+    let one = subst (λ (x : Entry). AppendsLogs (g.P.Pmem.region c.args.memory.now) (g.P.Pmem.region c.append_logs.new.memory) c.args.tables.now.layout c.args.free.now c.append_logs.new.free c.args.cpu (c.args.from.now ∷ c.args.to.now ∷ []) (c.append_logs.new.row ∷ c.append_logs.new.other ∷ []) 0 (x ∷ []) 1 (c.name_entry-2.result ∷ [])) c.name_entry.ensures c.in_ok-append_logs.ensures.appended in
+    let both = subst (λ (x : Entry). AppendsLogs (g.P.Pmem.region c.args.memory.now) (g.P.Pmem.region c.append_logs.new.memory) c.args.tables.now.layout c.args.free.now c.append_logs.new.free c.args.cpu (c.args.from.now ∷ c.args.to.now ∷ []) (c.append_logs.new.row ∷ c.append_logs.new.other ∷ []) 0 (name_entries Remove c.args.moved.now.inode c.args.moved.now.name.now c.args.moved.now.time) 1 (x ∷ [])) c.name_entry-2.ensures one in
     moves_both both c.length.result c.remove_name.ensures.row c.remove_name.ensures.once (c.length.ensures.value ∙ ap entry_length c.name_entry-2.ensures) c.add_name.ensures.row c.add_name.ensures.once
 
 pub append_logs-requires-clause-apart : goal.append_logs-requires-clause-apart
@@ -101,22 +100,22 @@ name_entry-requires-2 g c = record { some = c.requires.other.some; fits = c.requ
 pub returns-in_err-append_logs-clause-any_stop : goal.returns-in_err-append_logs-clause-any_stop
 returns-in_err-append_logs-clause-any_stop g c held h k here there absent settled left may =
     let both = c.append_logs.ensures.any_stop held h k here there settled left may in
-    let one = subst (λ (x : Entry). LeavesEither (g.P.Pmem.region c.args.memory.now) (fixed_layout c.args.sup.now) held (AppendedBoth (g.P.Pmem.region c.args.memory.now) c.args.sup.now c.args.free.now c.args.cpu c.args.from.now (x ∷ []) c.args.to.now (c.name_entry-2.result ∷ [])) left) c.name_entry.ensures both in
+    let one = subst (λ (x : Entry). LeavesEither (g.P.Pmem.region c.args.memory.now) c.args.tables.now.layout held (AppendedBoth (g.P.Pmem.region c.args.memory.now) c.args.tables.now.layout c.args.free.now c.args.cpu c.args.from.now (x ∷ []) c.args.to.now (c.name_entry-2.result ∷ [])) left) c.name_entry.ensures both in
     left_over c.args.from.now c.args.to.now c.args.moved.now.inode c.args.moved.now.name.now c.args.moved.now.other.now c.args.moved.now.time absent left
-    (subst (λ (x : Entry). LeavesEither (g.P.Pmem.region c.args.memory.now) (fixed_layout c.args.sup.now) held (AppendedBoth (g.P.Pmem.region c.args.memory.now) c.args.sup.now c.args.free.now c.args.cpu c.args.from.now (name_entries Remove c.args.moved.now.inode c.args.moved.now.name.now c.args.moved.now.time) c.args.to.now (x ∷ [])) left) c.name_entry-2.ensures one)
+    (subst (λ (x : Entry). LeavesEither (g.P.Pmem.region c.args.memory.now) c.args.tables.now.layout held (AppendedBoth (g.P.Pmem.region c.args.memory.now) c.args.tables.now.layout c.args.free.now c.args.cpu c.args.from.now (name_entries Remove c.args.moved.now.inode c.args.moved.now.name.now c.args.moved.now.time) c.args.to.now (x ∷ [])) left) c.name_entry-2.ensures one)
 
 pub returns-clause-any_stop : goal.returns-clause-any_stop
 returns-clause-any_stop g c held h k here there absent settled left may =
     let both = c.append_logs.ensures.any_stop held h k here there settled left may in
-    let one = subst (λ (x : Entry). LeavesEither (g.P.Pmem.region c.args.memory.now) (fixed_layout c.args.sup.now) held (AppendedBoth (g.P.Pmem.region c.args.memory.now) c.args.sup.now c.args.free.now c.args.cpu c.args.from.now (x ∷ []) c.args.to.now (c.name_entry-2.result ∷ [])) left) c.name_entry.ensures both in
+    let one = subst (λ (x : Entry). LeavesEither (g.P.Pmem.region c.args.memory.now) c.args.tables.now.layout held (AppendedBoth (g.P.Pmem.region c.args.memory.now) c.args.tables.now.layout c.args.free.now c.args.cpu c.args.from.now (x ∷ []) c.args.to.now (c.name_entry-2.result ∷ [])) left) c.name_entry.ensures both in
     left_over c.args.from.now c.args.to.now c.args.moved.now.inode c.args.moved.now.name.now c.args.moved.now.other.now c.args.moved.now.time absent left
-    (subst (λ (x : Entry). LeavesEither (g.P.Pmem.region c.args.memory.now) (fixed_layout c.args.sup.now) held (AppendedBoth (g.P.Pmem.region c.args.memory.now) c.args.sup.now c.args.free.now c.args.cpu c.args.from.now (name_entries Remove c.args.moved.now.inode c.args.moved.now.name.now c.args.moved.now.time) c.args.to.now (x ∷ [])) left) c.name_entry-2.ensures one)
+    (subst (λ (x : Entry). LeavesEither (g.P.Pmem.region c.args.memory.now) c.args.tables.now.layout held (AppendedBoth (g.P.Pmem.region c.args.memory.now) c.args.tables.now.layout c.args.free.now c.args.cpu c.args.from.now (name_entries Remove c.args.moved.now.inode c.args.moved.now.name.now c.args.moved.now.time) c.args.to.now (x ∷ [])) left) c.name_entry-2.ensures one)
 
 pub returns-in_err-append_logs-clause-in_order : goal.returns-in_err-append_logs-clause-in_order
-returns-in_err-append_logs-clause-in_order g c held h k here there = subst (λ (x : Entry). TailIsFirst (g.P.Pmem.region c.args.memory.now) (g.P.Pmem.region c.append_logs.new.memory) c.args.sup.now c.args.free.now.pools c.args.cpu c.args.from.now.inode c.args.from.now.tail (x ∷ []) (tail_address c.args.sup.now c.args.to.now.inode)) c.name_entry.ensures (c.append_logs.ensures.in_order held h k here there)
+returns-in_err-append_logs-clause-in_order g c held h k here there = subst (λ (x : Entry). TailIsFirst (g.P.Pmem.region c.args.memory.now) (g.P.Pmem.region c.append_logs.new.memory) c.args.tables.now.layout c.args.free.now.pools c.args.cpu c.args.from.now.inode c.args.from.now.tail (x ∷ []) (tail_address c.args.tables.now.layout c.args.to.now.inode)) c.name_entry.ensures (c.append_logs.ensures.in_order held h k here there)
 
 pub returns-clause-in_order : goal.returns-clause-in_order
-returns-clause-in_order g c held h k here there = subst (λ (x : Entry). TailIsFirst (g.P.Pmem.region c.args.memory.now) (g.P.Pmem.region c.append_logs.new.memory) c.args.sup.now c.args.free.now.pools c.args.cpu c.args.from.now.inode c.args.from.now.tail (x ∷ []) (tail_address c.args.sup.now c.args.to.now.inode)) c.name_entry.ensures (c.append_logs.ensures.in_order held h k here there)
+returns-clause-in_order g c held h k here there = subst (λ (x : Entry). TailIsFirst (g.P.Pmem.region c.args.memory.now) (g.P.Pmem.region c.append_logs.new.memory) c.args.tables.now.layout c.args.free.now.pools c.args.cpu c.args.from.now.inode c.args.from.now.tail (x ∷ []) (tail_address c.args.tables.now.layout c.args.to.now.inode)) c.name_entry.ensures (c.append_logs.ensures.in_order held h k here there)
 
 pub returns-in_err-append_logs-clause-wrote : goal.returns-in_err-append_logs-clause-wrote
 returns-in_err-append_logs-clause-wrote g c held h k here there = c.append_logs.ensures.wrote held h k here there

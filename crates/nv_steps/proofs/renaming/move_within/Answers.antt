@@ -1,5 +1,4 @@
 use Rattle.std.proofs.Common.{ℕ, ◌<◌, ◌∙◌, ◌∷◌, [], ap, refl, subst, ◌≤◌, ◌%◌, sym, inl, inr, arith}
-use Rattle.nv_super.specs.Layout.{fixed_layout}
 use Rattle.std.proofs.lemmas.Result.{err_from_is_err_and, IfOk-from_err}
 use Rattle.nv_alloc.specs.Taking.{all_blocks}
 use Rattle.nv_logpage.specs.Append.{AreGiven, needed}
@@ -22,8 +21,8 @@ use Rattle.nv_steps.proofs.renaming.move_within.Goals as goal
 pub returns-clause-moved : goal.returns-clause-moved
 returns-clause-moved g c =
     let same = more_names c.args.directory.now c.reserve.new.self c.reserve.ensures.names in
-    let one = subst (λ (x : Entry). AppendsLog (g.P.Pmem.region c.args.memory.now) (g.P.Pmem.region c.append_log.new.memory) c.args.sup.now c.args.free.now c.append_log.new.free c.args.cpu (record c.args.directory.now { names = c.reserve.new.self }) c.append_log.new.row (x ∷ c.name_entry-2.result ∷ [])) c.name_entry.ensures c.in_ok-append_log.ensures.appended in
-    let both = subst (λ (x : Entry). AppendsLog (g.P.Pmem.region c.args.memory.now) (g.P.Pmem.region c.append_log.new.memory) c.args.sup.now c.args.free.now c.append_log.new.free c.args.cpu (record c.args.directory.now { names = c.reserve.new.self }) c.append_log.new.row (Name (record { operation = Remove; inode = c.args.moved.now.inode; time = c.args.moved.now.time; name = c.args.moved.now.name.now }) ∷ x ∷ [])) c.name_entry-2.ensures one in
+    let one = subst (λ (x : Entry). AppendsLog (g.P.Pmem.region c.args.memory.now) (g.P.Pmem.region c.append_log.new.memory) c.args.tables.now.layout c.args.free.now c.append_log.new.free c.args.cpu (record c.args.directory.now { names = c.reserve.new.self }) c.append_log.new.row (x ∷ c.name_entry-2.result ∷ [])) c.name_entry.ensures c.in_ok-append_log.ensures.appended in
+    let both = subst (λ (x : Entry). AppendsLog (g.P.Pmem.region c.args.memory.now) (g.P.Pmem.region c.append_log.new.memory) c.args.tables.now.layout c.args.free.now c.append_log.new.free c.args.cpu (record c.args.directory.now { names = c.reserve.new.self }) c.append_log.new.row (Name (record { operation = Remove; inode = c.args.moved.now.inode; time = c.args.moved.now.time; name = c.args.moved.now.name.now }) ∷ x ∷ [])) c.name_entry-2.ensures one in
     moves_within c.args.moved.now.inode c.args.moved.now.name.now c.args.moved.now.other.now c.args.moved.now.time same both c.length.result (c.length.ensures.value ∙ ap entry_length c.name_entry-2.ensures) c.remove_name.ensures.row c.remove_name.ensures.once c.add_name.ensures.row c.add_name.ensures.once c.len-names.ensures.each_once
 
 pub name_entry-requires : goal.name_entry-requires
@@ -36,7 +35,7 @@ pub append_log-requires-clause-cpu : goal.append_log-requires-clause-cpu
 append_log-requires-clause-cpu g c = c.requires.cpu
 
 pub append_log-requires-clause-stands : goal.append_log-requires-clause-stands
-append_log-requires-clause-stands g c = record { layout = c.requires.stands.layout; lists = c.requires.stands.lists; number = c.requires.stands.number; whole = c.requires.stands.whole; inside = c.requires.stands.inside; aligned = c.requires.stands.aligned; offset = c.requires.stands.offset; blocks = c.requires.stands.blocks; in_blocks = c.requires.stands.in_blocks; used = c.requires.stands.used }
+append_log-requires-clause-stands g c = record { laid = c.requires.stands.laid; lists = c.requires.stands.lists; number = c.requires.stands.number; whole = c.requires.stands.whole; inside = c.requires.stands.inside; aligned = c.requires.stands.aligned; offset = c.requires.stands.offset; blocks = c.requires.stands.blocks; in_blocks = c.requires.stands.in_blocks; used = c.requires.stands.used }
 
 pub append_log-requires-clause-given : goal.append_log-requires-clause-given
 append_log-requires-clause-given g c =
@@ -122,26 +121,26 @@ pub returns-then-is_err-clause-inode : goal.returns-then-is_err-clause-inode
 returns-then-is_err-clause-inode g c = refl
 
 pub returns-then-not-are_enough-clause-any_stop : goal.returns-then-not-are_enough-clause-any_stop
-returns-then-not-are_enough-clause-any_stop g c held h shows absent settled = still _ _ c.args.sup.now held (MovedHere (g.P.Pmem.region c.args.memory.now) c.args.sup.now c.args.free.now c.args.cpu c.args.directory.now c.args.moved.now.inode c.args.moved.now.name.now c.args.moved.now.other.now c.args.moved.now.time) shows.sound settled
+returns-then-not-are_enough-clause-any_stop g c held h shows absent settled = still _ _ c.args.tables.now.layout held (MovedHere (g.P.Pmem.region c.args.memory.now) c.args.tables.now.layout c.args.free.now c.args.cpu c.args.directory.now c.args.moved.now.inode c.args.moved.now.name.now c.args.moved.now.other.now c.args.moved.now.time) shows.sound settled
 
 pub returns-then-is_err-clause-any_stop : goal.returns-then-is_err-clause-any_stop
-returns-then-is_err-clause-any_stop g c held h shows absent settled = still _ _ c.args.sup.now held (MovedHere (g.P.Pmem.region c.args.memory.now) c.args.sup.now c.args.free.now c.args.cpu c.args.directory.now c.args.moved.now.inode c.args.moved.now.name.now c.args.moved.now.other.now c.args.moved.now.time) shows.sound settled
+returns-then-is_err-clause-any_stop g c held h shows absent settled = still _ _ c.args.tables.now.layout held (MovedHere (g.P.Pmem.region c.args.memory.now) c.args.tables.now.layout c.args.free.now c.args.cpu c.args.directory.now c.args.moved.now.inode c.args.moved.now.name.now c.args.moved.now.other.now c.args.moved.now.time) shows.sound settled
 
 pub returns-in_err-append_log-clause-any_stop : goal.returns-in_err-append_log-clause-any_stop
 returns-in_err-append_log-clause-any_stop g c held h shows absent settled left may =
     let same = more_names c.args.directory.now c.reserve.new.self c.reserve.ensures.names in
     let there = c.append_log.ensures.any_stop held h (shows_same same shows) (omega arith) settled left may in
-    let one = subst (λ (x : Entry). LeavesEither (g.P.Pmem.region c.args.memory.now) (fixed_layout c.args.sup.now) held (Appended (g.P.Pmem.region c.args.memory.now) c.args.sup.now c.args.free.now c.args.cpu (record c.args.directory.now { names = c.reserve.new.self }) (x ∷ c.name_entry-2.result ∷ [])) left) c.name_entry.ensures there in
+    let one = subst (λ (x : Entry). LeavesEither (g.P.Pmem.region c.args.memory.now) c.args.tables.now.layout held (Appended (g.P.Pmem.region c.args.memory.now) c.args.tables.now.layout c.args.free.now c.args.cpu (record c.args.directory.now { names = c.reserve.new.self }) (x ∷ c.name_entry-2.result ∷ [])) left) c.name_entry.ensures there in
     left_here c.args.directory.now (record c.args.directory.now { names = c.reserve.new.self }) c.args.moved.now.inode c.args.moved.now.name.now c.args.moved.now.other.now c.args.moved.now.time same c.len-names.ensures.each_once absent left
-    (subst (λ (x : Entry). LeavesEither (g.P.Pmem.region c.args.memory.now) (fixed_layout c.args.sup.now) held (Appended (g.P.Pmem.region c.args.memory.now) c.args.sup.now c.args.free.now c.args.cpu (record c.args.directory.now { names = c.reserve.new.self }) (Name (record { operation = Remove; inode = c.args.moved.now.inode; time = c.args.moved.now.time; name = c.args.moved.now.name.now }) ∷ x ∷ [])) left) c.name_entry-2.ensures one)
+    (subst (λ (x : Entry). LeavesEither (g.P.Pmem.region c.args.memory.now) c.args.tables.now.layout held (Appended (g.P.Pmem.region c.args.memory.now) c.args.tables.now.layout c.args.free.now c.args.cpu (record c.args.directory.now { names = c.reserve.new.self }) (Name (record { operation = Remove; inode = c.args.moved.now.inode; time = c.args.moved.now.time; name = c.args.moved.now.name.now }) ∷ x ∷ [])) left) c.name_entry-2.ensures one)
 
 pub returns-clause-any_stop : goal.returns-clause-any_stop
 returns-clause-any_stop g c held h shows absent settled left may =
     let same = more_names c.args.directory.now c.reserve.new.self c.reserve.ensures.names in
     let there = c.append_log.ensures.any_stop held h (shows_same same shows) (omega arith) settled left may in
-    let one = subst (λ (x : Entry). LeavesEither (g.P.Pmem.region c.args.memory.now) (fixed_layout c.args.sup.now) held (Appended (g.P.Pmem.region c.args.memory.now) c.args.sup.now c.args.free.now c.args.cpu (record c.args.directory.now { names = c.reserve.new.self }) (x ∷ c.name_entry-2.result ∷ [])) left) c.name_entry.ensures there in
+    let one = subst (λ (x : Entry). LeavesEither (g.P.Pmem.region c.args.memory.now) c.args.tables.now.layout held (Appended (g.P.Pmem.region c.args.memory.now) c.args.tables.now.layout c.args.free.now c.args.cpu (record c.args.directory.now { names = c.reserve.new.self }) (x ∷ c.name_entry-2.result ∷ [])) left) c.name_entry.ensures there in
     left_here c.args.directory.now (record c.args.directory.now { names = c.reserve.new.self }) c.args.moved.now.inode c.args.moved.now.name.now c.args.moved.now.other.now c.args.moved.now.time same c.len-names.ensures.each_once absent left
-    (subst (λ (x : Entry). LeavesEither (g.P.Pmem.region c.args.memory.now) (fixed_layout c.args.sup.now) held (Appended (g.P.Pmem.region c.args.memory.now) c.args.sup.now c.args.free.now c.args.cpu (record c.args.directory.now { names = c.reserve.new.self }) (Name (record { operation = Remove; inode = c.args.moved.now.inode; time = c.args.moved.now.time; name = c.args.moved.now.name.now }) ∷ x ∷ [])) left) c.name_entry-2.ensures one)
+    (subst (λ (x : Entry). LeavesEither (g.P.Pmem.region c.args.memory.now) c.args.tables.now.layout held (Appended (g.P.Pmem.region c.args.memory.now) c.args.tables.now.layout c.args.free.now c.args.cpu (record c.args.directory.now { names = c.reserve.new.self }) (Name (record { operation = Remove; inode = c.args.moved.now.inode; time = c.args.moved.now.time; name = c.args.moved.now.name.now }) ∷ x ∷ [])) left) c.name_entry-2.ensures one)
 
 pub returns-then-not-are_enough-clause-wrote : goal.returns-then-not-are_enough-clause-wrote
 returns-then-not-are_enough-clause-wrote g c held h shows at whole away = refl

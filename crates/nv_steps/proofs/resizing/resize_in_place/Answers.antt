@@ -89,7 +89,7 @@ pub returns-then-is_err-clause-inode : goal.returns-then-is_err-clause-inode
 returns-then-is_err-clause-inode g c = refl
 
 pub returns-then-is_err-clause-any_stop : goal.returns-then-is_err-clause-any_stop
-returns-then-is_err-clause-any_stop g c held h shows settled = still _ _ c.args.sup.now held (Resized (g.P.Pmem.region c.args.memory.now) c.args.sup.now c.args.free.now c.args.cpu c.args.row.now c.args.attributes) shows.sound settled
+returns-then-is_err-clause-any_stop g c held h shows settled = still _ _ c.args.tables.now.layout held (Resized (g.P.Pmem.region c.args.memory.now) c.args.tables.now.layout c.args.free.now c.args.cpu c.args.row.now c.args.attributes) shows.sound settled
 
 pub returns-in_err-append_log-clause-any_stop : goal.returns-in_err-append_log-clause-any_stop
 returns-in_err-append_log-clause-any_stop g c held h shows settled left may =

@@ -7,7 +7,7 @@ use Rattle.nv_logpage.proofs.Placing.{entries_from}
 use Rattle.nv_alloc.specs.Taking.{HasBlock}
 use Rattle.nv_entry.specs.declared.entry.Entry.{Entry}
 use Rattle.nv_entry.specs.declared.entry.Entry.TheVariants.{Write}
-use Rattle.nv_held.proofs.BytesKept.{mixed_size}
+use Rattle.nv_mounted.proofs.BytesKept.{mixed_size}
 use Rattle.nv_bytes.specs.Bytes.{byte_after, file_byte}
 use Rattle.nv_bytes.specs.Storing.{AreFresh, HoldPages, InBlocks}
 use Rattle.nv_bytes.proofs.StoredPages.{same_pages}

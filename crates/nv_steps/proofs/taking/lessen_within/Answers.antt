@@ -1,11 +1,10 @@
 use Rattle.std.proofs.Common.{◌+◌, ◌-◌, ◌%◌, ◌∷◌, [], List, ap, refl, subst, arith, ◌∙◌, ◌≡◌, ◌≤◌, sym}
-use Rattle.nv_super.specs.Layout.{fixed_layout}
 use Rattle.std.proofs.lemmas.Result.{err_from_is_err_and, IfOk-from_err}
 use Rattle.nv_entry.specs.declared.entry.Entry.{Entry}
 use Rattle.nv_entry.specs.Spelling.{entry_length}
 use Rattle.nv_logpage.specs.Append.{needed}
 use Rattle.nv_alloc.specs.Taking.{all_blocks}
-use Rattle.nv_held.specs.nv_outcome.Same.{SameRow}
+use Rattle.nv_outcome.specs.Same.{SameRow}
 use Rattle.nv_tree.specs.declared.refusal.Refusal.TheVariants.{Stopped}
 use Rattle.nv_tree.specs.declared.refusal.Refusal.{Refusal}
 use Rattle.nv_steps.specs.NameEntries.{links_entries}
@@ -36,7 +35,7 @@ pub returns-clause-lessened : goal.returns-clause-lessened
 returns-clause-lessened g c =
     let three : c.name_entry.result ∷ c.name_entry-2.result ∷ c.name_entry-3.result ∷ [] ≡ take_entries c.args.moved.now.inode c.args.file.now.inode c.args.moved.now.name.now c.args.moved.now.other.now c.args.moved.now.time = (λ t. c.name_entry.ensures t ∷ c.name_entry-2.ensures t ∷ c.name_entry-3.ensures t ∷ []) in
     let grew = c.in_ok-append_logs.ensures.appended in
-    let both = subst (λ (es : List Entry). AppendsLogs (g.P.Pmem.region c.args.memory.now) (g.P.Pmem.region c.append_logs.new.memory) c.args.sup.now c.args.free.now c.append_logs.new.free c.args.cpu (c.args.directory.now ∷ c.args.file.now ∷ []) (c.append_logs.new.row ∷ c.append_logs.new.other ∷ []) 0 es 1 (links_entries (c.args.file.now.numbers.links - 1) c.args.moved.now.time)) three grew in
+    let both = subst (λ (es : List Entry). AppendsLogs (g.P.Pmem.region c.args.memory.now) (g.P.Pmem.region c.append_logs.new.memory) c.args.tables.now.layout c.args.free.now c.append_logs.new.free c.args.cpu (c.args.directory.now ∷ c.args.file.now ∷ []) (c.append_logs.new.row ∷ c.append_logs.new.other ∷ []) 0 es 1 (links_entries (c.args.file.now.numbers.links - 1) c.args.moved.now.time)) three grew in
     lessens_at_places c.args.file.now both refl (λ e. omega (arith, e)) c.append_logs.new.row c.append_logs.new.other c.length.result refl (c.length.ensures.value ∙ ap entry_length c.name_entry-3.ensures) c.remove_name.ensures.row c.remove_name.ensures.once c.remove_name-2.ensures.row c.add_name.ensures.row c.add_name.ensures.once refl c.set_links.ensures
 
 pub append_logs-requires-clause-apart : goal.append_logs-requires-clause-apart
@@ -111,25 +110,25 @@ pub returns-in_err-append_logs-clause-any_stop : goal.returns-in_err-append_logs
 returns-in_err-append_logs-clause-any_stop g c held h f here there settled left may =
     let three : c.name_entry.result ∷ c.name_entry-2.result ∷ c.name_entry-3.result ∷ [] ≡ take_entries c.args.moved.now.inode c.args.file.now.inode c.args.moved.now.name.now c.args.moved.now.other.now c.args.moved.now.time = (λ t. c.name_entry.ensures t ∷ c.name_entry-2.ensures t ∷ c.name_entry-3.ensures t ∷ []) in
     left_lessened c.args.directory.now c.args.file.now c.args.moved.now.inode c.args.moved.now.name.now c.args.moved.now.other.now c.args.moved.now.time left
-    (subst (λ (es : List Entry). LeavesEither (g.P.Pmem.region c.args.memory.now) (fixed_layout c.args.sup.now) held (AppendedBoth (g.P.Pmem.region c.args.memory.now) c.args.sup.now c.args.free.now c.args.cpu c.args.directory.now es c.args.file.now (links_entries (c.args.file.now.numbers.links - 1) c.args.moved.now.time)) left) three
+    (subst (λ (es : List Entry). LeavesEither (g.P.Pmem.region c.args.memory.now) c.args.tables.now.layout held (AppendedBoth (g.P.Pmem.region c.args.memory.now) c.args.tables.now.layout c.args.free.now c.args.cpu c.args.directory.now es c.args.file.now (links_entries (c.args.file.now.numbers.links - 1) c.args.moved.now.time)) left) three
     (c.append_logs.ensures.any_stop held h f here there settled left may))
 
 pub returns-clause-any_stop : goal.returns-clause-any_stop
 returns-clause-any_stop g c held h f here there settled left may =
     let three : c.name_entry.result ∷ c.name_entry-2.result ∷ c.name_entry-3.result ∷ [] ≡ take_entries c.args.moved.now.inode c.args.file.now.inode c.args.moved.now.name.now c.args.moved.now.other.now c.args.moved.now.time = (λ t. c.name_entry.ensures t ∷ c.name_entry-2.ensures t ∷ c.name_entry-3.ensures t ∷ []) in
     left_lessened c.args.directory.now c.args.file.now c.args.moved.now.inode c.args.moved.now.name.now c.args.moved.now.other.now c.args.moved.now.time left
-    (subst (λ (es : List Entry). LeavesEither (g.P.Pmem.region c.args.memory.now) (fixed_layout c.args.sup.now) held (AppendedBoth (g.P.Pmem.region c.args.memory.now) c.args.sup.now c.args.free.now c.args.cpu c.args.directory.now es c.args.file.now (links_entries (c.args.file.now.numbers.links - 1) c.args.moved.now.time)) left) three
+    (subst (λ (es : List Entry). LeavesEither (g.P.Pmem.region c.args.memory.now) c.args.tables.now.layout held (AppendedBoth (g.P.Pmem.region c.args.memory.now) c.args.tables.now.layout c.args.free.now c.args.cpu c.args.directory.now es c.args.file.now (links_entries (c.args.file.now.numbers.links - 1) c.args.moved.now.time)) left) three
     (c.append_logs.ensures.any_stop held h f here there settled left may))
 
 pub returns-in_err-append_logs-clause-in_order : goal.returns-in_err-append_logs-clause-in_order
 returns-in_err-append_logs-clause-in_order g c held h f here there =
     let three : c.name_entry.result ∷ c.name_entry-2.result ∷ c.name_entry-3.result ∷ [] ≡ take_entries c.args.moved.now.inode c.args.file.now.inode c.args.moved.now.name.now c.args.moved.now.other.now c.args.moved.now.time = (λ t. c.name_entry.ensures t ∷ c.name_entry-2.ensures t ∷ c.name_entry-3.ensures t ∷ []) in
-    subst (λ (es : List Entry). TailIsFirst (g.P.Pmem.region c.args.memory.now) (g.P.Pmem.region c.append_logs.new.memory) c.args.sup.now c.args.free.now.pools c.args.cpu c.args.directory.now.inode c.args.directory.now.tail es (tail_address c.args.sup.now c.args.file.now.inode)) three (c.append_logs.ensures.in_order held h f here there)
+    subst (λ (es : List Entry). TailIsFirst (g.P.Pmem.region c.args.memory.now) (g.P.Pmem.region c.append_logs.new.memory) c.args.tables.now.layout c.args.free.now.pools c.args.cpu c.args.directory.now.inode c.args.directory.now.tail es (tail_address c.args.tables.now.layout c.args.file.now.inode)) three (c.append_logs.ensures.in_order held h f here there)
 
 pub returns-clause-in_order : goal.returns-clause-in_order
 returns-clause-in_order g c held h f here there =
     let three : c.name_entry.result ∷ c.name_entry-2.result ∷ c.name_entry-3.result ∷ [] ≡ take_entries c.args.moved.now.inode c.args.file.now.inode c.args.moved.now.name.now c.args.moved.now.other.now c.args.moved.now.time = (λ t. c.name_entry.ensures t ∷ c.name_entry-2.ensures t ∷ c.name_entry-3.ensures t ∷ []) in
-    subst (λ (es : List Entry). TailIsFirst (g.P.Pmem.region c.args.memory.now) (g.P.Pmem.region c.append_logs.new.memory) c.args.sup.now c.args.free.now.pools c.args.cpu c.args.directory.now.inode c.args.directory.now.tail es (tail_address c.args.sup.now c.args.file.now.inode)) three (c.append_logs.ensures.in_order held h f here there)
+    subst (λ (es : List Entry). TailIsFirst (g.P.Pmem.region c.args.memory.now) (g.P.Pmem.region c.append_logs.new.memory) c.args.tables.now.layout c.args.free.now.pools c.args.cpu c.args.directory.now.inode c.args.directory.now.tail es (tail_address c.args.tables.now.layout c.args.file.now.inode)) three (c.append_logs.ensures.in_order held h f here there)
 
 pub returns-in_err-append_logs-clause-wrote : goal.returns-in_err-append_logs-clause-wrote
 returns-in_err-append_logs-clause-wrote g c held h f here there = c.append_logs.ensures.wrote held h f here there

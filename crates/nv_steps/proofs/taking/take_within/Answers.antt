@@ -1,6 +1,5 @@
 use Rattle.std.proofs.Common.{◌≡◌, ◌∙◌, ◌∷◌, [], ◌≤◌, ◌%◌, List, ap, refl, subst, sym, inl, arith}
 use Rattle.std.proofs.lemmas.Result.{err_from_is_err_and, IfOk-from_err}
-use Rattle.nv_super.specs.Layout.{fixed_layout, slot_address}
 use Rattle.nv_alloc.specs.Taking.{all_blocks}
 use Rattle.nv_entry.specs.declared.entry.Entry.{Entry}
 use Rattle.nv_entry.specs.Spelling.{entry_length}
@@ -17,6 +16,7 @@ use Rattle.nv_steps.proofs.MovedRow.{leaves_after, more_names, shows_same}
 use Rattle.nv_steps.proofs.Refusals.{memory_goes_on, not_refused}
 use Rattle.nv_steps.proofs.Kept.{kept_done, kept_refused, nothing_stored}
 use Rattle.nv_steps.proofs.Took.{left_taken, takes_within}
+use Rattle.nv_steps.specs.Slots.{slot_in}
 use Rattle.nv_steps.proofs.taking.take_within.Goals as goal
 
 pub name_entry-requires : goal.name_entry-requires
@@ -29,7 +29,7 @@ pub name_entry-requires-3 : goal.name_entry-requires-3
 name_entry-requires-3 g c = record { some = c.requires.other.some; fits = c.requires.other.short }
 
 pub append_less-requires-clause-stands : goal.append_less-requires-clause-stands
-append_less-requires-clause-stands g c = let s = c.requires.stands in record { layout = s.layout; lists = s.lists; number = s.number; whole = s.whole; inside = s.inside; aligned = s.aligned; offset = s.offset; blocks = s.blocks; in_blocks = s.in_blocks; used = s.used }
+append_less-requires-clause-stands g c = let s = c.requires.stands in record { laid = s.laid; lists = s.lists; number = s.number; whole = s.whole; inside = s.inside; aligned = s.aligned; offset = s.offset; blocks = s.blocks; in_blocks = s.in_blocks; used = s.used }
 
 pub append_less-requires-clause-can : goal.append_less-requires-clause-can
 append_less-requires-clause-can g c = let a = c.requires.can in record { cpu_below = a.cpu_below; journal_empty = a.journal_empty; number = a.number; in_data = a.in_data }
@@ -45,7 +45,7 @@ append_less-requires-clause-given g c =
 pub returns-clause-taken : goal.returns-clause-taken
 returns-clause-taken g c =
     let three : c.name_entry.result ∷ c.name_entry-2.result ∷ c.name_entry-3.result ∷ [] ≡ take_entries c.args.moved.now.inode c.args.gone.inode c.args.moved.now.name.now c.args.moved.now.other.now c.args.moved.now.time = (λ t. c.name_entry.ensures t ∷ c.name_entry-2.ensures t ∷ c.name_entry-3.ensures t ∷ []) in
-    let grew = subst (λ (es : List Entry). AppendsLess (g.P.Pmem.region c.args.memory.now) (g.P.Pmem.region c.append_less.new.memory) c.args.sup.now c.args.free.now c.append_less.new.free c.args.cpu (record c.args.directory.now { names = c.reserve.new.self }) c.append_less.new.row c.args.gone.inode es) three c.in_ok-append_less.ensures.appended in
+    let grew = subst (λ (es : List Entry). AppendsLess (g.P.Pmem.region c.args.memory.now) (g.P.Pmem.region c.append_less.new.memory) c.args.tables.now.layout c.args.free.now c.append_less.new.free c.args.cpu (record c.args.directory.now { names = c.reserve.new.self }) c.append_less.new.row c.args.gone.inode es) three c.in_ok-append_less.ensures.appended in
     takes_within c.args.moved.now.inode c.args.gone.inode c.args.moved.now.name.now c.args.moved.now.other.now c.args.moved.now.time (more_names c.args.directory.now c.reserve.new.self c.reserve.ensures.names) grew c.length.result (c.length.ensures.value ∙ ap entry_length c.name_entry-3.ensures)
     c.remove_name.ensures.row c.remove_name.ensures.once c.remove_name-2.ensures.row c.add_name.ensures.row c.add_name.ensures.once c.len-names.ensures.each_once
 
@@ -75,7 +75,7 @@ returns-clause-wrote g c held h shows = c.append_less.ensures.wrote held h (show
 pub returns-clause-in_order : goal.returns-clause-in_order
 returns-clause-in_order g c held h shows =
     let three : c.name_entry.result ∷ c.name_entry-2.result ∷ c.name_entry-3.result ∷ [] ≡ take_entries c.args.moved.now.inode c.args.gone.inode c.args.moved.now.name.now c.args.moved.now.other.now c.args.moved.now.time = (λ t. c.name_entry.ensures t ∷ c.name_entry-2.ensures t ∷ c.name_entry-3.ensures t ∷ []) in
-    subst (λ (es : List Entry). TailIsFirst (g.P.Pmem.region c.args.memory.now) (g.P.Pmem.region c.append_less.new.memory) c.args.sup.now c.args.free.now.pools c.args.cpu c.args.directory.now.inode c.args.directory.now.tail es (slot_address c.args.sup.now c.args.gone.inode)) three (c.append_less.ensures.in_order held h (shows_same (more_names c.args.directory.now c.reserve.new.self c.reserve.ensures.names) shows))
+    subst (λ (es : List Entry). TailIsFirst (g.P.Pmem.region c.args.memory.now) (g.P.Pmem.region c.append_less.new.memory) c.args.tables.now.layout c.args.free.now.pools c.args.cpu c.args.directory.now.inode c.args.directory.now.tail es (slot_in c.args.tables.now.layout c.args.gone.inode)) three (c.append_less.ensures.in_order held h (shows_same (more_names c.args.directory.now c.reserve.new.self c.reserve.ensures.names) shows))
 
 pub returns-clause-any_stop : goal.returns-clause-any_stop
 returns-clause-any_stop g c held h shows settled left may =
@@ -83,7 +83,7 @@ returns-clause-any_stop g c held h shows settled left may =
     let three : c.name_entry.result ∷ c.name_entry-2.result ∷ c.name_entry-3.result ∷ [] ≡ take_entries c.args.moved.now.inode c.args.gone.inode c.args.moved.now.name.now c.args.moved.now.other.now c.args.moved.now.time = (λ t. c.name_entry.ensures t ∷ c.name_entry-2.ensures t ∷ c.name_entry-3.ensures t ∷ []) in
     let there = c.append_less.ensures.any_stop held h (shows_same same shows) settled left may in
     left_taken c.args.directory.now (record c.args.directory.now { names = c.reserve.new.self }) c.args.moved.now.inode c.args.gone.inode c.args.moved.now.name.now c.args.moved.now.other.now c.args.moved.now.time same c.len-names.ensures.each_once left
-    (subst (λ (es : List Entry). LeavesEither (g.P.Pmem.region c.args.memory.now) (fixed_layout c.args.sup.now) held (AppendedLess (g.P.Pmem.region c.args.memory.now) c.args.sup.now c.args.free.now c.args.cpu (record c.args.directory.now { names = c.reserve.new.self }) c.args.gone.inode es) left) three there)
+    (subst (λ (es : List Entry). LeavesEither (g.P.Pmem.region c.args.memory.now) c.args.tables.now.layout held (AppendedLess (g.P.Pmem.region c.args.memory.now) c.args.tables.now.layout c.args.free.now c.args.cpu (record c.args.directory.now { names = c.reserve.new.self }) c.args.gone.inode es) left) three there)
 
 pub returns-in_err-append_less-clause-taken : goal.returns-in_err-append_less-clause-taken
 returns-in_err-append_less-clause-taken g c = IfOk-from_err c.from_residual.result _ c.from_residual.ensures.0
@@ -121,7 +121,7 @@ returns-in_err-append_less-clause-wrote g c held h shows = c.append_less.ensures
 pub returns-in_err-append_less-clause-in_order : goal.returns-in_err-append_less-clause-in_order
 returns-in_err-append_less-clause-in_order g c held h shows =
     let three : c.name_entry.result ∷ c.name_entry-2.result ∷ c.name_entry-3.result ∷ [] ≡ take_entries c.args.moved.now.inode c.args.gone.inode c.args.moved.now.name.now c.args.moved.now.other.now c.args.moved.now.time = (λ t. c.name_entry.ensures t ∷ c.name_entry-2.ensures t ∷ c.name_entry-3.ensures t ∷ []) in
-    subst (λ (es : List Entry). TailIsFirst (g.P.Pmem.region c.args.memory.now) (g.P.Pmem.region c.append_less.new.memory) c.args.sup.now c.args.free.now.pools c.args.cpu c.args.directory.now.inode c.args.directory.now.tail es (slot_address c.args.sup.now c.args.gone.inode)) three (c.append_less.ensures.in_order held h (shows_same (more_names c.args.directory.now c.reserve.new.self c.reserve.ensures.names) shows))
+    subst (λ (es : List Entry). TailIsFirst (g.P.Pmem.region c.args.memory.now) (g.P.Pmem.region c.append_less.new.memory) c.args.tables.now.layout c.args.free.now.pools c.args.cpu c.args.directory.now.inode c.args.directory.now.tail es (slot_in c.args.tables.now.layout c.args.gone.inode)) three (c.append_less.ensures.in_order held h (shows_same (more_names c.args.directory.now c.reserve.new.self c.reserve.ensures.names) shows))
 
 pub returns-in_err-append_less-clause-any_stop : goal.returns-in_err-append_less-clause-any_stop
 returns-in_err-append_less-clause-any_stop g c held h shows settled left may =
@@ -129,7 +129,7 @@ returns-in_err-append_less-clause-any_stop g c held h shows settled left may =
     let three : c.name_entry.result ∷ c.name_entry-2.result ∷ c.name_entry-3.result ∷ [] ≡ take_entries c.args.moved.now.inode c.args.gone.inode c.args.moved.now.name.now c.args.moved.now.other.now c.args.moved.now.time = (λ t. c.name_entry.ensures t ∷ c.name_entry-2.ensures t ∷ c.name_entry-3.ensures t ∷ []) in
     let there = c.append_less.ensures.any_stop held h (shows_same same shows) settled left may in
     left_taken c.args.directory.now (record c.args.directory.now { names = c.reserve.new.self }) c.args.moved.now.inode c.args.gone.inode c.args.moved.now.name.now c.args.moved.now.other.now c.args.moved.now.time same c.len-names.ensures.each_once left
-    (subst (λ (es : List Entry). LeavesEither (g.P.Pmem.region c.args.memory.now) (fixed_layout c.args.sup.now) held (AppendedLess (g.P.Pmem.region c.args.memory.now) c.args.sup.now c.args.free.now c.args.cpu (record c.args.directory.now { names = c.reserve.new.self }) c.args.gone.inode es) left) three there)
+    (subst (λ (es : List Entry). LeavesEither (g.P.Pmem.region c.args.memory.now) c.args.tables.now.layout held (AppendedLess (g.P.Pmem.region c.args.memory.now) c.args.tables.now.layout c.args.free.now c.args.cpu (record c.args.directory.now { names = c.reserve.new.self }) c.args.gone.inode es) left) three there)
 
 pub returns-then-is_err-clause-taken : goal.returns-then-is_err-clause-taken
 returns-then-is_err-clause-taken g c = tt
@@ -161,7 +161,7 @@ pub returns-then-is_err-clause-in_order : goal.returns-then-is_err-clause-in_ord
 returns-then-is_err-clause-in_order g c held h shows = inl refl
 
 pub returns-then-is_err-clause-any_stop : goal.returns-then-is_err-clause-any_stop
-returns-then-is_err-clause-any_stop g c held h shows settled = still _ _ c.args.sup.now held (TookWithin (g.P.Pmem.region c.args.memory.now) c.args.sup.now c.args.free.now c.args.cpu c.args.directory.now c.args.moved.now.inode c.args.gone.inode c.args.moved.now.name.now c.args.moved.now.other.now c.args.moved.now.time) shows.sound settled
+returns-then-is_err-clause-any_stop g c held h shows settled = still _ _ c.args.tables.now.layout held (TookWithin (g.P.Pmem.region c.args.memory.now) c.args.tables.now.layout c.args.free.now c.args.cpu c.args.directory.now c.args.moved.now.inode c.args.gone.inode c.args.moved.now.name.now c.args.moved.now.other.now c.args.moved.now.time) shows.sound settled
 
 pub add_name-requires-clause-room : goal.add_name-requires-clause-room
 add_name-requires-clause-room g c =

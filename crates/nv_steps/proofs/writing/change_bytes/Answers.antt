@@ -1,8 +1,9 @@
 use Rattle.std.proofs.lemmas.Grind.{common_steps}
 use Rattle.std.proofs.Common.{arith, ◌∙◌, ℕ, List, length, inr, sym, subst, refl, inl, ◌<◌}
+use Rattle.std.specs.Prelude.{IsTrue}
 use Rattle.nv_region.specs.Region.{Region}
 use Rattle.nv_super.specs.declared.owners.Run.{Run}
-use Rattle.nv_super.specs.Layout.{inode_limit}
+use Rattle.nv_inode.specs.Numbers.{has_slot}
 use Rattle.nv_alloc.specs.FreeLists.{JoinAll}
 use Rattle.nv_bytes.specs.Bytes.{byte_after, file_byte}
 use Rattle.nv_logpage.specs.Append.{CanAppend}
@@ -69,7 +70,7 @@ returns-in-Ok-commit_data-clause-writes g c =
     let entries = c.in-Ok.ready.log.entries.items in
     let fresh = c.in-Ok.ready.log.fresh.items in
     let bytes : ℕ → ℕ = byte_after n.offset (data_bytes n.content) n.size (file_byte R mid.index) in
-    let done = commits_as R S c.args.sup.now row.inode mid.inode c.slot_address-slot.result row.tail mid.tail bytes entries fresh same.inode same.tail c.slot_address-slot.ensures (c.in-Ok-commit_data.ensures.commits c.args.sup.now row.inode) in
+    let done = commits_as R S c.args.tables.now.layout row.inode mid.inode c.slot_of_row-slot.result row.tail mid.tail bytes entries fresh same.inode same.tail c.slot_of_row-slot.ensures.value (c.in-Ok-commit_data.ensures.commits c.args.tables.now.layout row.inode) in
     let has = has_written row mid c.settle_data.new.row c.args.plan.now entries fresh c.in-Ok-commit_data.end same c.prepare_data.ensures.row.1 c.in-Ok-commit_data.ensures.end c.settle_data.ensures in
     let joins = subst (λ (xs : List Run). JoinAll c.prepare_data.new.free xs c.give_all.new.free) (c.deref.ensures.value ∙ c.in-Ok.ensures.replaced) c.give_all.ensures.given in
     writes_file c.requires.stands c.requires.kind c.requires.file c.requires.cpu right c.in-Ok.ensures.prepared done has c.give_all.new.free joins n.offset c.args.plan.now.time (data_bytes n.content) c.requires.some c.requires.plan
@@ -158,20 +159,17 @@ returns-in-Err-Memory-clause-unchanged g c = λ _. record { memory = refl; free 
 pub returns-in-Err-Memory-clause-inode : goal.returns-in-Err-Memory-clause-inode
 returns-in-Err-Memory-clause-inode g c = c.in-Err-Memory.ensures.row.0.inode
 
-pub slot_address-slot-requires-clause-layout : goal.slot_address-slot-requires-clause-layout
-slot_address-slot-requires-clause-layout g c = c.requires.stands.layout
-
-pub slot_address-slot-requires-clause-inode : goal.slot_address-slot-requires-clause-inode
-slot_address-slot-requires-clause-inode g c = subst (λ (i : ℕ). i < inode_limit c.args.sup.now) (sym c.in-Ok.ensures.row.0.inode) c.requires.stands.number
+pub slot_of_row-slot-requires : goal.slot_of_row-slot-requires
+slot_of_row-slot-requires g c = subst (λ (i : ℕ). IsTrue (has_slot c.args.tables.now.layout i)) (sym c.in-Ok.ensures.row.0.inode) c.requires.stands.number
 
 pub returns-in-Ok-commit_data-clause-inode : goal.returns-in-Ok-commit_data-clause-inode
 returns-in-Ok-commit_data-clause-inode g c = c.settle_data.ensures.inode ∙ c.in-Ok.ensures.row.0.inode
 
 pub returns-in-Err-NoSpace-clause-any_stop : goal.returns-in-Err-NoSpace-clause-any_stop
-returns-in-Err-NoSpace-clause-any_stop g c held h shows settled = still _ _ c.args.sup.now held (Wrote (g.P.Pmem.region c.args.memory.now) c.args.sup.now c.args.free.now c.args.cpu c.args.plan.now c.args.change.now.offset (data_bytes c.args.change.now.content) c.args.row.now) shows.sound settled
+returns-in-Err-NoSpace-clause-any_stop g c held h shows settled = still _ _ c.args.tables.now.layout held (Wrote (g.P.Pmem.region c.args.memory.now) c.args.tables.now.layout c.args.free.now c.args.cpu c.args.plan.now c.args.change.now.offset (data_bytes c.args.change.now.content) c.args.row.now) shows.sound settled
 
 pub returns-in-Err-Memory-clause-any_stop : goal.returns-in-Err-Memory-clause-any_stop
-returns-in-Err-Memory-clause-any_stop g c held h shows settled = still _ _ c.args.sup.now held (Wrote (g.P.Pmem.region c.args.memory.now) c.args.sup.now c.args.free.now c.args.cpu c.args.plan.now c.args.change.now.offset (data_bytes c.args.change.now.content) c.args.row.now) shows.sound settled
+returns-in-Err-Memory-clause-any_stop g c held h shows settled = still _ _ c.args.tables.now.layout held (Wrote (g.P.Pmem.region c.args.memory.now) c.args.tables.now.layout c.args.free.now c.args.cpu c.args.plan.now c.args.change.now.offset (data_bytes c.args.change.now.content) c.args.row.now) shows.sound settled
 
 pub returns-in-Ok-commit_data-clause-any_stop : goal.returns-in-Ok-commit_data-clause-any_stop
 returns-in-Ok-commit_data-clause-any_stop g c held h shows settled left may =
@@ -182,9 +180,9 @@ returns-in-Ok-commit_data-clause-any_stop g c held h shows settled left may =
     let n = c.args.change.now in
     let right = subst (IsRight row) (sym c.requires.plan) (plan_right row (block_at row.index) n.offset (length (data_bytes n.content)) c.args.plan.now.time c.requires.file.small c.requires.some c.requires.fits) in
     let p = c.in-Ok.ensures.prepared in
-    left_write c.requires.stands c.requires.kind c.requires.file c.requires.cpu right p shows c.slot_address-slot.result mid.tail mid.inode same.inode same.tail c.slot_address-slot.ensures
+    left_write c.requires.stands c.requires.kind c.requires.file c.requires.cpu right p shows c.slot_of_row-slot.result mid.tail mid.inode same.inode same.tail c.slot_of_row-slot.ensures.value
     (byte_after n.offset (data_bytes n.content) n.size (file_byte R mid.index)) n.offset c.args.plan.now.time (data_bytes n.content) c.requires.some c.requires.plan (λ x. bytes_as R row.index mid.index n.offset n.size row.numbers.size (data_bytes n.content) same.index c.requires.size x) left
-    (c.commit_data.ensures.any_stop c.args.sup.now held row.inode h (can_there c.requires.stands c.requires.kind c.requires.file c.requires.cpu right p shows c.slot_address-slot.result mid.tail mid.inode same.inode same.tail c.slot_address-slot.ensures) (data_free shows c.requires.stands.lists c.requires.cpu right p) settled left may)
+    (c.commit_data.ensures.any_stop c.args.tables.now.layout held row.inode h (can_there c.requires.stands c.requires.kind c.requires.file c.requires.cpu right p shows c.slot_of_row-slot.result mid.tail mid.inode same.inode same.tail c.slot_of_row-slot.ensures.value) (data_free shows c.requires.stands.lists c.requires.cpu right p) settled left may)
 
 pub returns-clause-any_stop : goal.returns-clause-any_stop
 returns-clause-any_stop g c held h shows settled left may =
@@ -195,9 +193,9 @@ returns-clause-any_stop g c held h shows settled left may =
     let n = c.args.change.now in
     let right = subst (IsRight row) (sym c.requires.plan) (plan_right row (block_at row.index) n.offset (length (data_bytes n.content)) c.args.plan.now.time c.requires.file.small c.requires.some c.requires.fits) in
     let p = c.in-Ok.ensures.prepared in
-    left_write c.requires.stands c.requires.kind c.requires.file c.requires.cpu right p shows c.slot_address-slot.result mid.tail mid.inode same.inode same.tail c.slot_address-slot.ensures
+    left_write c.requires.stands c.requires.kind c.requires.file c.requires.cpu right p shows c.slot_of_row-slot.result mid.tail mid.inode same.inode same.tail c.slot_of_row-slot.ensures.value
     (byte_after n.offset (data_bytes n.content) n.size (file_byte R mid.index)) n.offset c.args.plan.now.time (data_bytes n.content) c.requires.some c.requires.plan (λ x. bytes_as R row.index mid.index n.offset n.size row.numbers.size (data_bytes n.content) same.index c.requires.size x) left
-    (c.commit_data.ensures.any_stop c.args.sup.now held row.inode h (can_there c.requires.stands c.requires.kind c.requires.file c.requires.cpu right p shows c.slot_address-slot.result mid.tail mid.inode same.inode same.tail c.slot_address-slot.ensures) (data_free shows c.requires.stands.lists c.requires.cpu right p) settled left may)
+    (c.commit_data.ensures.any_stop c.args.tables.now.layout held row.inode h (can_there c.requires.stands c.requires.kind c.requires.file c.requires.cpu right p shows c.slot_of_row-slot.result mid.tail mid.inode same.inode same.tail c.slot_of_row-slot.ensures.value) (data_free shows c.requires.stands.lists c.requires.cpu right p) settled left may)
 
 pub returns-in-Err-NoSpace-clause-wrote : goal.returns-in-Err-NoSpace-clause-wrote
 returns-in-Err-NoSpace-clause-wrote g c held h shows at whole away = refl
@@ -213,7 +211,7 @@ returns-in-Ok-commit_data-clause-wrote g c held h shows =
     let n = c.args.change.now in
     let right = subst (IsRight row) (sym c.requires.plan) (plan_right row (block_at row.index) n.offset (length (data_bytes n.content)) c.args.plan.now.time c.requires.file.small c.requires.some c.requires.fits) in
     let p = c.in-Ok.ensures.prepared in
-    c.commit_data.ensures.wrote c.args.sup.now held row.inode h (can_there c.requires.stands c.requires.kind c.requires.file c.requires.cpu right p shows c.slot_address-slot.result mid.tail mid.inode same.inode same.tail c.slot_address-slot.ensures) (data_free shows c.requires.stands.lists c.requires.cpu right p)
+    c.commit_data.ensures.wrote c.args.tables.now.layout held row.inode h (can_there c.requires.stands c.requires.kind c.requires.file c.requires.cpu right p shows c.slot_of_row-slot.result mid.tail mid.inode same.inode same.tail c.slot_of_row-slot.ensures.value) (data_free shows c.requires.stands.lists c.requires.cpu right p)
 
 pub returns-clause-wrote : goal.returns-clause-wrote
 returns-clause-wrote g c held h shows =
@@ -223,4 +221,4 @@ returns-clause-wrote g c held h shows =
     let n = c.args.change.now in
     let right = subst (IsRight row) (sym c.requires.plan) (plan_right row (block_at row.index) n.offset (length (data_bytes n.content)) c.args.plan.now.time c.requires.file.small c.requires.some c.requires.fits) in
     let p = c.in-Ok.ensures.prepared in
-    c.commit_data.ensures.wrote c.args.sup.now held row.inode h (can_there c.requires.stands c.requires.kind c.requires.file c.requires.cpu right p shows c.slot_address-slot.result mid.tail mid.inode same.inode same.tail c.slot_address-slot.ensures) (data_free shows c.requires.stands.lists c.requires.cpu right p)
+    c.commit_data.ensures.wrote c.args.tables.now.layout held row.inode h (can_there c.requires.stands c.requires.kind c.requires.file c.requires.cpu right p shows c.slot_of_row-slot.result mid.tail mid.inode same.inode same.tail c.slot_of_row-slot.ensures.value) (data_free shows c.requires.stands.lists c.requires.cpu right p)

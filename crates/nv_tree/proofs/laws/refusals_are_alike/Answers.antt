@@ -1,4 +1,4 @@
-use Rattle.nv_tree.proofs.Tested.{create_alike, write_alike, set_size_alike, set_attr_alike, link_alike, unlink_alike, rmdir_alike, rename_alike, read_tests_alike, list_alike, stat_alike}
+use Rattle.nv_tree.proofs.Tested.{create_alike, write_alike, set_size_alike, set_attr_alike, link_alike, unlink_alike, rmdir_alike, rename_alike}
 use Rattle.nv_tree.proofs.laws.refusals_are_alike.Goals as goal
 
 pub returns : goal.returns
@@ -11,7 +11,4 @@ returns c = record {
   unlink = unlink_alike;
   rmdir = rmdir_alike;
   rename = rename_alike;
-  read = read_tests_alike;
-  list = list_alike;
-  stat = stat_alike;
 }

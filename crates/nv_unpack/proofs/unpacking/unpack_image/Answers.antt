@@ -2,11 +2,11 @@ use Rattle.std.proofs.Common.{inl, IsTrue, subst, sym, refl}
 use Rattle.std.proofs.lemmas.Result.{IfOk-weaker}
 use Rattle.nv_region.specs.Region.{Region}
 use Rattle.nv_region.specs.RegionState.{RegionState, is_steady}
-use Rattle.nv_report.specs.nv_outcome.Answer.{outcome_of}
-use Rattle.nv_checking.specs.Recovering.{IsSuperRefused}
-use Rattle.nv_checking.proofs.Found.{not_found}
-use Rattle.nv_cli.specs.Cleaning.{IsOpenedAs}
-use Rattle.nv_cli.proofs.CleanedImage.{can_open, opened_as, steady_off}
+use Rattle.nv_outcome.specs.Answer.{outcome_of}
+use Rattle.nv_image_check.specs.Recovering.{IsSuperRefused}
+use Rattle.nv_image_check.proofs.Found.{not_found}
+use Rattle.nv_script.specs.Cleaning.{IsOpenedAs}
+use Rattle.nv_script.proofs.CleanedImage.{can_open, opened_as, steady_off}
 use Rattle.nv_unpack.proofs.Made.{by_outcome}
 use Rattle.nv_unpack.proofs.unpacking.unpack_image.Goals as goal
 
@@ -29,8 +29,9 @@ unpack_mount-requires c =
 pub returns-in-Recovered : goal.returns-in-Recovered
 returns-in-Recovered c =
     let opens = c.open.ensures in
+    let can = can_open c.keep_all-memory.result.region c.recover_alone.new.memory.region c.in_ok-answer.answer c.in-Recovered.recovered c.in_ok-answer.ensures.ok c.in_ok-answer.ensures.lists c.in-Recovered.is in
     let R : Region = c.args.memory.region in
     let o = outcome_of c.in-Recovered.recovered in
     let is = subst (λ (R : Region). IsOpenedAs R o c.open.result) c.keep_all-memory.ensures.region
-    (opened_as c.keep_all-memory.result.region c.recover_alone.new.memory.region c.in_ok-answer.answer c.in-Recovered.recovered c.open.result c.in_ok-answer.ensures.ok c.in-Recovered.is (λ i. (opens.memory i).region) opens.sup opens.rows opens.read_only) in
-    IfOk-weaker c.unpack_mount.result _ _ (λ x came. by_outcome R o c.args.base.now c.args.items.now c.args.cpu is.is x came) (c.unpack_mount.ensures R o is)
+    (opened_as c.keep_all-memory.result.region c.recover_alone.new.memory.region c.in_ok-answer.answer c.in-Recovered.recovered c.open.result c.in_ok-answer.ensures.ok c.in-Recovered.is (λ i. (opens.memory i).region) opens.sup opens.layout can.4 opens.rows opens.read_only) in
+    IfOk-weaker c.unpack_mount.result _ _ (λ x came. by_outcome R o c.args.base.now c.args.items.now c.args.maker is.is x came) (c.unpack_mount.ensures R o is)

@@ -1,5 +1,5 @@
 use Rattle.std.proofs.Common.{◌∙◌, sym}
-use Rattle.nv_cli.proofs.CleanedImage.{faulty, sound}
+use Rattle.nv_script.proofs.CleanedImage.{faulty, sound}
 use Rattle.nv_unpack.proofs.unpacking.unpack_mount.Goals as goal
 
 pub unpack_sound-requires : goal.unpack_sound-requires

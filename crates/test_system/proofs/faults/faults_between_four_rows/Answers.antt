@@ -6,7 +6,7 @@ use Rattle.nv_super.specs.Layout.{Layout, inode_limit}
 use Rattle.nv_super.specs.declared.superblock.Super.{Super}
 use Rattle.nv_inode.specs.Numbers.{number_end}
 use Rattle.nv_scan.specs.declared.piece.Row.{Row}
-use Rattle.nv_check.specs.nv_numbered.Values.{AreNumbersBelow}
+use Rattle.nv_numbered.specs.Values.{AreNumbersBelow}
 use Rattle.test_system.proofs.faults.faults_between_four_rows.Goals as goal
 
 abbrev small : Super

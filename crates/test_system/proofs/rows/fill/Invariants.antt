@@ -1,6 +1,6 @@
 use Rattle.nv_super.specs.declared.superblock.Super.{Super}
 use Rattle.nv_super.specs.Layout.{fixed_layout}
-use Rattle.nv_recover.specs.nv_outcome.nv_rows.RowList.{HasNumbersOf}
+use Rattle.nv_rows.specs.RowList.{HasNumbersOf}
 use Rattle.test_system.proofs.rows.fill.Given as goal
 
 abbrev small : Super

@@ -3,8 +3,8 @@ use Rattle.nv_scan.specs.declared.piece.Row.{Row}
 use Rattle.nv_super.specs.declared.superblock.Super.{Super}
 use Rattle.nv_super.specs.Layout.{Layout, fixed_layout}
 use Rattle.nv_inode.specs.Numbers.{has_slot}
-use Rattle.nv_recover.specs.nv_outcome.nv_rows.Rows.{inodes_of}
-use Rattle.nv_recover.specs.nv_outcome.nv_rows.Unused.{HaveSlots}
+use Rattle.nv_rows.specs.Rows.{inodes_of}
+use Rattle.nv_rows.specs.Unused.{HaveSlots}
 use Rattle.test_system.proofs.rows.two_files.Goals as goal
 
 abbrev small : Super

@@ -88,7 +88,7 @@ pub returns-clause-log : goal.returns-clause-log
 returns-clause-log g c names i node held h path led sound is =
     let own = subst (λ (m : Mount g.row.P.Denot). LeadsTo (tree_of (g.P.Pmem.region m.memory) m.rows) names c.in_ok-inode.field-0.now.inode (node_of (g.P.Pmem.region m.memory) c.in_ok-inode.field-0.now)) c.self.view_is
     (c.in_ok-inode.ensures.row (g.P.Pmem.region c.self.inside.memory) names path) in
-    subst (λ (k : ℕ). held k ≡ Some h → IfOk c.clean_inode.result (ShowsCleaned (g.P.Pmem.region c.args.self.now.memory) (g.P.Pmem.region c.clean_inode.new.self.memory) c.args.self.now.sup held k h)) (same_Some _ _ (sym own.leads ∙ led.leads))
+    subst (λ (k : ℕ). held k ≡ Some h → IfOk c.clean_inode.result (ShowsCleaned (g.P.Pmem.region c.args.self.now.memory) (g.P.Pmem.region c.clean_inode.new.self.memory) c.args.self.now.layout held k h)) (same_Some _ _ (sym own.leads ∙ led.leads))
     (c.clean_inode.ensures.log held h sound) is
 
 pub returns-clause-call : goal.returns-clause-call
@@ -117,4 +117,4 @@ pub returns-clause-wrote : goal.returns-clause-wrote
 returns-clause-wrote g c names i node held h o path led sound is first =
     let own = subst (λ (m : Mount g.row.P.Denot). LeadsTo (tree_of (g.P.Pmem.region m.memory) m.rows) names c.in_ok-inode.field-0.now.inode (node_of (g.P.Pmem.region m.memory) c.in_ok-inode.field-0.now)) c.self.view_is
     (c.in_ok-inode.ensures.row (g.P.Pmem.region c.self.inside.memory) names path) in
-    page_less_by_path (g.P.Pmem.region c.args.self.now.memory) (g.P.Pmem.region c.clean_inode.new.self.memory) c.args.self.now.sup c.args.self.now.rows names c.in_ok-inode.field-0.now.inode (node_of (g.P.Pmem.region c.args.self.now.memory) c.in_ok-inode.field-0.now) own (λ st k p there known dead. c.clean_inode.ensures.wrote st k p there known dead) i node held h o led sound is first
+    page_less_by_path (g.P.Pmem.region c.args.self.now.memory) (g.P.Pmem.region c.clean_inode.new.self.memory) c.args.self.now.layout c.args.self.now.rows names c.in_ok-inode.field-0.now.inode (node_of (g.P.Pmem.region c.args.self.now.memory) c.in_ok-inode.field-0.now) own (λ st k p there known dead. c.clean_inode.ensures.wrote st k p there known dead) i node held h o led sound is first

@@ -228,10 +228,10 @@ pub returns-in-Err-clause-settled : goal.returns-in-Err-clause-settled
 returns-in-Err-clause-settled g c = tt
 
 pub returns-in_err-cleanable-clause-any_stop : goal.returns-in_err-cleanable-clause-any_stop
-returns-in_err-cleanable-clause-any_stop g c on able = stays_mounted c.in_err-cleanable.ensures.kept on able _ (tree_of (g.P.Pmem.region c.args.self.now.memory) c.args.self.now.rows) (LosesPage (g.P.Pmem.region c.args.self.now.memory) c.args.self.now.sup c.args.inode) (c.in_err-cleanable.ensures.settled on)
+returns-in_err-cleanable-clause-any_stop g c on able = stays_mounted c.in_err-cleanable.ensures.kept on able _ (tree_of (g.P.Pmem.region c.args.self.now.memory) c.args.self.now.rows) (LosesPage (g.P.Pmem.region c.args.self.now.memory) c.args.self.now.layout c.args.inode) (c.in_err-cleanable.ensures.settled on)
 
 pub returns-in_err-in_use-clause-any_stop : goal.returns-in_err-in_use-clause-any_stop
-returns-in_err-in_use-clause-any_stop g c on able = stays_mounted c.in_ok-cleanable.ensures.kept on able _ (tree_of (g.P.Pmem.region c.args.self.now.memory) c.args.self.now.rows) (LosesPage (g.P.Pmem.region c.args.self.now.memory) c.args.self.now.sup c.args.inode) (c.in_ok-cleanable.ensures.settled on)
+returns-in_err-in_use-clause-any_stop g c on able = stays_mounted c.in_ok-cleanable.ensures.kept on able _ (tree_of (g.P.Pmem.region c.args.self.now.memory) c.args.self.now.rows) (LosesPage (g.P.Pmem.region c.args.self.now.memory) c.args.self.now.layout c.args.inode) (c.in_ok-cleanable.ensures.settled on)
 
 pub returns-in-Ok-clause-any_stop : goal.returns-in-Ok-clause-any_stop
 returns-in-Ok-clause-any_stop g c on able =

@@ -23,15 +23,6 @@ returns-in_err-cleanable-clause-refused g c runs =
     refused_by c.from_residual.result c.in_err-cleanable.field-0.0 w.0 (λ (e : Refusal). (e ≡ Memory) ⊎ (first_refusal (clean_inode_tests (world_of c.args.self.now) tree c.args.inode) ≡ Some e)) w.1 w.2
     (inr (c.in_err-cleanable.ensures.refused runs ((is_none (tree c.args.inode), NotFound) ∷ [])))
 
-pub dead_pages_of-requires-clause-layout : goal.dead_pages_of-requires-clause-layout
-dead_pages_of-requires-clause-layout g c =
-    let runs : c.self.inside.stopped ≡ false = ap (λ (m : Mount g.row.P.Denot). m.stopped) c.self.view_is ∙ c.in_ok-cleanable.ensures.runs in
-    let writes : c.self.inside.read_only ≡ false = ap (λ (m : Mount g.row.P.Denot). m.read_only) c.self.view_is ∙ c.in_ok-cleanable.ensures.writes in
-    let rows = c.self.inside.rows.items in
-    let there = stands rows (place_in rows c.args.inode) c.row-row.result.now (at_place rows c.args.inode ∙ c.row-row.ensures) in
-    let right = stands_right c.self.invariant.0 runs writes c.row-row.result.now there in
-    right.layout
-
 pub dead_pages_of-requires-clause-number : goal.dead_pages_of-requires-clause-number
 dead_pages_of-requires-clause-number g c =
     let runs : c.self.inside.stopped ≡ false = ap (λ (m : Mount g.row.P.Denot). m.stopped) c.self.view_is ∙ c.in_ok-cleanable.ensures.runs in
@@ -40,24 +31,6 @@ dead_pages_of-requires-clause-number g c =
     let there = stands rows (place_in rows c.args.inode) c.row-row.result.now (at_place rows c.args.inode ∙ c.row-row.ensures) in
     let right = stands_right c.self.invariant.0 runs writes c.row-row.result.now there in
     right.number
-
-pub dead_pages_of-requires-clause-whole : goal.dead_pages_of-requires-clause-whole
-dead_pages_of-requires-clause-whole g c =
-    let runs : c.self.inside.stopped ≡ false = ap (λ (m : Mount g.row.P.Denot). m.stopped) c.self.view_is ∙ c.in_ok-cleanable.ensures.runs in
-    let writes : c.self.inside.read_only ≡ false = ap (λ (m : Mount g.row.P.Denot). m.read_only) c.self.view_is ∙ c.in_ok-cleanable.ensures.writes in
-    let rows = c.self.inside.rows.items in
-    let there = stands rows (place_in rows c.args.inode) c.row-row.result.now (at_place rows c.args.inode ∙ c.row-row.ensures) in
-    let right = stands_right c.self.invariant.0 runs writes c.row-row.result.now there in
-    right.whole
-
-pub dead_pages_of-requires-clause-inside : goal.dead_pages_of-requires-clause-inside
-dead_pages_of-requires-clause-inside g c =
-    let runs : c.self.inside.stopped ≡ false = ap (λ (m : Mount g.row.P.Denot). m.stopped) c.self.view_is ∙ c.in_ok-cleanable.ensures.runs in
-    let writes : c.self.inside.read_only ≡ false = ap (λ (m : Mount g.row.P.Denot). m.read_only) c.self.view_is ∙ c.in_ok-cleanable.ensures.writes in
-    let rows = c.self.inside.rows.items in
-    let there = stands rows (place_in rows c.args.inode) c.row-row.result.now (at_place rows c.args.inode ∙ c.row-row.ensures) in
-    let right = stands_right c.self.invariant.0 runs writes c.row-row.result.now there in
-    right.inside
 
 pub dead_pages_of-requires-clause-blocks : goal.dead_pages_of-requires-clause-blocks
 dead_pages_of-requires-clause-blocks g c =

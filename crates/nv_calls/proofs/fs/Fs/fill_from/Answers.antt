@@ -10,13 +10,13 @@ use Rattle.nv_calls.proofs.fs.Fs.fill_from.Goals as goal
 
 pub fill_bytes-requires-clause-inside : goal.fill_bytes-requires-clause-inside
 fill_bytes-requires-clause-inside g c =
-    blocks_inside (g.P.Pmem.region c.self.inside.memory) c.self.inside.sup c.self.inside.rows.items c.self.inside.free c.self.inside.faults.items c.self.inside.read_only c.self.inside.stopped c.self.invariant.0
+    blocks_inside (g.P.Pmem.region c.self.inside.memory) c.self.inside.tables.layout.sup c.self.inside.tables.layout c.self.inside.rows.items c.self.inside.free c.self.inside.faults.items c.self.inside.read_only c.self.inside.stopped c.self.invariant.0
     (runs_as c.self.view_is c.requires.runs) c.args.row.now (contains_as c.args.row.now c.self.view_is c.requires.held)
 
 pub fill_bytes-requires-clause-small : goal.fill_bytes-requires-clause-small
 fill_bytes-requires-clause-small g c =
     let few =
-    row_size (g.P.Pmem.region c.self.inside.memory) c.self.inside.sup c.self.inside.rows.items c.self.inside.free c.self.inside.faults.items c.self.inside.read_only c.self.inside.stopped c.self.invariant.0
+    row_size (g.P.Pmem.region c.self.inside.memory) c.self.inside.tables.layout.sup c.self.inside.tables.layout c.self.inside.rows.items c.self.inside.free c.self.inside.faults.items c.self.inside.read_only c.self.inside.stopped c.self.invariant.0
     (runs_as c.self.view_is c.requires.runs) c.args.row.now (contains_as c.args.row.now c.self.view_is c.requires.held) in
     let room : length (take c.min-count.result c.args.buffer.now) ≡ c.min-count.result = simp length-take (omega (arith, c.min-count.ensures)) in
     omega (arith, few, room, c.min.ensures, c.min-count.ensures, c.saturating_sub.ensures)

@@ -3,9 +3,9 @@ use Rattle.std.proofs.lemmas.Result.{err_from_is_err_and, IfOk-from_err}
 use Rattle.nv_rows.proofs.TableNumbers.{numbers_kept}
 use Rattle.nv_rows.specs.Rows.{place_in}
 use Rattle.nv_rows.proofs.Places.{at_place, own_row, row_in_use}
-use Rattle.nv_held.specs.nv_graph.Read.{row_of}
+use Rattle.nv_graph.specs.Read.{row_of}
 use Rattle.nv_tree.specs.declared.refusal.Refusal.{Refusal}
-use Rattle.nv_held.specs.Mounted.{ShowsSound}
+use Rattle.nv_mounted.specs.Mounted.{ShowsSound}
 use Rattle.nv_entry.specs.declared.entry.Operation.TheVariants.{Add}
 use Rattle.nv_tree.specs.Path.{IsPath, last_name}
 use Rattle.nv_tree.specs.Tree.{SameTree, walk}
@@ -124,14 +124,14 @@ pub link_at-requires-clause-stands : goal.link_at-requires-clause-stands
 link_at-requires-clause-stands g c row at =
     let runs : c.self.inside.stopped ≡ false = ap (λ (m : Mount g.row.P.Denot). m.stopped) c.self.view_is ∙ c.in_ok-writable.ensures.runs in
     let writes : c.self.inside.read_only ≡ false = ap (λ (m : Mount g.row.P.Denot). m.read_only) c.self.view_is ∙ c.in_ok-writable.ensures.writes in
-    let low : c.cpu.inside.0 < c.self.inside.sup.cpus = subst (λ (m : Mount g.row.P.Denot). c.cpu.inside.0 < m.sup.cpus) (sym c.self.view_is) c.in_ok-writable.ensures.cpu in
+    let low : c.cpu.inside.0 < c.self.inside.tables.layout.sup.cpus = subst (λ (m : Mount g.row.P.Denot). c.cpu.inside.0 < m.sup.cpus) (sym c.self.view_is) c.in_ok-writable.ensures.cpu in
     row_commits c.self.invariant.0 runs writes row (stands c.self.inside.rows.items (place_in c.self.inside.rows.items c.in_ok-named.named.target) row (at_place c.self.inside.rows.items c.in_ok-named.named.target ∙ at)) c.cpu.inside.0 low
 
 pub link_at-requires-clause-directory_stands : goal.link_at-requires-clause-directory_stands
 link_at-requires-clause-directory_stands g c row at =
     let runs : c.self.inside.stopped ≡ false = ap (λ (m : Mount g.row.P.Denot). m.stopped) c.self.view_is ∙ c.in_ok-writable.ensures.runs in
     let writes : c.self.inside.read_only ≡ false = ap (λ (m : Mount g.row.P.Denot). m.read_only) c.self.view_is ∙ c.in_ok-writable.ensures.writes in
-    let low : c.cpu.inside.0 < c.self.inside.sup.cpus = subst (λ (m : Mount g.row.P.Denot). c.cpu.inside.0 < m.sup.cpus) (sym c.self.view_is) c.in_ok-writable.ensures.cpu in
+    let low : c.cpu.inside.0 < c.self.inside.tables.layout.sup.cpus = subst (λ (m : Mount g.row.P.Denot). c.cpu.inside.0 < m.sup.cpus) (sym c.self.view_is) c.in_ok-writable.ensures.cpu in
     row_commits c.self.invariant.0 runs writes row (stands c.self.inside.rows.items (place_in c.self.inside.rows.items c.in_ok-named.named.directory) row (at_place c.self.inside.rows.items c.in_ok-named.named.directory ∙ at)) c.cpu.inside.0 low
 
 pub invariant_of-self : goal.invariant_of-self
@@ -185,8 +185,8 @@ returns-in-Ok-clause-log g c =
     let writes : c.self.inside.read_only ≡ false = ap (λ (m : Mount g.row.P.Denot). m.read_only) c.self.view_is ∙ c.in_ok-writable.ensures.writes in
     let spot : (names others : List (List ℕ)) → IsPath c.args.old.now names → IsPath c.args.new.now others → IsLinkSpot (tree_of (g.P.Pmem.region c.self.inside.memory) c.self.inside.rows.items) c.self.inside.rows.items names others (place_in c.self.inside.rows.items c.in_ok-named.named.directory) c.in_ok-named.named.name.now (place_in c.self.inside.rows.items c.in_ok-named.named.target) =
     λ names others path other_path. c.in_ok-named.ensures.spot (g.P.Pmem.region c.self.inside.memory) names others path other_path in
-    subst (λ (m : Mount g.row.P.Denot). LeadsTo (tree_of (g.P.Pmem.region m.memory) m.rows) names i node → walk (tree_of (g.P.Pmem.region m.memory) m.rows) 1 others ≡ Ok d → ShowsSound (g.P.Pmem.region m.memory) m.sup held
-    → ShowsBothGrew (g.P.Pmem.region c.link_at.new.memory) m.sup m.free.pools c.cpu.inside.0 held i f (links_entries (node.links + 1) c.time.inside.0) d h (name_entries Add i (last_name others) c.time.inside.0)) c.self.view_is
+    subst (λ (m : Mount g.row.P.Denot). LeadsTo (tree_of (g.P.Pmem.region m.memory) m.rows) names i node → walk (tree_of (g.P.Pmem.region m.memory) m.rows) 1 others ≡ Ok d → ShowsSound (g.P.Pmem.region m.memory) m.layout held
+    → ShowsBothGrew (g.P.Pmem.region c.link_at.new.memory) m.layout m.free.pools c.cpu.inside.0 held i f (links_entries (node.links + 1) c.time.inside.0) d h (name_entries Add i (last_name others) c.time.inside.0)) c.self.view_is
     (λ leads walked shown. linked_logs c.self.invariant.0 runs writes c.in-Ok.ensures.linked c.in_ok-named.ensures.name names others (spot names others path other_path) i d node held f h leads walked shown is other_is) led ended sound
     )
 

@@ -2,11 +2,10 @@ use Rattle.std.proofs.Common.{◌≡◌, ◌∙◌, ◌<◌, ◌++◌, ◌∷◌
 use Rattle.std.proofs.lemmas.Result.{err_from_is_err_and, IfOk-from_err}
 use Rattle.nv_tree.specs.declared.refusal.Refusal.{Refusal}
 use Rattle.nv_super.specs.declared.superblock.Super.{Super}
-use Rattle.nv_super.specs.Layout.{fixed_layout}
 use Rattle.nv_rows.specs.Rows.{place_in}
 use Rattle.nv_rows.proofs.Places.{at_place, own_row, row_in_use}
-use Rattle.nv_rows.proofs.TableNumbers.{number_fits, numbers_kept}
-use Rattle.nv_held.specs.Mounted.{ShowsSound}
+use Rattle.nv_rows.proofs.TableNumbers.{numbers_kept}
+use Rattle.nv_mounted.specs.Mounted.{ShowsSound}
 use Rattle.nv_tree.specs.Path.{IsPath, last_name}
 use Rattle.nv_tree.specs.Tree.{SameTree, walk}
 use Rattle.nv_tree.specs.Calls.{created}
@@ -25,7 +24,7 @@ use Rattle.nv_calls.proofs.StoppedNames.{create_left}
 use Rattle.nv_calls.proofs.CreateCall.{create_allowed, create_refused, created_kept, created_log, created_tree, kept_or_stopped, unchanged_rows}
 use Rattle.nv_paths.proofs.CreateTests.{spot_goes_on, spot_refuses}
 use Rattle.nv_tree.proofs.Replies.{refused_by}
-use Rattle.nv_calls.proofs.NewNumbers.{can_name, number_below, unused_is}
+use Rattle.nv_calls.proofs.NewNumbers.{can_name, number_fits, unused_is}
 use Rattle.nv_calls.proofs.OneRow.{stands_right}
 use Rattle.nv_super.proofs.Members.{stands}
 use Rattle.nv_calls.proofs.RowChange.{same_mount}
@@ -68,15 +67,15 @@ returns-in_err-writable-clause-stores g c =
 
 pub spot_for-requires : goal.spot_for-requires
 spot_for-requires g c =
-    let low : c.cpu.inside.0 < c.self.inside.sup.cpus = subst (λ (m : Mount g.row.P.Denot). c.cpu.inside.0 < m.sup.cpus) (sym c.self.view_is) c.in_ok-writable.ensures.cpu in
+    let low : c.cpu.inside.0 < c.self.inside.tables.layout.sup.cpus = subst (λ (m : Mount g.row.P.Denot). c.cpu.inside.0 < m.sup.cpus) (sym c.self.view_is) c.in_ok-writable.ensures.cpu in
     record { cpu = subst (λ (s : Super). c.cpu.inside.0 < s.cpus) (sym c.self.invariant.1.sup) low }
 
 pub returns-in_err-spot-clause-refused : goal.returns-in_err-spot-clause-refused
 returns-in_err-spot-clause-refused g c =
     rw (← c.cpu.view_is) (λ still p says.
-    let told : first_refusal (spot_tests (tree_of (g.P.Pmem.region c.args.self.now.memory) c.args.self.now.rows) (unused_number (fixed_layout c.args.self.now.sup) c.args.self.now.rows c.cpu.inside.0) p) ≡ Some c.in_err-spot.field-0.0 =
-    subst (λ (m : Mount g.row.P.Denot). first_refusal (spot_tests (tree_of (g.P.Pmem.region m.memory) m.rows) (unused_number (fixed_layout m.sup) m.rows c.cpu.inside.0) p) ≡ Some c.in_err-spot.field-0.0) c.self.view_is
-    (c.in_err-spot.ensures.refused (fixed_layout c.self.inside.sup) c.self.invariant.1 (g.P.Pmem.region c.self.inside.memory) p says) in
+    let told : first_refusal (spot_tests (tree_of (g.P.Pmem.region c.args.self.now.memory) c.args.self.now.rows) (unused_number c.args.self.now.layout c.args.self.now.rows c.cpu.inside.0) p) ≡ Some c.in_err-spot.field-0.0 =
+    subst (λ (m : Mount g.row.P.Denot). first_refusal (spot_tests (tree_of (g.P.Pmem.region m.memory) m.rows) (unused_number m.layout m.rows c.cpu.inside.0) p) ≡ Some c.in_err-spot.field-0.0) c.self.view_is
+    (c.in_err-spot.ensures.refused c.self.inside.tables.layout c.self.invariant.1 (g.P.Pmem.region c.self.inside.memory) p says) in
     let tree = tree_of (g.P.Pmem.region c.args.self.now.memory) c.args.self.now.rows in
     let count = create_blocks c.args.self.now.rows tree p in
     let w = err_from_is_err_and c.from_residual-in_err-spot.result c.from_residual-in_err-spot.ensures.1 in
@@ -88,12 +87,12 @@ pub returns-in_err-spot-clause-call : goal.returns-in_err-spot-clause-call
 returns-in_err-spot-clause-call g c =
     let w = err_from_is_err_and c.from_residual-in_err-spot.result c.from_residual-in_err-spot.ensures.1 in
     let said = text_says c.args.path.now in
-    let told = c.in_err-spot.ensures.refused (fixed_layout c.self.inside.sup) c.self.invariant.1 (g.P.Pmem.region c.self.inside.memory) said.0 said.1 in
+    let told = c.in_err-spot.ensures.refused c.self.inside.tables.layout c.self.invariant.1 (g.P.Pmem.region c.self.inside.memory) said.0 said.1 in
     record {
       of_path = record {
         call = refused_later g.P.Pmem.region g.P.Pmem.fuse c.args.self.now c.from_residual-in_err-spot.result c.in_err-spot.field-0.0 w.0 w.1 w.2 c.in_ok-writable.ensures.runs
-            (λ is. spot_goes_on (tree_of (g.P.Pmem.region c.self.inside.memory) c.self.inside.rows.items) (unused_number (fixed_layout c.self.inside.sup) c.self.inside.rows.items c.cpu.inside.0) said.0
-            (subst (λ (e : Refusal). first_refusal (spot_tests (tree_of (g.P.Pmem.region c.self.inside.memory) c.self.inside.rows.items) (unused_number (fixed_layout c.self.inside.sup) c.self.inside.rows.items c.cpu.inside.0) said.0) ≡ Some e) is told));
+            (λ is. spot_goes_on (tree_of (g.P.Pmem.region c.self.inside.memory) c.self.inside.rows.items) (unused_number c.self.inside.tables.layout c.self.inside.rows.items c.cpu.inside.0) said.0
+            (subst (λ (e : Refusal). first_refusal (spot_tests (tree_of (g.P.Pmem.region c.self.inside.memory) c.self.inside.rows.items) (unused_number c.self.inside.tables.layout c.self.inside.rows.items c.cpu.inside.0) said.0) ≡ Some e) is told));
         bad_text = λ bad. same_mount c.args.self.now;
       };
       settled = IfOk-from_err c.from_residual-in_err-spot.result _ c.from_residual-in_err-spot.ensures.0;
@@ -109,19 +108,19 @@ returns-in_err-spot-clause-stores g c =
 
 pub create_at-requires-clause-limit : goal.create_at-requires-clause-limit
 create_at-requires-clause-limit g c =
-    let low : c.cpu.inside.0 < c.self.inside.sup.cpus = subst (λ (m : Mount g.row.P.Denot). c.cpu.inside.0 < m.sup.cpus) (sym c.self.view_is) c.in_ok-writable.ensures.cpu in
-    let spot : (names : List (List ℕ)) → IsPath c.args.path.now names → IsSpot (tree_of (g.P.Pmem.region c.self.inside.memory) c.self.inside.rows.items) c.self.inside.rows.items (fixed_layout c.self.inside.sup) c.cpu.inside.0 names (place_in c.self.inside.rows.items c.in_ok-spot.spot.directory) c.in_ok-spot.spot.name.now c.in_ok-spot.spot.inode =
-    c.in_ok-spot.ensures.spot (fixed_layout c.self.inside.sup) c.self.invariant.1 (g.P.Pmem.region c.self.inside.memory) in
+    let low : c.cpu.inside.0 < c.self.inside.tables.layout.sup.cpus = subst (λ (m : Mount g.row.P.Denot). c.cpu.inside.0 < m.sup.cpus) (sym c.self.view_is) c.in_ok-writable.ensures.cpu in
+    let spot : (names : List (List ℕ)) → IsPath c.args.path.now names → IsSpot (tree_of (g.P.Pmem.region c.self.inside.memory) c.self.inside.rows.items) c.self.inside.rows.items c.self.inside.tables.layout c.cpu.inside.0 names (place_in c.self.inside.rows.items c.in_ok-spot.spot.directory) c.in_ok-spot.spot.name.now c.in_ok-spot.spot.inode =
+    c.in_ok-spot.ensures.spot c.self.inside.tables.layout c.self.invariant.1 (g.P.Pmem.region c.self.inside.memory) in
     let path = c.in_ok-spot.ensures.path in
-    number_fits c.self.inside.sup (omega (arith, low)) c.self.invariant.1 c.in_ok-spot.spot.inode (number_below c.self.inside.sup c.in_ok-spot.spot.inode (unused_is c.self.inside.sup c.self.inside.rows.items c.cpu.inside.0 c.in_ok-spot.spot.inode low (spot path.0 path.1).unused).1)
+    number_fits c.self.inside.tables.layout (omega (arith, low)) c.self.invariant.1 c.in_ok-spot.spot.inode (unused_is c.self.inside.tables.layout c.self.inside.rows.items c.cpu.inside.0 c.in_ok-spot.spot.inode low (spot path.0 path.1).unused).1
 
 pub create_at-requires-clause-unused : goal.create_at-requires-clause-unused
 create_at-requires-clause-unused g c =
-    let low : c.cpu.inside.0 < c.self.inside.sup.cpus = subst (λ (m : Mount g.row.P.Denot). c.cpu.inside.0 < m.sup.cpus) (sym c.self.view_is) c.in_ok-writable.ensures.cpu in
-    let spot : (names : List (List ℕ)) → IsPath c.args.path.now names → IsSpot (tree_of (g.P.Pmem.region c.self.inside.memory) c.self.inside.rows.items) c.self.inside.rows.items (fixed_layout c.self.inside.sup) c.cpu.inside.0 names (place_in c.self.inside.rows.items c.in_ok-spot.spot.directory) c.in_ok-spot.spot.name.now c.in_ok-spot.spot.inode =
-    c.in_ok-spot.ensures.spot (fixed_layout c.self.inside.sup) c.self.invariant.1 (g.P.Pmem.region c.self.inside.memory) in
+    let low : c.cpu.inside.0 < c.self.inside.tables.layout.sup.cpus = subst (λ (m : Mount g.row.P.Denot). c.cpu.inside.0 < m.sup.cpus) (sym c.self.view_is) c.in_ok-writable.ensures.cpu in
+    let spot : (names : List (List ℕ)) → IsPath c.args.path.now names → IsSpot (tree_of (g.P.Pmem.region c.self.inside.memory) c.self.inside.rows.items) c.self.inside.rows.items c.self.inside.tables.layout c.cpu.inside.0 names (place_in c.self.inside.rows.items c.in_ok-spot.spot.directory) c.in_ok-spot.spot.name.now c.in_ok-spot.spot.inode =
+    c.in_ok-spot.ensures.spot c.self.inside.tables.layout c.self.invariant.1 (g.P.Pmem.region c.self.inside.memory) in
     let path = c.in_ok-spot.ensures.path in
-    (unused_is c.self.inside.sup c.self.inside.rows.items c.cpu.inside.0 c.in_ok-spot.spot.inode low (spot path.0 path.1).unused).0
+    (unused_is c.self.inside.tables.layout c.self.inside.rows.items c.cpu.inside.0 c.in_ok-spot.spot.inode low (spot path.0 path.1).unused).0
 
 pub create_at-requires-clause-stands : goal.create_at-requires-clause-stands
 create_at-requires-clause-stands g c row at =
@@ -133,20 +132,20 @@ pub create_at-requires-clause-can : goal.create_at-requires-clause-can
 create_at-requires-clause-can g c row at =
     let runs : c.self.inside.stopped ≡ false = ap (λ (m : Mount g.row.P.Denot). m.stopped) c.self.view_is ∙ c.in_ok-writable.ensures.runs in
     let writes : c.self.inside.read_only ≡ false = ap (λ (m : Mount g.row.P.Denot). m.read_only) c.self.view_is ∙ c.in_ok-writable.ensures.writes in
-    let low : c.cpu.inside.0 < c.self.inside.sup.cpus = subst (λ (m : Mount g.row.P.Denot). c.cpu.inside.0 < m.sup.cpus) (sym c.self.view_is) c.in_ok-writable.ensures.cpu in
-    let spot : (names : List (List ℕ)) → IsPath c.args.path.now names → IsSpot (tree_of (g.P.Pmem.region c.self.inside.memory) c.self.inside.rows.items) c.self.inside.rows.items (fixed_layout c.self.inside.sup) c.cpu.inside.0 names (place_in c.self.inside.rows.items c.in_ok-spot.spot.directory) c.in_ok-spot.spot.name.now c.in_ok-spot.spot.inode =
-    c.in_ok-spot.ensures.spot (fixed_layout c.self.inside.sup) c.self.invariant.1 (g.P.Pmem.region c.self.inside.memory) in
+    let low : c.cpu.inside.0 < c.self.inside.tables.layout.sup.cpus = subst (λ (m : Mount g.row.P.Denot). c.cpu.inside.0 < m.sup.cpus) (sym c.self.view_is) c.in_ok-writable.ensures.cpu in
+    let spot : (names : List (List ℕ)) → IsPath c.args.path.now names → IsSpot (tree_of (g.P.Pmem.region c.self.inside.memory) c.self.inside.rows.items) c.self.inside.rows.items c.self.inside.tables.layout c.cpu.inside.0 names (place_in c.self.inside.rows.items c.in_ok-spot.spot.directory) c.in_ok-spot.spot.name.now c.in_ok-spot.spot.inode =
+    c.in_ok-spot.ensures.spot c.self.inside.tables.layout c.self.invariant.1 (g.P.Pmem.region c.self.inside.memory) in
     let path = c.in_ok-spot.ensures.path in
-    can_name c.self.invariant.0 runs writes c.cpu.inside.0 c.in_ok-spot.spot.inode low (unused_is c.self.inside.sup c.self.inside.rows.items c.cpu.inside.0 c.in_ok-spot.spot.inode low (spot path.0 path.1).unused).1 row
+    can_name c.self.invariant.0 runs writes c.cpu.inside.0 c.in_ok-spot.spot.inode low (unused_is c.self.inside.tables.layout c.self.inside.rows.items c.cpu.inside.0 c.in_ok-spot.spot.inode low (spot path.0 path.1).unused).1 row
     (stands c.self.inside.rows.items (place_in c.self.inside.rows.items c.in_ok-spot.spot.directory) row (at_place c.self.inside.rows.items c.in_ok-spot.spot.directory ∙ at))
 
 pub invariant_of-self : goal.invariant_of-self
 invariant_of-self g c =
     let runs : c.self.inside.stopped ≡ false = ap (λ (m : Mount g.row.P.Denot). m.stopped) c.self.view_is ∙ c.in_ok-writable.ensures.runs in
     let writes : c.self.inside.read_only ≡ false = ap (λ (m : Mount g.row.P.Denot). m.read_only) c.self.view_is ∙ c.in_ok-writable.ensures.writes in
-    let low : c.cpu.inside.0 < c.self.inside.sup.cpus = subst (λ (m : Mount g.row.P.Denot). c.cpu.inside.0 < m.sup.cpus) (sym c.self.view_is) c.in_ok-writable.ensures.cpu in
-    let spot : (names : List (List ℕ)) → IsPath c.args.path.now names → IsSpot (tree_of (g.P.Pmem.region c.self.inside.memory) c.self.inside.rows.items) c.self.inside.rows.items (fixed_layout c.self.inside.sup) c.cpu.inside.0 names (place_in c.self.inside.rows.items c.in_ok-spot.spot.directory) c.in_ok-spot.spot.name.now c.in_ok-spot.spot.inode =
-    c.in_ok-spot.ensures.spot (fixed_layout c.self.inside.sup) c.self.invariant.1 (g.P.Pmem.region c.self.inside.memory) in
+    let low : c.cpu.inside.0 < c.self.inside.tables.layout.sup.cpus = subst (λ (m : Mount g.row.P.Denot). c.cpu.inside.0 < m.sup.cpus) (sym c.self.view_is) c.in_ok-writable.ensures.cpu in
+    let spot : (names : List (List ℕ)) → IsPath c.args.path.now names → IsSpot (tree_of (g.P.Pmem.region c.self.inside.memory) c.self.inside.rows.items) c.self.inside.rows.items c.self.inside.tables.layout c.cpu.inside.0 names (place_in c.self.inside.rows.items c.in_ok-spot.spot.directory) c.in_ok-spot.spot.name.now c.in_ok-spot.spot.inode =
+    c.in_ok-spot.ensures.spot c.self.inside.tables.layout c.self.invariant.1 (g.P.Pmem.region c.self.inside.memory) in
     let path = c.in_ok-spot.ensures.path in
     (created_kept c.self.invariant.0 runs writes c.in-Ok.ensures.created low c.in_ok-spot.ensures.name path.0 (spot path.0 path.1) c.self.inside.stopped, numbers_kept c.create_at.ensures.kept.tables.0 c.create_at.ensures.kept.tables.1 c.self.invariant.1, λ on. c.in-Ok.ensures.kept.settled)
 
@@ -163,13 +162,13 @@ pub returns-in-Ok-clause-allowed : goal.returns-in-Ok-clause-allowed
 returns-in-Ok-clause-allowed g c =
     rw (← c.cpu.view_is) (λ p says.
     let runs : c.self.inside.stopped ≡ false = ap (λ (m : Mount g.row.P.Denot). m.stopped) c.self.view_is ∙ c.in_ok-writable.ensures.runs in
-    let spot : (names : List (List ℕ)) → IsPath c.args.path.now names → IsSpot (tree_of (g.P.Pmem.region c.self.inside.memory) c.self.inside.rows.items) c.self.inside.rows.items (fixed_layout c.self.inside.sup) c.cpu.inside.0 names (place_in c.self.inside.rows.items c.in_ok-spot.spot.directory) c.in_ok-spot.spot.name.now c.in_ok-spot.spot.inode =
-    c.in_ok-spot.ensures.spot (fixed_layout c.self.inside.sup) c.self.invariant.1 (g.P.Pmem.region c.self.inside.memory) in
+    let spot : (names : List (List ℕ)) → IsPath c.args.path.now names → IsSpot (tree_of (g.P.Pmem.region c.self.inside.memory) c.self.inside.rows.items) c.self.inside.rows.items c.self.inside.tables.layout c.cpu.inside.0 names (place_in c.self.inside.rows.items c.in_ok-spot.spot.directory) c.in_ok-spot.spot.name.now c.in_ok-spot.spot.inode =
+    c.in_ok-spot.ensures.spot c.self.inside.tables.layout c.self.invariant.1 (g.P.Pmem.region c.self.inside.memory) in
     let r = row_in_use c.self.inside.rows.items c.in_ok-spot.spot.directory c.in_ok-spot.ensures.in_use in
     let at : slice_get c.self.inside.rows.items (place_in c.self.inside.rows.items c.in_ok-spot.spot.directory) ≡ Some r.0 = at_place c.self.inside.rows.items c.in_ok-spot.spot.directory ∙ r.1 in
     let numbered = own_row c.self.inside.rows.items c.in_ok-spot.spot.directory r.0 r.1 in
-    let none : first_refusal (spot_tests (tree_of (g.P.Pmem.region c.self.inside.memory) c.self.inside.rows.items) (unused_number (fixed_layout c.self.inside.sup) c.self.inside.rows.items c.cpu.inside.0) p) ≡ None =
-    c.in_ok-spot.ensures.allowed (fixed_layout c.self.inside.sup) c.self.invariant.1 (g.P.Pmem.region c.self.inside.memory) p says in
+    let none : first_refusal (spot_tests (tree_of (g.P.Pmem.region c.self.inside.memory) c.self.inside.rows.items) (unused_number c.self.inside.tables.layout c.self.inside.rows.items c.cpu.inside.0) p) ≡ None =
+    c.in_ok-spot.ensures.allowed c.self.inside.tables.layout c.self.invariant.1 (g.P.Pmem.region c.self.inside.memory) p says in
     create_allowed g.P.Pmem.region c.self.view_is c.cpu.inside.0 c.in_ok-writable.ensures.passed (place_in c.self.inside.rows.items c.in_ok-spot.spot.directory) r.0 at numbered c.in_ok-spot.spot.name.now c.in_ok-spot.spot.inode c.time.inside.0 c.args.path.now spot p says none (c.in-Ok.ensures.enough r.0 r.1)
     )
 
@@ -178,10 +177,10 @@ returns-in-Ok-clause-changed g c =
     rw (← c.cpu.view_is, ← c.time.view_is) (λ names path.
     let runs : c.self.inside.stopped ≡ false = ap (λ (m : Mount g.row.P.Denot). m.stopped) c.self.view_is ∙ c.in_ok-writable.ensures.runs in
     let writes : c.self.inside.read_only ≡ false = ap (λ (m : Mount g.row.P.Denot). m.read_only) c.self.view_is ∙ c.in_ok-writable.ensures.writes in
-    let low : c.cpu.inside.0 < c.self.inside.sup.cpus = subst (λ (m : Mount g.row.P.Denot). c.cpu.inside.0 < m.sup.cpus) (sym c.self.view_is) c.in_ok-writable.ensures.cpu in
-    let spot : (names : List (List ℕ)) → IsPath c.args.path.now names → IsSpot (tree_of (g.P.Pmem.region c.self.inside.memory) c.self.inside.rows.items) c.self.inside.rows.items (fixed_layout c.self.inside.sup) c.cpu.inside.0 names (place_in c.self.inside.rows.items c.in_ok-spot.spot.directory) c.in_ok-spot.spot.name.now c.in_ok-spot.spot.inode =
-    c.in_ok-spot.ensures.spot (fixed_layout c.self.inside.sup) c.self.invariant.1 (g.P.Pmem.region c.self.inside.memory) in
-    subst (λ (m : Mount g.row.P.Denot). SameTree (tree_of (g.P.Pmem.region c.create_at.new.memory) c.create_at.new.rows.items) (created c.args.kind (unused_number (fixed_layout m.sup) m.rows c.cpu.inside.0) names c.args.mode c.time.inside.0 (tree_of (g.P.Pmem.region m.memory) m.rows))) c.self.view_is
+    let low : c.cpu.inside.0 < c.self.inside.tables.layout.sup.cpus = subst (λ (m : Mount g.row.P.Denot). c.cpu.inside.0 < m.sup.cpus) (sym c.self.view_is) c.in_ok-writable.ensures.cpu in
+    let spot : (names : List (List ℕ)) → IsPath c.args.path.now names → IsSpot (tree_of (g.P.Pmem.region c.self.inside.memory) c.self.inside.rows.items) c.self.inside.rows.items c.self.inside.tables.layout c.cpu.inside.0 names (place_in c.self.inside.rows.items c.in_ok-spot.spot.directory) c.in_ok-spot.spot.name.now c.in_ok-spot.spot.inode =
+    c.in_ok-spot.ensures.spot c.self.inside.tables.layout c.self.invariant.1 (g.P.Pmem.region c.self.inside.memory) in
+    subst (λ (m : Mount g.row.P.Denot). SameTree (tree_of (g.P.Pmem.region c.create_at.new.memory) c.create_at.new.rows.items) (created c.args.kind (unused_number m.layout m.rows c.cpu.inside.0) names c.args.mode c.time.inside.0 (tree_of (g.P.Pmem.region m.memory) m.rows))) c.self.view_is
     (created_tree c.self.invariant.0 runs writes c.in-Ok.ensures.created low c.in_ok-spot.ensures.name names (spot names path))
     )
 
@@ -190,10 +189,10 @@ returns-in-Ok-clause-log g c =
     rw (← c.cpu.view_is, ← c.time.view_is) (λ names d j held h path led number sound is.
     let runs : c.self.inside.stopped ≡ false = ap (λ (m : Mount g.row.P.Denot). m.stopped) c.self.view_is ∙ c.in_ok-writable.ensures.runs in
     let writes : c.self.inside.read_only ≡ false = ap (λ (m : Mount g.row.P.Denot). m.read_only) c.self.view_is ∙ c.in_ok-writable.ensures.writes in
-    let low : c.cpu.inside.0 < c.self.inside.sup.cpus = subst (λ (m : Mount g.row.P.Denot). c.cpu.inside.0 < m.sup.cpus) (sym c.self.view_is) c.in_ok-writable.ensures.cpu in
-    let spot : (names : List (List ℕ)) → IsPath c.args.path.now names → IsSpot (tree_of (g.P.Pmem.region c.self.inside.memory) c.self.inside.rows.items) c.self.inside.rows.items (fixed_layout c.self.inside.sup) c.cpu.inside.0 names (place_in c.self.inside.rows.items c.in_ok-spot.spot.directory) c.in_ok-spot.spot.name.now c.in_ok-spot.spot.inode =
-    c.in_ok-spot.ensures.spot (fixed_layout c.self.inside.sup) c.self.invariant.1 (g.P.Pmem.region c.self.inside.memory) in
-    subst (λ (m : Mount g.row.P.Denot). walk (tree_of (g.P.Pmem.region m.memory) m.rows) 1 names ≡ Ok d → unused_number (fixed_layout m.sup) m.rows c.cpu.inside.0 ≡ Some j → ShowsSound (g.P.Pmem.region m.memory) m.sup held → ShowsCreated (g.P.Pmem.region c.create_at.new.memory) m.sup m.free.pools c.cpu.inside.0 held c.args.kind c.args.mode c.time.inside.0 j d h (last_name names)) c.self.view_is
+    let low : c.cpu.inside.0 < c.self.inside.tables.layout.sup.cpus = subst (λ (m : Mount g.row.P.Denot). c.cpu.inside.0 < m.sup.cpus) (sym c.self.view_is) c.in_ok-writable.ensures.cpu in
+    let spot : (names : List (List ℕ)) → IsPath c.args.path.now names → IsSpot (tree_of (g.P.Pmem.region c.self.inside.memory) c.self.inside.rows.items) c.self.inside.rows.items c.self.inside.tables.layout c.cpu.inside.0 names (place_in c.self.inside.rows.items c.in_ok-spot.spot.directory) c.in_ok-spot.spot.name.now c.in_ok-spot.spot.inode =
+    c.in_ok-spot.ensures.spot c.self.inside.tables.layout c.self.invariant.1 (g.P.Pmem.region c.self.inside.memory) in
+    subst (λ (m : Mount g.row.P.Denot). walk (tree_of (g.P.Pmem.region m.memory) m.rows) 1 names ≡ Ok d → unused_number m.layout m.rows c.cpu.inside.0 ≡ Some j → ShowsSound (g.P.Pmem.region m.memory) m.layout held → ShowsCreated (g.P.Pmem.region c.create_at.new.memory) m.layout m.free.pools c.cpu.inside.0 held c.args.kind c.args.mode c.time.inside.0 j d h (last_name names)) c.self.view_is
     (λ walked free_number shown. created_log c.self.invariant.0 runs writes c.in-Ok.ensures.created low c.in_ok-spot.ensures.name names (spot names path) d j held h walked free_number shown is) led number sound
     )
 
@@ -201,13 +200,13 @@ pub returns-in-Err-clause-refused : goal.returns-in-Err-clause-refused
 returns-in-Err-clause-refused g c =
     rw (← c.cpu.view_is) (λ still p says.
     let runs : c.self.inside.stopped ≡ false = ap (λ (m : Mount g.row.P.Denot). m.stopped) c.self.view_is ∙ c.in_ok-writable.ensures.runs in
-    let spot : (names : List (List ℕ)) → IsPath c.args.path.now names → IsSpot (tree_of (g.P.Pmem.region c.self.inside.memory) c.self.inside.rows.items) c.self.inside.rows.items (fixed_layout c.self.inside.sup) c.cpu.inside.0 names (place_in c.self.inside.rows.items c.in_ok-spot.spot.directory) c.in_ok-spot.spot.name.now c.in_ok-spot.spot.inode =
-    c.in_ok-spot.ensures.spot (fixed_layout c.self.inside.sup) c.self.invariant.1 (g.P.Pmem.region c.self.inside.memory) in
+    let spot : (names : List (List ℕ)) → IsPath c.args.path.now names → IsSpot (tree_of (g.P.Pmem.region c.self.inside.memory) c.self.inside.rows.items) c.self.inside.rows.items c.self.inside.tables.layout c.cpu.inside.0 names (place_in c.self.inside.rows.items c.in_ok-spot.spot.directory) c.in_ok-spot.spot.name.now c.in_ok-spot.spot.inode =
+    c.in_ok-spot.ensures.spot c.self.inside.tables.layout c.self.invariant.1 (g.P.Pmem.region c.self.inside.memory) in
     let r = row_in_use c.self.inside.rows.items c.in_ok-spot.spot.directory c.in_ok-spot.ensures.in_use in
     let at : slice_get c.self.inside.rows.items (place_in c.self.inside.rows.items c.in_ok-spot.spot.directory) ≡ Some r.0 = at_place c.self.inside.rows.items c.in_ok-spot.spot.directory ∙ r.1 in
     let numbered = own_row c.self.inside.rows.items c.in_ok-spot.spot.directory r.0 r.1 in
-    let none : first_refusal (spot_tests (tree_of (g.P.Pmem.region c.self.inside.memory) c.self.inside.rows.items) (unused_number (fixed_layout c.self.inside.sup) c.self.inside.rows.items c.cpu.inside.0) p) ≡ None =
-    c.in_ok-spot.ensures.allowed (fixed_layout c.self.inside.sup) c.self.invariant.1 (g.P.Pmem.region c.self.inside.memory) p says in
+    let none : first_refusal (spot_tests (tree_of (g.P.Pmem.region c.self.inside.memory) c.self.inside.rows.items) (unused_number c.self.inside.tables.layout c.self.inside.rows.items c.cpu.inside.0) p) ≡ None =
+    c.in_ok-spot.ensures.allowed c.self.inside.tables.layout c.self.invariant.1 (g.P.Pmem.region c.self.inside.memory) p says in
     create_refused g.P.Pmem.region c.self.view_is c.cpu.inside.0 c.in_ok-writable.ensures.passed (place_in c.self.inside.rows.items c.in_ok-spot.spot.directory) r.0 at numbered c.in_ok-spot.spot.name.now c.in_ok-spot.spot.inode c.time.inside.0 c.args.path.now spot p says none c.in-Err.refusal (c.in-Err.ensures.refused r.0 r.1)
     )
 
@@ -230,11 +229,11 @@ returns-in-Err-clause-stores g c =
       journals = tt;
       wrote = rw (← c.cpu.view_is) (λ names d j held path ended number sound.
           create_stored g.P.Pmem.region c.self.view_is c.self.invariant.0 c.in_ok-writable.ensures.runs (g.P.Pmem.region c.create_at.new.memory) c.cpu.inside.0 c.in_ok-writable.ensures.writes c.in_ok-spot.spot.directory c.in_ok-spot.spot.inode c.in_ok-spot.ensures.in_use c.in_ok-writable.ensures.cpu
-          c.in_ok-spot.spot.name.now names (c.in_ok-spot.ensures.spot (fixed_layout c.self.inside.sup) c.self.invariant.1 (g.P.Pmem.region c.self.inside.memory) names path) c.create_at.ensures.wrote d j held ended number sound
+          c.in_ok-spot.spot.name.now names (c.in_ok-spot.ensures.spot c.self.inside.tables.layout c.self.invariant.1 (g.P.Pmem.region c.self.inside.memory) names path) c.create_at.ensures.wrote d j held ended number sound
           );
       in_order = rw (← c.cpu.view_is) (λ names d j path ended number.
           create_ordered g.P.Pmem.region c.self.view_is c.self.invariant.0 c.in_ok-writable.ensures.runs (g.P.Pmem.region c.create_at.new.memory) c.cpu.inside.0 c.in_ok-writable.ensures.writes c.in_ok-spot.spot.directory c.in_ok-spot.spot.inode c.in_ok-spot.ensures.in_use c.in_ok-writable.ensures.cpu
-          c.in_ok-spot.spot.name.now names (c.in_ok-spot.ensures.spot (fixed_layout c.self.inside.sup) c.self.invariant.1 (g.P.Pmem.region c.self.inside.memory) names path) c.create_at.ensures.in_order d j ended number
+          c.in_ok-spot.spot.name.now names (c.in_ok-spot.ensures.spot c.self.inside.tables.layout c.self.invariant.1 (g.P.Pmem.region c.self.inside.memory) names path) c.create_at.ensures.in_order d j ended number
           );
     }
 
@@ -274,20 +273,20 @@ returns-in-Ok-clause-stores g c =
       journals = rw (← c.cpu.view_is) (
           let runs : c.self.inside.stopped ≡ false = ap (λ (m : Mount g.row.P.Denot). m.stopped) c.self.view_is ∙ c.in_ok-writable.ensures.runs in
           let writes : c.self.inside.read_only ≡ false = ap (λ (m : Mount g.row.P.Denot). m.read_only) c.self.view_is ∙ c.in_ok-writable.ensures.writes in
-          let low : c.cpu.inside.0 < c.self.inside.sup.cpus = subst (λ (m : Mount g.row.P.Denot). c.cpu.inside.0 < m.sup.cpus) (sym c.self.view_is) c.in_ok-writable.ensures.cpu in
-          let spot : (names : List (List ℕ)) → IsPath c.args.path.now names → IsSpot (tree_of (g.P.Pmem.region c.self.inside.memory) c.self.inside.rows.items) c.self.inside.rows.items (fixed_layout c.self.inside.sup) c.cpu.inside.0 names (place_in c.self.inside.rows.items c.in_ok-spot.spot.directory) c.in_ok-spot.spot.name.now c.in_ok-spot.spot.inode =
-          c.in_ok-spot.ensures.spot (fixed_layout c.self.inside.sup) c.self.invariant.1 (g.P.Pmem.region c.self.inside.memory) in
+          let low : c.cpu.inside.0 < c.self.inside.tables.layout.sup.cpus = subst (λ (m : Mount g.row.P.Denot). c.cpu.inside.0 < m.sup.cpus) (sym c.self.view_is) c.in_ok-writable.ensures.cpu in
+          let spot : (names : List (List ℕ)) → IsPath c.args.path.now names → IsSpot (tree_of (g.P.Pmem.region c.self.inside.memory) c.self.inside.rows.items) c.self.inside.rows.items c.self.inside.tables.layout c.cpu.inside.0 names (place_in c.self.inside.rows.items c.in_ok-spot.spot.directory) c.in_ok-spot.spot.name.now c.in_ok-spot.spot.inode =
+          c.in_ok-spot.ensures.spot c.self.inside.tables.layout c.self.invariant.1 (g.P.Pmem.region c.self.inside.memory) in
           let path = c.in_ok-spot.ensures.path in
           subst (λ (m : Mount g.row.P.Denot). SameFrontBut m.sup.cpus c.cpu.inside.0 (g.P.Pmem.region m.memory) (g.P.Pmem.region c.create_at.new.memory)) c.self.view_is
-          (created_front c.self.invariant.0 runs writes c.in-Ok.ensures.created (unused_is c.self.inside.sup c.self.inside.rows.items c.cpu.inside.0 c.in_ok-spot.spot.inode low (spot path.0 path.1).unused).0)
+          (created_front c.self.invariant.0 runs writes c.in-Ok.ensures.created (unused_is c.self.inside.tables.layout c.self.inside.rows.items c.cpu.inside.0 c.in_ok-spot.spot.inode low (spot path.0 path.1).unused).0)
           );
       wrote = rw (← c.cpu.view_is) (λ names d j held path ended number sound.
           create_stored g.P.Pmem.region c.self.view_is c.self.invariant.0 c.in_ok-writable.ensures.runs (g.P.Pmem.region c.create_at.new.memory) c.cpu.inside.0 c.in_ok-writable.ensures.writes c.in_ok-spot.spot.directory c.in_ok-spot.spot.inode c.in_ok-spot.ensures.in_use c.in_ok-writable.ensures.cpu
-          c.in_ok-spot.spot.name.now names (c.in_ok-spot.ensures.spot (fixed_layout c.self.inside.sup) c.self.invariant.1 (g.P.Pmem.region c.self.inside.memory) names path) c.create_at.ensures.wrote d j held ended number sound
+          c.in_ok-spot.spot.name.now names (c.in_ok-spot.ensures.spot c.self.inside.tables.layout c.self.invariant.1 (g.P.Pmem.region c.self.inside.memory) names path) c.create_at.ensures.wrote d j held ended number sound
           );
       in_order = rw (← c.cpu.view_is) (λ names d j path ended number.
           create_ordered g.P.Pmem.region c.self.view_is c.self.invariant.0 c.in_ok-writable.ensures.runs (g.P.Pmem.region c.create_at.new.memory) c.cpu.inside.0 c.in_ok-writable.ensures.writes c.in_ok-spot.spot.directory c.in_ok-spot.spot.inode c.in_ok-spot.ensures.in_use c.in_ok-writable.ensures.cpu
-          c.in_ok-spot.spot.name.now names (c.in_ok-spot.ensures.spot (fixed_layout c.self.inside.sup) c.self.invariant.1 (g.P.Pmem.region c.self.inside.memory) names path) c.create_at.ensures.in_order d j ended number
+          c.in_ok-spot.spot.name.now names (c.in_ok-spot.ensures.spot c.self.inside.tables.layout c.self.invariant.1 (g.P.Pmem.region c.self.inside.memory) names path) c.create_at.ensures.in_order d j ended number
           );
     }
 
@@ -317,9 +316,9 @@ returns-in-Ok-clause-any_stop g c =
     rw (← c.cpu.view_is, ← c.time.view_is) (λ names path on able.
     let runs : c.self.inside.stopped ≡ false = ap (λ (m : Mount g.row.P.Denot). m.stopped) c.self.view_is ∙ c.in_ok-writable.ensures.runs in
     let writes : c.self.inside.read_only ≡ false = ap (λ (m : Mount g.row.P.Denot). m.read_only) c.self.view_is ∙ c.in_ok-writable.ensures.writes in
-    let low : c.cpu.inside.0 < c.self.inside.sup.cpus = subst (λ (m : Mount g.row.P.Denot). c.cpu.inside.0 < m.sup.cpus) (sym c.self.view_is) c.in_ok-writable.ensures.cpu in
-    let spot : IsSpot (tree_of (g.P.Pmem.region c.self.inside.memory) c.self.inside.rows.items) c.self.inside.rows.items (fixed_layout c.self.inside.sup) c.cpu.inside.0 names (place_in c.self.inside.rows.items c.in_ok-spot.spot.directory) c.in_ok-spot.spot.name.now c.in_ok-spot.spot.inode =
-    c.in_ok-spot.ensures.spot (fixed_layout c.self.inside.sup) c.self.invariant.1 (g.P.Pmem.region c.self.inside.memory) names path in
+    let low : c.cpu.inside.0 < c.self.inside.tables.layout.sup.cpus = subst (λ (m : Mount g.row.P.Denot). c.cpu.inside.0 < m.sup.cpus) (sym c.self.view_is) c.in_ok-writable.ensures.cpu in
+    let spot : IsSpot (tree_of (g.P.Pmem.region c.self.inside.memory) c.self.inside.rows.items) c.self.inside.rows.items c.self.inside.tables.layout c.cpu.inside.0 names (place_in c.self.inside.rows.items c.in_ok-spot.spot.directory) c.in_ok-spot.spot.name.now c.in_ok-spot.spot.inode =
+    c.in_ok-spot.ensures.spot c.self.inside.tables.layout c.self.invariant.1 (g.P.Pmem.region c.self.inside.memory) names path in
     let r = row_in_use c.self.inside.rows.items c.in_ok-spot.spot.directory c.in_ok-spot.ensures.in_use in
     let at : slice_get c.self.inside.rows.items (place_in c.self.inside.rows.items c.in_ok-spot.spot.directory) ≡ Some r.0 = at_place c.self.inside.rows.items c.in_ok-spot.spot.directory ∙ r.1 in
     create_left g.P.Pmem.region c.self.view_is c.self.invariant.0 runs writes (place_in c.self.inside.rows.items c.in_ok-spot.spot.directory) r.0 at c.args.kind c.args.mode c.time.inside.0 c.in_ok-spot.spot.inode c.in_ok-spot.spot.name.now c.cpu.inside.0 low c.in_ok-spot.ensures.name names spot _ _ _
@@ -331,9 +330,9 @@ returns-in-Err-clause-any_stop g c =
     rw (← c.cpu.view_is, ← c.time.view_is) (λ names path on able.
     let runs : c.self.inside.stopped ≡ false = ap (λ (m : Mount g.row.P.Denot). m.stopped) c.self.view_is ∙ c.in_ok-writable.ensures.runs in
     let writes : c.self.inside.read_only ≡ false = ap (λ (m : Mount g.row.P.Denot). m.read_only) c.self.view_is ∙ c.in_ok-writable.ensures.writes in
-    let low : c.cpu.inside.0 < c.self.inside.sup.cpus = subst (λ (m : Mount g.row.P.Denot). c.cpu.inside.0 < m.sup.cpus) (sym c.self.view_is) c.in_ok-writable.ensures.cpu in
-    let spot : IsSpot (tree_of (g.P.Pmem.region c.self.inside.memory) c.self.inside.rows.items) c.self.inside.rows.items (fixed_layout c.self.inside.sup) c.cpu.inside.0 names (place_in c.self.inside.rows.items c.in_ok-spot.spot.directory) c.in_ok-spot.spot.name.now c.in_ok-spot.spot.inode =
-    c.in_ok-spot.ensures.spot (fixed_layout c.self.inside.sup) c.self.invariant.1 (g.P.Pmem.region c.self.inside.memory) names path in
+    let low : c.cpu.inside.0 < c.self.inside.tables.layout.sup.cpus = subst (λ (m : Mount g.row.P.Denot). c.cpu.inside.0 < m.sup.cpus) (sym c.self.view_is) c.in_ok-writable.ensures.cpu in
+    let spot : IsSpot (tree_of (g.P.Pmem.region c.self.inside.memory) c.self.inside.rows.items) c.self.inside.rows.items c.self.inside.tables.layout c.cpu.inside.0 names (place_in c.self.inside.rows.items c.in_ok-spot.spot.directory) c.in_ok-spot.spot.name.now c.in_ok-spot.spot.inode =
+    c.in_ok-spot.ensures.spot c.self.inside.tables.layout c.self.invariant.1 (g.P.Pmem.region c.self.inside.memory) names path in
     let r = row_in_use c.self.inside.rows.items c.in_ok-spot.spot.directory c.in_ok-spot.ensures.in_use in
     let at : slice_get c.self.inside.rows.items (place_in c.self.inside.rows.items c.in_ok-spot.spot.directory) ≡ Some r.0 = at_place c.self.inside.rows.items c.in_ok-spot.spot.directory ∙ r.1 in
     create_left g.P.Pmem.region c.self.view_is c.self.invariant.0 runs writes (place_in c.self.inside.rows.items c.in_ok-spot.spot.directory) r.0 at c.args.kind c.args.mode c.time.inside.0 c.in_ok-spot.spot.inode c.in_ok-spot.spot.name.now c.cpu.inside.0 low c.in_ok-spot.ensures.name names spot _ _ _

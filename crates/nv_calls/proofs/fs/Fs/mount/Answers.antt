@@ -4,7 +4,7 @@ use Rattle.nv_region.specs.Fuses.{KeepsFuse}
 use Rattle.nv_region.specs.Stored.{StoresOnly}
 use Rattle.nv_recover.specs.Behind.{BehindSlots, RecoveryStores}
 use Rattle.nv_recover.specs.Errors.{UndoesAsBefore}
-use Rattle.nv_held.specs.nv_outcome.Answer.{outcome_of}
+use Rattle.nv_outcome.specs.Answer.{outcome_of}
 use Rattle.nv_calls.proofs.Mounted.{opens, rolls_back_once, tells}
 use Rattle.nv_super.specs.declared.superblock.Super.{Super}
 use Rattle.nv_journal.specs.Undo.{undone}
@@ -24,7 +24,7 @@ pub open-requires-clause-settled : goal.open-requires-clause-settled
 open-requires-clause-settled g c = c.in-Ok.ensures.kept.settled c.requires.settled
 
 pub returns-in-Ok-clause-outcome : goal.returns-in-Ok-clause-outcome
-returns-in-Ok-clause-outcome g c = tells (g.P.Pmem.region c.args.memory) c.open.result c.in-Ok.recovered c.open.ensures.sup c.open.ensures.rows c.open.ensures.free c.open.ensures.faults c.in-Ok.ensures.ok
+returns-in-Ok-clause-outcome g c = tells (g.P.Pmem.region c.args.memory) c.open.result c.in-Ok.recovered c.open.ensures.layout c.in-Ok.ensures.tables c.open.ensures.rows c.open.ensures.free c.open.ensures.faults c.in-Ok.ensures.ok
 
 pub returns-in-Ok-clause-undone : goal.returns-in-Ok-clause-undone
 returns-in-Ok-clause-undone g c =

@@ -2,7 +2,7 @@ use Rattle.std.proofs.Common.{◌≡◌, ◌∙◌, ◌<◌, ◌++◌, ◌∷◌
 use Rattle.std.proofs.lemmas.Result.{err_from_is_err_and, IfOk-from_err}
 use Rattle.nv_rows.proofs.TableNumbers.{numbers_kept}
 use Rattle.nv_tree.specs.declared.refusal.Refusal.{Refusal}
-use Rattle.nv_held.specs.Mounted.{ShowsSound}
+use Rattle.nv_mounted.specs.Mounted.{ShowsSound}
 use Rattle.nv_rows.specs.Rows.{place_in}
 use Rattle.nv_rows.proofs.Places.{at_place, own_row, row_in_use}
 use Rattle.nv_entry.specs.declared.entry.Operation.TheVariants.{Add, Remove}
@@ -112,14 +112,14 @@ pub move_at-requires-clause-stands : goal.move_at-requires-clause-stands
 move_at-requires-clause-stands g c row at =
     let runs : c.self.inside.stopped ≡ false = ap (λ (m : Mount g.row.P.Denot). m.stopped) c.self.view_is ∙ c.in_ok-writable.ensures.runs in
     let writes : c.self.inside.read_only ≡ false = ap (λ (m : Mount g.row.P.Denot). m.read_only) c.self.view_is ∙ c.in_ok-writable.ensures.writes in
-    let low : c.cpu.inside.0 < c.self.inside.sup.cpus = subst (λ (m : Mount g.row.P.Denot). c.cpu.inside.0 < m.sup.cpus) (sym c.self.view_is) c.in_ok-writable.ensures.cpu in
+    let low : c.cpu.inside.0 < c.self.inside.tables.layout.sup.cpus = subst (λ (m : Mount g.row.P.Denot). c.cpu.inside.0 < m.sup.cpus) (sym c.self.view_is) c.in_ok-writable.ensures.cpu in
     row_commits c.self.invariant.0 runs writes row (stands c.self.inside.rows.items (place_in c.self.inside.rows.items c.in_ok-moved.moved.from.directory) row (at_place c.self.inside.rows.items c.in_ok-moved.moved.from.directory ∙ at)) c.cpu.inside.0 low
 
 pub move_at-requires-clause-other_stands : goal.move_at-requires-clause-other_stands
 move_at-requires-clause-other_stands g c row at =
     let runs : c.self.inside.stopped ≡ false = ap (λ (m : Mount g.row.P.Denot). m.stopped) c.self.view_is ∙ c.in_ok-writable.ensures.runs in
     let writes : c.self.inside.read_only ≡ false = ap (λ (m : Mount g.row.P.Denot). m.read_only) c.self.view_is ∙ c.in_ok-writable.ensures.writes in
-    let low : c.cpu.inside.0 < c.self.inside.sup.cpus = subst (λ (m : Mount g.row.P.Denot). c.cpu.inside.0 < m.sup.cpus) (sym c.self.view_is) c.in_ok-writable.ensures.cpu in
+    let low : c.cpu.inside.0 < c.self.inside.tables.layout.sup.cpus = subst (λ (m : Mount g.row.P.Denot). c.cpu.inside.0 < m.sup.cpus) (sym c.self.view_is) c.in_ok-writable.ensures.cpu in
     row_commits c.self.invariant.0 runs writes row (stands c.self.inside.rows.items (place_in c.self.inside.rows.items c.in_ok-moved.moved.directory) row (at_place c.self.inside.rows.items c.in_ok-moved.moved.directory ∙ at)) c.cpu.inside.0 low
 
 pub invariant_of-self : goal.invariant_of-self
@@ -151,7 +151,7 @@ returns-in-Ok-clause-allowed g c =
     let to = row_in_use c.self.inside.rows.items c.in_ok-moved.moved.directory c.in_ok-moved.ensures.in_use.directory in
     let to_at : slice_get c.self.inside.rows.items (place_in c.self.inside.rows.items c.in_ok-moved.moved.directory) ≡ Some to.0 = at_place c.self.inside.rows.items c.in_ok-moved.moved.directory ∙ to.1 in
     let inode = row_in_use c.self.inside.rows.items c.in_ok-moved.moved.from.target c.in_ok-moved.ensures.in_use.target in
-    let rises = rows_rise (g.P.Pmem.region c.self.inside.memory) c.self.inside.sup c.self.inside.rows.items c.self.inside.free c.self.inside.faults.items c.self.inside.read_only c.self.inside.stopped c.self.invariant.0 runs in
+    let rises = rows_rise (g.P.Pmem.region c.self.inside.memory) c.self.inside.tables.layout.sup c.self.inside.tables.layout c.self.inside.rows.items c.self.inside.free c.self.inside.faults.items c.self.inside.read_only c.self.inside.stopped c.self.invariant.0 runs in
     let is = own_row c.self.inside.rows.items c.in_ok-moved.moved.from.directory from.0 from.1 in
     let other_is = own_row c.self.inside.rows.items c.in_ok-moved.moved.directory to.0 to.1 in
     let none = c.in_ok-moved.ensures.allowed (g.P.Pmem.region c.self.inside.memory) p q says says_new in
@@ -180,9 +180,9 @@ returns-in-Ok-clause-log g c =
     let long = long_text c.args.new.now c.in_ok-moved.ensures.paths.1 in
     let v = longer c.args.new.now others other_path long in
     let others_path : IsPath c.args.new.now (v.0 ∷ v.1) = subst (IsPath c.args.new.now) v.2 other_path in
-    subst (λ (xs : List (List ℕ)). walk (tree_of (g.P.Pmem.region c.args.self.now.memory) c.args.self.now.rows) 1 xs ≡ Ok e → ShowsBothGrew (g.P.Pmem.region c.move_at.new.memory) c.args.self.now.sup c.args.self.now.free.pools c.cpu.inside.0 held d h (name_entries Remove i (last_name names) c.time.inside.0) e k (name_entries Add i (last_name xs) c.time.inside.0)) (sym v.2)
-    (subst (λ (m : Mount g.row.P.Denot). LeadsTo (tree_of (g.P.Pmem.region m.memory) m.rows) names i node → walk (tree_of (g.P.Pmem.region m.memory) m.rows) 1 names ≡ Ok d → ShowsSound (g.P.Pmem.region m.memory) m.sup held → walk (tree_of (g.P.Pmem.region m.memory) m.rows) 1 (v.0 ∷ v.1) ≡ Ok e
-    → ShowsBothGrew (g.P.Pmem.region c.move_at.new.memory) m.sup m.free.pools c.cpu.inside.0 held d h (name_entries Remove i (last_name names) c.time.inside.0) e k (name_entries Add i (last_name (v.0 ∷ v.1)) c.time.inside.0)) c.self.view_is
+    subst (λ (xs : List (List ℕ)). walk (tree_of (g.P.Pmem.region c.args.self.now.memory) c.args.self.now.rows) 1 xs ≡ Ok e → ShowsBothGrew (g.P.Pmem.region c.move_at.new.memory) c.args.self.now.layout c.args.self.now.free.pools c.cpu.inside.0 held d h (name_entries Remove i (last_name names) c.time.inside.0) e k (name_entries Add i (last_name xs) c.time.inside.0)) (sym v.2)
+    (subst (λ (m : Mount g.row.P.Denot). LeadsTo (tree_of (g.P.Pmem.region m.memory) m.rows) names i node → walk (tree_of (g.P.Pmem.region m.memory) m.rows) 1 names ≡ Ok d → ShowsSound (g.P.Pmem.region m.memory) m.layout held → walk (tree_of (g.P.Pmem.region m.memory) m.rows) 1 (v.0 ∷ v.1) ≡ Ok e
+    → ShowsBothGrew (g.P.Pmem.region c.move_at.new.memory) m.layout m.free.pools c.cpu.inside.0 held d h (name_entries Remove i (last_name names) c.time.inside.0) e k (name_entries Add i (last_name (v.0 ∷ v.1)) c.time.inside.0)) c.self.view_is
     (λ leads first shown second. moved_logs c.self.invariant.0 runs writes c.in_ok-moved.ensures.former c.in_ok-moved.ensures.name names v.0 v.1 (spot names (v.0 ∷ v.1) path others_path) c.in-Ok.ensures.moved i d e node held h k leads first second differ shown is other_is) led walked sound) ended
     )
 
@@ -228,9 +228,9 @@ returns-in-Ok-clause-within g c =
     let long = long_text c.args.new.now c.in_ok-moved.ensures.paths.1 in
     let v = longer c.args.new.now others other_path long in
     let others_path : IsPath c.args.new.now (v.0 ∷ v.1) = subst (IsPath c.args.new.now) v.2 other_path in
-    subst (λ (xs : List (List ℕ)). walk (tree_of (g.P.Pmem.region c.args.self.now.memory) c.args.self.now.rows) 1 xs ≡ Ok d → ShowsGrownLog (g.P.Pmem.region c.move_at.new.memory) c.args.self.now.sup c.args.self.now.free.pools c.cpu.inside.0 held d h (move_entries i (last_name names) (last_name xs) c.time.inside.0)) (sym v.2)
-    (subst (λ (m : Mount g.row.P.Denot). LeadsTo (tree_of (g.P.Pmem.region m.memory) m.rows) names i node → walk (tree_of (g.P.Pmem.region m.memory) m.rows) 1 names ≡ Ok d → ShowsSound (g.P.Pmem.region m.memory) m.sup held → walk (tree_of (g.P.Pmem.region m.memory) m.rows) 1 (v.0 ∷ v.1) ≡ Ok d
-    → ShowsGrownLog (g.P.Pmem.region c.move_at.new.memory) m.sup m.free.pools c.cpu.inside.0 held d h (move_entries i (last_name names) (last_name (v.0 ∷ v.1)) c.time.inside.0)) c.self.view_is
+    subst (λ (xs : List (List ℕ)). walk (tree_of (g.P.Pmem.region c.args.self.now.memory) c.args.self.now.rows) 1 xs ≡ Ok d → ShowsGrownLog (g.P.Pmem.region c.move_at.new.memory) c.args.self.now.layout c.args.self.now.free.pools c.cpu.inside.0 held d h (move_entries i (last_name names) (last_name xs) c.time.inside.0)) (sym v.2)
+    (subst (λ (m : Mount g.row.P.Denot). LeadsTo (tree_of (g.P.Pmem.region m.memory) m.rows) names i node → walk (tree_of (g.P.Pmem.region m.memory) m.rows) 1 names ≡ Ok d → ShowsSound (g.P.Pmem.region m.memory) m.layout held → walk (tree_of (g.P.Pmem.region m.memory) m.rows) 1 (v.0 ∷ v.1) ≡ Ok d
+    → ShowsGrownLog (g.P.Pmem.region c.move_at.new.memory) m.layout m.free.pools c.cpu.inside.0 held d h (move_entries i (last_name names) (last_name (v.0 ∷ v.1)) c.time.inside.0)) c.self.view_is
     (λ leads first shown second. moved_log c.self.invariant.0 runs writes c.in_ok-moved.ensures.former c.in_ok-moved.ensures.name names v.0 v.1 (spot names (v.0 ∷ v.1) path others_path) c.in-Ok.ensures.moved i d node held h leads first second shown is) led walked sound) ended
     )
 
@@ -244,7 +244,7 @@ returns-in-Err-clause-refused g c =
     let to = row_in_use c.self.inside.rows.items c.in_ok-moved.moved.directory c.in_ok-moved.ensures.in_use.directory in
     let to_at : slice_get c.self.inside.rows.items (place_in c.self.inside.rows.items c.in_ok-moved.moved.directory) ≡ Some to.0 = at_place c.self.inside.rows.items c.in_ok-moved.moved.directory ∙ to.1 in
     let inode = row_in_use c.self.inside.rows.items c.in_ok-moved.moved.from.target c.in_ok-moved.ensures.in_use.target in
-    let rises = rows_rise (g.P.Pmem.region c.self.inside.memory) c.self.inside.sup c.self.inside.rows.items c.self.inside.free c.self.inside.faults.items c.self.inside.read_only c.self.inside.stopped c.self.invariant.0 runs in
+    let rises = rows_rise (g.P.Pmem.region c.self.inside.memory) c.self.inside.tables.layout.sup c.self.inside.tables.layout c.self.inside.rows.items c.self.inside.free c.self.inside.faults.items c.self.inside.read_only c.self.inside.stopped c.self.invariant.0 runs in
     let is = own_row c.self.inside.rows.items c.in_ok-moved.moved.from.directory from.0 from.1 in
     let other_is = own_row c.self.inside.rows.items c.in_ok-moved.moved.directory to.0 to.1 in
     let none = c.in_ok-moved.ensures.allowed (g.P.Pmem.region c.self.inside.memory) p q says says_new in

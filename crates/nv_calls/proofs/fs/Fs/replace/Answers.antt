@@ -2,7 +2,7 @@ use Rattle.std.proofs.Common.{◌≡◌, ◌∙◌, ◌<◌, ◌≤◌, ◌++◌
 use Rattle.std.specs.Option.{option_and_then}
 use Rattle.std.proofs.lemmas.Result.{err_from_is_err_and, IfOk-from_err}
 use Rattle.nv_region.specs.Stops.{LeavesOnly}
-use Rattle.nv_super.specs.Layout.{fixed_layout, is_number}
+use Rattle.nv_inode.specs.Numbers.{has_slot}
 use Rattle.nv_super.proofs.Members.{stands}
 use Rattle.nv_alloc.specs.Taking.{all_blocks}
 use Rattle.nv_rows.specs.Rows.{place_in, row_of}
@@ -172,7 +172,7 @@ returns-in-Ok-clause-stores g c =
           let inode_at : slice_get c.self.inside.rows.items (place_in c.self.inside.rows.items c.in_ok-planned.planned.moved.from.target) ≡ Some inode.0 = at_place c.self.inside.rows.items c.in_ok-planned.planned.moved.from.target ∙ inode.1 in
           let number = numbered c.self.inside.rows.items c.in_ok-planned.planned.moved.from.target inode.0 inode.1 in
           subst (λ (m : Mount g.row.P.Denot). SameFrontBut m.sup.cpus c.cpu.inside.0 (g.P.Pmem.region m.memory) (g.P.Pmem.region c.replace_at.new.memory)) c.self.view_is
-          (replaced_front c.self.invariant.0 runs writes (place_in c.self.inside.rows.items c.in_ok-planned.planned.moved.from.directory) (place_in c.self.inside.rows.items c.in_ok-planned.planned.moved.from.target) (place_in c.self.inside.rows.items c.in_ok-planned.planned.moved.directory) c.in_ok-planned.ensures.former c.in_ok-planned.ensures.name old_path.0 old_path.1 new_path.0 new_path.1 inode.0 inode_at (g.P.Pmem.region c.replace_at.new.memory) c.replace_at.new.rows.items c.replace_at.new.free c.cpu.inside.0 c.time.inside.0 c.in_ok-planned.planned.there (subst (λ (n : ℕ). ReplacesAt (g.P.Pmem.region c.self.inside.memory) (g.P.Pmem.region c.replace_at.new.memory) c.self.inside.sup c.self.inside.free c.replace_at.new.free c.cpu.inside.0 c.self.inside.rows.items c.replace_at.new.rows.items (place_in c.self.inside.rows.items c.in_ok-planned.planned.moved.from.directory) (place_in c.self.inside.rows.items c.in_ok-planned.planned.moved.from.target) (place_in c.self.inside.rows.items c.in_ok-planned.planned.moved.directory) c.in_ok-planned.planned.there n c.in_ok-planned.planned.moved.from.name.now c.in_ok-planned.planned.moved.name.now c.time.inside.0) (sym number) c.in-Ok.ensures.replaced))
+          (replaced_front c.self.invariant.0 runs writes (place_in c.self.inside.rows.items c.in_ok-planned.planned.moved.from.directory) (place_in c.self.inside.rows.items c.in_ok-planned.planned.moved.from.target) (place_in c.self.inside.rows.items c.in_ok-planned.planned.moved.directory) c.in_ok-planned.ensures.former c.in_ok-planned.ensures.name old_path.0 old_path.1 new_path.0 new_path.1 inode.0 inode_at (g.P.Pmem.region c.replace_at.new.memory) c.replace_at.new.rows.items c.replace_at.new.free c.cpu.inside.0 c.time.inside.0 c.in_ok-planned.planned.there (subst (λ (n : ℕ). ReplacesAt (g.P.Pmem.region c.self.inside.memory) (g.P.Pmem.region c.replace_at.new.memory) c.self.inside.tables.layout c.self.inside.free c.replace_at.new.free c.cpu.inside.0 c.self.inside.rows.items c.replace_at.new.rows.items (place_in c.self.inside.rows.items c.in_ok-planned.planned.moved.from.directory) (place_in c.self.inside.rows.items c.in_ok-planned.planned.moved.from.target) (place_in c.self.inside.rows.items c.in_ok-planned.planned.moved.directory) c.in_ok-planned.planned.there n c.in_ok-planned.planned.moved.from.name.now c.in_ok-planned.planned.moved.name.now c.time.inside.0) (sym number) c.in-Ok.ensures.replaced))
           );
       wrote = rw (← c.cpu.view_is) (λ names others i d e held path other_path led walked ended sound.
           replace_stored g.P.Pmem.region c.self.view_is c.self.invariant.0 c.in_ok-writable.ensures.runs (g.P.Pmem.region c.replace_at.new.memory) c.cpu.inside.0 c.in_ok-planned.planned.moved.from.directory c.in_ok-planned.planned.moved.directory c.in_ok-planned.planned.moved.from.target c.in_ok-planned.ensures.in_use.from c.in_ok-planned.ensures.in_use.directory c.in_ok-planned.ensures.in_use.target
@@ -202,21 +202,21 @@ pub replace_at-requires-clause-stands : goal.replace_at-requires-clause-stands
 replace_at-requires-clause-stands g c row at =
     let runs : c.self.inside.stopped ≡ false = ap (λ (m : Mount g.row.P.Denot). m.stopped) c.self.view_is ∙ c.in_ok-writable.ensures.runs in
     let writes : c.self.inside.read_only ≡ false = ap (λ (m : Mount g.row.P.Denot). m.read_only) c.self.view_is ∙ c.in_ok-writable.ensures.writes in
-    let low : c.cpu.inside.0 < c.self.inside.sup.cpus = subst (λ (m : Mount g.row.P.Denot). c.cpu.inside.0 < m.sup.cpus) (sym c.self.view_is) c.in_ok-writable.ensures.cpu in
+    let low : c.cpu.inside.0 < c.self.inside.tables.layout.sup.cpus = subst (λ (m : Mount g.row.P.Denot). c.cpu.inside.0 < m.sup.cpus) (sym c.self.view_is) c.in_ok-writable.ensures.cpu in
     row_commits c.self.invariant.0 runs writes row (stands c.self.inside.rows.items (place_in c.self.inside.rows.items c.in_ok-planned.planned.moved.from.directory) row (at_place c.self.inside.rows.items c.in_ok-planned.planned.moved.from.directory ∙ at)) c.cpu.inside.0 low
 
 pub replace_at-requires-clause-other_stands : goal.replace_at-requires-clause-other_stands
 replace_at-requires-clause-other_stands g c row at =
     let runs : c.self.inside.stopped ≡ false = ap (λ (m : Mount g.row.P.Denot). m.stopped) c.self.view_is ∙ c.in_ok-writable.ensures.runs in
     let writes : c.self.inside.read_only ≡ false = ap (λ (m : Mount g.row.P.Denot). m.read_only) c.self.view_is ∙ c.in_ok-writable.ensures.writes in
-    let low : c.cpu.inside.0 < c.self.inside.sup.cpus = subst (λ (m : Mount g.row.P.Denot). c.cpu.inside.0 < m.sup.cpus) (sym c.self.view_is) c.in_ok-writable.ensures.cpu in
+    let low : c.cpu.inside.0 < c.self.inside.tables.layout.sup.cpus = subst (λ (m : Mount g.row.P.Denot). c.cpu.inside.0 < m.sup.cpus) (sym c.self.view_is) c.in_ok-writable.ensures.cpu in
     row_commits c.self.invariant.0 runs writes row (stands c.self.inside.rows.items (place_in c.self.inside.rows.items c.in_ok-planned.planned.moved.directory) row (at_place c.self.inside.rows.items c.in_ok-planned.planned.moved.directory ∙ at)) c.cpu.inside.0 low
 
 pub replace_at-requires-clause-there_stands : goal.replace_at-requires-clause-there_stands
 replace_at-requires-clause-there_stands g c i row is at =
     let runs : c.self.inside.stopped ≡ false = ap (λ (m : Mount g.row.P.Denot). m.stopped) c.self.view_is ∙ c.in_ok-writable.ensures.runs in
     let writes : c.self.inside.read_only ≡ false = ap (λ (m : Mount g.row.P.Denot). m.read_only) c.self.view_is ∙ c.in_ok-writable.ensures.writes in
-    let low : c.cpu.inside.0 < c.self.inside.sup.cpus = subst (λ (m : Mount g.row.P.Denot). c.cpu.inside.0 < m.sup.cpus) (sym c.self.view_is) c.in_ok-writable.ensures.cpu in
+    let low : c.cpu.inside.0 < c.self.inside.tables.layout.sup.cpus = subst (λ (m : Mount g.row.P.Denot). c.cpu.inside.0 < m.sup.cpus) (sym c.self.view_is) c.in_ok-writable.ensures.cpu in
     row_commits c.self.invariant.0 runs writes row (stands c.self.inside.rows.items (place_in c.self.inside.rows.items i) row (at_place c.self.inside.rows.items i ∙ at)) c.cpu.inside.0 low
 
 pub replace_at-requires-clause-number : goal.replace_at-requires-clause-number
@@ -224,15 +224,15 @@ replace_at-requires-clause-number g c i is =
     let runs : c.self.inside.stopped ≡ false = ap (λ (m : Mount g.row.P.Denot). m.stopped) c.self.view_is ∙ c.in_ok-writable.ensures.runs in
     let writes : c.self.inside.read_only ≡ false = ap (λ (m : Mount g.row.P.Denot). m.read_only) c.self.view_is ∙ c.in_ok-writable.ensures.writes in
     let had = row_in_use c.self.inside.rows.items i (c.in_ok-planned.ensures.there i is) in
-    subst (λ (n : ℕ). IsTrue (is_number c.self.inside.sup n)) (numbered c.self.inside.rows.items i had.0 had.1) (row_number c.self.invariant.0 runs writes had.0 (stands c.self.inside.rows.items (place_in c.self.inside.rows.items i) had.0 (at_place c.self.inside.rows.items i ∙ had.1)))
+    subst (λ (n : ℕ). IsTrue (has_slot c.self.inside.tables.layout n)) (numbered c.self.inside.rows.items i had.0 had.1) (row_number c.self.invariant.0 runs writes had.0 (stands c.self.inside.rows.items (place_in c.self.inside.rows.items i) had.0 (at_place c.self.inside.rows.items i ∙ had.1)))
 
 pub replace_at-requires-clause-can : goal.replace_at-requires-clause-can
 replace_at-requires-clause-can g c i row is at =
     let runs : c.self.inside.stopped ≡ false = ap (λ (m : Mount g.row.P.Denot). m.stopped) c.self.view_is ∙ c.in_ok-writable.ensures.runs in
     let writes : c.self.inside.read_only ≡ false = ap (λ (m : Mount g.row.P.Denot). m.read_only) c.self.view_is ∙ c.in_ok-writable.ensures.writes in
-    let low : c.cpu.inside.0 < c.self.inside.sup.cpus = subst (λ (m : Mount g.row.P.Denot). c.cpu.inside.0 < m.sup.cpus) (sym c.self.view_is) c.in_ok-writable.ensures.cpu in
+    let low : c.cpu.inside.0 < c.self.inside.tables.layout.sup.cpus = subst (λ (m : Mount g.row.P.Denot). c.cpu.inside.0 < m.sup.cpus) (sym c.self.view_is) c.in_ok-writable.ensures.cpu in
     let had = row_in_use c.self.inside.rows.items i (c.in_ok-planned.ensures.there i is) in
-    let number = subst (λ (n : ℕ). IsTrue (is_number c.self.inside.sup n)) (numbered c.self.inside.rows.items i had.0 had.1) (row_number c.self.invariant.0 runs writes had.0 (stands c.self.inside.rows.items (place_in c.self.inside.rows.items i) had.0 (at_place c.self.inside.rows.items i ∙ had.1))) in
+    let number = subst (λ (n : ℕ). IsTrue (has_slot c.self.inside.tables.layout n)) (numbered c.self.inside.rows.items i had.0 had.1) (row_number c.self.invariant.0 runs writes had.0 (stands c.self.inside.rows.items (place_in c.self.inside.rows.items i) had.0 (at_place c.self.inside.rows.items i ∙ had.1))) in
     can_name c.self.invariant.0 runs writes c.cpu.inside.0 i low number row (stands c.self.inside.rows.items (place_in c.self.inside.rows.items c.in_ok-planned.planned.moved.directory) row (at_place c.self.inside.rows.items c.in_ok-planned.planned.moved.directory ∙ at))
 
 pub replace_at-requires-clause-owns : goal.replace_at-requires-clause-owns
@@ -275,7 +275,7 @@ invariant_of-self g c =
     let inode = row_in_use c.self.inside.rows.items c.in_ok-planned.planned.moved.from.target c.in_ok-planned.ensures.in_use.target in
     let inode_at : slice_get c.self.inside.rows.items (place_in c.self.inside.rows.items c.in_ok-planned.planned.moved.from.target) ≡ Some inode.0 = at_place c.self.inside.rows.items c.in_ok-planned.planned.moved.from.target ∙ inode.1 in
     let number = numbered c.self.inside.rows.items c.in_ok-planned.planned.moved.from.target inode.0 inode.1 in
-    (replaced_kept c.self.invariant.0 runs writes (place_in c.self.inside.rows.items c.in_ok-planned.planned.moved.from.directory) (place_in c.self.inside.rows.items c.in_ok-planned.planned.moved.from.target) (place_in c.self.inside.rows.items c.in_ok-planned.planned.moved.directory) c.in_ok-planned.ensures.former c.in_ok-planned.ensures.name old_path.0 old_path.1 new_path.0 new_path.1 inode.0 inode_at (g.P.Pmem.region c.replace_at.new.memory) c.replace_at.new.rows.items c.replace_at.new.free c.cpu.inside.0 c.time.inside.0 c.in_ok-planned.planned.there c.in_ok-planned.ensures.there (spot (old_path.0 ∷ old_path.1) (new_path.0 ∷ new_path.1) old_path.2 new_path.2) (subst (λ (n : ℕ). ReplacesAt (g.P.Pmem.region c.self.inside.memory) (g.P.Pmem.region c.replace_at.new.memory) c.self.inside.sup c.self.inside.free c.replace_at.new.free c.cpu.inside.0 c.self.inside.rows.items c.replace_at.new.rows.items (place_in c.self.inside.rows.items c.in_ok-planned.planned.moved.from.directory) (place_in c.self.inside.rows.items c.in_ok-planned.planned.moved.from.target) (place_in c.self.inside.rows.items c.in_ok-planned.planned.moved.directory) c.in_ok-planned.planned.there n c.in_ok-planned.planned.moved.from.name.now c.in_ok-planned.planned.moved.name.now c.time.inside.0) (sym number) c.in-Ok.ensures.replaced) c.self.inside.stopped, numbers_kept c.replace_at.ensures.kept.tables.0 c.replace_at.ensures.kept.tables.1 c.self.invariant.1, λ on. c.in-Ok.ensures.kept.settled)
+    (replaced_kept c.self.invariant.0 runs writes (place_in c.self.inside.rows.items c.in_ok-planned.planned.moved.from.directory) (place_in c.self.inside.rows.items c.in_ok-planned.planned.moved.from.target) (place_in c.self.inside.rows.items c.in_ok-planned.planned.moved.directory) c.in_ok-planned.ensures.former c.in_ok-planned.ensures.name old_path.0 old_path.1 new_path.0 new_path.1 inode.0 inode_at (g.P.Pmem.region c.replace_at.new.memory) c.replace_at.new.rows.items c.replace_at.new.free c.cpu.inside.0 c.time.inside.0 c.in_ok-planned.planned.there c.in_ok-planned.ensures.there (spot (old_path.0 ∷ old_path.1) (new_path.0 ∷ new_path.1) old_path.2 new_path.2) (subst (λ (n : ℕ). ReplacesAt (g.P.Pmem.region c.self.inside.memory) (g.P.Pmem.region c.replace_at.new.memory) c.self.inside.tables.layout c.self.inside.free c.replace_at.new.free c.cpu.inside.0 c.self.inside.rows.items c.replace_at.new.rows.items (place_in c.self.inside.rows.items c.in_ok-planned.planned.moved.from.directory) (place_in c.self.inside.rows.items c.in_ok-planned.planned.moved.from.target) (place_in c.self.inside.rows.items c.in_ok-planned.planned.moved.directory) c.in_ok-planned.planned.there n c.in_ok-planned.planned.moved.from.name.now c.in_ok-planned.planned.moved.name.now c.time.inside.0) (sym number) c.in-Ok.ensures.replaced) c.self.inside.stopped, numbers_kept c.replace_at.ensures.kept.tables.0 c.replace_at.ensures.kept.tables.1 c.self.invariant.1, λ on. c.in-Ok.ensures.kept.settled)
 
 pub invariant_of-self-in-Err : goal.invariant_of-self-in-Err
 invariant_of-self-in-Err g c =
@@ -298,7 +298,7 @@ returns-in-Ok-clause-allowed g c =
     let inode = row_in_use c.self.inside.rows.items c.in_ok-planned.planned.moved.from.target c.in_ok-planned.ensures.in_use.target in
     let inode_at : slice_get c.self.inside.rows.items (place_in c.self.inside.rows.items c.in_ok-planned.planned.moved.from.target) ≡ Some inode.0 = at_place c.self.inside.rows.items c.in_ok-planned.planned.moved.from.target ∙ inode.1 in
     let number = numbered c.self.inside.rows.items c.in_ok-planned.planned.moved.from.target inode.0 inode.1 in
-    let rises = rows_rise (g.P.Pmem.region c.self.inside.memory) c.self.inside.sup c.self.inside.rows.items c.self.inside.free c.self.inside.faults.items c.self.inside.read_only c.self.inside.stopped c.self.invariant.0 runs in
+    let rises = rows_rise (g.P.Pmem.region c.self.inside.memory) c.self.inside.tables.layout.sup c.self.inside.tables.layout c.self.inside.rows.items c.self.inside.free c.self.inside.faults.items c.self.inside.read_only c.self.inside.stopped c.self.invariant.0 runs in
     let none = c.in_ok-planned.ensures.allowed (g.P.Pmem.region c.self.inside.memory) p q says says_new in
     replace_allowed g.P.Pmem.region c.self.view_is c.cpu.inside.0 c.in_ok-writable.ensures.passed (place_in c.self.inside.rows.items c.in_ok-planned.planned.moved.from.directory) (place_in c.self.inside.rows.items c.in_ok-planned.planned.moved.from.target) (place_in c.self.inside.rows.items c.in_ok-planned.planned.moved.directory) c.in_ok-planned.planned.there from.0 to.0 inode.0 rises from_at to_at inode_at (λ j is. row_in_use c.self.inside.rows.items j (c.in_ok-planned.ensures.there j is)) c.in_ok-planned.planned.moved.from.name.now c.in_ok-planned.planned.moved.name.now c.time.inside.0 c.args.old.now c.args.new.now spot p q says says_new none (subst (λ (n : ℕ). replace_count (place_in c.self.inside.rows.items c.in_ok-planned.planned.moved.from.directory) (place_in c.self.inside.rows.items c.in_ok-planned.planned.moved.directory) from.0 to.0 (option_and_then (row_of c.self.inside.rows.items) c.in_ok-planned.planned.there) n c.in_ok-planned.planned.moved.from.name.now c.in_ok-planned.planned.moved.name.now c.time.inside.0 ≤ all_blocks c.self.inside.free.pools) (sym number) (c.in-Ok.ensures.needs from.0 to.0 from.1 to.1).enough)
     )
@@ -315,7 +315,7 @@ returns-in-Err-clause-refused g c =
     let inode = row_in_use c.self.inside.rows.items c.in_ok-planned.planned.moved.from.target c.in_ok-planned.ensures.in_use.target in
     let inode_at : slice_get c.self.inside.rows.items (place_in c.self.inside.rows.items c.in_ok-planned.planned.moved.from.target) ≡ Some inode.0 = at_place c.self.inside.rows.items c.in_ok-planned.planned.moved.from.target ∙ inode.1 in
     let number = numbered c.self.inside.rows.items c.in_ok-planned.planned.moved.from.target inode.0 inode.1 in
-    let rises = rows_rise (g.P.Pmem.region c.self.inside.memory) c.self.inside.sup c.self.inside.rows.items c.self.inside.free c.self.inside.faults.items c.self.inside.read_only c.self.inside.stopped c.self.invariant.0 runs in
+    let rises = rows_rise (g.P.Pmem.region c.self.inside.memory) c.self.inside.tables.layout.sup c.self.inside.tables.layout c.self.inside.rows.items c.self.inside.free c.self.inside.faults.items c.self.inside.read_only c.self.inside.stopped c.self.invariant.0 runs in
     let none = c.in_ok-planned.ensures.allowed (g.P.Pmem.region c.self.inside.memory) p q says says_new in
     replace_refused g.P.Pmem.region c.self.view_is c.cpu.inside.0 c.in_ok-writable.ensures.passed (place_in c.self.inside.rows.items c.in_ok-planned.planned.moved.from.directory) (place_in c.self.inside.rows.items c.in_ok-planned.planned.moved.from.target) (place_in c.self.inside.rows.items c.in_ok-planned.planned.moved.directory) c.in_ok-planned.planned.there from.0 to.0 inode.0 rises from_at to_at inode_at (λ j is. row_in_use c.self.inside.rows.items j (c.in_ok-planned.ensures.there j is)) c.in_ok-planned.planned.moved.from.name.now c.in_ok-planned.planned.moved.name.now c.time.inside.0 c.args.old.now c.args.new.now spot p q says says_new none c.in-Err.refusal (subst (λ (n : ℕ). RefusesStep c.in-Err.refusal (replace_count (place_in c.self.inside.rows.items c.in_ok-planned.planned.moved.from.directory) (place_in c.self.inside.rows.items c.in_ok-planned.planned.moved.directory) from.0 to.0 (option_and_then (row_of c.self.inside.rows.items) c.in_ok-planned.planned.there) n c.in_ok-planned.planned.moved.from.name.now c.in_ok-planned.planned.moved.name.now c.time.inside.0) c.self.inside.free) (sym number) (c.in-Err.ensures.needs from.0 to.0 from.1 to.1).refused)
     )
@@ -337,7 +337,7 @@ returns-in-Ok-clause-changed g c =
     let others_path : IsPath c.args.new.now (v.0 ∷ v.1) = subst (IsPath c.args.new.now) v.2 other_path in
     subst (λ (xs : List (List ℕ)). SameTree (tree_of (g.P.Pmem.region c.replace_at.new.memory) c.replace_at.new.rows.items) (replaced xs others c.time.inside.0 (tree_of (g.P.Pmem.region c.args.self.now.memory) c.args.self.now.rows))) (sym u.2)
     (subst (λ (xs : List (List ℕ)). SameTree (tree_of (g.P.Pmem.region c.replace_at.new.memory) c.replace_at.new.rows.items) (replaced (u.0 ∷ u.1) xs c.time.inside.0 (tree_of (g.P.Pmem.region c.args.self.now.memory) c.args.self.now.rows))) (sym v.2)
-    (subst (λ (m : Mount g.row.P.Denot). SameTree (tree_of (g.P.Pmem.region c.replace_at.new.memory) c.replace_at.new.rows.items) (replaced (u.0 ∷ u.1) (v.0 ∷ v.1) c.time.inside.0 (tree_of (g.P.Pmem.region m.memory) m.rows))) c.self.view_is (replaced_tree c.self.invariant.0 runs writes (place_in c.self.inside.rows.items c.in_ok-planned.planned.moved.from.directory) (place_in c.self.inside.rows.items c.in_ok-planned.planned.moved.from.target) (place_in c.self.inside.rows.items c.in_ok-planned.planned.moved.directory) c.in_ok-planned.ensures.former c.in_ok-planned.ensures.name u.0 u.1 v.0 v.1 inode.0 inode_at (g.P.Pmem.region c.replace_at.new.memory) c.replace_at.new.rows.items c.replace_at.new.free c.cpu.inside.0 c.time.inside.0 c.in_ok-planned.planned.there c.in_ok-planned.ensures.there (spot (u.0 ∷ u.1) (v.0 ∷ v.1) names_path others_path) (subst (λ (n : ℕ). ReplacesAt (g.P.Pmem.region c.self.inside.memory) (g.P.Pmem.region c.replace_at.new.memory) c.self.inside.sup c.self.inside.free c.replace_at.new.free c.cpu.inside.0 c.self.inside.rows.items c.replace_at.new.rows.items (place_in c.self.inside.rows.items c.in_ok-planned.planned.moved.from.directory) (place_in c.self.inside.rows.items c.in_ok-planned.planned.moved.from.target) (place_in c.self.inside.rows.items c.in_ok-planned.planned.moved.directory) c.in_ok-planned.planned.there n c.in_ok-planned.planned.moved.from.name.now c.in_ok-planned.planned.moved.name.now c.time.inside.0) (sym number) c.in-Ok.ensures.replaced))))
+    (subst (λ (m : Mount g.row.P.Denot). SameTree (tree_of (g.P.Pmem.region c.replace_at.new.memory) c.replace_at.new.rows.items) (replaced (u.0 ∷ u.1) (v.0 ∷ v.1) c.time.inside.0 (tree_of (g.P.Pmem.region m.memory) m.rows))) c.self.view_is (replaced_tree c.self.invariant.0 runs writes (place_in c.self.inside.rows.items c.in_ok-planned.planned.moved.from.directory) (place_in c.self.inside.rows.items c.in_ok-planned.planned.moved.from.target) (place_in c.self.inside.rows.items c.in_ok-planned.planned.moved.directory) c.in_ok-planned.ensures.former c.in_ok-planned.ensures.name u.0 u.1 v.0 v.1 inode.0 inode_at (g.P.Pmem.region c.replace_at.new.memory) c.replace_at.new.rows.items c.replace_at.new.free c.cpu.inside.0 c.time.inside.0 c.in_ok-planned.planned.there c.in_ok-planned.ensures.there (spot (u.0 ∷ u.1) (v.0 ∷ v.1) names_path others_path) (subst (λ (n : ℕ). ReplacesAt (g.P.Pmem.region c.self.inside.memory) (g.P.Pmem.region c.replace_at.new.memory) c.self.inside.tables.layout c.self.inside.free c.replace_at.new.free c.cpu.inside.0 c.self.inside.rows.items c.replace_at.new.rows.items (place_in c.self.inside.rows.items c.in_ok-planned.planned.moved.from.directory) (place_in c.self.inside.rows.items c.in_ok-planned.planned.moved.from.target) (place_in c.self.inside.rows.items c.in_ok-planned.planned.moved.directory) c.in_ok-planned.planned.there n c.in_ok-planned.planned.moved.from.name.now c.in_ok-planned.planned.moved.name.now c.time.inside.0) (sym number) c.in-Ok.ensures.replaced))))
     )
 
 pub returns-in-Ok-clause-any_stop : goal.returns-in-Ok-clause-any_stop
@@ -361,7 +361,7 @@ returns-in-Ok-clause-any_stop g c =
     subst (λ (ys : List (List ℕ)). LeavesOnly (g.P.Pmem.region c.replace_at.new.memory) (g.P.Pmem.may_hold c.replace_at.new.memory) (LeavesCall (makes_replace c.time.inside.0 (Some others)) (logs_replace c.cpu.inside.0 c.time.inside.0 (Some others)) (g.P.Pmem.region c.args.self.now.memory) c.args.self.now ys)) (sym u.2)
     (subst (λ (xs : List (List ℕ)). LeavesOnly (g.P.Pmem.region c.replace_at.new.memory) (g.P.Pmem.may_hold c.replace_at.new.memory) (LeavesCall (makes_replace c.time.inside.0 (Some xs)) (logs_replace c.cpu.inside.0 c.time.inside.0 (Some xs)) (g.P.Pmem.region c.args.self.now.memory) c.args.self.now (u.0 ∷ u.1))) (sym v.2)
     (replace_left g.P.Pmem.region c.self.view_is c.self.invariant.0 runs writes c.in_ok-planned.planned.moved.from.directory c.in_ok-planned.planned.moved.from.target c.in_ok-planned.planned.moved.directory from.0 inode.0 to.0 from.1 inode.1 to.1 c.in_ok-planned.planned.there c.in_ok-planned.planned.moved.from.name.now c.in_ok-planned.planned.moved.name.now c.cpu.inside.0 c.time.inside.0 c.in_ok-planned.ensures.former c.in_ok-planned.ensures.name u.0 u.1 v.0 v.1 (c.in_ok-planned.ensures.spot (g.P.Pmem.region c.self.inside.memory) (u.0 ∷ u.1) (v.0 ∷ v.1) names_path others_path) (λ j is. row_in_use c.self.inside.rows.items j (c.in_ok-planned.ensures.there j is)) _ _
-    (λ held h k here other none seen. subst (λ (n : ℕ). LeavesOnly (g.P.Pmem.region c.replace_at.new.memory) (g.P.Pmem.may_hold c.replace_at.new.memory) (LeavesEither (g.P.Pmem.region c.self.inside.memory) (fixed_layout c.self.inside.sup) held (ReplacedAt (g.P.Pmem.region c.self.inside.memory) c.self.inside.sup c.self.inside.free c.cpu.inside.0 (place_in c.self.inside.rows.items c.in_ok-planned.planned.moved.from.directory) (place_in c.self.inside.rows.items c.in_ok-planned.planned.moved.directory) from.0 to.0 (option_and_then (row_of c.self.inside.rows.items) c.in_ok-planned.planned.there) n c.in_ok-planned.planned.moved.from.name.now c.in_ok-planned.planned.moved.name.now c.time.inside.0))) (sym number) (c.replace_at.ensures.any_stop from.0 to.0 held h k from.1 to.1 here other none seen))))
+    (λ held h k here other none seen. subst (λ (n : ℕ). LeavesOnly (g.P.Pmem.region c.replace_at.new.memory) (g.P.Pmem.may_hold c.replace_at.new.memory) (LeavesEither (g.P.Pmem.region c.self.inside.memory) c.self.inside.tables.layout held (ReplacedAt (g.P.Pmem.region c.self.inside.memory) c.self.inside.tables.layout c.self.inside.free c.cpu.inside.0 (place_in c.self.inside.rows.items c.in_ok-planned.planned.moved.from.directory) (place_in c.self.inside.rows.items c.in_ok-planned.planned.moved.directory) from.0 to.0 (option_and_then (row_of c.self.inside.rows.items) c.in_ok-planned.planned.there) n c.in_ok-planned.planned.moved.from.name.now c.in_ok-planned.planned.moved.name.now c.time.inside.0))) (sym number) (c.replace_at.ensures.any_stop from.0 to.0 held h k from.1 to.1 here other none seen))))
     )
 
 pub returns-in-Err-clause-any_stop : goal.returns-in-Err-clause-any_stop
@@ -385,7 +385,7 @@ returns-in-Err-clause-any_stop g c =
     subst (λ (ys : List (List ℕ)). LeavesOnly (g.P.Pmem.region c.replace_at.new.memory) (g.P.Pmem.may_hold c.replace_at.new.memory) (LeavesCall (makes_replace c.time.inside.0 (Some others)) (logs_replace c.cpu.inside.0 c.time.inside.0 (Some others)) (g.P.Pmem.region c.args.self.now.memory) c.args.self.now ys)) (sym u.2)
     (subst (λ (xs : List (List ℕ)). LeavesOnly (g.P.Pmem.region c.replace_at.new.memory) (g.P.Pmem.may_hold c.replace_at.new.memory) (LeavesCall (makes_replace c.time.inside.0 (Some xs)) (logs_replace c.cpu.inside.0 c.time.inside.0 (Some xs)) (g.P.Pmem.region c.args.self.now.memory) c.args.self.now (u.0 ∷ u.1))) (sym v.2)
     (replace_left g.P.Pmem.region c.self.view_is c.self.invariant.0 runs writes c.in_ok-planned.planned.moved.from.directory c.in_ok-planned.planned.moved.from.target c.in_ok-planned.planned.moved.directory from.0 inode.0 to.0 from.1 inode.1 to.1 c.in_ok-planned.planned.there c.in_ok-planned.planned.moved.from.name.now c.in_ok-planned.planned.moved.name.now c.cpu.inside.0 c.time.inside.0 c.in_ok-planned.ensures.former c.in_ok-planned.ensures.name u.0 u.1 v.0 v.1 (c.in_ok-planned.ensures.spot (g.P.Pmem.region c.self.inside.memory) (u.0 ∷ u.1) (v.0 ∷ v.1) names_path others_path) (λ j is. row_in_use c.self.inside.rows.items j (c.in_ok-planned.ensures.there j is)) _ _
-    (λ held h k here other none seen. subst (λ (n : ℕ). LeavesOnly (g.P.Pmem.region c.replace_at.new.memory) (g.P.Pmem.may_hold c.replace_at.new.memory) (LeavesEither (g.P.Pmem.region c.self.inside.memory) (fixed_layout c.self.inside.sup) held (ReplacedAt (g.P.Pmem.region c.self.inside.memory) c.self.inside.sup c.self.inside.free c.cpu.inside.0 (place_in c.self.inside.rows.items c.in_ok-planned.planned.moved.from.directory) (place_in c.self.inside.rows.items c.in_ok-planned.planned.moved.directory) from.0 to.0 (option_and_then (row_of c.self.inside.rows.items) c.in_ok-planned.planned.there) n c.in_ok-planned.planned.moved.from.name.now c.in_ok-planned.planned.moved.name.now c.time.inside.0))) (sym number) (c.replace_at.ensures.any_stop from.0 to.0 held h k from.1 to.1 here other none seen))))
+    (λ held h k here other none seen. subst (λ (n : ℕ). LeavesOnly (g.P.Pmem.region c.replace_at.new.memory) (g.P.Pmem.may_hold c.replace_at.new.memory) (LeavesEither (g.P.Pmem.region c.self.inside.memory) c.self.inside.tables.layout held (ReplacedAt (g.P.Pmem.region c.self.inside.memory) c.self.inside.tables.layout c.self.inside.free c.cpu.inside.0 (place_in c.self.inside.rows.items c.in_ok-planned.planned.moved.from.directory) (place_in c.self.inside.rows.items c.in_ok-planned.planned.moved.directory) from.0 to.0 (option_and_then (row_of c.self.inside.rows.items) c.in_ok-planned.planned.there) n c.in_ok-planned.planned.moved.from.name.now c.in_ok-planned.planned.moved.name.now c.time.inside.0))) (sym number) (c.replace_at.ensures.any_stop from.0 to.0 held h k from.1 to.1 here other none seen))))
     )
 
 pub returns-in-Ok-clause-log : goal.returns-in-Ok-clause-log
@@ -409,7 +409,7 @@ returns-in-Ok-clause-log g c =
     subst (λ (ys : List (List ℕ)). LogsReplace c.cpu.inside.0 c.time.inside.0 others (g.P.Pmem.region c.args.self.now.memory) c.args.self.now ys (g.P.Pmem.region c.replace_at.new.memory)) (sym u.2)
     (subst (λ (xs : List (List ℕ)). LogsReplace c.cpu.inside.0 c.time.inside.0 xs (g.P.Pmem.region c.args.self.now.memory) c.args.self.now (u.0 ∷ u.1) (g.P.Pmem.region c.replace_at.new.memory)) (sym v.2)
     (replaced_logs g.P.Pmem.region c.self.view_is c.self.invariant.0 runs writes c.in_ok-planned.planned.moved.from.directory c.in_ok-planned.planned.moved.from.target c.in_ok-planned.planned.moved.directory from.0 inode.0 to.0 from.1 inode.1 to.1 c.in_ok-planned.planned.there c.in_ok-planned.planned.moved.from.name.now c.in_ok-planned.planned.moved.name.now c.cpu.inside.0 c.time.inside.0 c.in_ok-planned.ensures.former c.in_ok-planned.ensures.name u.0 u.1 v.0 v.1 (c.in_ok-planned.ensures.spot (g.P.Pmem.region c.self.inside.memory) (u.0 ∷ u.1) (v.0 ∷ v.1) names_path others_path) (g.P.Pmem.region c.replace_at.new.memory) c.replace_at.new.rows.items c.replace_at.new.free (λ j is. row_in_use c.self.inside.rows.items j (c.in_ok-planned.ensures.there j is))
-    (subst (λ (n : ℕ). ReplacesAt (g.P.Pmem.region c.self.inside.memory) (g.P.Pmem.region c.replace_at.new.memory) c.self.inside.sup c.self.inside.free c.replace_at.new.free c.cpu.inside.0 c.self.inside.rows.items c.replace_at.new.rows.items (place_in c.self.inside.rows.items c.in_ok-planned.planned.moved.from.directory) (place_in c.self.inside.rows.items c.in_ok-planned.planned.moved.from.target) (place_in c.self.inside.rows.items c.in_ok-planned.planned.moved.directory) c.in_ok-planned.planned.there n c.in_ok-planned.planned.moved.from.name.now c.in_ok-planned.planned.moved.name.now c.time.inside.0) (sym number) c.in-Ok.ensures.replaced)))
+    (subst (λ (n : ℕ). ReplacesAt (g.P.Pmem.region c.self.inside.memory) (g.P.Pmem.region c.replace_at.new.memory) c.self.inside.tables.layout c.self.inside.free c.replace_at.new.free c.cpu.inside.0 c.self.inside.rows.items c.replace_at.new.rows.items (place_in c.self.inside.rows.items c.in_ok-planned.planned.moved.from.directory) (place_in c.self.inside.rows.items c.in_ok-planned.planned.moved.from.target) (place_in c.self.inside.rows.items c.in_ok-planned.planned.moved.directory) c.in_ok-planned.planned.there n c.in_ok-planned.planned.moved.from.name.now c.in_ok-planned.planned.moved.name.now c.time.inside.0) (sym number) c.in-Ok.ensures.replaced)))
     )
 
 pub returns-in_err-writable-clause-one : goal.returns-in_err-writable-clause-one

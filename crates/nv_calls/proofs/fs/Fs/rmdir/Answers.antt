@@ -7,7 +7,7 @@ use Rattle.nv_scan.specs.declared.piece.Row.{Row}
 use Rattle.nv_rows.specs.Rows.{place_in}
 use Rattle.nv_rows.proofs.Places.{at_place, own_row, row_in_use}
 use Rattle.nv_tree.specs.declared.refusal.Refusal.{Refusal}
-use Rattle.nv_held.specs.Mounted.{ShowsSound}
+use Rattle.nv_mounted.specs.Mounted.{ShowsSound}
 use Rattle.nv_tree.specs.Path.{last_name}
 use Rattle.nv_tree.specs.Tree.{SameTree, walk}
 use Rattle.nv_tree.specs.Calls.{removed}
@@ -36,7 +36,7 @@ use Rattle.nv_calls.proofs.RowChange.{same_mount}
 use Rattle.nv_calls.proofs.SetAttr.{not_stop}
 use Rattle.nv_calls.proofs.Tests.{writing_goes_on}
 use Rattle.nv_calls.proofs.Tests.{space_allows, space_refuses}
-use Rattle.nv_super.specs.Layout.{slot_address}
+use Rattle.nv_steps.specs.Slots.{slot_in}
 use Rattle.nv_steps.specs.Stores.{one_less}
 use Rattle.nv_calls.proofs.TwoWords.{gone_ordered, gone_stored}
 use Rattle.nv_calls.proofs.fs.Fs.rmdir.Goals as goal
@@ -118,7 +118,7 @@ pub remove_named-requires-clause-can : goal.remove_named-requires-clause-can
 remove_named-requires-clause-can g c row gone at there =
     let runs : c.self.inside.stopped ≡ false = ap (λ (m : Mount g.row.P.Denot). m.stopped) c.self.view_is ∙ c.in_ok-writable.ensures.runs in
     let writes : c.self.inside.read_only ≡ false = ap (λ (m : Mount g.row.P.Denot). m.read_only) c.self.view_is ∙ c.in_ok-writable.ensures.writes in
-    let low : c.cpu.inside.0 < c.self.inside.sup.cpus = subst (λ (m : Mount g.row.P.Denot). c.cpu.inside.0 < m.sup.cpus) (sym c.self.view_is) c.in_ok-writable.ensures.cpu in
+    let low : c.cpu.inside.0 < c.self.inside.tables.layout.sup.cpus = subst (λ (m : Mount g.row.P.Denot). c.cpu.inside.0 < m.sup.cpus) (sym c.self.view_is) c.in_ok-writable.ensures.cpu in
     let spot = c.in_ok-named.ensures.spot (g.P.Pmem.region c.self.inside.memory) in
     let path = c.in_ok-named.ensures.path in
     let can_go : (gone : Row) → slice_get c.self.inside.rows.items (place_in c.self.inside.rows.items c.in_ok-named.named.target) ≡ Some gone → CanGo gone = λ gone at. inl (c.in_ok-named.ensures.empty gone (sym (at_place c.self.inside.rows.items c.in_ok-named.named.target) ∙ at)) in
@@ -184,7 +184,7 @@ returns-in-Ok-clause-log g c =
     let spot = c.in_ok-named.ensures.spot (g.P.Pmem.region c.self.inside.memory) in
     let can_go : (gone : Row) → slice_get c.self.inside.rows.items (place_in c.self.inside.rows.items c.in_ok-named.named.target) ≡ Some gone → CanGo gone = λ gone at. inl (c.in_ok-named.ensures.empty gone (sym (at_place c.self.inside.rows.items c.in_ok-named.named.target) ∙ at)) in
     let step = c.in-Ok.ensures.removed in
-    subst (λ (m : Mount g.row.P.Denot). LeadsTo (tree_of (g.P.Pmem.region m.memory) m.rows) names i node → walk (tree_of (g.P.Pmem.region m.memory) m.rows) 1 names ≡ Ok d → ShowsSound (g.P.Pmem.region m.memory) m.sup held → ShowsRemoved (g.P.Pmem.region c.remove_named.new.memory) m.sup m.free.pools c.cpu.inside.0 held d h (name_entries Remove i (last_name names) c.time.inside.0) i) c.self.view_is
+    subst (λ (m : Mount g.row.P.Denot). LeadsTo (tree_of (g.P.Pmem.region m.memory) m.rows) names i node → walk (tree_of (g.P.Pmem.region m.memory) m.rows) 1 names ≡ Ok d → ShowsSound (g.P.Pmem.region m.memory) m.layout held → ShowsRemoved (g.P.Pmem.region c.remove_named.new.memory) m.layout m.free.pools c.cpu.inside.0 held d h (name_entries Remove i (last_name names) c.time.inside.0) i) c.self.view_is
     (λ leads walked shown. removed_log c.self.invariant.0 runs writes (cut_of step) c.in_ok-named.ensures.name (can_go step.gone step.gone_at) names (spot names path) i d node held h leads walked shown is) led ended sound
     )
 
@@ -216,7 +216,7 @@ returns-in-Ok-clause-stores g c =
           );
       in_order = rw (← c.cpu.view_is, ← c.time.view_is) (λ names k d node held h path led ended sound is.
           gone_ordered g.P.Pmem.region c.self.view_is c.self.invariant.0 c.in_ok-writable.ensures.runs (g.P.Pmem.region c.remove_named.new.memory) c.cpu.inside.0 c.in_ok-named.named.directory c.in_ok-named.named.target c.in_ok-named.ensures.directory c.in_ok-named.ensures.target
-          c.time.inside.0 c.in_ok-named.named.name.now names (c.in_ok-named.ensures.spot (g.P.Pmem.region c.self.inside.memory) names path) (λ count. Unit {0}) slot_address
+          c.time.inside.0 c.in_ok-named.named.name.now names (c.in_ok-named.ensures.spot (g.P.Pmem.region c.self.inside.memory) names path) (λ count. Unit {0}) slot_in
           (λ row gone st h f at gone_at here there any. c.remove_named.ensures.in_order row gone st h at gone_at here) k d node held h led ended sound is tt
           );
     }
@@ -260,7 +260,7 @@ returns-in-Err-clause-stores g c =
           );
       in_order = rw (← c.cpu.view_is, ← c.time.view_is) (λ names k d node held h path led ended sound is.
           gone_ordered g.P.Pmem.region c.self.view_is c.self.invariant.0 c.in_ok-writable.ensures.runs (g.P.Pmem.region c.remove_named.new.memory) c.cpu.inside.0 c.in_ok-named.named.directory c.in_ok-named.named.target c.in_ok-named.ensures.directory c.in_ok-named.ensures.target
-          c.time.inside.0 c.in_ok-named.named.name.now names (c.in_ok-named.ensures.spot (g.P.Pmem.region c.self.inside.memory) names path) (λ count. Unit {0}) slot_address
+          c.time.inside.0 c.in_ok-named.named.name.now names (c.in_ok-named.ensures.spot (g.P.Pmem.region c.self.inside.memory) names path) (λ count. Unit {0}) slot_in
           (λ row gone st h f at gone_at here there any. c.remove_named.ensures.in_order row gone st h at gone_at here) k d node held h led ended sound is tt
           );
     }

@@ -1,6 +1,6 @@
 use Rattle.std.proofs.Common.{◌≡◌, Some, None, sym, ap, subst, refl, ◌∙◌}
 use Rattle.std.specs.Option.{option_map, option_copied}
-use Rattle.nv_held.specs.nv_graph.Read.{row_of}
+use Rattle.nv_graph.specs.Read.{row_of}
 use Rattle.nv_paths.specs.Seen.{node_of}
 use Rattle.nv_rows.proofs.Places.{numbered}
 use Rattle.nv_calls.specs.Mount.{Mount}

@@ -3,7 +3,7 @@ use Rattle.std.proofs.lemmas.Result.{err_from_is_err_and, IfOk-from_err}
 use Rattle.std.proofs.lemmas.Option.{same_Some}
 use Rattle.nv_rows.proofs.TableNumbers.{numbers_kept}
 use Rattle.nv_region.specs.Region.{size}
-use Rattle.nv_held.specs.Held.{Held, Store}
+use Rattle.nv_mounted.specs.Held.{Held, Store}
 use Rattle.nv_scan.specs.declared.piece.Row.{Row}
 use Rattle.nv_tree.specs.declared.refusal.Refusal.{Refusal}
 use Rattle.nv_tree.specs.Calls.{with_attributes}
@@ -141,7 +141,7 @@ returns-in-Ok-clause-changed g c =
     let inode = c.in_ok-inode.field-0.now.inode in
     let at = at_place rows inode ∙ c.lend-row.ensures.row in
     let leads : (names : List (List ℕ)) → IsPath c.args.path.now names → LeadsTo (tree_of (g.P.Pmem.region c.self.inside.memory) rows) names c.lend-row.result.inode (node_of (g.P.Pmem.region c.self.inside.memory) c.lend-row.result) = λ names path. subst (λ (r : Row). LeadsTo (tree_of (g.P.Pmem.region c.self.inside.memory) rows) names r.inode (node_of (g.P.Pmem.region c.self.inside.memory) r)) (same_Some _ _ (sym c.in_ok-inode.ensures.held ∙ c.lend-row.ensures.row)) (c.in_ok-inode.ensures.row (g.P.Pmem.region c.self.inside.memory) names path) in
-    let follows = λ (held : Store) (h : Held) (shows : ShowsRow (g.P.Pmem.region c.self.inside.memory) c.self.inside.sup held h c.lend-row.result c.self.inside.free). c.in-Ok.ensures.log held h shows in
+    let follows = λ (held : Store) (h : Held) (shows : ShowsRow (g.P.Pmem.region c.self.inside.memory) c.self.inside.tables.layout held h c.lend-row.result c.self.inside.free). c.in-Ok.ensures.log held h shows in
     let has = c.in-Ok.ensures.row in
     let led = leads names path in
     let put = back_one rows c.lend-row.new.self.items c.give_back.new.self.items inode c.change_attributes-changed.new.row c.lend-row.ensures.lent (c.change_attributes-changed.ensures.inode ∙ c.lend-row.ensures.number) c.give_back.ensures.rows in
@@ -240,7 +240,7 @@ returns-in-Err-clause-log g c names i node held h path led sound is = tt
 
 pub change_attributes-changed-requires-clause-cpu : goal.change_attributes-changed-requires-clause-cpu
 change_attributes-changed-requires-clause-cpu g c =
-    let low : c.cpu.inside.0 < c.self.inside.sup.cpus = subst (λ (m : Mount g.row.P.Denot). c.cpu.inside.0 < m.sup.cpus) (sym c.self.view_is) c.in_ok-writable.ensures.cpu in
+    let low : c.cpu.inside.0 < c.self.inside.tables.layout.sup.cpus = subst (λ (m : Mount g.row.P.Denot). c.cpu.inside.0 < m.sup.cpus) (sym c.self.view_is) c.in_ok-writable.ensures.cpu in
     low_pools c.self.invariant.0 c.cpu.inside.0 low
 
 pub change_attributes-changed-requires-clause-mode : goal.change_attributes-changed-requires-clause-mode

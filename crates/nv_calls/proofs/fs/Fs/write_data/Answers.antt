@@ -4,7 +4,7 @@ use Rattle.std.proofs.lemmas.Option.{same_Some}
 use Rattle.nv_rows.proofs.TableNumbers.{numbers_kept}
 use Rattle.nv_region.specs.Region.{size}
 use Rattle.nv_radix.specs.Pages.{block_at}
-use Rattle.nv_held.specs.Held.{Held, Store}
+use Rattle.nv_mounted.specs.Held.{Held, Store}
 use Rattle.nv_scan.specs.declared.piece.Row.{Row}
 use Rattle.nv_super.specs.declared.kind.Kind.TheVariants.{File}
 use Rattle.nv_tree.specs.declared.refusal.Refusal.{Refusal}
@@ -182,7 +182,7 @@ returns-in-Ok-clause-changed g c =
     let at = at_place rows inode ∙ c.lend-row.ensures.row in
     let leads : (names : List (List ℕ)) → IsPath c.args.path.now names → LeadsTo (tree_of (g.P.Pmem.region c.self.inside.memory) rows) names c.lend-row.result.inode (node_of (g.P.Pmem.region c.self.inside.memory) c.lend-row.result) = λ names path. subst (λ (r : Row). LeadsTo (tree_of (g.P.Pmem.region c.self.inside.memory) rows) names r.inode (node_of (g.P.Pmem.region c.self.inside.memory) r)) (same_Some _ _ (sym c.in_ok-inode.ensures.held ∙ c.lend-row.ensures.row)) (c.in_ok-inode.ensures.row (g.P.Pmem.region c.self.inside.memory) names path) in
     let plan = c.new-plan.result in
-    let follows = λ (held : Store) (h : Held) (shows : ShowsRow (g.P.Pmem.region c.self.inside.memory) c.self.inside.sup held h c.lend-row.result c.self.inside.free). c.in-Ok.ensures.writes.follows held h shows in
+    let follows = λ (held : Store) (h : Held) (shows : ShowsRow (g.P.Pmem.region c.self.inside.memory) c.self.inside.tables.layout held h c.lend-row.result c.self.inside.free). c.in-Ok.ensures.writes.follows held h shows in
     let led = leads names path in
     let put = back_one rows c.lend-row.new.self.items c.give_back.new.self.items inode c.change_bytes-changed.new.row c.lend-row.ensures.lent (c.change_bytes-changed.ensures.inode ∙ c.lend-row.ensures.number) c.give_back.ensures.rows in
     rw put (write_changed g.P.Pmem.region c.self.view_is names c.lend-row.result.inode c.args.offset (data_bytes c.args.content) c.time.inside.0 (omega (arith, c.if-count-eq0.false, c.len-count.ensures)) (tree_of (g.P.Pmem.region c.change_bytes-changed.new.memory) (set c.self.inside.rows.items (place_in rows inode) c.change_bytes-changed.new.row)) led.leads
@@ -317,7 +317,7 @@ new-plan-requires-clause-small g c =
 
 pub change_bytes-changed-requires-clause-cpu : goal.change_bytes-changed-requires-clause-cpu
 change_bytes-changed-requires-clause-cpu g c =
-    let low : c.cpu.inside.0 < c.self.inside.sup.cpus = subst (λ (m : Mount g.row.P.Denot). c.cpu.inside.0 < m.sup.cpus) (sym c.self.view_is) c.in_ok-writable.ensures.cpu in
+    let low : c.cpu.inside.0 < c.self.inside.tables.layout.sup.cpus = subst (λ (m : Mount g.row.P.Denot). c.cpu.inside.0 < m.sup.cpus) (sym c.self.view_is) c.in_ok-writable.ensures.cpu in
     low_pools c.self.invariant.0 c.cpu.inside.0 low
 
 pub change_bytes-changed-requires-clause-some : goal.change_bytes-changed-requires-clause-some

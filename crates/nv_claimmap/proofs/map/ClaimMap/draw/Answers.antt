@@ -63,14 +63,12 @@ returns-then-number-self-clause-map c = ap (λ t. map_id t c.seat.inside.sizes) 
 pub returns-then-number-self-clause-number : goal.returns-then-number-self-clause-number
 returns-then-number-self-clause-number c = ap (λ (h : Held). h.number) c.seat.view_is
 
-pub returns-then-number-self-clause-some : goal.returns-then-number-self-clause-some
-returns-then-number-self-clause-some c = subst (λ (m : MapId). c.fetch_add-number.result < m.sizes.tickets) c.self.view_is c.if-number-self.true
-
-pub returns-then-number-self-clause-unseen : goal.returns-then-number-self-clause-unseen
-returns-then-number-self-clause-unseen c = subst (λ (h : Held). times c.fetch_add-number.result h.view.numbers ≡ 0) c.seat.view_is c.fetch_add-number.ensures.2.1
-
-pub returns-then-number-self-clause-rises : goal.returns-then-number-self-clause-rises
-returns-then-number-self-clause-rises c = subst (λ (h : Held). above h.view.numbers ≤ c.fetch_add-number.result) c.seat.view_is c.fetch_add-number.ensures.2.2
+pub returns-then-number-self-clause-ticket : goal.returns-then-number-self-clause-ticket
+returns-then-number-self-clause-ticket c = record {
+  below = subst (λ (m : MapId). c.fetch_add-number.result < m.sizes.tickets) c.self.view_is c.if-number-self.true;
+  unseen = subst (λ (h : Held). times c.fetch_add-number.result h.view.numbers ≡ 0) c.seat.view_is c.fetch_add-number.ensures.2.1;
+  rises = subst (λ (h : Held). above h.view.numbers ≤ c.fetch_add-number.result) c.seat.view_is c.fetch_add-number.ensures.2.2;
+}
 
 pub returns-then-number-self-clause-joins : goal.returns-then-number-self-clause-joins
 returns-then-number-self-clause-joins c = ap (λ (m : Me ℕ View). m.0) c.fetch_add-number.ensures.2.0 ∙ ap (λ (h : Held). with_number h.view c.fetch_add-number.result) c.seat.view_is

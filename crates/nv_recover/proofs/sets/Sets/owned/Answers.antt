@@ -1,6 +1,6 @@
 use Rattle.std.proofs.Common.{refl, List, ℕ, subst}
 use Rattle.nv_scan.specs.Work.{claims_in}
-use Rattle.nv_outcome.specs.nv_check.Doubled.{AreDoubled}
+use Rattle.nv_cross_check.specs.Doubled.{AreDoubled}
 use Rattle.nv_recover.proofs.Owned.{owned_by_sets, sets_same}
 use Rattle.nv_recover.proofs.sets.Sets.owned.Goals as goal
 

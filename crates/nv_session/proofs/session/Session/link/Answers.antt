@@ -4,7 +4,8 @@ use Rattle.std.proofs.lemmas.Result.{IfOk-weaker}
 use Rattle.nv_calls.specs.Effects.{makes_link, logs_link}
 use Rattle.nv_session.specs.Calls.{asks_link}
 use Rattle.nv_session.specs.Sessions.{is_armed}
-use Rattle.nv_session.proofs.Calling.{called_moves, not_stopped, two_moves, uncalled_moves}
+use Rattle.nv_session.proofs.Calling.{called_moves, two_moves, uncalled_moves}
+use Rattle.nv_session.proofs.Standing.{not_stopped}
 use Rattle.nv_session.proofs.Asking.{link_answers, link_changed, link_logged, link_stops}
 use Rattle.nv_session.proofs.session.Session.link.Goals as goal
 

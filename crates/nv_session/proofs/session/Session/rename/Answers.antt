@@ -4,7 +4,8 @@ use Rattle.std.proofs.lemmas.Result.{IfOk-weaker}
 use Rattle.nv_calls.specs.Effects.{makes_rename, logs_rename}
 use Rattle.nv_session.specs.Calls.{asks_rename}
 use Rattle.nv_session.specs.Sessions.{is_armed}
-use Rattle.nv_session.proofs.Calling.{called_moves, not_stopped, two_moves, uncalled_moves}
+use Rattle.nv_session.proofs.Calling.{called_moves, two_moves, uncalled_moves}
+use Rattle.nv_session.proofs.Standing.{not_stopped}
 use Rattle.nv_session.proofs.Asking.{rename_answers, rename_changed, rename_logged, rename_stops}
 use Rattle.nv_session.proofs.session.Session.rename.Goals as goal
 

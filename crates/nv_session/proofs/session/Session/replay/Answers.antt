@@ -5,8 +5,8 @@ use Rattle.nv_region.specs.RegionState.{RegionState, fenced_or_last, is_off, is_
 use Rattle.nv_region.specs.Stops.{LeavesOnly}
 use Rattle.nv_super.specs.declared.superblock.Super.{Super}
 use Rattle.nv_super.specs.Super.{IsSuper}
-use Rattle.nv_checking.specs.nv_recover.Errors.{UndoesAsBefore}
-use Rattle.nv_checking.specs.Answering.{MayEnd}
+use Rattle.nv_recover.specs.Errors.{UndoesAsBefore}
+use Rattle.nv_image_check.specs.Answering.{MayEnd}
 use Rattle.nv_session.specs.Sessions.{region_in, memory_in, is_armed}
 use Rattle.nv_session.specs.declared.session.Session.{Session}
 use Rattle.nv_session.specs.declared.store.Store.{Store}

@@ -54,6 +54,9 @@ returns-in-Rename g c = rw c.in-Rename.is c.rename.ensures
 pub returns-in-Clean : goal.returns-in-Clean
 returns-in-Clean g c = rw c.in-Clean.is c.clean.ensures
 
+pub returns-in-Upgrade : goal.returns-in-Upgrade
+returns-in-Upgrade g c = rw c.in-Upgrade.is c.upgrade.ensures
+
 pub returns-in-Tree : goal.returns-in-Tree
 returns-in-Tree g c = rw c.in-Tree.is c.show.ensures
 

@@ -1,5 +1,5 @@
 use Rattle.std.proofs.Common.{Option, Some, ap, subst, ◌∙◌}
-use Rattle.nv_checking.specs.declared.recovery.Answer.{Answer}
+use Rattle.nv_image_check.specs.declared.recovery.Answer.{Answer}
 use Rattle.nv_session.specs.Sessions.{CanMount}
 use Rattle.nv_session.proofs.session.Session.settle.Goals as goal
 

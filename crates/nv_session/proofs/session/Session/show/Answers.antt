@@ -1,7 +1,7 @@
 use Rattle.std.proofs.Common.{◌∙◌, sym, ap, subst, string_bytes}
 use Rattle.std.specs.Option.{option_map}
 use Rattle.std.proofs.lemmas.Result.{IfOk-weaker}
-use Rattle.nv_report.specs.nv_outcome.Outcome.{Outcome}
+use Rattle.nv_outcome.specs.Outcome.{Outcome}
 use Rattle.nv_report.specs.Texts.{IsPartText}
 use Rattle.nv_session.proofs.Moved.{seen_moves, unseen_moves}
 use Rattle.nv_session.proofs.session.Session.show.Goals as goal

@@ -1,6 +1,0 @@
-use Rattle.std.proofs.Common.{◌≡◌, take, map}
-use Rattle.nv_checking.specs.Answering.{worker_number}
-use Rattle.nv_checking.proofs.recovering.worker_numbers.Given as goal
-
-abbrev pub invariant-loop-number : goal.invariant-loop-number
-invariant-loop-number l = l.numbers.items ≡ map worker_number (take l.number-index l.schedule)

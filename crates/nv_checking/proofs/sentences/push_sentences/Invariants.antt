@@ -1,6 +1,0 @@
-use Rattle.std.proofs.Common.{◌≡◌, ◌++◌, take, string_bytes}
-use Rattle.nv_checking.specs.Sentences.{sentences}
-use Rattle.nv_checking.proofs.sentences.push_sentences.Given as goal
-
-abbrev pub invariant-loop-fault : goal.invariant-loop-fault
-invariant-loop-fault g l = string_bytes l.out ≡ string_bytes l.fn.out ++ sentences (g.P.Pmem.region l.memory) l.tables.layout (take l.fault-index l.faults)

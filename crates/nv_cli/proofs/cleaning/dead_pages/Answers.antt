@@ -1,2 +1,0 @@
-use Rattle.nv_cli.proofs.Cleanings.{memory_alone}
-use Rattle.nv_cli.proofs.cleaning.dead_pages.Goals as goal

@@ -1,5 +1,0 @@
-use Rattle.nv_held.proofs.Appending as made
-use Rattle.nv_held.proofs.appends.appended_log_is_sound.Goals as goal
-
-pub returns : goal.returns
-returns c = made.sound_follows

@@ -1,8 +1,0 @@
-use Rattle.nv_held.proofs.BytesKept as made
-use Rattle.nv_held.proofs.bytes.data_beside.Goals as goal
-
-pub returns-clause-slot : goal.returns-clause-slot
-returns-clause-slot c = made.slot_data
-
-pub returns-clause-behind : goal.returns-clause-behind
-returns-clause-behind c = made.data_behind

@@ -1,8 +1,0 @@
-use Rattle.nv_held.proofs.Graphs as made
-use Rattle.nv_held.proofs.names.graph_came.Goals as goal
-
-pub returns-clause-node : goal.returns-clause-node
-returns-clause-node c = λ l held i new out none. made.came l held i new out none
-
-pub returns-clause-attributes : goal.returns-clause-attributes
-returns-clause-attributes c = λ l held i new at e out one. made.attributes_came l held i new out at e one

@@ -1,5 +1,0 @@
-use Rattle.nv_held.proofs.Graphs as made
-use Rattle.nv_held.proofs.names.graph_linked.Goals as goal
-
-pub returns : goal.returns
-returns c = λ l held i h tail at count time fresh is file some few. made.linked_to l held i h is file tail fresh at count time some few

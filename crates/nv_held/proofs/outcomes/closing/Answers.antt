@@ -1,5 +1,0 @@
-use Rattle.nv_held.proofs.Closes as made
-use Rattle.nv_held.proofs.outcomes.closing.Goals as goal
-
-pub returns : goal.returns
-returns c = λ R s held rows free m. (made.closing m.sound rows free m.keeps, made.own_undo m.sound)

@@ -1,5 +1,0 @@
-use Rattle.nv_held.proofs.Closes as made
-use Rattle.nv_held.proofs.outcomes.outcome_is_held.Goals as goal
-
-pub returns : goal.returns
-returns c = λ R s held o m is. (made.outcome_faultless m o is, made.outcome_kept m o is)

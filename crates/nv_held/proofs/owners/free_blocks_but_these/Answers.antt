@@ -1,5 +1,0 @@
-use Rattle.nv_held.proofs.Growing as made
-use Rattle.nv_held.proofs.owners.free_blocks_but_these.Goals as goal
-
-pub returns : goal.returns
-returns c = λ l held i h new fresh is pages free file. made.free_but l held i h new is fresh pages free file

@@ -1,5 +1,0 @@
-use Rattle.nv_held.proofs.Growing as made
-use Rattle.nv_held.proofs.owners.grown_log_owns.Goals as goal
-
-pub returns : goal.returns
-returns c = λ l held i h new fresh is pages free file. made.grown_owns l held i h new is fresh pages free file

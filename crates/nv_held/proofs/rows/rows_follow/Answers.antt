@@ -1,5 +1,0 @@
-use Rattle.nv_held.proofs.RowsKept as made
-use Rattle.nv_held.proofs.rows.rows_follow.Goals as goal
-
-pub returns : goal.returns
-returns c = λ l held i new rows k row kept inside at number is. made.rows_follow l held i new rows kept k inside row at number is

@@ -1,5 +1,0 @@
-use Rattle.nv_held.proofs.Kept as made
-use Rattle.nv_held.proofs.stores.loose_words_are_not_shown.Goals as goal
-
-pub returns : goal.returns
-returns c = made.loose_shown

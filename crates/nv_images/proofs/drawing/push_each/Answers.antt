@@ -1,7 +1,0 @@
-use Rattle.std.proofs.Common.{append_assoc}
-use Rattle.nv_images.specs.Drawing.{each_line}
-use Rattle.nv_images.proofs.drawing.push_each.Goals as goal
-
-pub returns : goal.returns
-unfolding each_line
-returns c = simp append_assoc c.writeln.ensures.bytes

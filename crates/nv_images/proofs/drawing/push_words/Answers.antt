@@ -1,7 +1,0 @@
-use Rattle.std.proofs.Common.{append_assoc}
-use Rattle.nv_images.specs.Drawing.{words_line}
-use Rattle.nv_images.proofs.drawing.push_words.Goals as goal
-
-pub returns : goal.returns
-unfolding words_line
-returns c = simp append_assoc c.writeln.ensures.bytes

@@ -1,5 +1,0 @@
-use Rattle.std.proofs.Common.{◌≡◌, map, take, string_bytes}
-use Rattle.nv_images.proofs.words.Words.texts.Given as goal
-
-abbrev pub invariant-loop-text : goal.invariant-loop-text
-invariant-loop-text l = map (λ text. text.now) l.texts.items ≡ map string_bytes (take l.text-index l.self.texts.items)

@@ -1,0 +1,5 @@
+use Rattle.nv_mounted.proofs.Faultless as made
+use Rattle.nv_mounted.proofs.entries.still_faultless.Goals as goal
+
+pub returns : goal.returns
+returns c = made.still_faultless

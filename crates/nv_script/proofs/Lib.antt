@@ -1,0 +1,13 @@
+pub mod Buffered
+pub mod Progress
+pub mod KnownProgress
+pub mod LineReplies
+pub mod OneTranscript
+pub mod HintReplies
+pub mod Ending
+pub mod Kept
+pub mod ShellLines
+pub mod FileAnswers
+pub mod FreedPages
+pub mod Cleanings
+pub mod CleanedImage

@@ -1,0 +1,37 @@
+use Rattle.std.proofs.Common.{inl, IsTrue, subst, sym, refl}
+use Rattle.nv_region.specs.Region.{Region}
+use Rattle.nv_region.specs.RegionState.{RegionState, is_steady}
+use Rattle.nv_outcome.specs.Answer.{outcome_of}
+use Rattle.nv_image_check.specs.Recovering.{IsSuperRefused}
+use Rattle.nv_image_check.proofs.Found.{not_found}
+use Rattle.nv_script.specs.Cleaning.{IsOpenedAs}
+use Rattle.nv_script.proofs.CleanedImage.{can_open, opened_as, steady_off}
+use Rattle.nv_script.proofs.cleaning.clean_image.Goals as goal
+
+pub recover_alone-requires : goal.recover_alone-requires
+recover_alone-requires c = record { taken = inl (steady_off c.keep_all-memory.result c.keep_all-memory.ensures.fuse) }
+
+pub open-requires : goal.open-requires
+open-requires c =
+    let can = can_open c.keep_all-memory.result.region c.recover_alone.new.memory.region c.in_ok-answer.answer c.in-Recovered.recovered c.in_ok-answer.ensures.ok c.in_ok-answer.ensures.lists c.in-Recovered.is in
+    record { outcome = can.0; lists = can.2; own = can.1; numbers = can.3; tables = can.4; settled = c.in_ok-answer.ensures.settled c.keep_all-memory.ensures.settled }
+
+pub clean_mount-requires : goal.clean_mount-requires
+clean_mount-requires c =
+    let fuse = c.in_ok-answer.ensures.keeps_fuse in
+    record {
+      runs = c.open.ensures.stopped;
+      steady = subst (λ (m : RegionState). IsTrue (is_steady m)) (sym c.open.ensures.memory) (fuse.steady (steady_off c.keep_all-memory.result c.keep_all-memory.ensures.fuse));
+    }
+
+pub returns-in-Recovered : goal.returns-in-Recovered
+returns-in-Recovered c =
+    let opens = c.open.ensures in
+    let can = can_open c.keep_all-memory.result.region c.recover_alone.new.memory.region c.in_ok-answer.answer c.in-Recovered.recovered c.in_ok-answer.ensures.ok c.in_ok-answer.ensures.lists c.in-Recovered.is in
+    c.clean_mount.ensures c.args.memory.region (outcome_of c.in-Recovered.recovered)
+    (subst (λ (R : Region). IsOpenedAs R (outcome_of c.in-Recovered.recovered) c.open.result) c.keep_all-memory.ensures.region
+    (opened_as c.keep_all-memory.result.region c.recover_alone.new.memory.region c.in_ok-answer.answer c.in-Recovered.recovered c.open.result c.in_ok-answer.ensures.ok c.in-Recovered.is (λ i. (opens.memory i).region) opens.sup opens.layout can.4 opens.rows opens.read_only))
+
+pub returns-in-Refused : goal.returns-in-Refused
+returns-in-Refused c = subst (λ (R : Region). IsSuperRefused R c.in-Refused.refusal) c.keep_all-memory.ensures.region
+    (not_found c.keep_all-memory.result.region c.recover_alone.new.memory.region c.in_ok-answer.answer c.in_ok-answer.ensures.ok c.in-Refused.refusal c.in-Refused.is)

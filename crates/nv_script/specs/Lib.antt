@@ -1,0 +1,16 @@
+pub mod Script
+pub mod Transcript
+pub mod Strict
+pub mod Shell
+pub mod Replies
+pub mod Formatting
+pub mod Suiting
+pub mod Cleaning
+pub use Rattle.nv_region.specs.Region
+pub use Rattle.nv_region.specs.RegionState
+pub use Rattle.nv_super.specs.Super
+pub use Rattle.nv_outcome.specs.Outcome
+pub use Rattle.nv_session.specs.Sessions
+pub use Rattle.nv_stream.specs.Lines
+pub use Rattle.nv_stream.specs.Streams
+pub mod Hints
