@@ -21,9 +21,9 @@ const BLOCKS: u64 = 65_536;
 /// The most blocks of chains that are measured.
 const MOST: u64 = 65_000;
 
-/// How far the next block of a chain stands, so that no cache foresees it. It has no factor in common with powers of 2, 5
+/// How far the next block of a chain stands where no cache shall foresee it. It has no factor in common with powers of 2, 5
 /// and 13.
-const STRIDE: u64 = 40_503;
+const SCATTERED: u64 = 40_503;
 
 const RUNS: u64 = 5;
 
@@ -39,12 +39,22 @@ const TABLES: Super = Super {
 /// How the table of each CPU goes on.
 #[derive(Clone, Copy, PartialEq, Eq)]
 enum Chains {
-    /// In blocks of its own.
+    /// In blocks of its own, which lie scattered.
     Apart,
-    /// So too, and the last link leads back to the first block.
+    /// In blocks side by side, and the last link leads back to the first block.
     Rings,
-    /// In the same blocks as that of each other.
+    /// In the same blocks side by side as that of each other.
     Shared,
+}
+
+/// How far the next block of a chain stands.
+fn stride_of(chains: Chains) -> u64
+    ensures { result ≤ 40503 }
+{
+    match chains {
+        Chains::Apart => SCATTERED,
+        Chains::Rings | Chains::Shared => 1,
+    }
 }
 
 /// A superblock of version 2.
@@ -64,14 +74,15 @@ fn numbers(cpus: u64) -> Super
 }
 
 /// The byte address of a block, by its place among so many.
-fn address_of(first: u64, place: u64, count: u64) -> u64
+fn address_of(first: u64, place: u64, count: u64, stride: u64) -> u64
     requires first { first ≤ 129 }
+    requires stride { stride ≤ 40503 }
     requires place { place ≤ 65536 }
     requires count { (1 ≤ count) × (count ≤ 65000) }
     ensures whole { result % 4096 ≡ 0 }
     ensures inside { result + 4096 ≤ 4096 * 65536 }
 {
-    4096 * (first + place * STRIDE % count)
+    4096 * (first + place * stride % count)
 }
 
 fn store(memory: &mut MemRegion, at: u64, word: u64) -> Result<(), Stopped>
@@ -108,7 +119,7 @@ fn store_chain(
     from: u64,
     end: u64,
     count: u64,
-    is_ring: bool,
+    chains: Chains,
 ) -> Result<(), Stopped>
     requires cpus { (cpu < sup.now.cpus) × (sup.now.cpus ≤ 64) }
     requires places { (from ≤ end) × (end ≤ count) }
@@ -117,14 +128,15 @@ fn store_chain(
     ensures { HasBlocks memory.new.region 65536 }
 {
     let first = 1 + 2 * sup.cpus;
+    let stride = stride_of(chains);
     let mut at = 4096 * (1 + cpu) + 16;
     for place in from..end {
-        let next = address_of(first, place, count);
+        let next = address_of(first, place, count, stride);
         store(memory, at, next)?;
         at = next;
     }
-    let last = if is_ring {
-        address_of(first, from, count)
+    let last = if chains == Chains::Rings {
+        address_of(first, from, count, stride)
     } else {
         0
     };
@@ -147,10 +159,10 @@ fn store_chains(
     let mut from = 0;
     for cpu in 0..sup.cpus {
         if chains == Chains::Shared {
-            store_chain(memory, sup, cpu, 0, count, count, false)?;
+            store_chain(memory, sup, cpu, 0, count, count, chains)?;
         } else {
             let end = (from + each).min(count);
-            store_chain(memory, sup, cpu, from, end, count, chains == Chains::Rings)?;
+            store_chain(memory, sup, cpu, from, end, count, chains)?;
             from = end;
         }
     }
