@@ -242,7 +242,7 @@ def check_commands(report):
 def check_refusals(report):
     """docs/SCRIPT.md has each refusal that a command prints, and no other."""
     wanted = set()
-    for file in ("crates/nv_text/src/refusals.rt", "crates/nv_tree/src/refusal.rt"):
+    for file in ("crates/nv_text/src/refusals.rt", "crates/nv_format/src/formatting.rt", "crates/nv_tree/src/refusal.rt"):
         body = re.search(r"pub enum \w*Refusal[^{]*\{(.*?)^\}", text_of(file), re.M | re.S)
         wanted |= set(re.findall(r"^    ([A-Z]\w+),?$", body[1], re.M))
     wanted -= {"Memory", "Stopped"}

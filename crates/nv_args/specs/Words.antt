@@ -5,12 +5,13 @@ use Rattle.std.specs.Str.Parse.{IsNumeral, digits_value, without_leading_plus}
 use Rattle.clap.specs.Walk.{Row, Text, first_of, all_of}
 use Rattle.clap.specs.Simple.{subcommand_of}
 use Rattle.clap.specs.Faults.{fault_of}
+use Rattle.nv_text.specs.declared.output.Output.TheVariants.{Report, Summary, OnlyFaults, Json}
 use Rattle.nv_args.specs.CommandLine.{nova_app}
 use Rattle.nv_args.specs.declared.todo.CheckOutput.{CheckOutput}
 use Rattle.nv_args.specs.Changes.{AreOwners, IsMode}
 use Rattle.nv_args.specs.declared.change.NamedChange.{NamedChange}
 use Rattle.nv_args.specs.declared.change.NamedChange.TheVariants.{Mkdir, Rm, Rmdir, Mv, Ln, Truncate, Chmod, Chown, Put}
-use Rattle.nv_args.specs.declared.todo.CheckOutput.TheVariants.{Report, Summary, OnlyFaults, Json, Explained, Journal}
+use Rattle.nv_args.specs.declared.todo.CheckOutput.TheVariants.{Written, Explained, Journal}
 use Rattle.nv_args.specs.declared.todo.Todo.{Todo}
 use Rattle.nv_args.specs.declared.todo.Todo.TheVariants.{Version, Run, Shell, Check, Mkfs, Clean, Change, PutTree, Untar, Recover, Ls, Stat, Cat, Tar, Log, View, Explain, Map}
 use Rattle.nv_args.specs.declared.todo.Which.{Which}
@@ -83,13 +84,13 @@ IsGiven name values = first_of name values ≡ Some (codes "true")
 -- A check prints the report, unless one of five options asks for something else: that each fault is explained, and what is pending,
 -- only of one image.
 abbrev pub IsOutput : List Row → ℕ → CheckOutput → Type 0
-IsOutput values images Report = (¬ IsGiven (codes "summary") values) × (¬ IsGiven (codes "only-faults") values) × (¬ IsGiven (codes "json") values)
+IsOutput values images (Written Report) = (¬ IsGiven (codes "summary") values) × (¬ IsGiven (codes "only-faults") values) × (¬ IsGiven (codes "json") values)
     × (¬ IsGiven (codes "explain") values) × (¬ IsGiven (codes "journal") values)
-IsOutput values images Summary = IsGiven (codes "summary") values × (¬ IsGiven (codes "only-faults") values) × (¬ IsGiven (codes "json") values)
+IsOutput values images (Written Summary) = IsGiven (codes "summary") values × (¬ IsGiven (codes "only-faults") values) × (¬ IsGiven (codes "json") values)
     × (¬ IsGiven (codes "explain") values) × (¬ IsGiven (codes "journal") values)
-IsOutput values images OnlyFaults = (¬ IsGiven (codes "summary") values) × IsGiven (codes "only-faults") values × (¬ IsGiven (codes "json") values)
+IsOutput values images (Written OnlyFaults) = (¬ IsGiven (codes "summary") values) × IsGiven (codes "only-faults") values × (¬ IsGiven (codes "json") values)
     × (¬ IsGiven (codes "explain") values) × (¬ IsGiven (codes "journal") values)
-IsOutput values images Json = (¬ IsGiven (codes "summary") values) × (¬ IsGiven (codes "only-faults") values) × IsGiven (codes "json") values
+IsOutput values images (Written Json) = (¬ IsGiven (codes "summary") values) × (¬ IsGiven (codes "only-faults") values) × IsGiven (codes "json") values
     × (¬ IsGiven (codes "explain") values) × (¬ IsGiven (codes "journal") values)
 IsOutput values images Explained = (¬ IsGiven (codes "summary") values) × (¬ IsGiven (codes "only-faults") values) × (¬ IsGiven (codes "json") values)
     × IsGiven (codes "explain") values × (¬ IsGiven (codes "journal") values) × (images ≡ 1)

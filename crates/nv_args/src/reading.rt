@@ -14,6 +14,7 @@ use crate::todo::{CheckOutput, Todo, Which};
 use crate::usage::{Cause, Usage};
 use crate::views::{block_of, diff_of, du_of, log_of, ls_of};
 use clap::ArgMatches;
+use nv_text::Output;
 use std::alloc::{AllocError, Global};
 
 // The text that is written for the argument of this name.
@@ -112,10 +113,10 @@ fn output_of(values: &ArgMatches<'_>, images: usize) -> Option<CheckOutput>
     let explain = is_given(values, "explain");
     let journal = is_given(values, "journal");
     match (summary, only_faults, json, explain, journal) {
-        (false, false, false, false, false) => Some(CheckOutput::Report),
-        (true, false, false, false, false) => Some(CheckOutput::Summary),
-        (false, true, false, false, false) => Some(CheckOutput::OnlyFaults),
-        (false, false, true, false, false) => Some(CheckOutput::Json),
+        (false, false, false, false, false) => Some(CheckOutput::Written(Output::Report)),
+        (true, false, false, false, false) => Some(CheckOutput::Written(Output::Summary)),
+        (false, true, false, false, false) => Some(CheckOutput::Written(Output::OnlyFaults)),
+        (false, false, true, false, false) => Some(CheckOutput::Written(Output::Json)),
         (false, false, false, true, false) if images == 1 => Some(CheckOutput::Explained),
         (false, false, false, false, true) if images == 1 => Some(CheckOutput::Journal),
         _ => None,

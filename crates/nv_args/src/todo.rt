@@ -2,6 +2,7 @@
 
 use crate::change::NamedChange;
 use crate::views::View;
+use nv_text::Output;
 
 /// What the program is to do.
 #[derive(Drop, PartialEq, Eq)]
@@ -144,16 +145,10 @@ pub enum Which<'a> {
 /// What a check prints.
 #[derive(Clone, Copy, PartialEq, Eq)]
 pub enum CheckOutput {
-    /// The whole report.
-    Report,
-    /// One line of sums.
-    Summary,
-    /// The faults alone.
-    OnlyFaults,
-    /// The report as JSON.
-    Json,
-    /// The whole report, and of each fault what is wrong with which word.
+    /// Of each image this.
+    Written(Output),
+    /// Of one image the whole report, and of each fault what is wrong with which word.
     Explained,
-    /// The whole report, and above it the pending records of the journals.
+    /// Of one image the whole report, and above it the pending records of the journals.
     Journal,
 }

@@ -8,7 +8,7 @@ use Rattle.nv_super.specs.declared.superblock.SuperFault.TheVariants.{Length}
 use Rattle.nv_super.specs.FaultText.{super_fault_name}
 use Rattle.nv_image_check.specs.Checking.{IsRefusal, IsCheckAs}
 use Rattle.nv_image_check.specs.Explained.{IsExplained}
-use Rattle.nv_image_check.specs.declared.output.Output.{Output}
+use Rattle.nv_text.specs.declared.output.Output.{Output}
 use Rattle.nv_image_check.specs.Workers.{is_worker_count}
 
 -- no region has so many bytes

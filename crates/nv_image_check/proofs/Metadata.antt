@@ -16,7 +16,7 @@ use Rattle.nv_stream.specs.Streams.{AppendsFront}
 use Rattle.nv_stream.specs.declared.fault.ScriptError.{ScriptError}
 use Rattle.nv_stream.specs.declared.fault.ScriptError.TheVariants.{Write}
 use Rattle.nv_image_check.specs.Answering.{IsOpenInFront}
-use Rattle.nv_image_check.specs.declared.output.Output.{Output}
+use Rattle.nv_text.specs.declared.output.Output.{Output}
 use Rattle.nv_image_check.specs.Workers.{is_worker_count}
 use Rattle.nv_image_check.specs.Checking.{IsRefusal, IsSuperRefusal, IsOutput, IsCheckAs, FailsCheckAs}
 

@@ -17,8 +17,8 @@ use Rattle.nv_report.specs.Texts.{IsReportText}
 use Rattle.nv_image_check.specs.Workers.{is_worker_count}
 use Rattle.nv_report.specs.Summary.{summary_line}
 use Rattle.nv_text.specs.Faults.{faults_text}
-use Rattle.nv_image_check.specs.declared.output.Output.{Output}
-use Rattle.nv_image_check.specs.declared.output.Output.TheVariants.{Report, Summary, OnlyFaults, Json}
+use Rattle.nv_text.specs.declared.output.Output.{Output}
+use Rattle.nv_text.specs.declared.output.Output.TheVariants.{Report, Summary, OnlyFaults, Json}
 
 -- the command was refused by this name
 abbrev pub IsRefusal : List ℕ → List ℕ → ℕ → Type 0

@@ -15,7 +15,7 @@ use Rattle.nv_image_files.specs.declared.failure.Failure.{Failure}
 use Rattle.nv_image_files.specs.declared.failure.Failure.TheVariants.{CannotRead, CannotWrite, Answer}
 use Rattle.nv_image_files.specs.declared.saving.Target.{Target}
 use Rattle.nv_image_files.specs.Images.{IsSystem}
-use Rattle.nv_image_check.specs.declared.output.Output.{Output}
+use Rattle.nv_text.specs.declared.output.Output.{Output}
 use Rattle.nv_image_check.specs.declared.mapping.Mapped.{Mapped}
 use Rattle.nv_image_check.specs.declared.mapping.Mapped.TheVariants as maps
 use Rattle.nv_image_check.specs.Checking.{WritesCheckAs, EndsCheckAs, FailsCheckAs}

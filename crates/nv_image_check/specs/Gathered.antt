@@ -11,7 +11,7 @@ use Rattle.nv_metadata.specs.declared.gathering.Gathered.TheVariants as gathered
 use Rattle.nv_stream.specs.declared.fault.ScriptError.TheVariants as errors
 use Rattle.nv_image_check.specs.declared.gathered.BlocksError.{BlocksError}
 use Rattle.nv_image_check.specs.declared.gathered.BlocksError.TheVariants.{Read, Answer}
-use Rattle.nv_image_check.specs.declared.output.Output.{Output}
+use Rattle.nv_text.specs.declared.output.Output.{Output}
 use Rattle.nv_image_check.specs.Checking.{FailsCheckAs}
 
 -- what an error of gathering is told as

@@ -9,7 +9,7 @@ use Rattle.nv_stream.specs.declared.fault.ScriptError.TheVariants.{Read, Write, 
 use Rattle.nv_stream.specs.Streams.{AppendsFront}
 use Rattle.nv_image_files.specs.declared.image.Image.{Image}
 use Rattle.nv_image_files.specs.declared.image.Image.TheVariants as images
-use Rattle.nv_image_check.specs.declared.output.Output.{Output}
+use Rattle.nv_text.specs.declared.output.Output.{Output}
 use Rattle.nv_image_check.specs.Checking.{IsCheckAs}
 use Rattle.nv_image_check.specs.Files.{length_refused}
 

@@ -12,7 +12,7 @@ ghost use Rattle.nv_report.specs.Last.{how_it_went, status_of};
 ghost use Rattle.nv_image_check.specs.Workers.{is_worker_count};
 ghost use Rattle.nv_image_check.specs.Checking.{IsCheckAs, IsRefusal, WritesCheck, EndsCheck, FailsCheck, WritesCheckAs, EndsCheckAs, FailsCheckAs};
 
-use crate::output::{Output, output_text};
+use crate::output::output_text;
 use crate::recovering::recover_region;
 use crate::recovery::Answer;
 use nv_recover::{MOST_WORKERS, slots_end};
@@ -20,7 +20,7 @@ use nv_region::{ImageRegion, Pmem, RegionRefusal};
 use nv_report::{Last, how_it_went, refused_text};
 use nv_stream::{ScriptError, write_text};
 use nv_super::{Fault, SuperFault, read_super};
-use nv_text::Refusal;
+use nv_text::{Output, Refusal};
 use std::alloc::{AllocError, Global};
 use std::io::Write;
 use std::thread::Threads;

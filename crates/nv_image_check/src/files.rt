@@ -11,7 +11,6 @@ use crate::checking::check_region_as;
 use crate::explained::explain_region;
 use crate::gathered::check_gathered;
 use crate::mapping::{Mapped, answered, map_cells, map_gathered, write_map};
-use crate::output::Output;
 use crate::plain::{READERS, gather_plain, why_plain_refused};
 use nv_image_files::{
     Failure, Held, Image, ImageFile, Lock, Stamp, Target, hold, image_at, open_image, read_image,
@@ -22,7 +21,7 @@ use nv_metadata::Blocks;
 use nv_report::Last;
 use nv_stream::ScriptError;
 use nv_super::SuperFault;
-use nv_text::Refusal;
+use nv_text::{Output, Refusal};
 use std::alloc::{AllocError, Global};
 use std::io;
 use std::io::Write;

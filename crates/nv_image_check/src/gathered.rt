@@ -10,14 +10,13 @@ ghost use Rattle.nv_super.specs.Super.{IsRefused};
 ghost use Rattle.nv_metadata.specs.Gathered.{AreGathered, IsOpen};
 ghost use Rattle.nv_image_check.specs.Checking.{IsCheckAs, WritesCheckAs, EndsCheckAs, FailsCheckAs};
 ghost use Rattle.nv_image_check.specs.Gathered.{FailsBlocksCheck, KeepsUnread};
-ghost use Rattle.nv_image_check.specs.declared.output.Output.{Output as OutputValue};
+ghost use Rattle.nv_text.specs.declared.output.Output.{Output as OutputValue};
 
 use crate::checking::{Checked, check_memory, is_worker_count, refused};
-use crate::output::Output;
 use nv_metadata::{Blocks, GatherError, Gathered, gather_on};
 use nv_stream::{ScriptError, write_text};
 use nv_super::SuperFault;
-use nv_text::Refusal;
+use nv_text::{Output, Refusal};
 use std::alloc::{AllocError, Global};
 use std::io;
 use std::io::Write;

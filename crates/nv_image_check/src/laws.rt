@@ -4,7 +4,7 @@ ghost use Rattle.std.specs.Prelude.{◌≡◌, ℕ, List, true};
 ghost use Rattle.nv_region.specs.Region.{Region};
 ghost use Rattle.nv_image_check.specs.Workers.{is_worker_count};
 ghost use Rattle.nv_image_check.specs.Checking.{IsCheck, IsCheckAs};
-ghost use Rattle.nv_image_check.specs.declared.output.Output.{Output as OutputValue};
+ghost use Rattle.nv_text.specs.declared.output.Output.{Output as OutputValue};
 
 /// A check of a region by so many workers has one output and one exit status.
 pub fn one_check()

@@ -33,7 +33,7 @@ pub use imaging::{Image, recover_image};
 pub use laws::{any_workers, one_check};
 pub use mapping::{Mapped, map_blocks, map_cells, map_gathered, write_map};
 pub use nv_metadata::{Blocks, Gathered, gather};
-pub use output::Output;
+pub use nv_text::Output;
 pub use plain::{READERS, gather_plain, see_unchanged, why_plain_refused};
 pub use recovering::{recover_alone, recover_or_stop, recover_region, replay_or_stop};
 pub use recovery::Answer;

@@ -4,25 +4,13 @@ ghost use Rattle.std.specs.Prelude.{IfOk, string_bytes};
 ghost use Rattle.nv_super.specs.Layout.{HasAreas};
 ghost use Rattle.nv_outcome.specs.Answer.{outcome_of};
 ghost use Rattle.nv_image_check.specs.Checking.{IsOutputText};
-ghost use Rattle.nv_image_check.specs.declared.output.Output.TheVariants as outputs;
+ghost use Rattle.nv_text.specs.declared.output.Output.TheVariants as outputs;
 
 use nv_json::report_json;
 use nv_report::{Part, Recovered, Shown, part_text, report_text, summary_text};
+use nv_text::Output;
 use std::alloc::{AllocError, Global};
 use std::thread::Threads;
-
-/// What a check writes.
-#[derive(Clone, Copy, PartialEq, Eq)]
-pub enum Output {
-    /// The whole report.
-    Report,
-    /// One line of sums.
-    Summary,
-    /// The faults alone.
-    OnlyFaults,
-    /// The whole report as one JSON object.
-    Json,
-}
 
 /// The text of a recovery for such an output. As many threads as asked for write a report.
 ///

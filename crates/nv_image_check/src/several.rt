@@ -11,7 +11,6 @@ ghost use Rattle.nv_image_check.specs.Several.{IsImageCheck, WritesNamed, FailsN
 use crate::checking::{Checked, check_bytes, refused};
 use crate::files::tell_image_refused;
 use crate::gathered::check_metadata;
-use crate::output::Output;
 use crate::plain::{gather_plain, why_plain_refused};
 use nv_image_files::{
     Failure, Image, ImageFile, Shown, open_image, read_image, tell_explain, tell_failure,
@@ -21,7 +20,7 @@ use nv_metadata::{Blocks, Gathered};
 use nv_report::Last;
 use nv_stream::{ScriptError, write_text};
 use nv_super::SuperFault;
-use nv_text::Refusal;
+use nv_text::{Output, Refusal};
 use std::alloc::{AllocError, Global};
 use std::fmt::Write as _;
 use std::io;

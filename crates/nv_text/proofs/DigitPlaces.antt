@@ -1,10 +1,9 @@
 -- Digits in their places: what a digit looks like, and two places more.
-use Rattle.std.proofs.Common.{◌≡◌, ◌≤◌, ◌<◌, ◌+◌, ◌-◌, ◌*◌, ℕ, suc, false, List, [], ◌∷◌, ◌++◌, length, take, set, flat_map, sym, ap, ◌∙◌, append_assoc, arith}
-use Rattle.std.proofs.lemmas.Grind.{take-set_at, flat_map-append}
+use Rattle.std.proofs.Common.{◌≡◌, ◌≤◌, ◌<◌, ◌+◌, ◌-◌, ◌*◌, ℕ, false, List, [], ◌∷◌, ◌++◌, length, take, set, ap, ◌∙◌, append_assoc, arith}
+use Rattle.std.proofs.lemmas.Grind.{take-set_at}
 use Rattle.std.proofs.lemmas.List.{length-set}
 use Rattle.std.proofs.lemmas.Bool.Decides.{nat_tests}
 use Rattle.std.specs.Fmt.{digit_glyph}
-use Rattle.nv_text.specs.Names.{hex_byte}
 
 pub low_glyph : (n : ℕ) → n < 10 → digit_glyph false n ≡ 48 + n
 low_glyph n low = grind (arith, nat_tests)

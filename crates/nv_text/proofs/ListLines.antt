@@ -7,7 +7,9 @@ use Rattle.std.specs.Str.Parse.{AllDigits}
 use Rattle.std.proofs.lemmas.Bool.{leb-true}
 use Rattle.std.proofs.lemmas.Fmt.{decimal_is_IsNumeral}
 use Rattle.std.proofs.lemmas.Str.Parse.{digit_from_value}
+use Rattle.nv_format.specs.declared.formatting.FormatRefusal.TheVariants as formats
 use Rattle.nv_super.specs.declared.superblock.SuperFault.TheVariants as super_faults
+use Rattle.nv_tree.specs.declared.refusal.Refusal.TheVariants as calls
 use Rattle.nv_text.specs.Answers.{refused_line}
 use Rattle.nv_text.specs.Names.{hex_byte, is_plain, escaped_byte, escaped, list_line}
 use Rattle.nv_text.specs.Refusals.{refusal_name}
@@ -60,35 +62,10 @@ name_has_none (b ∷ name) bytes = no_space_both (escaped_byte b) (escaped name)
 -- ---- what stands behind the space
 
 capital : (refusal : Refusal) → nat_le 65 (get_or (refusal_name refusal ++ codes "\n") 0 0) ≡ true
-capital refusals.NoRegion = refl
-capital refusals.NotMounted = refl
-capital refusals.Address = refl
-capital refusals.Length = refl
-capital refusals.Cpus = refl
-capital refusals.Tables = refl
-capital refusals.Workers = refl
-capital refusals.Schedule = refl
+capital (refusals.Format formats.Length) = refl
 capital (refusals.Super super_faults.Length) = refl
-capital (refusals.Super super_faults.Magic) = refl
-capital (refusals.Super super_faults.Version) = refl
-capital (refusals.Super super_faults.Cpus) = refl
-capital (refusals.Super super_faults.Blocks) = refl
-capital (refusals.Super super_faults.Tables) = refl
-capital (refusals.Super super_faults.State) = refl
-capital refusals.NotFound = refl
-capital refusals.Exists = refl
-capital refusals.NotDirectory = refl
-capital refusals.IsDirectory = refl
-capital refusals.NotEmpty = refl
-capital refusals.BadName = refl
-capital refusals.NoSpace = refl
-capital refusals.NoInodes = refl
-capital refusals.TooLarge = refl
-capital refusals.ReadOnly = refl
-capital refusals.LinkLimit = refl
-capital refusals.IntoItself = refl
-capital refusals.BadCpu = refl
-capital refusals.IsVersion2 = refl
+capital (refusals.Call calls.NotFound) = refl
+capital refusal = refl
 
 digit_first : (ds more : List ℕ) → AllDigits 10 ds → 0 < length ds → get_or (ds ++ more) 0 0 ≤ 57
 digit_first [] more digits some = absurd (omega arith)
@@ -100,7 +77,7 @@ not_refused name more inode bytes small line =
     let list : list_line name inode ++ more ≡ escaped name ++ 32 ∷ rest = simp append_assoc in
     let refused : refused_line (refusal_name line.0) ≡ codes "refused" ++ 32 ∷ (refusal_name line.0 ++ codes "\n") = refl in
     let word : NoSpace (codes "refused") = ((λ e. omega arith), ((λ e. omega arith), ((λ e. omega arith), ((λ e. omega arith), ((λ e. omega arith), ((λ e. omega arith), ((λ e. omega arith), tt))))))) in
-    let same : rest ≡ refusal_name line.0 ++ codes "\n" = behind_space (escaped name) (codes "refused") rest (refusal_name line.0 ++ codes "\n") (name_has_none name bytes) word (sym list ∙ line.1 ∙ refused) in
+    let same : rest ≡ refusal_name line.0 ++ codes "\n" = behind_space (escaped name) (codes "refused") rest (refusal_name line.0 ++ codes "\n") (name_has_none name bytes) word (sym list ∙ line.2 ∙ refused) in
     let numeral = decimal_is_IsNumeral inode small in
     let digit : get_or rest 0 0 ≤ 57 = digit_first (decimal inode) (codes "\n" ++ more) numeral.0.1 numeral.0.0 in
     let letter : 65 ≤ get_or rest 0 0 = leb-true 65 (get_or rest 0 0) (subst (λ (x : List ℕ). nat_le 65 (get_or x 0 0) ≡ true) (sym same) (capital line.0)) in

@@ -3,14 +3,53 @@
 ghost use Rattle.std.specs.Prelude.{◌≡◌, ◌<◌, ◌^◌, ◌++◌, ◌↔◌, ℕ, List, IsTrue, IfSome, IfNone, codes};
 ghost use Rattle.nv_text.specs.Escapes.{AreBytes};
 ghost use Rattle.nv_text.specs.Names.{list_line};
-ghost use Rattle.nv_text.specs.RefusalLines.{IsRefusalLine, names_one, all_refusals, super_refusals, call_refusals, call_limits};
+ghost use Rattle.nv_text.specs.RefusalLines.{IsRefusalLine, names_one};
 
-/// Whether a text is `refused NAME` and the end of a line, where NAME is the name of a refusal.
+use crate::refusals::Refusal;
+use nv_format::FormatRefusal;
+use nv_super::SuperFault;
+use nv_tree::Refusal as CallRefusal;
+
+// The refusals that are printed: all but a stop and want of memory.
+const PRINTED: [Refusal; 30] = [
+    Refusal::NoRegion,
+    Refusal::NotMounted,
+    Refusal::Address,
+    Refusal::Length,
+    Refusal::Workers,
+    Refusal::Schedule,
+    Refusal::Format(FormatRefusal::Length),
+    Refusal::Format(FormatRefusal::Cpus),
+    Refusal::Format(FormatRefusal::Tables),
+    Refusal::Super(SuperFault::Length),
+    Refusal::Super(SuperFault::Magic),
+    Refusal::Super(SuperFault::Version),
+    Refusal::Super(SuperFault::Cpus),
+    Refusal::Super(SuperFault::Blocks),
+    Refusal::Super(SuperFault::Tables),
+    Refusal::Super(SuperFault::State),
+    Refusal::Call(CallRefusal::NotFound),
+    Refusal::Call(CallRefusal::Exists),
+    Refusal::Call(CallRefusal::NotDirectory),
+    Refusal::Call(CallRefusal::IsDirectory),
+    Refusal::Call(CallRefusal::NotEmpty),
+    Refusal::Call(CallRefusal::BadName),
+    Refusal::Call(CallRefusal::NoSpace),
+    Refusal::Call(CallRefusal::NoInodes),
+    Refusal::Call(CallRefusal::TooLarge),
+    Refusal::Call(CallRefusal::ReadOnly),
+    Refusal::Call(CallRefusal::LinkLimit),
+    Refusal::Call(CallRefusal::IntoItself),
+    Refusal::Call(CallRefusal::BadCpu),
+    Refusal::Call(CallRefusal::IsVersion2),
+];
+
+/// Whether a text is `refused NAME` and the end of a line, where NAME is the name of a refusal that is printed.
 pub fn is_refusal_line(text: &[u8]) -> bool
     ensures { IsTrue result ↔ IsRefusalLine text.now }
 {
     match refused_name(text) {
-        Some(name) => is_refusal_name(name),
+        Some(name) => is_name_of_one(&PRINTED, name),
         None => false,
     }
 }
@@ -37,64 +76,14 @@ fn refused_name(text: &[u8]) -> Option<&[u8]>
     }
 }
 
-// Whether this is the name of a refusal.
-#[tactic(auto, unfolding(crate::specs::RefusalLines::names_one, crate::specs::RefusalLines::all_refusals))]
-fn is_refusal_name(name: &[u8]) -> bool
-    ensures { result ≡ names_one all_refusals name.now }
+// Whether this is the name of one of these.
+#[tactic(auto, unfolding(crate::specs::RefusalLines::names_one))]
+fn is_name_of_one(these: &[Refusal], name: &[u8]) -> bool
+    ensures { result ≡ names_one these.now name.now }
 {
-    name == b"NoRegion".as_slice()
-        || name == b"NotMounted".as_slice()
-        || name == b"Address".as_slice()
-        || name == b"Length".as_slice()
-        || name == b"Cpus".as_slice()
-        || name == b"Tables".as_slice()
-        || name == b"Workers".as_slice()
-        || name == b"Schedule".as_slice()
-        || is_super_name(name)
-}
-
-// The same of the refusals of a superblock, and of those behind them.
-#[tactic(auto, unfolding(crate::specs::RefusalLines::names_one, crate::specs::RefusalLines::super_refusals))]
-fn is_super_name(name: &[u8]) -> bool
-    ensures { result ≡ names_one super_refusals name.now }
-{
-    name == b"S1".as_slice()
-        || name == b"S2".as_slice()
-        || name == b"S3".as_slice()
-        || name == b"S4".as_slice()
-        || name == b"S5".as_slice()
-        || name == b"S6".as_slice()
-        || name == b"S7".as_slice()
-        || is_call_name(name)
-}
-
-// The same of the refusals of file calls.
-#[tactic(auto, unfolding(crate::specs::RefusalLines::names_one, crate::specs::RefusalLines::call_refusals))]
-fn is_call_name(name: &[u8]) -> bool
-    ensures { result ≡ names_one call_refusals name.now }
-{
-    name == b"NotFound".as_slice()
-        || name == b"Exists".as_slice()
-        || name == b"NotDirectory".as_slice()
-        || name == b"IsDirectory".as_slice()
-        || name == b"NotEmpty".as_slice()
-        || name == b"BadName".as_slice()
-        || is_limit_name(name)
-}
-
-// The same of the refusals for what a call would make.
-#[tactic(auto, unfolding(crate::specs::RefusalLines::names_one, crate::specs::RefusalLines::call_limits))]
-fn is_limit_name(name: &[u8]) -> bool
-    ensures { result ≡ names_one call_limits name.now }
-{
-    name == b"NoSpace".as_slice()
-        || name == b"NoInodes".as_slice()
-        || name == b"TooLarge".as_slice()
-        || name == b"ReadOnly".as_slice()
-        || name == b"LinkLimit".as_slice()
-        || name == b"IntoItself".as_slice()
-        || name == b"BadCpu".as_slice()
-        || name == b"IsVersion2".as_slice()
+    these
+        .iter()
+        .any(|refusal| refusal.name().as_bytes() == name)
 }
 
 /// What shows the names of a directory is never told as a refusal, whatever these are: not with this name as the first.

@@ -3,7 +3,9 @@
 ghost use Rattle.std.specs.Prelude.{◌≡◌, Some};
 ghost use Rattle.nv_text.specs.Refusals.{refusal_name};
 
+use nv_format::FormatRefusal;
 use nv_super::SuperFault;
+use nv_tree::Refusal as CallRefusal;
 use std::fmt;
 
 /// Why a command is refused.
@@ -15,32 +17,18 @@ pub enum Refusal {
     NotMounted,
     /// An address that is no multiple of 8, or whose word isn't in the region.
     Address,
-    /// More bytes than the region has, or a number of blocks that no region has.
+    /// More bytes than the region has.
     Length,
-    /// A number of CPUs that isn't from 1 to 64.
-    Cpus,
-    /// A number of table blocks that isn't from 1 to 64, or that leaves no data block.
-    Tables,
     /// A number of workers that isn't from 1 to 64.
     Workers,
     /// A number in a schedule that is no worker.
     Schedule,
+    /// No region is made of these numbers.
+    Format(FormatRefusal),
     /// The superblock isn't accepted.
     Super(SuperFault),
-    NotFound,
-    Exists,
-    NotDirectory,
-    IsDirectory,
-    NotEmpty,
-    BadName,
-    NoSpace,
-    NoInodes,
-    TooLarge,
-    ReadOnly,
-    LinkLimit,
-    IntoItself,
-    BadCpu,
-    IsVersion2,
+    /// A file call is refused.
+    Call(CallRefusal),
 }
 
 impl Refusal {
@@ -53,25 +41,11 @@ impl Refusal {
             Refusal::NotMounted => "NotMounted",
             Refusal::Address => "Address",
             Refusal::Length => "Length",
-            Refusal::Cpus => "Cpus",
-            Refusal::Tables => "Tables",
             Refusal::Workers => "Workers",
             Refusal::Schedule => "Schedule",
+            Refusal::Format(refusal) => refusal.name(),
             Refusal::Super(fault) => fault.name(),
-            Refusal::NotFound => "NotFound",
-            Refusal::Exists => "Exists",
-            Refusal::NotDirectory => "NotDirectory",
-            Refusal::IsDirectory => "IsDirectory",
-            Refusal::NotEmpty => "NotEmpty",
-            Refusal::BadName => "BadName",
-            Refusal::NoSpace => "NoSpace",
-            Refusal::NoInodes => "NoInodes",
-            Refusal::TooLarge => "TooLarge",
-            Refusal::ReadOnly => "ReadOnly",
-            Refusal::LinkLimit => "LinkLimit",
-            Refusal::IntoItself => "IntoItself",
-            Refusal::BadCpu => "BadCpu",
-            Refusal::IsVersion2 => "IsVersion2",
+            Refusal::Call(refusal) => refusal.name(),
         }
     }
 }

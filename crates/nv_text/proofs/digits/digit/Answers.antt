@@ -1,6 +1,5 @@
-use Rattle.std.proofs.Common.{◌≡◌, ◌+◌, ◌-◌, ◌≤◌, ◌<◌, ℕ, false, ◌∷◌, [], List, ap, ◌∙◌, arith}
+use Rattle.std.proofs.Common.{ℕ, false, ◌∷◌, [], ap, ◌∙◌}
 use Rattle.std.proofs.lemmas.Fmt.{hex_one_digit}
-use Rattle.std.specs.Fmt.{digits, digit_glyph}
 use Rattle.nv_text.proofs.DigitPlaces.{low_glyph, high_glyph}
 use Rattle.nv_text.proofs.digits.digit.Goals as goal
 
