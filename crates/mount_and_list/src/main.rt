@@ -26,11 +26,13 @@ enum Failure {
 fn made(alloc: Global) -> Result<Fs<MemRegion>, Failure> {
     let mut memory = MemRegion::new(alloc, 64)?;
     format(&mut memory, 2, 1, 0)?;
-    let mut fs = Fs::mount(alloc, memory).map_err(|(_memory, error)| error)?;
+    Ok(Fs::mount(alloc, memory).map_err(|(_memory, error)| error)?)
+}
+
+fn write(fs: &mut Fs<MemRegion>) -> Result<(), Refusal> {
     fs.mkdir(Cpu(0), b"/notes", 493, Time(1))?;
     fs.create(Cpu(0), b"/notes/first", 420, Time(2))?;
-    fs.write(Cpu(0), b"/notes/first", 0, b"hi there\n", Time(3))?;
-    Ok(fs)
+    fs.write(Cpu(0), b"/notes/first", 0, b"hi there\n", Time(3))
 }
 
 fn list<R: Print>(rt: &R, fs: &Fs<MemRegion>) -> Result<(), Failure> {
@@ -41,13 +43,19 @@ fn list<R: Print>(rt: &R, fs: &Fs<MemRegion>) -> Result<(), Failure> {
     Ok(println!(rt; "it holds {}", bytes.escape_ascii())?)
 }
 
-fn run<R: Print>(rt: &R, alloc: Global) -> Result<(), Failure> {
-    let mut fs = made(alloc)?;
-    list(rt, &fs)?;
+fn use_until_power_fails<R: Print>(rt: &R, fs: &mut Fs<MemRegion>) -> Result<(), Failure> {
+    write(fs)?;
+    list(rt, fs)?;
     fs.set_fuse(Fuse::After(2));
     if let Err(refusal) = fs.rename(Cpu(0), b"/notes/first", b"/second", Time(4)) {
         println!(rt; "rename: {refusal}")?;
     }
+    Ok(())
+}
+
+fn run<R: Print>(rt: &R, alloc: Global) -> Result<(), Failure> {
+    let mut fs = made(alloc)?;
+    use_until_power_fails(rt, &mut fs)?;
     let left = fs.into_memory().after_stop(Keep::Alternate);
     let fs = Fs::mount(alloc, left).map_err(|(_memory, error)| error)?;
     list(rt, &fs)

@@ -1,5 +1,5 @@
 -- One inode more.
-use Rattle.std.proofs.Common.{◌≡◌, List, [], ◌∷◌, ◌++◌, refl, ap}
+use Rattle.std.proofs.Common.{List, [], ◌∷◌, ◌++◌, refl, ap}
 use Rattle.serde_json.specs.Data.{Data}
 use Rattle.nv_scan.specs.declared.piece.Row.{Row}
 use Rattle.nv_json.specs.Json.{IsRow, AreRows}

@@ -2,8 +2,8 @@
 
 ghost use Rattle.std.specs.Prelude.{◌≡◌, IfOk, map};
 ghost use Rattle.serde_json.specs.View.{view};
-ghost use Rattle.nv_super.specs.declared.faults.Fault.TheVariants.{B1};
-ghost use Rattle.nv_json.specs.Json.{fault_data, chain_fault, inode_fault, place_fault, array_of};
+ghost use Rattle.nv_super.specs.declared.faults.Fault.TheVariants.{J1, J2, C5, B1};
+ghost use Rattle.nv_json.specs.Json.{fault_data, chain_fault, inode_fault, place_fault, owned_fault, table_fault, array_of};
 
 use crate::lists::list_value;
 use nv_super::{Fault, Owner};
@@ -25,10 +25,8 @@ fn fault_value(alloc: Global, fault: Fault) -> Result<Value, AllocError>
     ensures { IfOk result (λ v. view v ≡ fault_data fault) }
 {
     match fault {
-        Fault::J1 { cpu } => json!(in alloc; {"cpu": cpu, "class": "J1"}),
-        Fault::J2 { cpu, record } => {
-            json!(in alloc; {"record": record, "cpu": cpu, "class": "J2"})
-        }
+        Fault::J1 { cpu } => journal_fault(alloc, cpu),
+        Fault::J2 { cpu, record } => record_fault(alloc, cpu, record),
         Fault::H1 { cpu, at } => chain_fault(alloc, "H1", cpu, at),
         Fault::H2 { cpu, at } => chain_fault(alloc, "H2", cpu, at),
         Fault::I1 { inode } => inode_fault(alloc, "I1", inode),
@@ -46,9 +44,30 @@ fn fault_value(alloc: Global, fault: Fault) -> Result<Value, AllocError>
         Fault::C2 { inode } => inode_fault(alloc, "C2", inode),
         Fault::C3 { inode } => inode_fault(alloc, "C3", inode),
         Fault::C4 { inode } => inode_fault(alloc, "C4", inode),
-        Fault::C5 => json!(in alloc; {"class": "C5"}),
+        Fault::C5 => root_fault(alloc),
         Fault::B1 { block, owner } => owned_fault(alloc, block, owner),
     }
+}
+
+// The fault of a CPU's journal.
+fn journal_fault(alloc: Global, cpu: u64) -> Result<Value, AllocError>
+    ensures { IfOk result (λ v. view v ≡ fault_data (J1 cpu)) }
+{
+    json!(in alloc; {"cpu": cpu, "class": "J1"})
+}
+
+// The fault of a record of it.
+fn record_fault(alloc: Global, cpu: u64, record: u64) -> Result<Value, AllocError>
+    ensures { IfOk result (λ v. view v ≡ fault_data (J2 cpu «record»)) }
+{
+    json!(in alloc; {"record": record, "cpu": cpu, "class": "J2"})
+}
+
+// The fault of a region without a root.
+fn root_fault(alloc: Global) -> Result<Value, AllocError>
+    ensures { IfOk result (λ v. view v ≡ fault_data C5) }
+{
+    json!(in alloc; {"class": "C5"})
 }
 
 // A fault at a place in the chain of a CPU's table.
@@ -77,14 +96,28 @@ fn owned_fault(alloc: Global, block: u64, owner: Owner) -> Result<Value, AllocEr
     ensures { IfOk result (λ v. view v ≡ fault_data (B1 block owner)) }
 {
     match owner {
-        Owner::Table { cpu, place } => {
-            json!(in alloc; {"place": place, "owner": "table", "cpu": cpu, "class": "B1", "block": block})
-        }
-        Owner::Log { inode, page } => {
-            json!(in alloc; {"page": page, "owner": "log", "inode": inode, "class": "B1", "block": block})
-        }
-        Owner::Data { inode, page } => {
-            json!(in alloc; {"page": page, "owner": "data", "inode": inode, "class": "B1", "block": block})
-        }
+        Owner::Table { cpu, place } => table_fault(alloc, block, cpu, place),
+        Owner::Log { inode, page } => page_fault(alloc, block, "log", inode, page),
+        Owner::Data { inode, page } => page_fault(alloc, block, "data", inode, page),
     }
+}
+
+// A block of the chain of a CPU's table.
+fn table_fault(alloc: Global, block: u64, cpu: u64, place: u64) -> Result<Value, AllocError>
+    ensures { IfOk result (λ v. view v ≡ table_fault block cpu place) }
+{
+    json!(in alloc; {"place": place, "owner": "table", "cpu": cpu, "class": "B1", "block": block})
+}
+
+// A page of an inode's log, or of its data.
+fn page_fault(
+    alloc: Global,
+    block: u64,
+    owner: &str,
+    inode: u64,
+    page: u64,
+) -> Result<Value, AllocError>
+    ensures { IfOk result (λ v. view v ≡ owned_fault block owner.now inode page) }
+{
+    json!(in alloc; {"page": page, "owner": owner, "inode": inode, "class": "B1", "block": block})
 }

@@ -6,7 +6,7 @@ ghost use Rattle.nv_names.specs.Names.{line_of};
 ghost use Rattle.nv_text.specs.Names.{escaped};
 ghost use Rattle.serde_json.specs.Data.{Data};
 ghost use Rattle.serde_json.specs.View.{view};
-ghost use Rattle.nv_json.specs.Json.{name_data, AreNames, AreExtentsIn, IsRow, AreRows, attributes_data, inode_data, array_of};
+ghost use Rattle.nv_json.specs.Json.{name_data, AreNames, AreExtentsIn, IsRow, AreRows, attributes_data, array_of};
 
 use crate::lists::{blocks_value, extents_value, list_value};
 use nv_names::Named;
@@ -31,32 +31,15 @@ pub(crate) fn rows_value(alloc: Global, rows: &Rows) -> Result<Value, AllocError
 fn row_value(alloc: Global, row: &Row) -> Result<Value, AllocError>
     ensures { IfOk result (λ v. IsRow row.now (view v)) }
 {
-    let names = names_of(alloc, row)?;
-    let extents = extents_of(alloc, row)?;
-    let log = blocks_value(alloc, &row.pages)?;
-    inode_value(alloc, row, names, extents, log)
-}
-
-// An inode with its names, its extents and its log.
-fn inode_value(
-    alloc: Global,
-    row: &Row,
-    names: Value,
-    extents: Value,
-    log: Value,
-) -> Result<Value, AllocError>
-    ensures { IfOk result (λ v. view v ≡ inode_data row.now (view names) (view extents) (view log)) }
-{
-    let attributes = attributes_value(alloc, row)?;
-    let kind = kind_word(row.kind);
+    // Each part is made where it is put in, and none is dropped because another is refused.
     json!(in alloc; {
         "tail": row.tail,
-        "names": names,
-        "log": log,
-        "kind": kind,
+        "names": names_of(alloc, row)?,
+        "log": blocks_value(alloc, &row.pages)?,
+        "kind": kind_word(row.kind),
         "inode": row.inode,
-        "extents": extents,
-        "attributes": attributes
+        "extents": extents_of(alloc, row)?,
+        "attributes": attributes_value(alloc, row)?
     })
 }
 

@@ -1,9 +1,9 @@
 //! The whole object, and its text.
 
-ghost use Rattle.std.specs.Prelude.{◌≡◌, IfOk, string_bytes};
+ghost use Rattle.std.specs.Prelude.{◌≡◌, IfOk, map, string_bytes};
 ghost use Rattle.nv_report.specs.Shown.{shown_of};
 ghost use Rattle.serde_json.specs.View.{view};
-ghost use Rattle.nv_json.specs.Json.{region_data, report_data, IsReport, TellsReport};
+ghost use Rattle.nv_json.specs.Json.{array_of, pool_data, region_data, IsReport, TellsReport};
 
 use crate::faults::faults_value;
 use crate::inodes::rows_value;
@@ -24,24 +24,20 @@ pub fn report_json(alloc: Global, shown: &Shown<'_>) -> Result<String, AllocErro
 fn report_value(alloc: Global, shown: &Shown<'_>) -> Result<Value, AllocError>
     ensures { IfOk result (λ v. IsReport (shown_of shown.now) (view v)) }
 {
-    let lists = shown.free.lists()?;
-    let free = pools_value(alloc, &lists)?;
-    let inodes = rows_value(alloc, shown.rows)?;
-    let faults = faults_value(alloc, shown.faults)?;
-    let region = region_value(alloc, shown.sup)?;
-    report_object(alloc, region, inodes, free, faults)
+    json!(in alloc; {
+        "region": region_value(alloc, shown.sup)?,
+        "inodes": rows_value(alloc, shown.rows)?,
+        "free": free_value(alloc, shown)?,
+        "faults": faults_value(alloc, shown.faults)?
+    })
 }
 
-fn report_object(
-    alloc: Global,
-    region: Value,
-    inodes: Value,
-    free: Value,
-    faults: Value,
-) -> Result<Value, AllocError>
-    ensures { IfOk result (λ v. view v ≡ report_data (view faults) (view free) (view inodes) (view region)) }
+// The free runs of each CPU's pool.
+fn free_value(alloc: Global, shown: &Shown<'_>) -> Result<Value, AllocError>
+    ensures { IfOk result (λ v. view v ≡ array_of (map pool_data (shown_of shown.now).free)) }
 {
-    json!(in alloc; {"region": region, "inodes": inodes, "free": free, "faults": faults})
+    let lists = shown.free.lists()?;
+    pools_value(alloc, &lists)
 }
 
 fn region_value(alloc: Global, sup: &Super) -> Result<Value, AllocError>

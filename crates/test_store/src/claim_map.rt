@@ -6,7 +6,7 @@ ghost use Rattle.nv_claimcore.specs.Claims.{nothing, both_views};
 
 use crate::checks::{check, check_at};
 use nv_claimcore::Sizes;
-use nv_claimmap::{ClaimMap, ClaimSeat, Claimed, steps_are_events};
+use nv_claimmap::{ClaimMap, ClaimSeat, Claimed};
 use nv_super::{Owner, Run};
 use std::alloc::{AllocError, Global};
 use std::process::Abort;
@@ -205,15 +205,11 @@ const ROWS: [Row<'static>; 3] = [
     },
 ];
 
-fn count_claims(rt: &impl Abort, alloc: Global, closed: &Claimed) -> usize {
-    closed.claims.to_list(alloc).expect(rt, "memory").len()
-}
-
 fn assert_claimed(rt: &impl Abort, alloc: Global, closed: &Claimed, row: &Row) {
     check(rt, closed.first.as_slice() == row.first, "the first set");
     check(rt, closed.second.as_slice() == row.second, "the second set");
-    let claims = count_claims(rt, alloc, closed);
-    check(rt, claims == row.claims, "the claims");
+    let claims = closed.claims.to_list(alloc).expect(rt, "memory");
+    check(rt, claims.len() == row.claims, "the claims");
 }
 
 fn is_claimed<R: Threads + Abort>(rt: &R, alloc: Global, row: &Row) {
@@ -227,107 +223,4 @@ fn two_threads_claim_blocks_in_common(rt: HostRuntime) {
     for row in ROWS.iter() {
         is_claimed(&rt, rt.alloc(), row);
     }
-}
-
-// One claim, of the last of 4096 words' blocks.
-fn assert_last(rt: &impl Abort, alloc: Global, closed: &Claimed) {
-    check(rt, closed.first.len() == 4096, "the words of the set");
-    check(rt, count_claims(rt, alloc, closed) == 1, "the claims");
-    let last = closed.first.last().copied();
-    check(rt, last == Some(9223372036854775808), "the last word");
-}
-
-#[test]
-fn the_last_block_of_a_large_map_is_claimed(rt: HostRuntime) {
-    let closed = claimed_by_two(&rt, rt.alloc(), 262144, &[(262143, 1)], &[]).expect(&rt, "memory");
-    assert_last(&rt, rt.alloc(), &closed);
-}
-
-// There is no ticket to draw, and the seats are numbered.
-fn assert_numbered(rt: &impl Abort, map: &ClaimMap, one: &mut ClaimSeat, two: &ClaimSeat)
-    requires { one.old.map ≡ map.now }
-    ensures { one.new.map ≡ one.old.map }
-{
-    check(rt, map.draw(one).is_none(), "no ticket");
-    check(rt, one.number() == 0, "the first seat");
-    check(rt, two.number() == 1, "the second seat");
-}
-
-fn joined_number(map: &ClaimMap, one: ClaimSeat, other: ClaimSeat) -> Result<u32, AllocError>
-    requires { (one.map ≡ map.now) × (other.map ≡ map.now) }
-{
-    let seat = joined(map, one, other)?;
-    Ok(seat.number())
-}
-
-#[test]
-fn seats_are_numbered_and_a_joined_one_has_the_first_number(
-    rt: HostRuntime,
-) -> Result<(), AllocError> {
-    let (map, mut one, two) = opened(rt.alloc(), 64, 0)?;
-    assert_numbered(&rt, &map, &mut one, &two);
-    let number = joined_number(&map, two, one);
-    check(&rt, number == Ok(1), "the joined seat");
-    Ok(())
-}
-
-// 300 runs that a worker claims, each of at most 100 blocks below 1,000.
-fn overlapping(stride: u64) -> [Pair; 300] {
-    let mut runs = [(0, 1); 300];
-    for (place, run) in (0..300u64).zip(runs.iter_mut()) {
-        *run = (place.wrapping_mul(stride) % 900, place % 100 + 1);
-    }
-    runs
-}
-
-// How often each block below 1,000 stands in the runs.
-fn count_runs(counts: &mut [u64; 1000], runs: &[Pair]) {
-    for (start, count) in runs {
-        for (block, times) in (0..1000u64).zip(counts.iter_mut()) {
-            if block >= *start && block - *start < *count {
-                *times = times.wrapping_add(1);
-            }
-        }
-    }
-}
-
-fn is_in(words: &[u64], block: usize) -> bool {
-    match words.get(block / 64) {
-        Some(word) => *word >> (block % 64) & 1 == 1,
-        None => false,
-    }
-}
-
-// The sets have the blocks that are counted once or more, and twice or more.
-fn assert_counted(rt: &impl Abort, closed: &Claimed, counts: &[u64; 1000]) {
-    for (block, count) in counts.iter().enumerate() {
-        let is_first = is_in(&closed.first, block);
-        check_at(rt, is_first == (*count > 0), "the first set", block as u64);
-        let is_second = is_in(&closed.second, block);
-        check_at(
-            rt,
-            is_second == (*count > 1),
-            "the second set",
-            block as u64,
-        );
-    }
-}
-
-fn agrees<R: Threads + Abort>(rt: &R, alloc: Global, first: &[Pair], second: &[Pair]) {
-    let closed = claimed_by_two(rt, alloc, 1000, first, second).expect(rt, "memory");
-    let mut counts = [0; 1000];
-    count_runs(&mut counts, first);
-    count_runs(&mut counts, second);
-    assert_counted(rt, &closed, &counts);
-}
-
-#[test]
-fn overlapping_runs_agree_with_a_plain_count(rt: HostRuntime) {
-    agrees(&rt, rt.alloc(), &overlapping(37), &overlapping(53));
-}
-
-#[test]
-fn the_law_of_steps_can_be_called(rt: HostRuntime) {
-    steps_are_events();
-    check(&rt, true, "the law");
 }

@@ -1,40 +1,17 @@
 //! The spellings byte by byte, the ways to depart from them, and the bounds of what an entry can say.
 
-ghost use Rattle.std.specs.Prelude.{◌≡◌, ◌≤◌};
-ghost use Rattle.nv_region.specs.Region.{size};
+ghost use Rattle.std.specs.Prelude.{◌≤◌};
 ghost use Rattle.nv_entry.specs.Spelling.{entry_length};
 
 use crate::checks::{check, check_at};
 use crate::small::{SMALL, region_of};
 use nv_entry::{
     AttrEntry, ContentFault, Entry, FileName, LinksEntry, NameEntry, Operation, WriteEntry,
-    an_entry_or_none_at_a_place, check_content, is_out_of_range, is_wrong_kind, length,
-    no_spelling_begins_another, one_entry_at_a_place, one_spelling, read_entry, write_entry,
+    check_content, length, read_entry, write_entry,
 };
-use nv_region::MemRegion;
 use nv_super::Kind;
 use std::alloc::{AllocError, Global};
 use std::process::Abort;
-
-fn write(count: u32, offset: u64, block: u64, size: u64) -> Entry {
-    Entry::Write(WriteEntry {
-        count,
-        offset,
-        block,
-        size,
-        time: 5,
-    })
-}
-
-fn attr(mode: u32, size: u64) -> Entry {
-    Entry::Attr(AttrEntry {
-        mode,
-        size,
-        time: 9,
-        owner: 1000,
-        group: 100,
-    })
-}
 
 fn name(operation: Operation, bytes: &[u8], inode: u64) -> Option<Entry> {
     let name = FileName::new(bytes)?;
@@ -46,14 +23,10 @@ fn name(operation: Operation, bytes: &[u8], inode: u64) -> Option<Entry> {
     }))
 }
 
-fn links(count: u32) -> Entry {
-    Entry::Links(LinksEntry { count, time: 7 })
-}
-
 /// The entry is as long as its spelling, is written as it, and is read from it.
 fn is_spelled(rt: &impl Abort, alloc: Global, entry: &Entry, spelling: &[u8]) {
     check(rt, length(entry) == spelling.len() as u64, "the length");
-    is_written(rt, alloc, entry, spelling);
+    stands_alone(rt, &written(rt, alloc, entry), spelling);
     let is_read = is_read_as(rt, alloc, spelling, Some(entry));
     check(rt, is_read, "the entry that is read");
 }
@@ -72,28 +45,16 @@ fn name_is_spelled(
     }
 }
 
-/// 512 bytes that are all 255.
-fn filled(rt: &impl Abort, alloc: Global) -> MemRegion
-    ensures { size result.region ≡ 512 }
-{
-    region_of(rt, alloc, &[255; 512])
-}
-
-/// The entry stands alone at 64, amid 512 bytes that were all 255.
-fn is_written(rt: &impl Abort, alloc: Global, entry: &Entry, spelling: &[u8])
+/// The bytes of a region of 512 that were all 255, once the entry is written at 64.
+fn written(rt: &impl Abort, alloc: Global, entry: &Entry) -> Vec<u8>
     requires { entry_length entry.now ≤ 280 }
 {
-    let mut memory = filled(rt, alloc);
-    is_written_in(rt, &mut memory, entry, spelling);
-}
-
-fn is_written_in(rt: &impl Abort, memory: &mut MemRegion, entry: &Entry, spelling: &[u8])
-    requires size { size memory.old.region ≡ 512 }
-    requires length { entry_length entry.now ≤ 280 }
-{
-    check(rt, write_entry(memory, 64, entry).is_ok(), "a write");
-    let bytes = memory.to_bytes().expect(rt, "memory");
-    stands_alone(rt, &bytes, spelling);
+    let mut memory = region_of(rt, alloc, &[255; 512]);
+    check(rt, write_entry(&mut memory, 64, entry).is_ok(), "a write");
+    match memory.to_bytes() {
+        Ok(bytes) => bytes,
+        Err(_) => rt.panic("memory for the bytes"),
+    }
 }
 
 /// The bytes from 64 on are the spelling, and all others of the 512 are still 255.
@@ -129,17 +90,19 @@ fn departs(rt: &impl Abort, alloc: Global, front: &[u8], length: usize, how: &st
     check(rt, is_read_as(rt, alloc, &bytes, None), how);
 }
 
+const WRITE: Entry = Entry::Write(WriteEntry {
+    count: 2,
+    offset: 3,
+    block: 4,
+    size: 20480,
+    time: 5,
+});
+
 /// Entries with no name, and their bytes.
 const SPELLINGS: [(Entry, &[u8]); 4] = [
     (Entry::NextPage, b"\x00\x00\x08\x00\x00\x00\x00\x00"),
     (
-        Entry::Write(WriteEntry {
-            count: 2,
-            offset: 3,
-            block: 4,
-            size: 20480,
-            time: 5,
-        }),
+        WRITE,
         b"\x01\x00\x28\x00\x02\x00\x00\x00\x03\0\0\0\0\0\0\0\x04\0\0\0\0\0\0\0\0\x50\0\0\0\0\0\0\x05\0\0\0\0\0\0\0",
     ),
     (
@@ -209,12 +172,6 @@ fn the_largest_name_has_255_bytes(rt: HostRuntime) {
     name_is_spelled(&rt, rt.alloc(), Operation::Add, &[b'n'; 255], 1, &largest);
 }
 
-#[test]
-fn no_name_has_no_byte_or_256(rt: HostRuntime) {
-    check(&rt, FileName::new(b"").is_none(), "no byte");
-    check(&rt, FileName::new(&[b'n'; 256]).is_none(), "256 bytes");
-}
-
 /// Bytes that depart from every spelling: the first of them, how many there are with the zeros behind, and how.
 const DEPARTURES: [(&[u8], usize, &str); 22] = [
     (b"", 0, "no room for a word"),
@@ -281,154 +238,142 @@ fn departures_are_wrong_framing(rt: HostRuntime) {
     }
 }
 
-fn is_out(kind: Kind, entry: &Entry) -> bool {
-    is_out_of_range(&SMALL, kind, entry)
-}
+const RANGE: Option<ContentFault> = Some(ContentFault::OutOfRange);
 
-/// Counts, offsets, blocks and sizes of writes, whether they are out of range, and what they are.
-const WRITES: [(u32, u64, u64, u64, bool, &str); 17] = [
-    (1, 0, 3, 4096, false, "one page of the first data block"),
-    (0, 0, 3, 4096, true, "no page"),
-    (13, 0, 3, 65536, false, "all data blocks"),
-    (14, 0, 3, 65536, true, "a block behind the last"),
-    (1, 0, 2, 4096, true, "a block before the first"),
-    (1, 0, 15, 1, false, "the last block"),
-    (1, 0, 16, 1, true, "the block behind the last"),
-    (1, 0, u64::MAX, 4096, true, "blocks whose sum would wrap"),
-    (
-        u32::MAX,
-        0,
-        3,
-        4096,
-        true,
-        "the most pages that a word can say",
-    ),
-    (
-        1,
-        262143,
-        3,
-        1073741824,
-        false,
-        "the last page that a file can have",
-    ),
-    (2, 262143, 3, 1073741824, true, "a page behind it"),
-    (1, u64::MAX, 3, 4096, true, "pages whose sum would wrap"),
-    (1, 0, 3, 1073741824, false, "the greatest size"),
-    (1, 0, 3, 1073741825, true, "a greater size"),
-    (2, 0, 3, 4097, false, "a last page of one byte"),
-    (2, 0, 3, 4096, true, "a last page that begins at the size"),
-    (1, 0, 3, 0, true, "a page of an empty file"),
+const KIND: Option<ContentFault> = Some(ContentFault::WrongKind);
+
+const GIB: u64 = 1 << 30;
+
+/// Counts, offsets, blocks and sizes of writes, what is told of them in a file, and what they are.
+const WRITES: [(u32, u64, u64, u64, Option<ContentFault>, &str); 17] = [
+    (1, 0, 3, 4096, None, "one page of the first data block"),
+    (0, 0, 3, 4096, RANGE, "no page"),
+    (13, 0, 3, 65536, None, "all data blocks"),
+    (14, 0, 3, 65536, RANGE, "a block behind the last"),
+    (1, 0, 2, 4096, RANGE, "a block before the first"),
+    (1, 0, 15, 1, None, "the last block"),
+    (1, 0, 16, 1, RANGE, "the block behind the last"),
+    (1, 0, u64::MAX, 4096, RANGE, "blocks whose sum would wrap"),
+    (u32::MAX, 0, 3, 4096, RANGE, "the most pages of a word"),
+    (1, 262143, 3, GIB, None, "the last page of a file"),
+    (2, 262143, 3, GIB, RANGE, "a page behind it"),
+    (1, u64::MAX, 3, 4096, RANGE, "pages whose sum would wrap"),
+    (1, 0, 3, GIB, None, "the greatest size"),
+    (1, 0, 3, GIB + 1, RANGE, "a greater size"),
+    (2, 0, 3, 4097, None, "a last page of one byte"),
+    (2, 0, 3, 4096, RANGE, "a last page that begins at the size"),
+    (1, 0, 3, 0, RANGE, "a page of an empty file"),
 ];
 
 #[test]
 fn writes_stay_in_range(rt: HostRuntime) {
-    for &(count, offset, block, size, want, what) in WRITES.iter() {
-        let entry = write(count, offset, block, size);
-        check(&rt, is_out(Kind::File, &entry) == want, what);
+    for &(count, offset, block, size, fault, what) in WRITES.iter() {
+        let entry = Entry::Write(WriteEntry {
+            count,
+            offset,
+            block,
+            size,
+            time: 5,
+        });
+        let told = check_content(&SMALL, Kind::File, &entry);
+        check(&rt, told == fault, what);
     }
 }
 
-/// Modes and sizes, where they are set, and whether they are out of range there.
-const ATTRIBUTES: [(u32, u64, Kind, bool); 10] = [
-    (4095, 1073741824, Kind::File, false),
-    (4095, 1073741824, Kind::Directory, true),
-    (4096, 0, Kind::File, true),
-    (4096, 0, Kind::Directory, true),
-    (0, 1073741825, Kind::File, true),
-    (0, 1073741825, Kind::Directory, true),
-    (0o755, 0, Kind::File, false),
-    (0o755, 0, Kind::Directory, false),
-    (0, 1, Kind::File, false),
-    (0, 1, Kind::Directory, true),
+/// Kinds of inodes, modes and sizes that are set there, and what is told of them.
+const ATTRIBUTES: [(Kind, u32, u64, Option<ContentFault>); 10] = [
+    (Kind::File, 4095, GIB, None),
+    (Kind::Directory, 4095, GIB, RANGE),
+    (Kind::File, 4096, 0, RANGE),
+    (Kind::Directory, 4096, 0, RANGE),
+    (Kind::File, 0, GIB + 1, RANGE),
+    (Kind::Directory, 0, GIB + 1, RANGE),
+    (Kind::File, 0o755, 0, None),
+    (Kind::Directory, 0o755, 0, None),
+    (Kind::File, 0, 1, None),
+    (Kind::Directory, 0, 1, RANGE),
 ];
 
 #[test]
 fn attributes_stay_in_range(rt: HostRuntime) {
-    for &(mode, size, kind, want) in ATTRIBUTES.iter() {
-        let entry = attr(mode, size);
-        check_at(&rt, is_out(kind, &entry) == want, "a size", size);
+    for &(kind, mode, size, fault) in ATTRIBUTES.iter() {
+        let entry = Entry::Attr(AttrEntry {
+            mode,
+            size,
+            time: 9,
+            owner: 1000,
+            group: 100,
+        });
+        let told = check_content(&SMALL, kind, &entry);
+        check_at(&rt, told == fault, "a size", size);
     }
 }
+
+const NO_LINK: Entry = Entry::Links(LinksEntry { count: 0, time: 7 });
+
+/// Kinds of inodes, entries of their logs, and what is told of them. The wrong kind is found first.
+const OTHERS: [(Kind, Entry, Option<ContentFault>); 8] = [
+    (Kind::File, NO_LINK, RANGE),
+    (
+        Kind::File,
+        Entry::Links(LinksEntry { count: 1, time: 7 }),
+        None,
+    ),
+    (
+        Kind::File,
+        Entry::Links(LinksEntry {
+            count: 1000,
+            time: 7,
+        }),
+        None,
+    ),
+    (
+        Kind::File,
+        Entry::Links(LinksEntry {
+            count: 1001,
+            time: 7,
+        }),
+        RANGE,
+    ),
+    (Kind::Directory, NO_LINK, KIND),
+    (Kind::File, Entry::NextPage, None),
+    (Kind::Directory, Entry::NextPage, None),
+    (Kind::Directory, WRITE, KIND),
+];
 
 #[test]
-fn links_stay_in_range(rt: HostRuntime) {
-    for &(count, want) in [(0, true), (1, false), (1000, false), (1001, true)].iter() {
-        let entry = links(count);
-        let out = is_out(Kind::File, &entry);
-        check_at(&rt, out == want, "a number of links", u64::from(count));
+fn links_stay_in_range_and_the_wrong_kind_is_found_first(rt: HostRuntime) {
+    for (kind, entry, fault) in OTHERS.iter() {
+        let told = check_content(&SMALL, *kind, entry);
+        check(&rt, told == *fault, "an entry");
     }
 }
 
-/// Whether adding this name is out of range.
-fn is_refused(bytes: &[u8], inode: u64) -> Option<bool> {
+/// What is told of an entry that adds this name for an inode to a directory.
+fn of_name(bytes: &[u8], inode: u64) -> Option<ContentFault> {
     let entry = name(Operation::Add, bytes, inode)?;
-    Some(is_out(Kind::Directory, &entry))
+    check_content(&SMALL, Kind::Directory, &entry)
 }
 
-/// Names, the inodes that they name, and whether adding them is out of range.
-const NAMES: [(&[u8], u64, bool); 11] = [
-    (b"a", 1, false),
-    (b"a", 31, false),
-    (b"a", 0, true),
-    (b"a", 32, true),
-    (b".", 1, true),
-    (b"..", 1, true),
-    (b"...", 1, false),
-    (b".a", 1, false),
-    (b"a/b", 1, true),
-    (b"a\0", 1, true),
-    (b"\xff", 1, false),
+/// Names, the inodes that they name, and what is told of adding them to a directory.
+const NAMES: [(&[u8], u64, Option<ContentFault>); 11] = [
+    (b"a", 1, None),
+    (b"a", 31, None),
+    (b"a", 0, RANGE),
+    (b"a", 32, RANGE),
+    (b".", 1, RANGE),
+    (b"..", 1, RANGE),
+    (b"...", 1, None),
+    (b".a", 1, None),
+    (b"a/b", 1, RANGE),
+    (b"a\0", 1, RANGE),
+    (b"\xff", 1, None),
 ];
 
 #[test]
 fn names_stay_in_range(rt: HostRuntime) {
-    for &(bytes, inode, want) in NAMES.iter() {
-        let refused = is_refused(bytes, inode);
-        check_at(&rt, refused == Some(want), "a name of an inode", inode);
+    for &(bytes, inode, fault) in NAMES.iter() {
+        let told = of_name(bytes, inode);
+        check_at(&rt, told == fault, "a name of an inode", inode);
     }
-}
-
-/// What is told of the entry in a file's log, and in a directory's.
-fn is_told(
-    rt: &impl Abort,
-    entry: &Entry,
-    in_file: Option<ContentFault>,
-    in_directory: Option<ContentFault>,
-) {
-    let told = check_content(&SMALL, Kind::File, entry);
-    check(rt, told == in_file, "the fault in a file's log");
-    let told = check_content(&SMALL, Kind::Directory, entry);
-    check(rt, told == in_directory, "the fault in a directory's");
-}
-
-const KIND: Option<ContentFault> = Some(ContentFault::WrongKind);
-
-const RANGE: Option<ContentFault> = Some(ContentFault::OutOfRange);
-
-/// A name that no entry may add.
-fn bad_name_is_told(rt: &impl Abort, entry: &Entry) {
-    is_told(rt, entry, KIND, RANGE);
-    check(
-        rt,
-        is_wrong_kind(entry, Kind::File),
-        "a name in a file's log",
-    );
-}
-
-#[test]
-fn the_wrong_kind_is_found_first(rt: HostRuntime) {
-    is_told(&rt, &Entry::NextPage, None, None);
-    is_told(&rt, &write(0, 0, 0, 0), RANGE, KIND);
-    is_told(&rt, &attr(0, 0), None, None);
-    is_told(&rt, &links(0), RANGE, KIND);
-    let bad_name = name(Operation::Add, b".", 1).expect(&rt, "a name");
-    bad_name_is_told(&rt, &bad_name);
-}
-
-#[test]
-fn the_laws_can_be_called() {
-    no_spelling_begins_another();
-    one_spelling();
-    one_entry_at_a_place();
-    an_entry_or_none_at_a_place();
 }

@@ -1,25 +1,14 @@
 //! Slots of a small region, and the words of its tables.
 
-ghost use Rattle.std.specs.Prelude.{◌<◌};
 ghost use Rattle.nv_region.specs.Region.{HasBlocks};
 
 use crate::chains::tables_of;
 use crate::checks::{check, check_at};
 use crate::small::{SMALL, Word, assert_words, small_region};
-use nv_inode::{Slot, SlotState, Tables, nth_slot, read_slot, read_slot_at, set_word, store_slot};
-use nv_region::{Fuse, MemRegion, Stopped};
-use nv_super::{Kind, Super};
-use std::alloc::Global;
+use nv_inode::{Slot, SlotState, read_slot_at, set_word, store_slot};
+use nv_region::{MemRegion, Stopped};
+use nv_super::Kind;
 use std::process::Abort;
-
-// Two CPUs with two table blocks each: the tables are blocks 3 and 4, and 5 and 6.
-const TWO: Super = Super {
-    version: 1,
-    cpus: 2,
-    blocks: 16,
-    table_blocks: 2,
-    state: 0,
-};
 
 const ROOT: Slot = Slot {
     valid: 1,
@@ -53,19 +42,13 @@ fn validate_root(memory: &mut MemRegion) -> Result<(), Stopped>
     set_word(memory, 8320, 1)
 }
 
-fn assert_slot(rt: &impl Abort, memory: &MemRegion, slot: &Slot)
-    requires { HasBlocks memory.now.region 16 }
-{
-    check(rt, read_slot_at(memory, 8320) == *slot, "slot 1");
-}
-
 fn assert_put(rt: &impl Abort, memory: &mut MemRegion)
     requires { HasBlocks memory.old.region 16 }
 {
     check(rt, put_root(memory).is_ok(), "the root is put");
     assert_words(rt, memory, &[(8320, 0)]);
     check(rt, validate_root(memory).is_ok(), "it is made valid");
-    assert_slot(rt, memory, &ROOT);
+    check(rt, read_slot_at(memory, 8320) == ROOT, "slot 1");
     assert_words(rt, memory, &ROOT_AT_8320);
 }
 
@@ -73,80 +56,6 @@ fn assert_put(rt: &impl Abort, memory: &mut MemRegion)
 fn a_slot_is_read_as_it_was_put(rt: HostRuntime) {
     let mut memory = small_region(&rt, rt.alloc(), &[]);
     assert_put(&rt, &mut memory);
-}
-
-/// Puts the root into a slot of the tables of two CPUs.
-fn put_in_two(memory: &mut MemRegion, inode: u64) -> Result<(), Stopped>
-    requires blocks { HasBlocks memory.old.region 16 }
-    requires number { (0 < inode) × (inode < 128) }
-    ensures { HasBlocks memory.new.region 16 }
-{
-    store_slot(memory, TWO.slot_address(inode), &ROOT)
-}
-
-fn assert_created(
-    rt: &impl Abort,
-    memory: &MemRegion,
-    tables: &Tables,
-    inode: u64,
-    created: Option<u64>,
-)
-    requires { HasBlocks memory.now.region tables.now.layout.sup.blocks }
-{
-    let slot = read_slot(memory, tables, inode);
-    let is_right = slot.map(|slot| slot.created) == created;
-    check_at(rt, is_right, "the time of a slot", inode);
-}
-
-const TAILS_IN_TWO: [Word; 2] = [(12416 + 24, 12320), (20608 + 24, 12320)];
-
-#[test]
-fn slots_lie_one_behind_the_other(rt: HostRuntime) {
-    let starts = [TWO.slot_address(1), TWO.slot_address(2)];
-    check(&rt, starts == [20480, 12416], "slots 1 and 2");
-    let slots = [nth_slot(&TWO, 0), nth_slot(&TWO, 1), nth_slot(&TWO, 64)];
-    check(&rt, slots == [12288, 12416, 20480], "the tables' slots");
-}
-
-fn assert_put_in_two(rt: &impl Abort, alloc: Global, memory: &mut MemRegion)
-    requires { HasBlocks memory.old.region 16 }
-{
-    check(rt, put_in_two(memory, 2).is_ok(), "slot 2 is put");
-    check(rt, put_in_two(memory, 3).is_ok(), "slot 3 is put");
-    assert_words(rt, memory, &TAILS_IN_TWO);
-    let tables = tables_of(rt, alloc, memory, &TWO);
-    assert_created(rt, memory, &tables, 3, Some(7));
-    assert_created(rt, memory, &tables, 127, Some(0));
-    assert_created(rt, memory, &tables, 0, None);
-    assert_created(rt, memory, &tables, 128, None);
-}
-
-#[test]
-fn slots_alternate_between_the_tables_of_the_cpus(rt: HostRuntime) {
-    let mut memory = small_region(&rt, rt.alloc(), &[]);
-    assert_put_in_two(&rt, rt.alloc(), &mut memory);
-}
-
-const PARTLY: Slot = Slot {
-    valid: 0,
-    tail: 0,
-    created: 0,
-    ..ROOT
-};
-
-fn is_put_partly(rt: &impl Abort, memory: &mut MemRegion)
-    requires { HasBlocks memory.old.region 16 }
-{
-    check(rt, put_root(memory).is_err(), "the stop of a put");
-    assert_slot(rt, memory, &PARTLY);
-    check(rt, validate_root(memory).is_err(), "no store behind it");
-}
-
-#[test]
-fn a_slot_is_put_word_by_word_until_a_stop(rt: HostRuntime) {
-    let mut memory = small_region(&rt, rt.alloc(), &[]);
-    memory.set_fuse(Fuse::After(2));
-    is_put_partly(&rt, &mut memory);
 }
 
 const STATES: [(u64, u64, SlotState); 7] = [
@@ -161,8 +70,6 @@ const STATES: [(u64, u64, SlotState); 7] = [
 
 #[test]
 fn a_slot_is_in_use_where_it_is_valid_and_of_a_kind(rt: HostRuntime) {
-    let numbers = [Kind::File.number(), Kind::Directory.number()];
-    check(&rt, numbers == [1, 2], "the kinds");
     for &(valid, kind, state) in STATES.iter() {
         let slot = Slot {
             valid,

@@ -1,19 +1,14 @@
 //! Journals of a small region, undone.
 
 mod changes;
-mod stores;
 
 ghost use Rattle.std.specs.Prelude.{◌≡◌};
 ghost use Rattle.nv_region.specs.Region.{HasBlocks};
 ghost use Rattle.nv_super.specs.Layout.{IsLayout};
 
-use crate::checks::{check, check_at};
+use crate::checks::check;
 use crate::small::{SMALL, Word, assert_words, small_region};
-use nv_journal::{
-    UndoError, one_region_is_undone, quiet_journals_stay, the_superblock_stays, undo,
-    undo_again_changes_nothing, undo_keeps_the_chains, undone_regions_are_quiet,
-    version_1_is_undone_by_fixed_tables,
-};
+use nv_journal::undo;
 use nv_region::{Fuse, MemRegion};
 use nv_super::{Fault, Super};
 use std::alloc::Global;
@@ -52,15 +47,6 @@ const WRAPPED: [Word; 11] = [
     (8344, 12344),
 ];
 
-/// The faults that an undo tells.
-fn undone(alloc: Global, memory: &mut MemRegion, sup: &Super) -> Result<Vec<Fault>, UndoError>
-    requires layout { IsLayout sup.now }
-    requires blocks { HasBlocks memory.old.region sup.now.blocks }
-    ensures { HasBlocks memory.new.region sup.now.blocks }
-{
-    undo(alloc, memory, sup)
-}
-
 /// An undo tells these faults.
 fn assert_undone(
     rt: &impl Abort,
@@ -73,7 +59,7 @@ fn assert_undone(
     requires blocks { HasBlocks memory.old.region sup.now.blocks }
     ensures { HasBlocks memory.new.region sup.now.blocks }
 {
-    let faults = undone(alloc, memory, sup).expect(rt, "an undo");
+    let faults = undo(alloc, memory, sup).expect(rt, "an undo");
     check(rt, faults.as_slice() == told, "the faults that are told");
 }
 
@@ -144,6 +130,13 @@ const CHAIN_ROLLED_BACK: [Word; 5] = [(37016, 5), (36864, 0), (4112, 36864), (20
 
 // In version 1 no data block has slots.
 const CHAIN_UNREAD: [Word; 3] = [(37016, 3), (4112, 36864), (4096, 4)];
+
+// Neither the links nor a word of a block of no chain.
+const NO_PLACES: [Fault; 3] = [
+    Fault::J2 { cpu: 0, record: 1 },
+    Fault::J2 { cpu: 0, record: 2 },
+    Fault::J2 { cpu: 0, record: 3 },
+];
 
 const NO_SLOTS: [Fault; 4] = [
     Fault::J2 { cpu: 0, record: 0 },
@@ -219,16 +212,9 @@ fn is_undone(rt: &impl Abort, alloc: Global, sup: &Super, row: &Row<'_>)
     assert_undone_twice(rt, alloc, &mut memory, sup, row);
 }
 
-#[test]
-fn records_of_chains_are_undone_in_version_2(rt: HostRuntime) {
-    let links = &NO_SLOTS[1..];
-    let by_chains: Row<'_> = (&IN_A_CHAIN, Fuse::Off, links, &CHAIN_ROLLED_BACK, &[]);
-    is_undone(&rt, rt.alloc(), &GROWN, &by_chains);
-    let by_fixed_tables: Row<'_> = (&IN_A_CHAIN, Fuse::Off, &NO_SLOTS, &CHAIN_UNREAD, &[]);
-    is_undone(&rt, rt.alloc(), &SMALL, &by_fixed_tables);
-    undo_keeps_the_chains();
-    version_1_is_undone_by_fixed_tables();
-}
+const BY_CHAINS: Row<'static> = (&IN_A_CHAIN, Fuse::Off, &NO_PLACES, &CHAIN_ROLLED_BACK, &[]);
+
+const BY_FIXED_TABLES: Row<'static> = (&IN_A_CHAIN, Fuse::Off, &NO_SLOTS, &CHAIN_UNREAD, &[]);
 
 #[test]
 fn pending_records_are_undone_and_faults_told(rt: HostRuntime) {
@@ -238,54 +224,6 @@ fn pending_records_are_undone_and_faults_told(rt: HostRuntime) {
     for row in OF_TWO_CPUS.iter() {
         is_undone(&rt, rt.alloc(), &TWO, row);
     }
-}
-
-/// Why an undo ends early, where so many stores and fences are taken.
-fn refusal_after(alloc: Global, memory: &mut MemRegion, passed: u64) -> Option<UndoError>
-    requires { HasBlocks memory.old.region 16 }
-    ensures { HasBlocks memory.new.region 16 }
-{
-    memory.set_fuse(Fuse::After(passed));
-    undone(alloc, memory, &SMALL).err()
-}
-
-/// An undo is stopped where so many stores and fences are too few.
-fn assert_stopped_after(rt: &impl Abort, alloc: Global, memory: &mut MemRegion, passed: u64)
-    requires { HasBlocks memory.old.region 16 }
-    ensures { HasBlocks memory.new.region 16 }
-{
-    let due = if passed < 6 {
-        Some(UndoError::Stopped)
-    } else {
-        None
-    };
-    let refusal = refusal_after(alloc, memory, passed);
-    check_at(rt, refusal == due, "the stop of an undo", passed);
-}
-
-/// An undo that so many stores and fences were too few for is finished by another.
-fn is_finished(rt: &impl Abort, alloc: Global, memory: &mut MemRegion, passed: u64)
-    requires { HasBlocks memory.old.region 16 }
-{
-    assert_stopped_after(rt, alloc, memory, passed);
-    memory.set_fuse(Fuse::Off);
-    assert_undone(rt, alloc, memory, &SMALL, &[]);
-    assert_words(rt, memory, &ROLLED_BACK);
-}
-
-fn stops_and_is_finished(rt: &impl Abort, alloc: Global, passed: u64) {
-    let mut memory = small_region(rt, alloc, &WRAPPED);
-    is_finished(rt, alloc, &mut memory, passed);
-}
-
-#[test]
-fn an_undo_that_was_stopped_is_finished_by_another(rt: HostRuntime) {
-    for passed in 0..7 {
-        stops_and_is_finished(&rt, rt.alloc(), passed);
-    }
-    one_region_is_undone();
-    undo_again_changes_nothing();
-    undone_regions_are_quiet();
-    quiet_journals_stay();
-    the_superblock_stays();
+    is_undone(&rt, rt.alloc(), &GROWN, &BY_CHAINS);
+    is_undone(&rt, rt.alloc(), &SMALL, &BY_FIXED_TABLES);
 }

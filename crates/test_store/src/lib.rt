@@ -18,10 +18,6 @@ mod claim_map;
 #[cfg(test)]
 mod entry;
 #[cfg(test)]
-mod extent_map;
-#[cfg(test)]
-mod file_index;
-#[cfg(test)]
 mod format;
 #[cfg(test)]
 mod inode;
@@ -34,10 +30,10 @@ mod name_index;
 #[cfg(test)]
 mod numbered;
 #[cfg(test)]
+mod pages;
+#[cfg(test)]
 mod region;
 #[cfg(test)]
 mod small;
 #[cfg(test)]
 mod superblock;
-#[cfg(test)]
-mod word_runs;

@@ -1,7 +1,7 @@
-//! Each call on its happy path with ample memory, and names at the edges.
+//! Names at the edges in an index, with ample memory.
 
 use crate::checks::{check, check_at};
-use nv_names::{NameIndex, Named, Target};
+use nv_names::{NameIndex, Target};
 use std::alloc::{AllocError, Global};
 use std::process::Abort;
 
@@ -27,41 +27,20 @@ fn edge_names(alloc: Global) -> Result<Vec<Vec<u8>>, AllocError> {
 /// The places of these names in the order of their bytes.
 const RISING: [u64; 7] = [2, 4, 6, 0, 3, 5, 1];
 
-/// An index in which each name stands for inode 7 at its place in the list, added where room was made.
-fn added(alloc: Global, names: &[Vec<u8>]) -> Result<NameIndex, AllocError> {
-    let mut index = NameIndex::new(alloc);
+/// Each name gets its place in the list: one with an odd place where room was made, and any other where none was.
+fn put_all(index: &mut NameIndex, names: &[Vec<u8>]) -> Result<(), AllocError> {
     for (place, name) in names.iter().enumerate() {
-        index.reserve(1)?;
-        if !name.is_empty() && name.len() <= 255 {
+        if name.is_empty() || name.len() > 255 {
+            continue;
+        }
+        if place % 2 == 0 {
+            index.insert(name, 7, place as u64)?;
+        } else {
+            index.reserve(1)?;
             index.add(name, 7, place as u64);
         }
     }
-    Ok(index)
-}
-
-/// Inserts each name, where no room was made.
-fn insert_all(index: &mut NameIndex, names: &[Vec<u8>]) -> Result<(), AllocError> {
-    for (place, name) in names.iter().enumerate() {
-        if !name.is_empty() && name.len() <= 255 {
-            index.insert(name, 7, place as u64)?;
-        }
-    }
     Ok(())
-}
-
-/// Three names that the index's tree gives one key.
-fn names_of_one_key(alloc: Global) -> Result<Vec<Vec<u8>>, AllocError> {
-    let mut names = Vec::new(alloc);
-    for name in [b"mmmmmmmmmmmm", b"ls_|gmmg|_sl", b"ng{^smms^{gn"].iter() {
-        names.push(Vec::from_slice(alloc, name.as_slice())?)?;
-    }
-    Ok(names)
-}
-
-fn remove_all(index: &mut NameIndex, names: &[Vec<u8>]) {
-    for name in names {
-        index.remove(name);
-    }
 }
 
 /// Each name stands for inode 7 at its place in the list.
@@ -77,81 +56,34 @@ fn assert_named(rt: &impl Abort, index: &NameIndex, names: &[Vec<u8>]) {
     }
 }
 
-/// Nothing is found of texts that are no names.
-fn assert_no_names(rt: &impl Abort, index: &NameIndex) {
-    check(rt, index.get(b"").is_none(), "no byte");
-    check(rt, index.get(&[b'z'; 254]).is_none(), "254 bytes");
-    check(rt, index.get(&[b'z'; 256]).is_none(), "256 bytes");
-}
-
-fn assert_rising(rt: &impl Abort, listed: &[Named]) {
+fn assert_rising(rt: &impl Abort, index: &NameIndex) {
+    let listed = index.list().expect(rt, "memory");
     check(rt, listed.len() == 7, "how many names are listed");
     for (line, place) in listed.iter().zip(&RISING) {
         check_at(rt, line.place == *place, "a listed name", *place);
     }
 }
 
-fn are_listed(rt: &impl Abort, index: &NameIndex, names: &[Vec<u8>]) {
-    assert_named(rt, index, names);
-    assert_no_names(rt, index);
-    let listed = index.list().expect(rt, "memory");
-    assert_rising(rt, &listed);
-}
-
-/// Removes the last name twice, and then all others.
-fn assert_all_go(rt: &impl Abort, index: &mut NameIndex, names: &[Vec<u8>]) {
+/// The last name goes, and no other.
+fn assert_last_goes(rt: &impl Abort, index: &mut NameIndex, names: &[Vec<u8>]) {
     if let Some((last, others)) = names.split_last() {
         index.remove(last);
-        index.remove(last);
+        check(rt, index.get(last).is_none(), "the last name");
         assert_named(rt, index, others);
     }
-    remove_all(index, names);
+}
+
+fn are_told_apart(rt: &impl Abort, index: &mut NameIndex, names: &[Vec<u8>]) {
     check(rt, index.is_empty(), "an empty index");
-}
-
-/// The first name goes alone.
-fn assert_first_goes(rt: &impl Abort, index: &mut NameIndex, names: &[Vec<u8>]) {
-    if let Some((first, others)) = names.split_first() {
-        index.remove(first);
-        check(rt, index.get(first).is_none(), "the first name");
-        check(rt, index.len() == others.len(), "how many names");
-    }
-}
-
-fn assert_inserted(rt: &impl Abort, index: &mut NameIndex, names: &[Vec<u8>]) {
-    check(rt, insert_all(index, names).is_ok(), "memory");
-}
-
-/// The names are inserted where no room was made. A refused growth leaves them, one goes and comes, and all go.
-fn come_and_go(rt: &impl Abort, index: &mut NameIndex, names: &[Vec<u8>]) {
-    assert_inserted(rt, index, names);
-    check(rt, index.reserve(usize::MAX).is_err(), "a growth");
+    check(rt, put_all(index, names).is_ok(), "memory");
     assert_named(rt, index, names);
-    assert_first_goes(rt, index, names);
-    assert_inserted(rt, index, names);
-    assert_named(rt, index, names);
-    assert_all_go(rt, index, names);
-}
-
-fn are_told_apart(rt: &impl Abort, alloc: Global, names: &[Vec<u8>]) {
-    let mut index = NameIndex::new(alloc);
-    come_and_go(rt, &mut index, names);
-}
-
-fn are_added(rt: &impl Abort, alloc: Global, names: &[Vec<u8>]) {
-    let index = added(alloc, names).expect(rt, "memory");
-    are_listed(rt, &index, names);
+    assert_rising(rt, index);
+    assert_last_goes(rt, index, names);
 }
 
 #[test]
 fn names_at_the_edges_are_told_apart_and_listed(rt: HostRuntime) {
     let names = edge_names(rt.alloc()).expect(&rt, "memory");
-    are_added(&rt, rt.alloc(), &names);
-    are_told_apart(&rt, rt.alloc(), &names);
-}
-
-#[test]
-fn names_of_one_key_are_told_apart(rt: HostRuntime) {
-    let names = names_of_one_key(rt.alloc()).expect(&rt, "memory");
-    are_told_apart(&rt, rt.alloc(), &names);
+    let mut index = NameIndex::new(rt.alloc());
+    are_told_apart(&rt, &mut index, &names);
 }

@@ -1,72 +1,12 @@
-//! Regions in memory: their bytes, their refusals and their fuse.
+//! Regions in memory: what they take until their fuse burns, and what a stop keeps.
 
 mod image;
 
-use crate::checks::{check, check_at};
-use crate::small::{Word, assert_words, is_place, new_region, region_of};
-use nv_region::{Fuse, Keep, MemRegion, Pmem, RegionRefusal, Stopped, commit_word, store_word};
+use crate::checks::check;
+use crate::small::{Word, assert_words, is_place, new_region};
+use nv_region::{Fuse, Keep, MemRegion, Pmem, Stopped, commit_word, store_word};
 use std::alloc::Global;
 use std::process::Abort;
-
-/// Bytes of which neighbours differ.
-fn counted(rt: &impl Abort, alloc: Global, count: u64) -> Vec<u8> {
-    let mut bytes = Vec::new(alloc);
-    for k in 0..count {
-        bytes.push((k % 251) as u8).expect(rt, "memory");
-    }
-    bytes
-}
-
-/// The region has so many bytes, and gives these back.
-fn assert_held(rt: &impl Abort, region: &MemRegion, bytes: &[u8], count: u64) {
-    let back = region.to_bytes().expect(rt, "memory");
-    check_at(rt, region.len() == count, "the length", count);
-    check_at(rt, back.as_slice() == bytes, "the bytes", count);
-}
-
-fn are_given_back(rt: &impl Abort, alloc: Global, bytes: &[u8], count: u64) {
-    let region = region_of(rt, alloc, bytes);
-    assert_held(rt, &region, bytes, count);
-}
-
-fn gives_back(rt: &impl Abort, alloc: Global, count: u64) {
-    let bytes = counted(rt, alloc, count);
-    are_given_back(rt, alloc, &bytes, count);
-}
-
-#[test]
-fn bytes_of_any_length_are_given_back(rt: HostRuntime) {
-    for &count in [0, 1, 7, 8, 4095, 4096].iter() {
-        gives_back(&rt, rt.alloc(), count);
-    }
-}
-
-#[test]
-fn words_are_little_endian(rt: HostRuntime) {
-    let region = region_of(&rt, rt.alloc(), &[1, 2, 0, 0, 0, 0, 0, 128, 255]);
-    check(
-        &rt,
-        region.load(0) == 0x8000_0000_0000_0201,
-        "the word at 0",
-    );
-}
-
-fn refusal_of(alloc: Global, blocks: u64) -> Option<RegionRefusal> {
-    MemRegion::new(alloc, blocks).err()
-}
-
-#[test]
-fn no_block_and_too_many_blocks_are_refused(rt: HostRuntime) {
-    for &blocks in [0, 262_145].iter() {
-        let refusal = refusal_of(rt.alloc(), blocks);
-        check_at(
-            &rt,
-            refusal == Some(RegionRefusal::Length),
-            "a refusal",
-            blocks,
-        );
-    }
-}
 
 /// Stores a word, where there is one.
 fn store_within<P: Pmem>(region: &mut P, at: u64, word: u64) -> Result<(), Stopped> {

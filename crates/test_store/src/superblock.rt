@@ -3,11 +3,9 @@
 ghost use Rattle.nv_region.specs.Region.{HasBlocks};
 
 use crate::checks::{check, check_at};
-use crate::small::{new_region, region_of};
+use crate::small::new_region;
 use nv_region::{MemRegion, Pmem, Stopped};
-use nv_super::{
-    Fault, Owner, Run, Super, SuperFault, read_super, sort_claims, sort_faults, write_super,
-};
+use nv_super::{Fault, Owner, Super, SuperFault, read_super, sort_faults, write_super};
 use std::alloc::AllocError;
 use std::process::Abort;
 
@@ -71,27 +69,18 @@ fn is_read_as_written(rt: &impl Abort, memory: &mut MemRegion)
     check(rt, write_two(memory).is_ok(), "the superblock is written");
     assert_super(rt, memory, 0, Ok(TWO_CPUS));
     check(rt, store(memory, 8, 2).is_ok(), "a store");
-    assert_super(rt, memory, 8, Ok(in_version_2()));
-    faults_are_told(rt, memory);
-}
-
-fn in_version_2() -> Super {
-    Super {
+    let in_version_2 = Super {
         version: 2,
         ..TWO_CPUS
-    }
+    };
+    assert_super(rt, memory, 8, Ok(in_version_2));
+    faults_are_told(rt, memory);
 }
 
 #[test]
 fn a_superblock_reads_as_it_was_written_and_its_first_fault_is_told(rt: HostRuntime) {
     let mut region = new_region(&rt, rt.alloc(), 64);
     is_read_as_written(&rt, &mut region);
-}
-
-#[test]
-fn a_region_that_is_too_short_is_told(rt: HostRuntime) {
-    let short = region_of(&rt, rt.alloc(), &[0; 100]);
-    assert_super(&rt, &short, 0, Err(SuperFault::Length));
 }
 
 /// The system blocks, the pools, slots 1 and 2, and the bounds of inodes.
@@ -112,12 +101,6 @@ fn areas() -> [u64; 9] {
     ]
 }
 
-#[test]
-fn areas_lie_where_the_layout_says(rt: HostRuntime) {
-    let wanted = [5, 5, 34, 34, 64, 16384, 12416, 64, 63];
-    check(&rt, areas() == wanted, "the areas");
-}
-
 /// The last number that a name may say and the one behind it, in version 1 and 2.
 fn names() -> [bool; 5] {
     let old = TWO_CPUS;
@@ -132,26 +115,14 @@ fn names() -> [bool; 5] {
 }
 
 #[test]
-fn names_may_say_what_chains_could_have(rt: HostRuntime) {
+fn areas_lie_where_the_layout_says(rt: HostRuntime) {
+    let wanted = [5, 5, 34, 34, 64, 16384, 12416, 64, 63];
+    check(&rt, areas() == wanted, "the areas");
     check(
         &rt,
         names() == [true, false, false, true, false],
         "the names",
     );
-}
-
-#[test]
-fn numbers_and_pages_are_told_from_others(rt: HostRuntime) {
-    let sup = TWO_CPUS;
-    let numbers = [sup.is_number(63), sup.is_number(64), sup.is_number(0)];
-    check(&rt, numbers == [true, false, false], "the numbers");
-    let pages = [
-        sup.is_page_start(20480),
-        sup.is_page_start(16384),
-        sup.is_page_start(20488),
-    ];
-    check(&rt, pages == [true, false, false], "the pages");
-    check(&rt, Run { start: 7, count: 0 }.is_empty(), "a run of none");
 }
 
 const LOG: Owner = Owner::Log { inode: 2, page: 0 };
@@ -208,16 +179,5 @@ fn faults_rise_by_class_and_fields(rt: HostRuntime) -> Result<(), AllocError> {
     let mut faults = Vec::from_array(rt.alloc(), UNSORTED)?;
     sort_faults(&mut faults);
     check(&rt, faults.as_slice() == SORTED.as_slice(), "the order");
-    Ok(())
-}
-
-#[test]
-fn claims_rise_by_block_and_owner(rt: HostRuntime) -> Result<(), AllocError> {
-    let log = Owner::Log { inode: 4, page: 0 };
-    let data = Owner::Data { inode: 2, page: 3 }.raised(1);
-    let mut claims = Vec::from_array(rt.alloc(), [(9, data), (8, log), (8, data), (9, data)])?;
-    sort_claims(&mut claims);
-    let sorted = [(8, data), (8, log), (9, data)];
-    check(&rt, claims.as_slice() == sorted.as_slice(), "the order");
     Ok(())
 }

@@ -4,9 +4,8 @@ ghost use Rattle.std.specs.Prelude.{◌≡◌, true};
 ghost use Rattle.nv_region.specs.Region.{HasBlocks};
 ghost use Rattle.nv_journal.specs.Pending.{IsEmpty};
 
-use super::assert_undone;
 use crate::checks::check;
-use crate::small::{SMALL, Word, assert_words, small_region};
+use crate::small::{Word, assert_words, small_region};
 use nv_journal::{begin, change_two, commit};
 use nv_region::{MemRegion, Pmem, Stopped};
 use std::alloc::Global;
@@ -130,30 +129,4 @@ fn two_words_change_together(rt: HostRuntime) {
     let mut memory = small_region(&rt, rt.alloc(), &SLOT);
     check(&rt, change_slot(&mut memory).is_ok(), "the slot is changed");
     assert_words(&rt, &memory, &CHANGED);
-}
-
-// The head is stored, and the tail isn't.
-fn store_head(memory: &mut MemRegion) -> Result<(), Stopped>
-    requires { HasBlocks memory.old.region 16 }
-    ensures { HasBlocks memory.new.region 16 }
-{
-    begin_slot(memory)?;
-    memory.store(8336, 16384)
-}
-
-const BEGUN: [Word; 4] = [(8336, 16384), (8344, 12320), (4096, 0), (4104, 2)];
-
-fn is_rolled_back(rt: &impl Abort, alloc: Global, memory: &mut MemRegion)
-    requires { HasBlocks memory.old.region 16 }
-{
-    check(rt, store_head(memory).is_ok(), "the head is stored");
-    assert_words(rt, memory, &BEGUN);
-    assert_undone(rt, alloc, memory, &SMALL, &[]);
-    assert_words(rt, memory, &SLOT);
-}
-
-#[test]
-fn a_change_that_was_begun_is_rolled_back(rt: HostRuntime) {
-    let mut memory = small_region(&rt, rt.alloc(), &SLOT);
-    is_rolled_back(&rt, rt.alloc(), &mut memory);
 }

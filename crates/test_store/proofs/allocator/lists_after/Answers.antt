@@ -10,7 +10,7 @@ use Rattle.nv_super.specs.Runs.{InRun}
 use Rattle.nv_alloc.specs.FreeValue.{FreeLists}
 use Rattle.nv_alloc.specs.FreeLists.{IsFreeIn, IsSound, AreOutside, CanJoin, SameLists}
 use Rattle.nv_alloc.specs.Taking.{HasBlock, pool_at}
-use Rattle.nv_alloc.proofs.Sound.{free_within, data_block, joins_from}
+use Rattle.nv_alloc.proofs.Sound.{free_within, data_block}
 use Rattle.test_store.proofs.allocator.lists_after.Goals as goal
 
 -- where all blocks are in use, none is free
@@ -32,26 +32,5 @@ none_same a b s h c k f = let P : List (List Run) → Type 0 = λ x. HasBlock (p
 pub give-requires-clause-can_join : goal.give-requires-clause-can_join
 give-requires-clause-can_join c =
     let sup = c.reserve.ensures.same.sup ∙ c.in_ok-free.ensures.outside.sup in
-    can _ _ (ap system_blocks sup) (ap (λ (x : Super). x.blocks) sup) c.requires.from (let r = c.requires in omega (arith, r.below, r.above, r.to))
+    can _ _ (ap system_blocks sup) (ap (λ (x : Super). x.blocks) sup) (omega arith) (omega arith)
     (λ d b i h. none_same _ _ c.reserve.ensures.same (none_free _ _ c.in_ok-free.ensures.sound c.in_ok-free.ensures.outside (omega arith)) d b h)
-
-pub give-requires-2-clause-can_join : goal.give-requires-2-clause-can_join
-give-requires-2-clause-can_join c =
-    let sup = c.give.ensures.joined.sup ∙ c.reserve.ensures.same.sup ∙ c.in_ok-free.ensures.outside.sup in
-    can _ _ (ap system_blocks sup) (ap (λ (x : Super). x.blocks) sup) (let r = c.requires in omega (arith, r.below, r.above, r.from)) c.requires.to
-    (λ d b i h. elim (joins_from _ _ _ c.give.ensures.joined d b h) [
-      | inl w ↦ none_same _ _ c.reserve.ensures.same (none_free _ _ c.in_ok-free.ensures.sound c.in_ok-free.ensures.outside (omega arith)) d b w
-      | inr w ↦ absurd (let x = i.0 in let y = w.1 in let r = c.requires in omega (arith, x, y, r.below, r.above))
-    ])
-
-pub give-requires-3-clause-can_join : goal.give-requires-3-clause-can_join
-give-requires-3-clause-can_join c =
-    let sup = c.give-2.ensures.joined.sup ∙ c.give.ensures.joined.sup ∙ c.reserve.ensures.same.sup ∙ c.in_ok-free.ensures.outside.sup in
-    can _ _ (ap system_blocks sup) (ap (λ (x : Super). x.blocks) sup) (let r = c.requires in omega (arith, r.below, r.from)) (let r = c.requires in omega (arith, r.above, r.to))
-    (λ d b i h. elim (joins_from _ _ _ c.give-2.ensures.joined d b h) [
-      | inl v ↦ elim (joins_from _ _ _ c.give.ensures.joined d b v) [
-        | inl w ↦ none_same _ _ c.reserve.ensures.same (none_free _ _ c.in_ok-free.ensures.sound c.in_ok-free.ensures.outside (omega arith)) d b w
-        | inr w ↦ absurd (let x = i.0 in let y = w.1 in let r = c.requires in omega (arith, x, y, r.below))
-      ]
-      | inr w ↦ absurd (let x = i.1 in let y = w.0 in let r = c.requires in omega (arith, x, y, r.above))
-    ])
