@@ -3,7 +3,7 @@
 
 usage: tests/chains.py [PROGRAM] [--judge JUDGE] [CASE..]     closes with 'N passed, M failed'
 
-The images are written byte by byte, and their reports are reckoned here, by the rules of docs/LAYOUT.md (chain_images.py): chains of
+The images are written byte by byte, and their reports are reckoned here, by the rules of docs/LAYOUT.md (images.py): chains of
 one block, of two and of 65,000, used blocks among them, chains that lead nowhere, back into themselves, into one another, into a log
 and into a file, and journals that name words of them. `nova check` prints each report by 1, 2, 8 and 64 workers, of a file and of a
 pipe, and so does a script that recovers the image by as many, and by schedules; the words that it leaves are known too. The commands
@@ -23,9 +23,8 @@ import tempfile
 from pathlib import Path
 
 import rescue
-from chain_images import CASES, CHAINED_SLOTS, FIRST, FOLDER, FOURTH, INNER, LAST, NAMES, ODD, OTHER, SECOND, SLOTS, THIRD
-from chain_images import Region, chains_that_meet, put_tree, records_of_slots, tree
-from rescue import BLOCK, DIRECTORY, FILE, ROOT, SLOT, add, attributes
+from images import BLOCK, CASES, CHAINED_SLOTS, DIRECTORY, FILE, FIRST, FOLDER, FOURTH, INNER, LAST, NAMES, ODD, OTHER, ROOT, SECOND
+from images import SLOT, SLOTS, THIRD, Region, add, attributes, chains_that_meet, put_tree, records_of_slots, spelled, tree
 
 PROGRAM = Path(__file__).resolve().parent.parent / "crates/nova/out/nova"
 WORKERS = (1, 2, 8, 64)
@@ -178,7 +177,7 @@ def put_many(path, count, seed):
         region.blocks, region.chains = blocks, [[]]
         region.put_inode(ROOT, DIRECTORY, [attributes(493), add(b"last", inode)])
         region.kinds[inode], region.entries[inode], region.pages[inode] = FILE, [attributes(420)], [region.next]
-        region.bytes[region.next * BLOCK : region.next * BLOCK + 32] = rescue.spelled(attributes(420))
+        region.bytes[region.next * BLOCK : region.next * BLOCK + 32] = spelled(attributes(420))
         struct.pack_into("<QQ", region.bytes, 16, 1, blocks)
         image.seek(0)
         image.write(region.bytes)
