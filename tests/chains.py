@@ -210,7 +210,34 @@ CREATES = [f"create 0 /n{k}" for k in range(2, 32)]
 # Block 34 is of the table's chain, which was poked before its 30 inodes and the blocks of their logs were taken.
 FULL = ["format 1 64 1", "poke 8 2", "poke 4112 139264", "recover 1", *CREATES]
 MADE = ["ok", "ok", "ok", "recovered inodes 1 free 59 faults 0", *["ok"] * len(CREATES)]
+# The same files of a region of version 1, as a report shows them: block k + 2 is the log of inode k.
+FILES = [
+    "inode 1 dir mode 493 owner 0 group 0 size 0 links 1 time 0", "  log 3 tail 13280",
+    *sorted(f"  name n{k} {k}" for k in range(2, 32)),
+    *(f"inode {k} file mode 420 owner 0 group 0 size 0 links 1 time 0\n  log {k + 2} tail {(k + 2) * BLOCK + 32}" for k in range(2, 32)),
+    "free 0 34-63", "no faults",
+]  # fmt: skip
 SCRIPTS = {
+    "a full table of version 1": (
+        ["format 1 64 1", "recover 1", *CREATES, "create 0 /x", "mkdir 0 /x"],
+        ["ok", "recovered inodes 1 free 60 faults 0", *["ok"] * len(CREATES), "refused NoInodes", "refused NoInodes"],
+    ),
+    "upgraded twice": (
+        ["format 1 64 1", "recover 1", "upgrade", *CREATES, "upgrade", "report"],
+        ["ok", "recovered inodes 1 free 60 faults 0", "ok", *["ok"] * len(CREATES), "refused IsVersion2"]
+        + ["region version 2 cpus 1 blocks 64 tables 1 state 0", *FILES],
+    ),
+    "upgraded late": (
+        ["upgrade", "format 1 64 1", "upgrade", "poke 4112 139264", "recover 1", *CREATES, "report", "upgrade", "report", "peek 8", "peek 4112"]
+        + ["recover 8", "report"],
+        ["refused NotMounted", "ok", "refused NotMounted", "ok", "recovered inodes 1 free 60 faults 0", *["ok"] * len(CREATES)]
+        + ["region version 1 cpus 1 blocks 64 tables 1 state 0", *FILES, "ok", "region version 2 cpus 1 blocks 64 tables 1 state 0", *FILES]
+        + ["word 2", "word 0", "recovered inodes 31 free 30 faults 0", "region version 2 cpus 1 blocks 64 tables 1 state 0", *FILES],
+    ),
+    "a stop before the version": (
+        ["format 1 64 1", "poke 4112 139264", "recover 1", "stop after 2 none", "upgrade", "peek 8", "peek 4112", "recover 1", "upgrade", "peek 8"],
+        ["ok", "ok", "recovered inodes 1 free 60 faults 0", "ok", "stopped", "word 1", "word 0", "recovered inodes 1 free 60 faults 0", "ok", "word 2"],
+    ),
     # Inode 32 has the first slot of the block, and its log in the block behind.
     "an inode in a chain": (
         [*FULL, "create 0 /x", "peek 4112", "peek 139392", "recover 2", "free", "list /x", "stat /x"],
