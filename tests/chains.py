@@ -160,12 +160,13 @@ def try_records(program, folder):
 # ---- long chains
 
 
-def put_many(path, count, seed):
-    """A chain of so many blocks of zeros, in no order that a reader foresees. A file has the last slot. Answers the image's report."""
+def put_many(path, count, is_ring):
+    """A chain of so many blocks of zeros, in no order that a reader foresees, and whether its last link leads to the first of them.
+    A file has the last slot. Answers the image's report."""
     blocks = MANY + 536
     region = Region(cpus=1, blocks=64)
     order = list(range(16, 16 + count))
-    random.Random(seed).shuffle(order)
+    random.Random(count).shuffle(order)
     inode = SLOTS + CHAINED_SLOTS * count - 1
     with open(path, "wb") as image:
         image.truncate(blocks * BLOCK)
@@ -183,6 +184,7 @@ def put_many(path, count, seed):
         image.write(region.bytes)
         for link, block in zip([BLOCK + 16, *(block * BLOCK for block in order)], order):
             put(link, block * BLOCK)
+        put(order[-1] * BLOCK, order[0] * BLOCK if is_ring else 0)
         put(order[-1] * BLOCK + CHAINED_SLOTS * SLOT, 1, FILE, region.next * BLOCK, region.next * BLOCK + 32, 0)
     tails = {ROOT: struct.unpack_from("<Q", region.bytes, region.slot(ROOT) + 24)[0], inode: region.next * BLOCK + 32}
     lines = [f"region version 2 cpus 1 blocks {blocks} tables 1 state 0"]
@@ -190,17 +192,17 @@ def put_many(path, count, seed):
         lines += [state.line(number).rstrip("\n"), f"  log {region.pages[number][0]} tail {tails[number]}"]
         lines += [f"  name {name.decode()} {to}" for name, to in state.names.items()]
     lines.append(f"free 0 {region.next + 1}-15 {16 + count}-{blocks - 1}")
-    return "\n".join([*lines, "no faults", ""])
+    return "\n".join([*lines, f"fault H2 cpu 0 at {order[-1] * BLOCK}" if is_ring else "no faults", ""])
 
 
 def try_many(program, judge, folder):
     path = folder / "image"
-    for count in (1, 2, 300, MANY):
-        report = put_many(path, count, count)
+    for count, is_ring in ((1, False), (1, True), (2, True), (300, False), (MANY, False), (MANY, True)):
+        name, wanted = f"a {'ring' if is_ring else 'chain'} of {count} blocks", (int(is_ring), put_many(path, count, is_ring))
         for workers in (1, 8):
-            same(f"a chain of {count} blocks by {workers}", (0, report), ran(program, "check", path, "--workers", workers))
+            same(f"{name} by {workers}", wanted, ran(program, "check", path, "--workers", workers))
         if judge:
-            same(f"a chain of {count} blocks, the judge", (0, report), ran(judge, "check", path))
+            same(f"{name}, the judge", wanted, ran(judge, "check", path))
 
 
 # ---- scripts
