@@ -3,7 +3,7 @@
 
 usage: tests/chains.py [PROGRAM] [--judge JUDGE] [CASE..]     closes with 'N passed, M failed'
 
-The images are written byte by byte, and their reports are reckoned here, by the rules of docs/LAYOUT.md (chain_images.py): chains of
+The images are written byte by byte, and their reports are reckoned here, by the rules of docs/LAYOUT.md (images.py): chains of
 one block, of two and of 65,000, used blocks among them, chains that lead nowhere, back into themselves, into one another, into a log
 and into a file, and journals that name words of them. `nova check` prints each report by 1, 2, 8 and 64 workers, of a file and of a
 pipe, and so does a script that recovers the image by as many, and by schedules; the words that it leaves are known too. The commands
@@ -23,9 +23,8 @@ import tempfile
 from pathlib import Path
 
 import rescue
-from chain_images import CASES, CHAINED_SLOTS, FIRST, FOLDER, FOURTH, INNER, LAST, NAMES, ODD, OTHER, SECOND, SLOTS, THIRD
-from chain_images import Region, chains_that_meet, put_tree, records_of_slots, tree
-from rescue import BLOCK, DIRECTORY, FILE, ROOT, SLOT, add, attributes
+from images import BLOCK, CASES, CHAINED_SLOTS, DIRECTORY, FILE, FIRST, FOLDER, FOURTH, INNER, LAST, NAMES, ODD, OTHER, ROOT, SECOND
+from images import SLOT, SLOTS, THIRD, Region, add, attributes, chains_that_meet, put_tree, records_of_slots, spelled, tree
 
 PROGRAM = Path(__file__).resolve().parent.parent / "crates/nova/out/nova"
 WORKERS = (1, 2, 8, 64)
@@ -161,12 +160,13 @@ def try_records(program, folder):
 # ---- long chains
 
 
-def put_many(path, count, seed):
-    """A chain of so many blocks of zeros, in no order that a reader foresees. A file has the last slot. Answers the image's report."""
+def put_many(path, count, is_ring):
+    """A chain of so many blocks of zeros, in no order that a reader foresees, and whether its last link leads to the first of them.
+    A file has the last slot. Answers the image's report."""
     blocks = MANY + 536
     region = Region(cpus=1, blocks=64)
     order = list(range(16, 16 + count))
-    random.Random(seed).shuffle(order)
+    random.Random(count).shuffle(order)
     inode = SLOTS + CHAINED_SLOTS * count - 1
     with open(path, "wb") as image:
         image.truncate(blocks * BLOCK)
@@ -178,12 +178,13 @@ def put_many(path, count, seed):
         region.blocks, region.chains = blocks, [[]]
         region.put_inode(ROOT, DIRECTORY, [attributes(493), add(b"last", inode)])
         region.kinds[inode], region.entries[inode], region.pages[inode] = FILE, [attributes(420)], [region.next]
-        region.bytes[region.next * BLOCK : region.next * BLOCK + 32] = rescue.spelled(attributes(420))
+        region.bytes[region.next * BLOCK : region.next * BLOCK + 32] = spelled(attributes(420))
         struct.pack_into("<QQ", region.bytes, 16, 1, blocks)
         image.seek(0)
         image.write(region.bytes)
         for link, block in zip([BLOCK + 16, *(block * BLOCK for block in order)], order):
             put(link, block * BLOCK)
+        put(order[-1] * BLOCK, order[0] * BLOCK if is_ring else 0)
         put(order[-1] * BLOCK + CHAINED_SLOTS * SLOT, 1, FILE, region.next * BLOCK, region.next * BLOCK + 32, 0)
     tails = {ROOT: struct.unpack_from("<Q", region.bytes, region.slot(ROOT) + 24)[0], inode: region.next * BLOCK + 32}
     lines = [f"region version 2 cpus 1 blocks {blocks} tables 1 state 0"]
@@ -191,17 +192,17 @@ def put_many(path, count, seed):
         lines += [state.line(number).rstrip("\n"), f"  log {region.pages[number][0]} tail {tails[number]}"]
         lines += [f"  name {name.decode()} {to}" for name, to in state.names.items()]
     lines.append(f"free 0 {region.next + 1}-15 {16 + count}-{blocks - 1}")
-    return "\n".join([*lines, "no faults", ""])
+    return "\n".join([*lines, f"fault H2 cpu 0 at {order[-1] * BLOCK}" if is_ring else "no faults", ""])
 
 
 def try_many(program, judge, folder):
     path = folder / "image"
-    for count in (1, 2, 300, MANY):
-        report = put_many(path, count, count)
+    for count, is_ring in ((1, False), (1, True), (2, True), (300, False), (MANY, False), (MANY, True)):
+        name, wanted = f"a {'ring' if is_ring else 'chain'} of {count} blocks", (int(is_ring), put_many(path, count, is_ring))
         for workers in (1, 8):
-            same(f"a chain of {count} blocks by {workers}", (0, report), ran(program, "check", path, "--workers", workers))
+            same(f"{name} by {workers}", wanted, ran(program, "check", path, "--workers", workers))
         if judge:
-            same(f"a chain of {count} blocks, the judge", (0, report), ran(judge, "check", path))
+            same(f"{name}, the judge", wanted, ran(judge, "check", path))
 
 
 # ---- scripts
@@ -211,7 +212,34 @@ CREATES = [f"create 0 /n{k}" for k in range(2, 32)]
 # Block 34 is of the table's chain, which was poked before its 30 inodes and the blocks of their logs were taken.
 FULL = ["format 1 64 1", "poke 8 2", "poke 4112 139264", "recover 1", *CREATES]
 MADE = ["ok", "ok", "ok", "recovered inodes 1 free 59 faults 0", *["ok"] * len(CREATES)]
+# The same files of a region of version 1, as a report shows them: block k + 2 is the log of inode k.
+FILES = [
+    "inode 1 dir mode 493 owner 0 group 0 size 0 links 1 time 0", "  log 3 tail 13280",
+    *sorted(f"  name n{k} {k}" for k in range(2, 32)),
+    *(f"inode {k} file mode 420 owner 0 group 0 size 0 links 1 time 0\n  log {k + 2} tail {(k + 2) * BLOCK + 32}" for k in range(2, 32)),
+    "free 0 34-63", "no faults",
+]  # fmt: skip
 SCRIPTS = {
+    "a full table of version 1": (
+        ["format 1 64 1", "recover 1", *CREATES, "create 0 /x", "mkdir 0 /x"],
+        ["ok", "recovered inodes 1 free 60 faults 0", *["ok"] * len(CREATES), "refused NoInodes", "refused NoInodes"],
+    ),
+    "upgraded twice": (
+        ["format 1 64 1", "recover 1", "upgrade", *CREATES, "upgrade", "report"],
+        ["ok", "recovered inodes 1 free 60 faults 0", "ok", *["ok"] * len(CREATES), "refused IsVersion2"]
+        + ["region version 2 cpus 1 blocks 64 tables 1 state 0", *FILES],
+    ),
+    "upgraded late": (
+        ["upgrade", "format 1 64 1", "upgrade", "poke 4112 139264", "recover 1", *CREATES, "report", "upgrade", "report", "peek 8", "peek 4112"]
+        + ["recover 8", "report"],
+        ["refused NotMounted", "ok", "refused NotMounted", "ok", "recovered inodes 1 free 60 faults 0", *["ok"] * len(CREATES)]
+        + ["region version 1 cpus 1 blocks 64 tables 1 state 0", *FILES, "ok", "region version 2 cpus 1 blocks 64 tables 1 state 0", *FILES]
+        + ["word 2", "word 0", "recovered inodes 31 free 30 faults 0", "region version 2 cpus 1 blocks 64 tables 1 state 0", *FILES],
+    ),
+    "a stop before the version": (
+        ["format 1 64 1", "poke 4112 139264", "recover 1", "stop after 2 none", "upgrade", "peek 8", "peek 4112", "recover 1", "upgrade", "peek 8"],
+        ["ok", "ok", "recovered inodes 1 free 60 faults 0", "ok", "stopped", "word 1", "word 0", "recovered inodes 1 free 60 faults 0", "ok", "word 2"],
+    ),
     # Inode 32 has the first slot of the block, and its log in the block behind.
     "an inode in a chain": (
         [*FULL, "create 0 /x", "peek 4112", "peek 139392", "recover 2", "free", "list /x", "stat /x"],

@@ -227,6 +227,50 @@ expect "a clean image from input to output" 0 "same" "cleaned pages 0" \
 word 40 2
 expect "cleaning another state" 2 "" "refused S7${newline}its state is 2; 0 and 1 are taken" "$program" clean "$folder/changed"
 
+# poked NAME AT VALUE: the image NAME, which is `chained` with this word there.
+poked() {
+    echo "poke $2 $3" | "$program" run --image "$folder/chained" --save "$folder/$1" >/dev/null 2>&1
+}
+
+# has_faults NAME COUNT: what a command that looks into the image says of its faults.
+has_faults() {
+    echo "$folder/$1 has faults, which nova check shows: $2"
+}
+
+# The table of CPU 1 goes on in the blocks 200 and 201, whose first inodes are 65 and 127. A link that leads nowhere cuts block
+# 201 off, or both; one that leads back changes nothing else.
+{
+    printf 'format 2 256 1\nrecover 1\nupgrade\npoke 8208 819200\npoke 819200 823296\nrecover 1\nmkdir 1 /d\n'
+    printf 'create 1 /d/f%d\n' {1..30}
+    printf 'create 1 /d/b\n'
+    printf 'create 1 /d/g%d\n' {1..30}
+    printf 'create 1 /d/a\nwrite 1 /d/a 1234567 20001 65\nwrite 0 /d/a 0 5000 66\nwrite 1 /d/b 8191 2 68\nattr 0 /d/b 384 7 8\n'
+} >"$folder/chained.nova"
+"$program" run "$folder/chained.nova" --save "$folder/chained" >/dev/null
+poked chain_cut 819200 819208
+poked chain_ring 823296 819200
+poked chain_gone 8208 1
+expect "a region with a chain" 0 "no faults" "" "$program" check "$folder/chained" --only-faults
+expect "inodes in a chain" 0 "a 127${newline}b 65" "" bash -c '"$1" ls "$2" /d | grep "^[ab] "' bash "$program" "$folder/chained"
+a_stat="stat inode 127 file mode 420 owner 0 group 0 size 1254568 links 1 time 0"
+b_stat="stat inode 65 file mode 384 owner 7 group 8 size 8193 links 1 time 0"
+expect "an inode in the second block of a chain" 0 "$a_stat" "" "$program" stat "$folder/chained" /d/a
+expect "the same by its number" 0 "$a_stat" "" "$program" stat "$folder/chained" 127
+expect "an inode in the first block" 0 "$b_stat" "" "$program" stat "$folder/chained" /d/b
+expect "the bytes of a file in a chain" 0 "$({ head -c 8191 /dev/zero; printf DD; } | cksum)" "" \
+    bash -c '"$1" cat "$2" /d/b | cksum' bash "$program" "$folder/chained"
+expect "a block of a chain" 0 "block 201 table 1 1" "" "$program" block "$folder/chained" 201
+expect "a link that leads nowhere" 1 "fault H1 cpu 1 at 819200${newline}fault C1 inode 3 at 534464" "$with_sentences" \
+    "$program" check "$folder/chain_cut" --only-faults
+expect "what it cuts off" 2 "" "refused NotFound${newline}$(has_faults chain_cut 2)" "$program" cat "$folder/chain_cut" /d/a
+expect "what it leaves" 0 "$b_stat" "$(has_faults chain_cut 2)" "$program" stat "$folder/chain_cut" /d/b
+expect "a link in a sentence" 0 "H1 cpu 1 at 819200: block 200 has at offset 0 the word 819208; the link of a table's chain is 0, or the first byte of a data block" "" \
+    bash -c '"$1" check "$2" --explain 2>/dev/null | grep "^H"' bash "$program" "$folder/chain_cut"
+expect "a link back into its chain" 1 "fault H2 cpu 1 at 823296" "$with_sentences" "$program" check "$folder/chain_ring" --only-faults
+expect "all is there before it" 0 "$a_stat" "$(has_faults chain_ring 1)" "$program" stat "$folder/chain_ring" /d/a
+expect "a chain that is gone" 1 "inodes 32, directories 2, files 30, names 63, blocks in use 32, free 219, faults 33 (H1 1, C1 32)" "$with_sentences" \
+    "$program" check "$folder/chain_gone" --summary
+
 # Of a plain file the metadata alone are read, and the blocks of a file that is shown; a pipe is read whole. Both say the same.
 {
     printf 'format 4 16384 4\nrecover 1\nmkdir 0 /d\ncreate 1 /d/a\ncreate 2 /d/b\nwrite 3 /d/a 1234567 2000001 65\nwrite 0 /d/a 0 5000 66\n'
@@ -235,7 +279,7 @@ expect "cleaning another state" 2 "" "refused S7${newline}its state is 2; 0 and 
 "$program" run "$folder/files.nova" --save "$folder/files" >/dev/null
 # A sparse file is as long, and takes what its words take.
 cp --sparse=always "$folder/files" "$folder/sparse"
-for image in "$folder/files" "$folder/sparse" "$here/examples/ring.img"; do
+for image in "$folder"/{files,sparse,chained,chain_cut,chain_ring,chain_gone} "$here/examples/ring.img"; do
     for asked in "ls /" "ls /d" "stat /d/a" "stat /none" "cat /d/a" "cat /d/b" "cat /d" "cat /d/none" "du /" "log /d/a" "log /none" \
         "tar /" "tar /d/a" "tar /none" "map" "check"; do
         # shellcheck disable=SC2086
@@ -317,7 +361,7 @@ expect_script "a cut region and 65 workers" 2 "ok${newline}ok${newline}refused W
 expect_script "a number too few" 2 "ok${newline}bad line 3" "line 3: expected poke AT VALUE, $words" 'time 7\n\npoke 8\ntree\n'
 expect_script "a space after a command" 2 "bad line 1" "line 1: expected tree, $words" 'tree \n'
 expect_script "no command" 2 "bad line 1" \
-    "line 1: expected time, format, recover, replay, poke, cut, list, stat, read, create, mkdir, write, size, attr, link, unlink, rmdir, rename, clean, tree, free, faults, report, peek or stop" 'move 0 /a /b\n'
+    "line 1: expected time, format, recover, replay, poke, cut, list, stat, read, create, mkdir, write, size, attr, link, unlink, rmdir, rename, clean, upgrade, tree, free, faults, report, peek or stop" 'move 0 /a /b\n'
 expect_script "a command with a letter left out" 2 "bad line 1" "line 1: no command has this name; the nearest is create CPU PATH" 'crate 0 /a\n'
 expect_script "a command with two letters exchanged" 2 "bad line 1" "line 1: no command has this name; the nearest is list PATH" 'lsit /\n'
 expect_script "a carriage return" 2 "bad line 1" \

@@ -3,7 +3,7 @@
 
 usage: tests/every-byte.py [PROGRAM] [--judge JUDGE]
 
-One region has 8 blocks, a file and its root; of it the blocks 0 to 4 are changed. One of version 2 has a second file, whose slot
+One region has 8 blocks, a file and its root; of it the blocks 0 to 4 are changed. One that was upgraded has a second file, whose slot
 stands in a block in which the table goes on; that block is changed too, and the file's log. Each byte is changed by exclusive
 or with 1 and with 255. The recovery on one thread and that by a schedule of three workers print the same report and leave the same words, and so
 do 2 and 8 workers where the byte is a word's first. `nova map` of the changed image, whose recovery has no worker at all,
@@ -41,8 +41,8 @@ FIXED = Region(lines("format 1 8 1", "recover 1", "create 0 /a", "write 0 /a 0 5
 # The table goes on in block 6, where inode 32 has its slot. Its log is block 7, and the root names it b.
 SECOND_FILE = {4112: 24576, 24704: 1, 24712: 1, 24720: 28672, 24728: 28704, 28672: 420 << 32 | 32 << 16 | 2}
 SECOND_NAME = {12352: 1 << 32 | 32 << 16 | 1 << 8 | 3, 12360: 32, 12376: 98, 8344: 12384}
-POKES = [f"poke {at} {word}" for at, word in {8: 2, **SECOND_FILE, **SECOND_NAME}.items()]
-CHAINED = Region(lines("format 1 9 1", "recover 1", "create 0 /a", "write 0 /a 0 100 65", *POKES), 9, (0, 1, 2, 3, 4, 6, 7))
+POKES = [f"poke {at} {word}" for at, word in {**SECOND_FILE, **SECOND_NAME}.items()]
+CHAINED = Region(lines("format 1 9 1", "recover 1", "upgrade", "create 0 /a", "write 0 /a 0 100 65", *POKES), 9, (0, 1, 2, 3, 4, 6, 7))
 WAYS = [b"recover 1\n", b"replay 3 2 1 0 2 1 0\n"]
 # These are tried too where the byte is the first of its word.
 WAYS_OF_WORDS = [*WAYS, b"recover 2\n", b"recover 8\n"]

@@ -45,13 +45,20 @@ SMALL = lines("format 1 16 1", "recover 1")
 BASE64 = lines("format 64 512 1", "recover 1")
 MOVED = ["mkdir 0 /d", "mkdir 0 /e", "create 0 /d/x", "rename 0 /d/x /e/x"]
 FULL_OF_NAMES = ["create 0 /n0", *(f"link 0 /n0 /n{k}" for k in range(1, 127))]
-# Each writing call but `clean`, made by the last CPU and some by the first.
+# Each writing call but `clean` and `upgrade`, made by the last CPU and some by the first.
 EACH_CALL = ["mkdir 0 /d", "mkdir {last} /e", "create {last} /a", "write {last} /a 0 5000 65", "size 0 /a 3", "attr {last} /a 448 1 2"]
 EACH_CALL += ["link {last} /a /d/b", "rename {last} /a /c", "rename {last} /d/b /e/b", "rename 0 /c /d/c"]
 EACH_CALL += ["unlink {last} /e/b", "unlink {last} /d/c", "rmdir {last} /d"]
 # The table is full, and goes on in block 40.
 FULL_TABLE = lines("format 1 64 1", "poke 8 2", "poke 4112 163840", "recover 1", *(f"create 0 /n{k}" for k in range(30)))
 DEAD_PAGE = ["create {last} /a", *["attr {last} /a 420 0 0"] * 127]
+
+
+def with_words_for_links(cpus, blocks):
+    """A region of version 1 in which words stand where links come."""
+    return lines(f"format {cpus} {blocks} 1", *(f"poke {BLOCK * (1 + cpu) + 16} {7 + cpu}" for cpu in range(cpus)), "recover 1", "create 0 /a")
+
+
 # By name: the region that the calls begin with, and the calls.
 SCRIPTS = {
     "a file of two pages": (BASE2, ["create 0 /a", "write 0 /a 0 5000 65"]),
@@ -65,11 +72,13 @@ SCRIPTS = {
     "inodes in a chain": (FULL_TABLE, ["mkdir 0 /d", "create 0 /d/x", "rename 0 /d/x /y", "rmdir 0 /d"]),
     "a log with a dead page": (SMALL + lines(*on_cpu(0, DEAD_PAGE)), ["clean /a"]),
     "a log with a dead page, of 64 CPUs": (BASE64 + lines(*on_cpu(63, DEAD_PAGE)), ["clean /a"]),
-    "a region of version 1, with words where links come": (lines("format 2 64 1", "poke 4112 7", "poke 8208 9", "recover 1", "create 0 /a"), ["upgrade"]),
+    "words where links come, of 2 CPUs": (with_words_for_links(2, 64), ["upgrade"]),
+    "words where links come, of 64 CPUs": (with_words_for_links(64, 136), ["upgrade"]),
     "overwritten pages": (lines("time 7", "format 1 16 1", "recover 1"), ["create 0 /a", "write 0 /a 0 5000 65", "attr 0 /a 448 1 2", "write 0 /a 4000 200 66"]),
 }
 # The stores and fences of some calls.
 STEPS = {"a file of two pages: create 0 /a": 25, "a file cut and lengthened: write 0 /a 0 6 65": 520, "a format": 53}
+STEPS |= {f"words where links come, of {cpus} CPUs: upgrade": cpus + 3 for cpus in (2, 64)}
 # The roll back of a journal: the region that a stop left between the two tails of a rename.
 STOPPED_RENAME = BASE2 + lines(*MOVED[:3], "stop at 12568 all", MOVED[3])
 

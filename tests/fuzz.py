@@ -179,7 +179,7 @@ def a_script(rng):
             f"poke {at} {value}", f"poke {at} {value}", f"poke {at + rng.choice([0, 4])} {value}", f"peek {at}",
             f"recover {rng.choice([0, 1, 2, 8, 65])}", "recover 1", "report", "tree", "free", "faults", f"time {rng.randint(0, 9)}",
             f"poke 8 {rng.choice([0, 1, 2, 2, 3])}", f"poke {BLOCK * rng.choice([1, 1, 2, 3]) + 16} {BLOCK * rng.randrange(blocks + 1)}", f"replay 3 {' '.join(str(rng.randrange(4)) for _ in range(rng.randint(0, 9)))}".strip(),
-            f"cut {rng.choice([at, BLOCK * blocks])}", f"format 1 {rng.choice([7, 8, 64])} {rng.choice([0, 1, 64])}", "# a comment", "",
+            f"cut {rng.choice([at, BLOCK * blocks])}", f"format 1 {rng.choice([7, 8, 64])} {rng.choice([0, 1, 64])}", "upgrade", "# a comment", "",
         ]))  # fmt: skip
     if rng.random() < 0.1:
         lines.insert(rng.randrange(len(lines)), rng.choice(["peek", "recover x", "tree ", "poke 1", "no such command", "time 18446744073709551616"]))

@@ -75,6 +75,8 @@ class Calls:
         rng = self.rng
         if self.cleans and rng.random() < 0.2:
             return self.cleaning()
+        if rng.random() < 0.02:
+            return "upgrade"
         cpu = rng.randrange(4) if rng.random() < 0.05 else rng.randrange(self.cpus)
         what = rng.choice(["create", "create", "create", "mkdir", "write", "write", "write", "size", "attr", "link", "unlink", "rmdir", "rename", "rename"])
         if what in ("create", "mkdir"):

@@ -1,36 +1,41 @@
 #!/usr/bin/env python3
 """Damages a sound tree by each class of faults on purpose, and compares what the program gives back with what has to be left.
 
-usage: tests/rescue.py [PROGRAM] [CASE..]     closes with 'N passed, M failed'
+usage: tests/rescue.py [PROGRAM] [--judge JUDGE] [CASE..]     closes with 'N passed, M failed'
 
 The tree has files with holes, with two names and with many overwrites, directories below one another, and one whose log has
-three pages. Its image is written here byte by byte, and what is left of it after each damage is reckoned here too, by the rules
-of docs/LAYOUT.md. Of each image `nova check` has to find the class and to list the inodes that are left, with their numbers and
-names. By its number each has to come back from `nova stat`, `ls` and `cat`. `nova tar --lost-found` has to hold each of them,
-what it holds once and each of its names once, and `tar` has to make files of it on the disk. An image whose superblock is
-damaged is refused by each of these commands, which write nothing.
+three pages. It stands in a region of version 1, and in one of version 2, where the slots of many of its inodes are in the two
+blocks in which the table goes on. Each image is written byte by byte, and what is left of it after each damage is reckoned
+here, by the rules of docs/LAYOUT.md. Of each `nova check` has to find the class and to list the inodes that are left, with their
+numbers and names. By its number each has to come back from `nova stat`, `ls` and `cat`. `nova tar --lost-found` has to hold each of
+them, what it holds once and each of its names once, and `tar` has to make files of it on the disk. An image whose superblock is
+damaged is refused by each of these commands, which write nothing. JUDGE, a program that takes `check`, reports the same of each image.
 """
 
+import argparse
 import json
 import os
-import struct
 import subprocess
 import sys
 import tempfile
 from pathlib import Path
 
 import tar
+from images import BLOCK, DIRECTORY, FILE, ROOT, Region, add, attributes, links, remove, write
 
-BLOCKS, BLOCK, ENTRIES_END, SLOT = 256, 4096, 4064, 128
-TABLES = 4
-# One CPU: its journal is block 1, its table the blocks from 2 on.
-JOURNAL, TABLE, FIRST_DATA = BLOCK, 2 * BLOCK, 2 + TABLES
-FILE, DIRECTORY = 1, 2
-ROOT, FOLDER, INNER, MANY = 1, 2, 3, 4
-TWINS, LARGE, SMALL, DEEP, LONG = 10, 11, 12, 13, 14
+PROGRAM = Path(__file__).resolve().parent.parent / "crates/nova/out/nova"
+BLOCKS = 256
+# By version: how many blocks the one CPU's table has before it goes on in its chain. Its journal is block 1.
+TABLES = {1: 4, 2: 1}
+CHAIN = (150, 140)
+JOURNAL = BLOCK
+# In version 2 the slots from 32 on are in the first block of the chain, and those from 63 on in the second.
+FOLDER, MANY, INNER, DEEP = 2, 4, 63, 93
+TWINS, LARGE, SMALL, LONG = 10, 11, 12, 14
+IN_SECOND = (INNER, DEEP)
 # The inodes of the directory with many names.
 FIRST_OF_MANY, NAMES = 20, 40
-UNUSED = 100
+UNUSED = 90
 OVERWRITES = 250
 
 passed = failed = 0
@@ -45,170 +50,25 @@ def same(what, wanted, found):
         print(f"FAILED {what}: {str(found)[:300]} in place of {str(wanted)[:300]}")
 
 
-# ---- entries, and what they make of an inode
-
-
-def attributes(mode, size=0, time=1):
-    return ("attributes", mode, size, time)
-
-
-def write(page, count, block, size, time=2):
-    return ("write", page, count, block, size, time)
-
-
-def add(name, inode, time=3):
-    return ("add", name, inode, time)
-
-
-def remove(name, inode, time=4):
-    return ("remove", name, inode, time)
-
-
-def links(count, time=5):
-    return ("links", count, time)
-
-
-def spelled(entry):
-    kind, *fields = entry
-    if kind == "attributes":
-        mode, size, time = fields
-        return struct.pack("<BBHIQQII", 2, 0, 32, mode, size, time, 1000, 100)
-    if kind == "write":
-        page, count, block, size, time = fields
-        return struct.pack("<BBHIQQQQ", 1, 0, 40, count, page, block, size, time)
-    if kind == "links":
-        count, time = fields
-        return struct.pack("<BBHIQQ", 4, 0, 24, count, time, 0)
-    name, inode, time = fields
-    length = 24 + -(-len(name) // 8) * 8
-    return struct.pack("<BBHIQQ", 3, 1 if kind == "add" else 2, length, len(name), inode, time) + name.ljust(length - 24, b"\0")
-
-
-class State:
-    """What an inode is by its entries."""
-
-    def __init__(self, kind, entries, bytes_):
-        self.kind, self.names, pages = kind, {}, {}
-        self.mode = self.size = self.time = self.owner = self.group = 0
-        self.links = 1
-        for what, *fields in entries:
-            self.time = fields[-1]
-            if what == "attributes":
-                self.mode, self.size, self.owner, self.group = fields[0], fields[1], 1000, 100
-                pages = {page: block for page, block in pages.items() if page * BLOCK < self.size}
-            elif what == "write":
-                page, count, block, self.size, _ = fields
-                pages.update({page + k: block + k for k in range(count)})
-            elif what == "links":
-                self.links = fields[0]
-            elif what == "add":
-                self.names[fields[0]] = fields[1]
-            else:
-                self.names.pop(fields[0], None)
-        whole = bytearray(-(-self.size // BLOCK) * BLOCK)
-        for page, block in pages.items():
-            whole[page * BLOCK:(page + 1) * BLOCK] = bytes_[block * BLOCK:(block + 1) * BLOCK]
-        self.content = bytes(whole[:self.size])
-
-    def line(self, inode):
-        kind = "dir" if self.kind == DIRECTORY else "file"
-        numbers = ("mode", "owner", "group", "size", "links", "time")
-        return f"inode {inode} {kind} " + " ".join(f"{name} {getattr(self, name)}" for name in numbers) + "\n"
-
-
 # ---- the tree
-
-
-class Region:
-    """An image without faults, in which each slot, entry and link stands at a known place."""
-
-    def __init__(self):
-        self.bytes = bytearray(BLOCKS * BLOCK)
-        self.bytes[:48] = b"NOVAPM01" + struct.pack("<QQQQQ", 1, 1, BLOCKS, TABLES, 0)
-        self.next, self.last = FIRST_DATA, BLOCKS
-        # By inode: its kind, its entries, their places, and the pages of its log.
-        self.kinds, self.entries, self.places, self.pages = {}, {}, {}, {}
-
-    def poke(self, at, value):
-        struct.pack_into("<Q", self.bytes, at, value)
-
-    def slot(self, inode):
-        return TABLE + inode * SLOT
-
-    def link(self, inode, page):
-        """Where the link of a page of a log stands."""
-        return self.pages[inode][page] * BLOCK + ENTRIES_END
-
-    def put_blocks(self, content):
-        """Puts bytes into blocks, the last ones that are left. Answers the first of them."""
-        self.last -= -(-len(content) // BLOCK)
-        self.bytes[self.last * BLOCK:self.last * BLOCK + len(content)] = content
-        return self.last
-
-    def put_entry(self, inode, entry, at):
-        """Puts an entry at a place or, where it doesn't fit, at the start of a new page. Answers the place behind it."""
-        text = spelled(entry)
-        if at % BLOCK + len(text) > ENTRIES_END:
-            if at % BLOCK < ENTRIES_END:
-                self.poke(at, 8 << 16)
-            self.poke(at // BLOCK * BLOCK + ENTRIES_END, self.next * BLOCK)
-            at = self.put_page(inode)
-        self.places[inode].append(at)
-        self.bytes[at:at + len(text)] = text
-        return at + len(text)
-
-    def put_page(self, inode):
-        self.pages[inode].append(self.next)
-        self.next += 1
-        return (self.next - 1) * BLOCK
-
-    def put_inode(self, inode, kind, entries):
-        self.kinds[inode], self.entries[inode], self.places[inode], self.pages[inode] = kind, entries, [], []
-        head = at = self.put_page(inode)
-        for entry in entries:
-            at = self.put_entry(inode, entry, at)
-        self.bytes[self.slot(inode):self.slot(inode) + 40] = struct.pack("<QQQQQ", 1, kind, head, at, 0)
-
-    def append(self, inode, entry):
-        """Puts one more entry at the end of a log. Answers all entries."""
-        tail = self.slot(inode) + 24
-        self.poke(tail, self.put_entry(inode, entry, struct.unpack_from("<Q", self.bytes, tail)[0]))
-        return {inode: [*self.entries[inode], entry]}
-
-    def on_pages(self, inode, count):
-        """The entries on the first so many pages of a log."""
-        pages = self.pages[inode][:count]
-        return [entry for entry, at in zip(self.entries[inode], self.places[inode]) if at // BLOCK in pages]
-
-    def states(self, changed):
-        """What all inodes are, where the entries of these are others, or none where the inode isn't in use any more."""
-        entries = {**self.entries, **changed}
-        return {inode: State(self.kinds[inode], es, self.bytes) for inode, es in entries.items() if es is not None}
 
 
 def name_of(k):
     return b"name" * 50 + b"%02d" % k
 
 
-def sound():
-    region = Region()
-
-    def file(inode, *parts, more=()):
-        """A file of parts, each a page and its bytes."""
-        entries, size = [attributes(420)], 0
-        for page, content in parts:
-            size = max(size, page * BLOCK + len(content))
-            entries.append(write(page, -(-len(content) // BLOCK), region.put_blocks(content), size))
-        region.put_inode(inode, FILE, [*entries, *more])
-
-    file(TWINS, (0, b"twins" * 700), (3, b"behind a hole"), more=[links(2)])
-    file(LARGE, (0, bytes(range(256)) * 30))
-    file(SMALL, (0, b"small"))
-    file(DEEP, (0, b"deep" * 1024))
+def sound(version=1):
+    region = Region(cpus=1, tables=TABLES[version], blocks=BLOCKS, version=version)
+    if version == 2:
+        region.put_chain(0, *CHAIN)
+    region.put_file(TWINS, (0, b"twins" * 700), (3, b"behind a hole"), more=[links(2)])
+    region.put_file(LARGE, (0, bytes(range(256)) * 30))
+    region.put_file(SMALL, (0, b"small"))
+    region.put_file(DEEP, (0, b"deep" * 1024))
     blocks = [region.put_blocks(b"%03d" % k * 1300) for k in range(10)]
     region.put_inode(LONG, FILE, [attributes(384), *(write(k % 3, 1, blocks[k % 10], 3 * BLOCK) for k in range(OVERWRITES))])
     for k in range(NAMES):
-        file(FIRST_OF_MANY + k, (0, b"%02d" % k * 50))
+        region.put_file(FIRST_OF_MANY + k, (0, b"%02d" % k * 50))
     region.put_inode(INNER, DIRECTORY, [attributes(493), add(b"deep", DEEP)])
     region.put_inode(FOLDER, DIRECTORY, [attributes(448), add(b"inner", INNER), add(b"other", TWINS), add(b"small", SMALL)])
     region.put_inode(MANY, DIRECTORY, [attributes(493), *(add(name_of(k), FIRST_OF_MANY + k) for k in range(NAMES))])
@@ -376,14 +236,51 @@ def b1_log(r):
     return {SMALL: [r.entries[SMALL][0], write(0, 1, block, 5)]}
 
 
+def h1_link(r):
+    # The second block of the chain is lost, with its slots. Their names stay.
+    r.poke(r.link_at(0, 1), CHAIN[1] * BLOCK + 8)
+    return dict.fromkeys(IN_SECOND)
+
+
+def h1_first_link(r):
+    r.poke(r.link_at(0, 0), BLOCKS * BLOCK)
+    return {inode: None for inode in r.kinds if inode >= r.in_chain(0, 0, 0)}
+
+
+def h2_ring(r):
+    # All slots were read before it leads back.
+    r.poke(CHAIN[1] * BLOCK, CHAIN[0] * BLOCK)
+    return {}
+
+
+def b1_table(r):
+    # The small file's page lies in the block of the chain whose first word is its link, and where no slot is in use.
+    r.poke(r.places[SMALL][1] + 16, CHAIN[0])
+    return {SMALL: [r.entries[SMALL][0], write(0, 1, CHAIN[0], 5)]}
+
+
+def i1_chained(r):
+    r.poke(r.slot(DEEP), 2)
+    return {DEEP: None}
+
+
+def i3_chained(r):
+    r.poke(r.slot(INNER) + 16, JOURNAL)
+    return {INNER: []}
+
+
 DAMAGES = [
     j1_pointer, j2_record, i1_file, i1_directory, i2_file, i3_tail, i3_head, i3_root, l1_directory, l1_file, l2_directory, l3_directory,
     l3_root, l3_file, l4_tail, e1_write, e1_name, e2_links_of_a_directory, e2_name_of_a_file, e3_name, e4_name, c1_name, c2_directory,
     c2_ring, c3_links, c4_file, c4_directory, c4_ring, c5_root, b1_data, b1_log,
 ]
 
+# Damages of the tree in version 2.
+CHAINED = [h1_link, h1_first_link, h2_ring, b1_table, i1_chained, i3_chained, j1_pointer, l2_directory, c2_ring, c4_directory, c5_root]
+
 # Damages that don't touch one another, in one image.
 SEVERAL = [j1_pointer, i1_file, i3_tail, l3_file, e1_name, e2_links_of_a_directory, c4_directory]
+SEVERAL_CHAINED = [j1_pointer, h1_link, i1_file, i3_tail, l3_file, b1_table, c4_directory]
 
 # By the class by which it is refused: a word of the superblock, and its value.
 REFUSED = {"S2": (0, 7), "S3": (8, 3), "S4": (16, 65), "S5": (24, BLOCKS + 1), "S6": (32, 0), "S7": (40, 2)}
@@ -473,8 +370,14 @@ def archived(program, image, states, name):
     tar.extracted(name, "tar", archive, members)
 
 
-def rescued(program, image, damages, name):
-    region, changed = sound(), {}
+def judged(program, judge, image, name):
+    """The judge prints the same report."""
+    wanted = tar.output_of(judge, "check", image)
+    same(f"{name}: the judge", wanted, tar.output_of(program, "check", image))
+
+
+def rescued(program, judge, image, version, damages, name):
+    region, changed = sound(version), {}
     for damage in damages:
         changed.update(damage(region))
     Path(image).write_bytes(region.bytes)
@@ -482,40 +385,54 @@ def rescued(program, image, damages, name):
     told_of(program, image, classes, states, name)
     by_number(program, image, states, name)
     archived(program, image, states, name)
+    if judge:
+        judged(program, judge, image, name)
     for one in classes & {"L1", "L2", "L3", "L4"}:
         logs = tar.output_of(program, "log", "--all", image)[1]
         same(f"{name}: where a log ends", 1, logs.count(b"  ends by %s at block " % one.encode()))
-    if damages == [b1_data]:
-        block = str(region.entries[LARGE][1][3])
-        owners = f"block {block} data {LARGE} 0\nblock {block} data {SMALL} 0\n"
-        same(f"{name}: owners", (0, owners.encode()), tar.output_of(program, "block", image, block))
+    owners = {b1_data: (region.entries[LARGE][1][3], f"data {LARGE} 0"), b1_table: (CHAIN[0], "table 0 0")}
+    for block, owner in (owners[damage] for damage in damages if damage in owners):
+        both = f"block {block} {owner}\nblock {block} data {SMALL} 0\n"
+        same(f"{name}: owners", (0, both.encode()), tar.output_of(program, "block", image, str(block)))
 
 
-def refused(program, image):
+def refused(program, judge, image):
     """Of an image that is refused nothing is given back."""
     for one, change in {"S1": None, **REFUSED}.items():
-        region = sound()
+        region = sound(2)
         if change:
             region.poke(*change)
         Path(image).write_bytes(region.bytes[:-8] if one == "S1" else region.bytes)
         for words in (["tar", image, "--lost-found"], ["ls", image], ["cat", image, str(LARGE)], ["log", image, str(LARGE)]):
             done = subprocess.run([program, *words], capture_output=True)
             same(f"{one}: {words[0]}", (2, b"", f"refused {one}"), (done.returncode, done.stdout, done.stderr.decode().split("\n")[0]))
+        if judge:
+            judged(program, judge, image, one)
+
+
+def cases_of():
+    """By name: the version, and the damages."""
+    cases = {"sound": (1, []), **{damage.__name__: (1, [damage]) for damage in DAMAGES}, "several": (1, SEVERAL)}
+    cases |= {"chained": (2, []), **{f"chained {damage.__name__}": (2, [damage]) for damage in CHAINED}}
+    return cases | {"chained several": (2, SEVERAL_CHAINED)}
 
 
 def main():
-    here = Path(__file__).resolve().parent.parent
-    program, asked = os.path.abspath(sys.argv[1]) if len(sys.argv) > 1 else str(here / "crates/nova/out/nova"), sys.argv[2:]
+    words = argparse.ArgumentParser(usage="\n" + __doc__)
+    words.add_argument("program", nargs="?", default=str(PROGRAM))
+    words.add_argument("--judge")
+    words.add_argument("cases", nargs="*")
+    told = words.parse_args()
+    program = os.path.abspath(told.program)
     if not os.access(program, os.X_OK):
         sys.exit(__doc__)
     with tempfile.TemporaryDirectory() as folder:
         image = os.path.join(folder, "image")
-        cases = {"sound": [], **{damage.__name__: [damage] for damage in DAMAGES}, "several": SEVERAL}
-        for name, damages in cases.items():
-            if not asked or name in asked:
-                rescued(program, image, damages, name)
-        if not asked:
-            refused(program, image)
+        for name, (version, damages) in cases_of().items():
+            if not told.cases or name in told.cases:
+                rescued(program, told.judge, image, version, damages, name)
+        if not told.cases:
+            refused(program, told.judge, image)
     print(f"{passed} passed, {failed} failed")
     return 1 if failed else 0
 

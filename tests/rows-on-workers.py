@@ -19,7 +19,7 @@ from pathlib import Path
 
 COMMANDS = (
     "format time recover replay tree free faults report poke cut peek stop list stat read"
-    " create mkdir write size attr link unlink rmdir rename clean"
+    " create mkdir write size attr link unlink rmdir rename clean upgrade"
 ).split()
 BLOCK = 4096
 MOST_BLOCKS = 262144

@@ -69,10 +69,18 @@ fn look_at_blocks<R: Print>(rt: &R, fs: &Fs<MemRegion>) -> Result<()> {
         for run in fs.free_runs(Cpu(cpu)) {
             println!(rt; "cpu {} has {} free from {} on", cpu, run.count, run.start)?;
         }
+        if let Some(inode) = fs.unused_number(Cpu(cpu)) {
+            println!(rt; "cpu {} makes inode {} next", cpu, inode)?;
+        }
     }
     let bytes = fs.memory().len();
     println!(rt; "{} blocks free, {} bytes", fs.free().free_blocks(), bytes)?;
     Ok(println!(rt; "{} faults", fs.faults().len())?)
+}
+
+fn upgrade<R: Print>(rt: &R, fs: &mut Fs<MemRegion>) -> Result<()> {
+    fs.upgrade()?;
+    Ok(println!(rt; "version {}", fs.superblock().version)?)
 }
 
 fn make_each<R: Print>(rt: &R, fs: &mut Fs<MemRegion>) -> Result<()> {
@@ -82,7 +90,8 @@ fn make_each<R: Print>(rt: &R, fs: &mut Fs<MemRegion>) -> Result<()> {
     read_by_number(rt, fs)?;
     clean(rt, fs)?;
     look(rt, fs)?;
-    look_at_blocks(rt, fs)
+    look_at_blocks(rt, fs)?;
+    upgrade(rt, fs)
 }
 
 fn main(rt: HostRuntime) -> Result<()> {

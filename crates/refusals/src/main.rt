@@ -14,7 +14,6 @@ mod mounted;
 mod recoveries;
 mod region;
 mod seats;
-mod starting;
 mod working;
 
 use making::tell_calls;

@@ -1,5 +1,5 @@
 //! Recovers two small regions by each of the recoveries, and tells what was found. Before that two workers scan one of them in
-//! turn, and a region in version 2, whose tables are read and whose journals are rolled back first.
+//! turn, once its journals are rolled back.
 //!
 //! A recovery that answers want of memory leaves its region as before or with its journals rolled back, and a worker gives
 //! its seat and neither rows nor faults; each is then made once more.
@@ -8,10 +8,7 @@ ghost use Rattle.std.specs.Prelude.{◌≡◌, ◌≤◌};
 ghost use Rattle.nv_region.specs.Region.{HasBlocks};
 
 use crate::findings::{Counts, Left, counts_of, is_want_of_memory, left_of, name_of};
-use crate::region::{
-    Damage, STOPPED, blocks_of, store_chained, store_damaged, store_rolled_back, store_undone,
-};
-use crate::starting::{Started, start};
+use crate::region::{CHAINED, Damage, blocks_of, store_damaged, store_rolled_back};
 use crate::working::{Given, Work, work_in_turn};
 use nv_inode::{Tables, read_tables};
 use nv_recover::{RecoverError, Recovered, recover, recover_one, recover_replay};
@@ -36,22 +33,22 @@ struct Case {
     label: &'static str,
 }
 
-const STOPPED_ONE_THREAD: Case = Case {
-    damage: Damage::Stopped,
+const CHAINED_ONE_THREAD: Case = Case {
+    damage: Damage::Chained,
     way: Way::OneThread,
-    label: "Stopped OneThread",
+    label: "Chained OneThread",
 };
 
-const STOPPED_SCHEDULE: Case = Case {
-    damage: Damage::Stopped,
+const CHAINED_SCHEDULE: Case = Case {
+    damage: Damage::Chained,
     way: Way::Schedule,
-    label: "Stopped Schedule",
+    label: "Chained Schedule",
 };
 
-const STOPPED_TWO_WORKERS: Case = Case {
-    damage: Damage::Stopped,
+const CHAINED_TWO_WORKERS: Case = Case {
+    damage: Damage::Chained,
     way: Way::TwoWorkers,
-    label: "Stopped TwoWorkers",
+    label: "Chained TwoWorkers",
 };
 
 const NAMES_ONE_THREAD: Case = Case {
@@ -74,11 +71,11 @@ const NAMES_TWO_WORKERS: Case = Case {
 
 /// The recoveries whose allocations have no order of their own come last.
 const CASES: [Case; 6] = [
-    STOPPED_ONE_THREAD,
-    STOPPED_SCHEDULE,
+    CHAINED_ONE_THREAD,
+    CHAINED_SCHEDULE,
     NAMES_ONE_THREAD,
     NAMES_SCHEDULE,
-    STOPPED_TWO_WORKERS,
+    CHAINED_TWO_WORKERS,
     NAMES_TWO_WORKERS,
 ];
 
@@ -303,41 +300,15 @@ fn tell_workers_by<R: AllocGlobal + Print>(
 
 fn tell_workers_on<R: AllocGlobal + Print>(rt: &R, memory: &mut MemRegion) -> Option<()>
     requires { HasBlocks memory.old.region 16 }
-    ensures { HasBlocks memory.new.region 16 }
 {
-    store_undone(memory, 16)?;
-    let tables = read_tables(rt.alloc(), &*memory, &STOPPED).ok()?;
+    store_rolled_back(memory, 16, Damage::Chained)?;
+    let tables = read_tables(rt.alloc(), &*memory, &CHAINED).ok()?;
     tell_workers_by(rt, memory, &tables)
-}
-
-/// Tells what a start found, and of which of its calls was refused memory once.
-fn tell_start<R: Print>(rt: &R, started: &Started) -> Option<()> {
-    if started.read_again {
-        println!(rt; "refused once: tables").ok()?;
-    }
-    if started.undone_again {
-        println!(rt; "refused once: undo").ok()?;
-    }
-    let (chains, journal) = (started.tables.faults().len(), started.journal);
-    println!(rt; "chains: faults {chains}, of the journals {journal}").ok()
-}
-
-/// The same in version 2, where the tables go on in chains.
-fn tell_chains_on<R: AllocGlobal + Print>(rt: &R, memory: &mut MemRegion) -> Option<()>
-    requires { HasBlocks memory.old.region 16 }
-{
-    store_chained(memory, 16)?;
-    let started = start(rt.alloc(), memory).ok()?;
-    tell_start(rt, &started)?;
-    tell_workers_by(rt, memory, &started.tables)
 }
 
 fn tell_workers<R: AllocGlobal + Print>(rt: &R) -> Option<()> {
     match MemRegion::new(rt.alloc(), 16) {
-        Ok(mut memory) => {
-            tell_workers_on(rt, &mut memory)?;
-            tell_chains_on(rt, &mut memory)
-        }
+        Ok(mut memory) => tell_workers_on(rt, &mut memory),
         Err(_) => None,
     }
 }

@@ -10,56 +10,65 @@ use nv_super::{MAGIC, Super};
 /// Which of the regions.
 #[derive(Clone, Copy)]
 pub(crate) enum Damage {
-    /// A stop left records pending. Two blocks have two owners.
-    Stopped,
+    /// Each table goes on in a chain. A stop left records pending. Two blocks have two owners.
+    Chained,
     /// Logs add a name that is there, and remove one that isn't.
     Names,
 }
 
-/// The superblock of the stopped region.
-pub(crate) const STOPPED: Super = Super {
-    version: 1,
+/// The superblock of the region with chains.
+pub(crate) const CHAINED: Super = Super {
+    version: 2,
     cpus: 2,
     blocks: 16,
     table_blocks: 1,
     state: 0,
 };
 
-/// The same in version 2, where each table goes on in a chain. No recovery accepts it yet.
-pub(crate) const CHAINED: Super = Super {
-    version: 2,
-    ..STOPPED
-};
-
-const SUPERBLOCK: [(u64, u64); 5] = [(0, MAGIC), (8, 1), (16, 2), (24, 16), (32, 1)];
+/// The superblock and the links: the chain of CPU 0 has the blocks 12 and 13, that of CPU 1 block 14, which leads back to
+/// itself.
+const TABLES: [(u64, u64); 9] = [
+    (0, MAGIC),
+    (8, 2),
+    (16, 2),
+    (24, 16),
+    (32, 1),
+    (4112, 49152),
+    (49152, 53248),
+    (8208, 57344),
+    (57344, 57344),
+];
 
 /// The last two records of the journal of CPU 0 are pending: of a word that no journal may name, and of the tail of
-/// inode 2. Two records of CPU 1 are pending: of the valid word of inode 5, and of the tail of the root.
-const JOURNALS: [(u64, u64); 11] = [
+/// inode 2. Three records of CPU 1 are pending: of the valid word of inode 5, and of the tails of the root and of inode 128.
+const JOURNALS: [(u64, u64); 13] = [
     (4096, 250),
     (8160, 100),
     (8168, 7),
     (8176, 12440),
     (8184, 24688),
     (8192, 0),
-    (8200, 2),
+    (8200, 3),
     (8256, 16640),
     (8264, 0),
     (8272, 16408),
     (8280, 20576),
+    (8288, 53528),
+    (8296, 61472),
 ];
 
 /// What the pending records leave.
-const ROLLED_BACK: [(u64, u64); 5] = [
+const ROLLED_BACK: [(u64, u64); 6] = [
     (4096, 0),
     (12440, 24688),
-    (8192, 2),
+    (8192, 3),
     (16640, 0),
     (16408, 20576),
+    (53528, 61472),
 ];
 
-/// Valid word, kind, head and tail of the inodes 2, 4, 1, 3 and 5.
-const SLOTS: [(u64, u64); 20] = [
+/// Valid word, kind, head and tail of the inodes 2, 4, 1, 3 and 5, and of inode 128, whose slot is in block 13.
+const SLOTS: [(u64, u64); 24] = [
     (12416, 1),
     (12424, 1),
     (12432, 24576),
@@ -80,6 +89,10 @@ const SLOTS: [(u64, u64); 20] = [
     (16648, 1),
     (16656, 45056),
     (16664, 45088),
+    (53504, 1),
+    (53512, 1),
+    (53520, 61440),
+    (53528, 8),
 ];
 
 /// The first word of an attributes entry of mode 420.
@@ -118,8 +131,8 @@ const DIRECTORIES: [(u64, u64); 20] = [
     (28792, 122),
 ];
 
-/// File 2 has the blocks 8 and 9, and then two links; file 4 has block 9 too; file 5 is empty.
-const FILES: [(u64, u64); 15] = [
+/// File 2 has the blocks 8 and 9, and then two links; file 4 has block 9 too; the files 5 and 128 are empty.
+const FILES: [(u64, u64); 16] = [
     (24576, ATTRIBUTES),
     (24608, WRITE),
     (24624, 8),
@@ -135,25 +148,7 @@ const FILES: [(u64, u64); 15] = [
     (41008, 9),
     (41016, 4096),
     (45056, ATTRIBUTES),
-];
-
-/// The chain of CPU 0 has the blocks 12 and 13, that of CPU 1 block 14, which leads back to itself. Slot 1 of block 13 is in
-/// use, by file 128, whose log is block 15. A third record of CPU 1 is pending, of this slot's tail.
-const CHAINS: [(u64, u64); 14] = [
-    (8, 2),
-    (4112, 49152),
-    (49152, 53248),
-    (53248, 0),
-    (8208, 57344),
-    (57344, 57344),
-    (53504, 1),
-    (53512, 1),
-    (53520, 61440),
-    (53528, 8),
     (61440, ATTRIBUTES),
-    (8200, 3),
-    (8288, 53528),
-    (8296, 61472),
 ];
 
 /// Of 64 blocks.
@@ -215,7 +210,7 @@ pub(crate) fn blocks_of(damage: Damage) -> u64
     ensures { 16 ≤ result }
 {
     match damage {
-        Damage::Stopped => 16,
+        Damage::Chained => 16,
         Damage::Names => 64,
     }
 }
@@ -227,7 +222,7 @@ pub(crate) fn store_damaged(memory: &mut MemRegion, blocks: u64, damage: Damage)
     ensures { HasBlocks memory.new.region blocks }
 {
     match damage {
-        Damage::Stopped => store_stopped(memory, blocks),
+        Damage::Chained => store_chained(memory, blocks),
         Damage::Names => store_names(memory, blocks),
     }
 }
@@ -239,40 +234,29 @@ pub(crate) fn store_rolled_back(memory: &mut MemRegion, blocks: u64, damage: Dam
     ensures { HasBlocks memory.new.region blocks }
 {
     match damage {
-        Damage::Stopped => store_undone(memory, blocks),
+        Damage::Chained => store_undone(memory, blocks),
         Damage::Names => store_names(memory, blocks),
     }
 }
 
-/// Stores the stopped region with its journals rolled back.
-pub(crate) fn store_undone(memory: &mut MemRegion, blocks: u64) -> Option<()>
+fn store_undone(memory: &mut MemRegion, blocks: u64) -> Option<()>
     requires many { 16 ≤ blocks }
     requires blocks { HasBlocks memory.old.region blocks }
     ensures { HasBlocks memory.new.region blocks }
 {
-    store_stopped(memory, blocks)?;
+    store_chained(memory, blocks)?;
     store_all(memory, blocks, &ROLLED_BACK)
 }
 
-fn store_stopped(memory: &mut MemRegion, blocks: u64) -> Option<()>
+fn store_chained(memory: &mut MemRegion, blocks: u64) -> Option<()>
     requires many { 16 ≤ blocks }
     requires blocks { HasBlocks memory.old.region blocks }
     ensures { HasBlocks memory.new.region blocks }
 {
-    store_all(memory, blocks, &SUPERBLOCK)?;
+    store_all(memory, blocks, &TABLES)?;
     store_all(memory, blocks, &JOURNALS)?;
     store_all(memory, blocks, &SLOTS)?;
     store_logs(memory, blocks)
-}
-
-/// Stores the stopped region in version 2, with chains.
-pub(crate) fn store_chained(memory: &mut MemRegion, blocks: u64) -> Option<()>
-    requires many { 16 ≤ blocks }
-    requires blocks { HasBlocks memory.old.region blocks }
-    ensures { HasBlocks memory.new.region blocks }
-{
-    store_stopped(memory, blocks)?;
-    store_all(memory, blocks, &CHAINS)
 }
 
 fn store_logs(memory: &mut MemRegion, blocks: u64) -> Option<()>

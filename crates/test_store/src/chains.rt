@@ -1,4 +1,4 @@
-//! Chains of tables in small regions of version 2, whose superblock isn't stored: recovery refuses that version still.
+//! Chains of tables in small regions of version 2. Their superblock isn't stored: these calls are given one.
 
 mod worked;
 

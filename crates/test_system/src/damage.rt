@@ -1,7 +1,7 @@
 //! Scripts on damaged regions, with all that they print and their exit statuses.
 
 // Logs that are damaged, and regions that are cut.
-pub const LOGS: [(&str, &str, u8); 11] = [
+pub const LOGS: [(&str, &str, u8); 9] = [
     (
         "format 1 16 1\nrecover 1\nreport\ncut 65535\nrecover 1\n",
         "ok\nrecovered inodes 1 free 12 faults 0\n\
@@ -55,24 +55,6 @@ pub const LOGS: [(&str, &str, u8); 11] = [
     ),
     (
         "format 1 16 1\npoke 12320 524288\npoke 16352 16384\npoke 16384 524288\npoke 20448 12288\n\
-             poke 8344 20488\nrecover 8\nreport\n",
-        "ok\nok\nok\nok\nok\nok\nrecovered inodes 1 free 11 faults 1\n\
-             region version 1 cpus 1 blocks 16 tables 1 state 0\n\
-             inode 1 dir mode 493 owner 0 group 0 size 0 links 1 time 0\n  log 3 4 tail 20488\n\
-             free 0 5-15\nfault L2 inode 1 at 20448\n",
-        1,
-    ),
-    (
-        "format 1 16 1\npoke 12320 524288\npoke 16352 16384\npoke 16384 524288\npoke 20448 12288\n\
-             poke 8344 20488\nrecover 2\nreport\n",
-        "ok\nok\nok\nok\nok\nok\nrecovered inodes 1 free 11 faults 1\n\
-             region version 1 cpus 1 blocks 16 tables 1 state 0\n\
-             inode 1 dir mode 493 owner 0 group 0 size 0 links 1 time 0\n  log 3 4 tail 20488\n\
-             free 0 5-15\nfault L2 inode 1 at 20448\n",
-        1,
-    ),
-    (
-        "format 1 16 1\npoke 12320 524288\npoke 16352 16384\npoke 16384 524288\npoke 20448 12288\n\
              poke 8344 20488\nrecover 65\n",
         "ok\nok\nok\nok\nok\nok\nrefused Workers\n",
         2,
@@ -113,6 +95,31 @@ pub const JOURNALS: [(&str, &str, u8); 3] = [
         0,
     ),
 ];
+
+// A table that goes on in two blocks: sound; with a ring; through the page of a log; with a pending record of its slot and
+// one of its link; with a wrong link.
+pub const CHAINS: [(&str, &str, u8); 1] = [(
+    "format 1 16 1\nrecover 1\nupgrade\npoke 4112 40960\npoke 40960 36864\npoke 41088 1\n\
+             poke 41096 1\npoke 41104 45056\npoke 41112 45088\npoke 45056 1803888361474\n\
+             poke 12320 4297064707\npoke 12328 32\npoke 12336 5\npoke 12344 97\npoke 8344 12352\n\
+             recover 64\nreport\npoke 36864 40960\nreplay 3 2 1 0 2 1 0\nfaults\nfree\npoke 40960 12288\n\
+             recover 8\nfaults\nfree\npoke 40960 36864\npoke 36864 0\npoke 4104 2\npoke 4160 41112\n\
+             poke 4168 45088\npoke 4176 40960\npoke 41112 8\nrecover 1\nfaults\npeek 41112\npeek 40960\n\
+             poke 4112 40961\nrecover 2\nreport\n",
+    "ok\nrecovered inodes 1 free 12 faults 0\nok\nok\nok\nok\nok\nok\nok\nok\nok\nok\nok\nok\n\
+             ok\nrecovered inodes 2 free 9 faults 0\nregion version 2 cpus 1 blocks 16 tables 1 state 0\n\
+             inode 1 dir mode 493 owner 0 group 0 size 0 links 1 time 5\n  log 3 tail 12352\n  name a 32\n\
+             inode 32 file mode 420 owner 0 group 0 size 0 links 1 time 0\n  log 11 tail 45088\n\
+             free 0 4-8 12-15\nno faults\nok\nrecovered inodes 2 free 9 faults 1\n\
+             fault H2 cpu 0 at 36864\nfree 0 4-8 12-15\nok\nrecovered inodes 2 free 10 faults 3\n\
+             fault H1 cpu 0 at 12288\nfault B1 block 3 table 0 1\nfault B1 block 3 log 1 0\n\
+             free 0 4-9 12-15\nok\nok\nok\nok\nok\nok\nok\nrecovered inodes 2 free 9 faults 1\n\
+             fault J2 cpu 0 record 1\nword 45088\nword 36864\nok\nrecovered inodes 1 free 12 faults 2\n\
+             region version 2 cpus 1 blocks 16 tables 1 state 0\n\
+             inode 1 dir mode 493 owner 0 group 0 size 0 links 1 time 5\n  log 3 tail 12352\n  name a 32\n\
+             free 0 4-15\nfault H1 cpu 0 at 4112\nfault C1 inode 1 at 12320\n",
+    1,
+)];
 
 // Names and owners that contradict one another.
 pub const NAMES: [(&str, &str, u8); 5] = [

@@ -165,6 +165,21 @@ const LOST: [Word; 5] = [
     (SECOND_LOG, DIRECTORY_MODE),
 ];
 
+/// A region of one CPU in version 2. Its tickets are its table's block, and block 10, in which the table goes on.
+const CHAINED: [Word; 11] = [
+    (0, MAGIC),
+    (8, 2),
+    (16, 1),
+    (24, 64),
+    (32, 1),
+    (4112, 40960),
+    (8320, 1),
+    (8328, 2),
+    (8336, FIRST_LOG),
+    (8344, FIRST_LOG + 32),
+    (FIRST_LOG, DIRECTORY_MODE),
+];
+
 fn store_all(memory: &mut MemRegion, words: &[Word]) {
     for &(at, word) in words {
         if at % 8 == 0 && memory.len().saturating_sub(at) >= 8 {
@@ -173,14 +188,15 @@ fn store_all(memory: &mut MemRegion, words: &[Word]) {
     }
 }
 
-fn region_of_two(alloc: Global) -> Result<MemRegion, RegionRefusal> {
+/// A region of 64 blocks with these words.
+fn region_of(alloc: Global, words: &[Word]) -> Result<MemRegion, RegionRefusal> {
     let mut memory = MemRegion::new(alloc, 64)?;
-    store_all(&mut memory, &WORDS);
+    store_all(&mut memory, words);
     Ok(memory)
 }
 
 fn region_with_both(alloc: Global) -> Result<MemRegion, RegionRefusal> {
-    let mut memory = region_of_two(alloc)?;
+    let mut memory = region_of(alloc, &WORDS)?;
     store_all(&mut memory, &LOST);
     Ok(memory)
 }
@@ -200,14 +216,26 @@ fn recover_all<P: Pmem + Sync, G: Gate + Sync, R: Threads + Abort + Sync>(
     Ok(())
 }
 
+/// The workers with the first two tickets are at the gate at the same time.
+fn meet_at_the_gate<R: Threads + Abort + Sync>(
+    rt: &R,
+    alloc: Global,
+    words: &[Word],
+    workers: u64,
+) -> Result<(), Fail> {
+    let mut memory = region_of(alloc, words)?;
+    let gate = MeetingGate::new();
+    recover_all(rt, alloc, &mut memory, workers, &gate, (1, 0))?;
+    assert!(rt; gate.meeting.both_met());
+    assert!(rt; gate.has_two_numbers());
+    Ok(())
+}
+
 #[test]
 fn two_tickets_at_once(rt: HostRuntime) -> Result<(), Fail> {
     for workers in &WORKERS {
-        let mut memory = region_of_two(rt.alloc())?;
-        let gate = MeetingGate::new();
-        recover_all(&rt, rt.alloc(), &mut memory, *workers, &gate, (1, 0))?;
-        assert!(rt; gate.meeting.both_met());
-        assert!(rt; gate.has_two_numbers());
+        meet_at_the_gate(&rt, rt.alloc(), &WORDS, *workers)?;
+        meet_at_the_gate(&rt, rt.alloc(), &CHAINED, *workers)?;
     }
     Ok(())
 }
@@ -216,7 +244,7 @@ fn two_tickets_at_once(rt: HostRuntime) -> Result<(), Fail> {
 fn two_inodes_are_read_at_once(rt: HostRuntime) -> Result<(), Fail> {
     for workers in &WORKERS {
         let mut memory = WatchedRegion {
-            memory: region_of_two(rt.alloc())?,
+            memory: region_of(rt.alloc(), &WORDS)?,
             watch: MeetingLoads::at(FIRST_SLOT, SECOND_SLOT),
         };
         recover_all(&rt, rt.alloc(), &mut memory, *workers, &NoGate, (1, 0))?;

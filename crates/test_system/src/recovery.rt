@@ -24,21 +24,23 @@ const ROOT: [Word; 10] = [
     (12288, DIRECTORY_MODE),
 ];
 
-/// The same, and inode 2 is a file with the root's log, so two inodes own block 3.
-const SHARED_LOG: [Word; 14] = [
+/// The same in version 2, where the table goes on in block 10. Its first slot is that of inode 32, which is a file with the
+/// root's log, so two inodes own block 3.
+const SHARED_LOG: [Word; 15] = [
     (0, MAGIC),
-    (8, 1),
+    (8, 2),
     (16, 1),
     (24, 16),
     (32, 1),
+    (4112, 40960),
     (8320, 1),
     (8328, 2),
     (8336, 12288),
     (8344, 12320),
-    (8448, 1),
-    (8456, 1),
-    (8464, 12288),
-    (8472, 12320),
+    (41088, 1),
+    (41096, 1),
+    (41104, 12288),
+    (41112, 12320),
     (12288, DIRECTORY_MODE),
 ];
 
@@ -101,19 +103,19 @@ const OF_ROOT_ALONE: [Way<'static>; 5] = [
 /// The log of both.
 const ITS_OWNERS: [(u64, Owner); 2] = [
     (3, Owner::Log { inode: 1, page: 0 }),
-    (3, Owner::Log { inode: 2, page: 0 }),
+    (3, Owner::Log { inode: 32, page: 0 }),
 ];
 
 const ITS_FAULTS: [Fault; 4] = [
-    Fault::C3 { inode: 2 },
-    Fault::C4 { inode: 2 },
+    Fault::C3 { inode: 32 },
+    Fault::C4 { inode: 32 },
     Fault::B1 {
         block: 3,
         owner: Owner::Log { inode: 1, page: 0 },
     },
     Fault::B1 {
         block: 3,
-        owner: Owner::Log { inode: 2, page: 0 },
+        owner: Owner::Log { inode: 32, page: 0 },
     },
 ];
 
@@ -124,10 +126,13 @@ fn assert_shared_log(rt: &impl Abort, answer: &Recovered) {
     assert!(rt; answer.faults.as_slice() == ITS_FAULTS.as_slice());
 }
 
-const OF_SHARED_LOG: [Way<'static>; 3] = [
+const OF_SHARED_LOG: [Way<'static>; 6] = [
     Way::OneThread,
+    Way::Workers(1),
+    Way::Workers(2),
     Way::Workers(8),
-    Way::Schedule(3, &[2, 2, 1]),
+    Way::Workers(64),
+    Way::Schedule(3, &[2, 1, 0, 2, 1, 0]),
 ];
 
 fn recovers<R: Threads + Abort + Sync>(

@@ -1,7 +1,7 @@
 //! Scripts with all that they print and their exit statuses.
 
 use crate::broken_streams::{Closing, Failing};
-use crate::damage::{JOURNALS, LOGS, NAMES, REPLAYED};
+use crate::damage::{CHAINS, JOURNALS, LOGS, NAMES, REPLAYED};
 use crate::written::{REFUSED, STOPPED, WRITTEN};
 use nv_script::{ScriptError, run_script};
 use std::alloc::{AllocError, Global};
@@ -391,7 +391,7 @@ fn check_rows<H: AllocGlobal + Abort + Threads + Sync>(
     Ok(())
 }
 
-const ALL_ROWS: [&[(&str, &str, u8)]; 15] = [
+const ALL_ROWS: [&[(&str, &str, u8)]; 16] = [
     &FIRST_PATH,
     &LINES,
     &REFUSALS,
@@ -404,6 +404,7 @@ const ALL_ROWS: [&[(&str, &str, u8)]; 15] = [
     &REFUSED,
     &STOPS,
     &LOGS,
+    &CHAINS,
     &JOURNALS,
     &NAMES,
     &REPLAYED,

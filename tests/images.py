@@ -1,11 +1,11 @@
-"""Images of version 2, whose tables go on in chains of blocks, written byte by byte, and their reports; for chains.py. It is no script itself."""
+"""Images of both versions, written byte by byte, and their reports; for rescue.py and chains.py. It is no script itself."""
 
 import struct
 from typing import NamedTuple
 
-import rescue
-from rescue import BLOCK, DIRECTORY, FILE, ROOT, SLOT, add, attributes, write
-
+BLOCK, ENTRIES_END, SLOT = 4096, 4064, 128
+FILE, DIRECTORY = 1, 2
+ROOT = 1
 # The slots of a block of the fixed tables, and those of a block of a chain, whose first 128 bytes hold the link.
 SLOTS, CHAINED_SLOTS = BLOCK // SLOT, BLOCK // SLOT - 1
 WORD = 2**64
@@ -13,20 +13,96 @@ WORD = 2**64
 RECORDS = 252
 
 
+# ---- entries, and what they make of an inode
+
+
+def attributes(mode, size=0, time=1):
+    return ("attributes", mode, size, time)
+
+
+def write(page, count, block, size, time=2):
+    return ("write", page, count, block, size, time)
+
+
+def add(name, inode, time=3):
+    return ("add", name, inode, time)
+
+
+def remove(name, inode, time=4):
+    return ("remove", name, inode, time)
+
+
+def links(count, time=5):
+    return ("links", count, time)
+
+
+def spelled(entry):
+    kind, *fields = entry
+    if kind == "attributes":
+        mode, size, time = fields
+        return struct.pack("<BBHIQQII", 2, 0, 32, mode, size, time, 1000, 100)
+    if kind == "write":
+        page, count, block, size, time = fields
+        return struct.pack("<BBHIQQQQ", 1, 0, 40, count, page, block, size, time)
+    if kind == "links":
+        count, time = fields
+        return struct.pack("<BBHIQQ", 4, 0, 24, count, time, 0)
+    name, inode, time = fields
+    length = 24 + -(-len(name) // 8) * 8
+    return struct.pack("<BBHIQQ", 3, 1 if kind == "add" else 2, length, len(name), inode, time) + name.ljust(length - 24, b"\0")
+
+
+class State:
+    """What an inode is by its entries."""
+
+    def __init__(self, kind, entries, bytes_):
+        self.kind, self.names, pages = kind, {}, {}
+        self.mode = self.size = self.time = self.owner = self.group = 0
+        self.links = 1
+        for what, *fields in entries:
+            self.time = fields[-1]
+            if what == "attributes":
+                self.mode, self.size, self.owner, self.group = fields[0], fields[1], 1000, 100
+                pages = {page: block for page, block in pages.items() if page * BLOCK < self.size}
+            elif what == "write":
+                page, count, block, self.size, _ = fields
+                pages.update({page + k: block + k for k in range(count)})
+            elif what == "links":
+                self.links = fields[0]
+            elif what == "add":
+                self.names[fields[0]] = fields[1]
+            else:
+                self.names.pop(fields[0], None)
+        whole = bytearray(-(-self.size // BLOCK) * BLOCK)
+        for page, block in pages.items():
+            whole[page * BLOCK:(page + 1) * BLOCK] = bytes_[block * BLOCK:(block + 1) * BLOCK]
+        self.content, self.pages = bytes(whole[:self.size]), pages
+
+    def line(self, inode):
+        kind = "dir" if self.kind == DIRECTORY else "file"
+        numbers = ("mode", "owner", "group", "size", "links", "time")
+        return f"inode {inode} {kind} " + " ".join(f"{name} {getattr(self, name)}" for name in numbers) + "\n"
+
+
 # ---- regions
 
 
-class Region(rescue.Region):
-    """A region with chains, in which each slot, entry and link stands at a known place. The bytes of data blocks are `fill` at first."""
+class Region:
+    """A region in which each slot, entry and link stands at a known place. The bytes of data blocks are `fill` at first."""
 
     def __init__(self, cpus=2, tables=1, blocks=64, version=2, fill=0):
-        super().__init__()
         self.cpus, self.tables, self.blocks, self.version = cpus, tables, blocks, version
         self.first = 1 + cpus + cpus * tables
         self.bytes = bytearray(self.first * BLOCK) + bytes([fill]) * ((blocks - self.first) * BLOCK)
         self.bytes[:48] = b"NOVAPM01" + struct.pack("<QQQQQ", version, cpus, blocks, tables, 0)
         self.next, self.last = self.first, blocks
+        # By CPU: the blocks of the chain in which its table goes on.
         self.chains = [[] for _ in range(cpus)]
+        # By inode: its kind, its entries, their places, and the pages of its log.
+        self.kinds, self.entries, self.places, self.pages = {}, {}, {}, {}
+
+    def poke(self, at, value):
+        struct.pack_into("<Q", self.bytes, at, value)
 
     def link_at(self, cpu, place):
         """Where the link stands that leads to a block of a chain."""
@@ -51,10 +127,66 @@ class Region(rescue.Region):
         """The number of the inode of a slot of a chain."""
         return (SLOTS * self.tables + CHAINED_SLOTS * place + slot) * self.cpus + cpu
 
+    def link(self, inode, page):
+        """Where the link of a page of a log stands."""
+        return self.pages[inode][page] * BLOCK + ENTRIES_END
+
+    def put_blocks(self, content):
+        """Puts bytes into blocks, the last ones that are left. Answers the first of them."""
+        self.last -= -(-len(content) // BLOCK)
+        self.bytes[self.last * BLOCK:self.last * BLOCK + len(content)] = content
+        return self.last
+
+    def put_entry(self, inode, entry, at):
+        """Puts an entry at a place or, where it doesn't fit, at the start of a new page. Answers the place behind it."""
+        text = spelled(entry)
+        if at % BLOCK + len(text) > ENTRIES_END:
+            if at % BLOCK < ENTRIES_END:
+                self.poke(at, 8 << 16)
+            page = self.put_page(inode)
+            self.poke(at // BLOCK * BLOCK + ENTRIES_END, page)
+            at = page
+        self.places[inode].append(at)
+        self.bytes[at:at + len(text)] = text
+        return at + len(text)
+
     def put_page(self, inode):
         while any(self.next in chain for chain in self.chains):
             self.next += 1
-        return super().put_page(inode)
+        self.pages[inode].append(self.next)
+        self.next += 1
+        return (self.next - 1) * BLOCK
+
+    def put_inode(self, inode, kind, entries):
+        self.kinds[inode], self.entries[inode], self.places[inode], self.pages[inode] = kind, entries, [], []
+        head = at = self.put_page(inode)
+        for entry in entries:
+            at = self.put_entry(inode, entry, at)
+        self.bytes[self.slot(inode):self.slot(inode) + 40] = struct.pack("<QQQQQ", 1, kind, head, at, 0)
+
+    def put_file(self, inode, *parts, more=()):
+        """A file of parts, each a page and its bytes."""
+        entries, size = [attributes(420)], 0
+        for page, content in parts:
+            size = max(size, page * BLOCK + len(content))
+            entries.append(write(page, -(-len(content) // BLOCK), self.put_blocks(content), size))
+        self.put_inode(inode, FILE, [*entries, *more])
+
+    def append(self, inode, entry):
+        """Puts one more entry at the end of a log. Answers all entries."""
+        tail = self.slot(inode) + 24
+        self.poke(tail, self.put_entry(inode, entry, struct.unpack_from("<Q", self.bytes, tail)[0]))
+        return {inode: [*self.entries[inode], entry]}
+
+    def on_pages(self, inode, count):
+        """The entries on the first so many pages of a log."""
+        pages = self.pages[inode][:count]
+        return [entry for entry, at in zip(self.entries[inode], self.places[inode]) if at // BLOCK in pages]
+
+    def states(self, changed):
+        """What all inodes are, where the entries of these are others, or none where the inode isn't in use any more."""
+        entries = {**self.entries, **changed}
+        return {inode: State(self.kinds[inode], es, self.bytes) for inode, es in entries.items() if es is not None}
 
     def alias(self, inode, other):
         """Two numbers have one slot."""
@@ -111,25 +243,16 @@ FOLDER, INNER, LAST, THIRD, FOURTH, ODD, LAST_ODD, FIXED = 64, 66, 124, 126, 186
 NAMES = {b"d": FOLDER, b"f": LAST, b"g": THIRD, b"h": FIXED, b"o": ODD, b"p": LAST_ODD, b"q": FOURTH}
 
 
-def file(region, inode, *parts, size=0):
-    """A file of parts, each a page and its bytes."""
-    entries = [attributes(420)]
-    for page, content in parts:
-        size = max(size, page * BLOCK + len(content))
-        entries.append(write(page, -(-len(content) // BLOCK), region.put_blocks(content), size))
-    region.put_inode(inode, FILE, entries)
-
-
 def put_tree(region):
     region.put_inode(ROOT, DIRECTORY, [attributes(493), *(add(*name) for name in NAMES.items())])
     region.put_inode(FOLDER, DIRECTORY, [attributes(448), add(b"e", INNER)])
-    file(region, INNER, (0, b"inner"))
-    file(region, LAST, (0, b"last" * 1500), (3, b"behind a hole"))
-    file(region, THIRD, (0, b"third"))
-    file(region, FOURTH, (1, b"fourth" * 700))
-    file(region, ODD, (0, b"odd"))
-    file(region, LAST_ODD)
-    file(region, FIXED, (0, b"fixed"))
+    region.put_file(INNER, (0, b"inner"))
+    region.put_file(LAST, (0, b"last" * 1500), (3, b"behind a hole"))
+    region.put_file(THIRD, (0, b"third"))
+    region.put_file(FOURTH, (1, b"fourth" * 700))
+    region.put_file(ODD, (0, b"odd"))
+    region.put_file(LAST_ODD)
+    region.put_file(FIXED, (0, b"fixed"))
     return region
 
 
