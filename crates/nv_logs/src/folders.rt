@@ -1,21 +1,20 @@
 //! The names of a directory and of all directories below it: a region is recovered, and the text is made and written.
 
-ghost use Rattle.std.specs.Prelude.{◌≡◌, ◌≢◌, ◌++◌, ℕ, List, Some, IfOk, IfErr, codes, decimal, length, map, string_bytes};
+ghost use Rattle.std.specs.Prelude.{◌≡◌, ◌≢◌, ◌++◌, ℕ, List, Some, IfOk, IfErr, codes, decimal, map, string_bytes};
 ghost use Rattle.nv_region.specs.Region.{Region, region_of};
 ghost use Rattle.nv_folders.specs.Folders.{spot_of};
 ghost use Rattle.nv_rows.specs.Rows.{row_of};
 ghost use Rattle.nv_tree.specs.Path.{IsPath, spelled};
-ghost use Rattle.nv_paths.specs.Seen.{tree_of};
 ghost use Rattle.nv_metadata.specs.Gathered.{AreGathered, IsOpen};
 ghost use Rattle.nv_logs.specs.Folders.{AreFoldersBelow, IsFoldersLook, IsFoldersText, IsTop, TellsFolders, TellsFoldersOf};
 ghost use Rattle.nv_logs.specs.Writing.{WritesTold, FailsTold};
 
 use crate::asking::row_asked;
 use crate::inode::Inode;
-use crate::looking::{Look, refused_look, unaccepted_look};
-use crate::writing::write_look;
+use crate::looking::{Look, refused_look};
+use crate::telling::{Teller, tell_gathered, tell_image};
 use nv_folders::{Folder, folders_of};
-use nv_image_check::{Answered, GatheredImage, Image, recover_gathered, recover_image};
+use nv_image_check::Answered;
 use nv_listing::push_folders;
 use nv_metadata::Gathered;
 use nv_report::{Last, Recovered};
@@ -43,9 +42,7 @@ pub fn folders_image<W: Write, E: Write>(
         (E.contents errors.new) answered) }
     ensures err { IfErr result (λ e. FailsTold (IsFoldersLook inode.now long (region_of bytes.now)) (W.contents writer.old) (W.contents writer.new) (E.contents errors.old) (E.contents errors.new) e) }
 {
-    let look = look_at_image(alloc, bytes, inode, long)?;
-    write_look(&look, writer, errors)?;
-    Ok(look.answered)
+    tell_image(alloc, bytes, &Folders { inode, long }, writer, errors)
 }
 
 /// The same of the region of which this was gathered. Its text, its status and its errors are those of `folders_image` for all
@@ -65,46 +62,25 @@ pub fn folders_gathered<W: Write, E: Write>(
         (E.contents errors.new) e) }
     ensures unread { IfErr result (λ e. e ≢ ScriptError.Read) }
 {
-    let look = look_at_gathered(alloc, gathered, inode, long)?;
-    write_look(&look, writer, errors)?;
-    Ok(look.answered)
+    tell_gathered(alloc, gathered, &Folders { inode, long }, writer, errors)
 }
 
-fn look_at_image(alloc: Global, bytes: &[u8], inode: &Inode, long: bool) -> Result<Look, AllocError>
-    ensures { IfOk result (λ look. IsFoldersLook inode.now long (region_of bytes.now) (string_bytes look.text) look.answered) }
-{
-    let image = recover_image(alloc, bytes)?;
-    match image {
-        Image::Recovered(_memory, found) => look_in(alloc, &found, inode, long),
-        Image::Refused(refusal) => unaccepted_look(alloc, refusal),
-    }
-}
-
-fn look_at_gathered(
-    alloc: Global,
-    gathered: Gathered,
-    inode: &Inode,
+// The names of a directory and of all directories below it.
+#[derive(Drop)]
+struct Folders<'a> {
+    inode: &'a Inode,
     long: bool,
-) -> Result<Look, AllocError>
-    requires { IsOpen gathered }
-    ensures { (R : Region) → AreGathered R gathered → IfOk result (λ look. IsFoldersLook inode.now long R (string_bytes look.text) look.answered) }
-{
-    let image = recover_gathered(alloc, gathered)?;
-    match image {
-        GatheredImage::Recovered(_memory, found) => look_in(alloc, &found, inode, long),
-        GatheredImage::Refused(refusal) => unaccepted_look(alloc, refusal),
-    }
 }
 
-// The names by what was found, or why they aren't told.
-fn look_in(alloc: Global, found: &Recovered, inode: &Inode, long: bool) -> Result<Look, AllocError>
-    ensures told { (R : Region) → IfOk result (λ look. TellsFolders (tree_of R found.now.rows.items) found.now.rows.items inode.now long (string_bytes look.text) look.answered.status) }
-    ensures faults { IfOk result (λ look. look.answered.faults ≡ length found.now.faults.items) }
-{
-    let faults = found.faults.len();
-    match row_asked(&found.rows, inode) {
-        Ok(row) => row_look(alloc, &found.rows, row, inode, long, faults),
-        Err(refusal) => refused_look(alloc, refusal, faults),
+impl Teller for Folders<'_> {
+    ghost tells = { λ l t rows text status. TellsFolders t rows l.inode.now l.long text status };
+
+    fn look(&self, alloc: Global, found: &Recovered) -> Result<Look, AllocError> {
+        let faults = found.faults.len();
+        match row_asked(&found.rows, self.inode) {
+            Ok(row) => row_look(alloc, &found.rows, row, self.inode, self.long, faults),
+            Err(refusal) => refused_look(alloc, refusal, faults),
+        }
     }
 }
 

@@ -3,7 +3,7 @@
 //! `inode` says which inode. `asking` finds its row. `looking` recovers a region and makes the text, of all its bytes or of its
 //! metadata alone, and `writing` writes that: the text to an output, and a refusal to the errors. `all` does so with the logs of
 //! all inodes in use, `block` tells what a block is, `listing` lists names with the numbers of their inodes, `folders` those of all
-//! directories below, and `usage` counts blocks.
+//! directories below, and `usage` counts blocks; these three are written by `telling`.
 #![tactic(auto)]
 
 mod all;
@@ -13,6 +13,7 @@ mod folders;
 mod inode;
 mod listing;
 mod looking;
+mod telling;
 mod usage;
 mod writing;
 

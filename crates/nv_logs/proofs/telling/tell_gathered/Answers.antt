@@ -1,6 +1,6 @@
 use Rattle.std.proofs.Common.{string_bytes}
 use Rattle.std.proofs.lemmas.Result.{err_from_is_err_and}
-use Rattle.nv_logs.proofs.listing.list_long_gathered.Goals as goal
+use Rattle.nv_logs.proofs.telling.tell_gathered.Goals as goal
 
 pub returns-in_err-write_look-clause-err : goal.returns-in_err-write_look-clause-err
 returns-in_err-write_look-clause-err g c R are =
