@@ -19,7 +19,7 @@ apart x y r s less e = let same : x ≡ y = cc in omega arith
 
 module _ (s : Session) (part : FilePart) (said : List ℕ) (prints : Prints s (Part part) said) where
   is_no_refusal : IsRefusalLine said → ⊥
-  is_no_refusal (refusal, is) = apart 100 114 _ _ (omega arith) (sym prints.2.2 ∙ is)
+  is_no_refusal (refusal, printed, is) = apart 100 114 _ _ (omega arith) (sym prints.2.2 ∙ is)
 
   -- so it ends no script
   pub part_is_not_last : (rule : Rule) → IsLast rule said → ⊥
