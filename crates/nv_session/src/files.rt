@@ -15,10 +15,10 @@ ghost use Rattle.nv_calls.specs.Mount.{shown};
 use nv_calls::{Fs, Stat};
 use nv_names::Named;
 use nv_region::{MemRegion, Pmem};
+use nv_report::refused_text;
 use nv_text::{Attributes, push_data_line, push_list_line, push_stat_line};
 use nv_tree::Refusal;
 use std::alloc::{AllocError, Global};
-use std::fmt::Write;
 
 /// What a call prints, and whether that is its refusal.
 #[derive(Drop)]
@@ -107,9 +107,7 @@ pub fn refused_call_text(alloc: Global, refusal: Refusal) -> Result<String, Allo
     if refusal == Refusal::Memory {
         return Err(AllocError);
     }
-    let mut text = String::new(alloc);
-    writeln!(text, "refused {}", refusal.name())?;
-    Ok(text)
+    refused_text(alloc, nv_text::Refusal::Call(refusal))
 }
 
 fn data_text(alloc: Global, bytes: &[u8]) -> Result<String, AllocError>

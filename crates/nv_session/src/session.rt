@@ -14,7 +14,7 @@ use crate::parts::{long_part, write_part};
 use crate::printed::Printed;
 use crate::stop::Stop;
 use crate::store::{Store, has_word, keep_all, poked};
-use crate::texts::{ok_text, refused_format_text, stopped_text, word_text};
+use crate::texts::{ok_text, stopped_text, word_text};
 use nv_calls::Fs;
 use nv_image_check::{Answer, recover_or_stop, replay_or_stop};
 use nv_line::Command;
@@ -272,7 +272,7 @@ impl Session {
                 self.put(memory);
                 ok_text(alloc)
             }
-            Made::Refused(refusal) => refused_format_text(alloc, refusal),
+            Made::Refused(refusal) => refused_text(alloc, Refusal::Format(refusal)),
             Made::Stopped(memory) => {
                 self.put(memory);
                 stopped_text(alloc)

@@ -1,13 +1,10 @@
 //! The texts of the commands that tell of no recovery.
 
 ghost use Rattle.std.specs.Prelude.{◌≡◌, IfOk, string_bytes};
-ghost use Rattle.nv_text.specs.Answers.{ok_line, refused_line, stopped_line, word_line, cleaned_line};
-ghost use Rattle.nv_format.specs.Format as formats;
+ghost use Rattle.nv_text.specs.Answers.{ok_line, stopped_line, word_line, cleaned_line};
 
-use nv_calls::FormatRefusal;
 use nv_text::{push_cleaned, push_ok, push_stopped, push_word};
 use std::alloc::{AllocError, Global};
-use std::fmt::Write;
 
 pub fn ok_text(alloc: Global) -> Result<String, AllocError>
     ensures { IfOk result (λ text. string_bytes text ≡ ok_line) }
@@ -22,14 +19,6 @@ pub fn stopped_text(alloc: Global) -> Result<String, AllocError>
 {
     let mut text = String::new(alloc);
     push_stopped(&mut text)?;
-    Ok(text)
-}
-
-pub fn refused_format_text(alloc: Global, refusal: FormatRefusal) -> Result<String, AllocError>
-    ensures { IfOk result (λ text. string_bytes text ≡ refused_line (formats.refusal_name refusal)) }
-{
-    let mut text = String::new(alloc);
-    writeln!(text, "refused {}", refusal.name())?;
     Ok(text)
 }
 
