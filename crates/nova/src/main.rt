@@ -122,11 +122,13 @@ where
             paths,
             workers,
             output,
-        } => match paths.as_slice() {
-            [path] if output == CheckOutput::Explained => explain_file(rt, path, workers),
-            [path] if output == CheckOutput::Journal => check_journals(rt, path, workers),
-            [path] => check_file(rt, path, workers, output_of(output)),
-            paths => check_files(rt, paths, workers, output_of(output)),
+        } => match (paths.as_slice(), output) {
+            ([path], CheckOutput::Written(output)) => check_file(rt, path, workers, output),
+            ([path], CheckOutput::Explained) => explain_file(rt, path, workers),
+            ([path], CheckOutput::Journal) => check_journals(rt, path, workers),
+            (paths, CheckOutput::Written(output)) => check_files(rt, paths, workers, output),
+            // Words ask for the others of one image alone.
+            (paths, _) => check_files(rt, paths, workers, Output::Report),
         },
         Todo::Mkfs {
             image,
@@ -187,14 +189,5 @@ where
         Todo::Log { image, which } => show_log(rt, &mut errors, image, Some(which)),
         Todo::View(view) => show_view(rt, &mut errors, view),
         Todo::Explain { class } => explain(rt, class),
-    }
-}
-
-fn output_of(output: CheckOutput) -> Output {
-    match output {
-        CheckOutput::Report | CheckOutput::Explained | CheckOutput::Journal => Output::Report,
-        CheckOutput::Summary => Output::Summary,
-        CheckOutput::OnlyFaults => Output::OnlyFaults,
-        CheckOutput::Json => Output::Json,
     }
 }

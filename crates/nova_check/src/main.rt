@@ -1,7 +1,7 @@
 //! The program `nova_check`: it checks images of the NOVA file system, maps them, and explains what is told of them.
 //!
-//! It does what `nova check`, `nova map` and `nova explain` do, by the same code, and stands on fewer crates: nothing of
-//! scripts and of file calls has to be proved before it answers. Any other command ends it with status 2.
+//! It does what `nova check`, `nova map` and `nova explain` do, by the same code, and stands on fewer crates: no script and
+//! no file call has to be proved before it answers. Any other command ends it with status 2.
 //!
 //! Its exit status is the check's, and 0 or 2 for the other two. Words that ask for nothing, a file that can't be read or written,
 //! and output or memory that is refused end it with status 2 and a text on standard error.
@@ -77,20 +77,13 @@ fn check<'a, H: Files + AllocGlobal + Print + Eprint + Threads + Sync>(
 where
     H::File: Blocks + Sync,
 {
-    match paths {
-        [path] if output == CheckOutput::Explained => explain_file(rt, path, workers),
-        [path] if output == CheckOutput::Journal => check_journals(rt, path, workers),
-        [path] => check_file(rt, path, workers, output_of(output)),
-        paths => check_files(rt, paths, workers, output_of(output)),
-    }
-}
-
-fn output_of(output: CheckOutput) -> Output {
-    match output {
-        CheckOutput::Report | CheckOutput::Explained | CheckOutput::Journal => Output::Report,
-        CheckOutput::Summary => Output::Summary,
-        CheckOutput::OnlyFaults => Output::OnlyFaults,
-        CheckOutput::Json => Output::Json,
+    match (paths, output) {
+        ([path], CheckOutput::Written(output)) => check_file(rt, path, workers, output),
+        ([path], CheckOutput::Explained) => explain_file(rt, path, workers),
+        ([path], CheckOutput::Journal) => check_journals(rt, path, workers),
+        (paths, CheckOutput::Written(output)) => check_files(rt, paths, workers, output),
+        // Words ask for the others of one image alone.
+        (paths, _) => check_files(rt, paths, workers, Output::Report),
     }
 }
 

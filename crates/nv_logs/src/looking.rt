@@ -24,7 +24,6 @@ use nv_scan::Row;
 use nv_super::Super;
 use nv_text::Refusal;
 use std::alloc::{AllocError, Global};
-use std::fmt::Write;
 
 /// What is printed, and what came of it.
 #[derive(Drop)]
@@ -113,10 +112,8 @@ pub(crate) fn refused_look(
     ensures refused { IfOk result (λ look. IsRefusal (refusal_word refusal) (string_bytes look.text) look.answered.status) }
     ensures faults { IfOk result (λ look. look.answered.faults ≡ faults) }
 {
-    let mut text = String::new(alloc);
-    writeln!(text, "refused {}", refusal.name())?;
     Ok(Look {
-        text,
+        text: refused_text(alloc, Refusal::Call(refusal))?,
         answered: Answered {
             status: Last::Refused.status(),
             faults,

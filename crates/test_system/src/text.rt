@@ -1,7 +1,9 @@
 //! Lines of worked scripts, each from its values.
 
+use nv_format::FormatRefusal;
 use nv_super::{Fault, Kind, Owner, Run, Super, SuperFault};
 use nv_text::*;
+use nv_tree::Refusal as CallRefusal;
 use std::alloc::{AllocError, Global};
 use std::process::Abort;
 
@@ -21,8 +23,8 @@ const REFUSALS: [(Refusal, &str); 29] = [
     (Refusal::NotMounted, "refused NotMounted\n"),
     (Refusal::Address, "refused Address\n"),
     (Refusal::Length, "refused Length\n"),
-    (Refusal::Cpus, "refused Cpus\n"),
-    (Refusal::Tables, "refused Tables\n"),
+    (Refusal::Format(FormatRefusal::Cpus), "refused Cpus\n"),
+    (Refusal::Format(FormatRefusal::Tables), "refused Tables\n"),
     (Refusal::Workers, "refused Workers\n"),
     (Refusal::Schedule, "refused Schedule\n"),
     (Refusal::Super(SuperFault::Length), "refused S1\n"),
@@ -32,20 +34,32 @@ const REFUSALS: [(Refusal, &str); 29] = [
     (Refusal::Super(SuperFault::Blocks), "refused S5\n"),
     (Refusal::Super(SuperFault::Tables), "refused S6\n"),
     (Refusal::Super(SuperFault::State), "refused S7\n"),
-    (Refusal::NotFound, "refused NotFound\n"),
-    (Refusal::Exists, "refused Exists\n"),
-    (Refusal::NotDirectory, "refused NotDirectory\n"),
-    (Refusal::IsDirectory, "refused IsDirectory\n"),
-    (Refusal::NotEmpty, "refused NotEmpty\n"),
-    (Refusal::BadName, "refused BadName\n"),
-    (Refusal::NoSpace, "refused NoSpace\n"),
-    (Refusal::NoInodes, "refused NoInodes\n"),
-    (Refusal::TooLarge, "refused TooLarge\n"),
-    (Refusal::ReadOnly, "refused ReadOnly\n"),
-    (Refusal::LinkLimit, "refused LinkLimit\n"),
-    (Refusal::IntoItself, "refused IntoItself\n"),
-    (Refusal::BadCpu, "refused BadCpu\n"),
-    (Refusal::IsVersion2, "refused IsVersion2\n"),
+    (Refusal::Call(CallRefusal::NotFound), "refused NotFound\n"),
+    (Refusal::Call(CallRefusal::Exists), "refused Exists\n"),
+    (
+        Refusal::Call(CallRefusal::NotDirectory),
+        "refused NotDirectory\n",
+    ),
+    (
+        Refusal::Call(CallRefusal::IsDirectory),
+        "refused IsDirectory\n",
+    ),
+    (Refusal::Call(CallRefusal::NotEmpty), "refused NotEmpty\n"),
+    (Refusal::Call(CallRefusal::BadName), "refused BadName\n"),
+    (Refusal::Call(CallRefusal::NoSpace), "refused NoSpace\n"),
+    (Refusal::Call(CallRefusal::NoInodes), "refused NoInodes\n"),
+    (Refusal::Call(CallRefusal::TooLarge), "refused TooLarge\n"),
+    (Refusal::Call(CallRefusal::ReadOnly), "refused ReadOnly\n"),
+    (Refusal::Call(CallRefusal::LinkLimit), "refused LinkLimit\n"),
+    (
+        Refusal::Call(CallRefusal::IntoItself),
+        "refused IntoItself\n",
+    ),
+    (Refusal::Call(CallRefusal::BadCpu), "refused BadCpu\n"),
+    (
+        Refusal::Call(CallRefusal::IsVersion2),
+        "refused IsVersion2\n",
+    ),
 ];
 
 const NUMBERS: Super = Super {

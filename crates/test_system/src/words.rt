@@ -1,6 +1,7 @@
 //! Rows of words, with what they ask for.
 
 use nv_args::{CheckOutput, Todo, View, Which, read_words};
+use nv_text::Output;
 use std::alloc::Global;
 
 const REFUSED: [&[&str]; 28] = [
@@ -283,32 +284,42 @@ const ASKED: [(&[&str], Todo<'static>); 31] = [
 
 /// Words of checks, the paths and the number of workers that they ask for, and the output.
 const CHECKS: [(&[&str], &[&str], u32, CheckOutput); 6] = [
-    (&["check", "a"], &["a"], 1, CheckOutput::Report),
+    (
+        &["check", "a"],
+        &["a"],
+        1,
+        CheckOutput::Written(Output::Report),
+    ),
     (
         &["check", "a", "--workers", "64"],
         &["a"],
         64,
-        CheckOutput::Report,
+        CheckOutput::Written(Output::Report),
     ),
     (
         &["check", "--summary", "a", "--workers", "+05"],
         &["a"],
         5,
-        CheckOutput::Summary,
+        CheckOutput::Written(Output::Summary),
     ),
     (
         &["check", "a", "--only-faults"],
         &["a"],
         1,
-        CheckOutput::OnlyFaults,
+        CheckOutput::Written(Output::OnlyFaults),
     ),
     (
         &["check", "a", "--workers", "2", "b", "a"],
         &["a", "b", "a"],
         2,
-        CheckOutput::Report,
+        CheckOutput::Written(Output::Report),
     ),
-    (&["check", "a", "--json"], &["a"], 1, CheckOutput::Json),
+    (
+        &["check", "a", "--json"],
+        &["a"],
+        1,
+        CheckOutput::Written(Output::Json),
+    ),
 ];
 
 fn check_for(
