@@ -1,10 +1,8 @@
 //! What serves people who write by hand: scripts that end at their first refused command, shells, and names that are typed with
 //! escapes.
 
-use nv_script::{
-    Ended, Hint, Hints, Host, MemRegion, run_script_strictly, run_shell, strict_shows_first_lines,
-};
-use nv_text::{no_list_is_refused, one_name, unescaped};
+use nv_script::{Ended, Hint, Hints, Host, MemRegion, run_script_strictly, run_shell};
+use nv_text::unescaped;
 use std::alloc::Global;
 use std::test::Fail;
 
@@ -103,11 +101,4 @@ fn escapes_are_read_back(rt: HostRuntime) -> Result<(), Fail> {
         assert!(rt; spells(rt.alloc(), text, *wanted)?);
     }
     Ok(())
-}
-
-#[test]
-fn the_laws_are_called() {
-    one_name();
-    no_list_is_refused();
-    strict_shows_first_lines();
 }

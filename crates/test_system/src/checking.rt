@@ -59,12 +59,6 @@ fn refuses<H: AllocGlobal + Abort + Threads + Sync>(
     check(rt, bytes, 1, "refused S1\n", 2)
 }
 
-#[test]
-fn a_check_is_refused_by_name(rt: HostRuntime) -> Result<(), Fail> {
-    let mut bytes = formatted(&rt)?;
-    refuses(&rt, &mut bytes)
-}
-
 fn reports<H: AllocGlobal + Abort + Threads + Sync>(
     rt: &H,
     bytes: &mut Vec<u8>,
@@ -77,9 +71,10 @@ fn reports<H: AllocGlobal + Abort + Threads + Sync>(
 }
 
 #[test]
-fn a_check_reports_what_it_finds(rt: HostRuntime) -> Result<(), Fail> {
+fn a_check_reports_what_it_finds_and_is_refused_by_name(rt: HostRuntime) -> Result<(), Fail> {
     let mut bytes = formatted(&rt)?;
-    reports(&rt, &mut bytes)
+    reports(&rt, &mut bytes)?;
+    refuses(&rt, &mut bytes)
 }
 
 #[test]

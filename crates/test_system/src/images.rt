@@ -82,12 +82,6 @@ fn is_handed_on<H: AllocGlobal + Abort + Threads + Sync>(rt: &H, made: &[u8]) ->
     Ok(())
 }
 
-#[test]
-fn a_region_is_handed_from_script_to_script(rt: HostRuntime) -> Result<(), Fail> {
-    let made = run_on(&rt, b"", MAKING, MADE)?;
-    is_handed_on(&rt, &made)
-}
-
 // What a look into a region printed, and its answer, are these.
 fn assert_told(rt: &impl Abort, out: &[u8], answer: Answered, text: &[u8], due: Answered) {
     assert!(rt; out == text);
@@ -160,12 +154,6 @@ fn is_looked_into(rt: &impl Abort, alloc: Global, made: &[u8]) -> Result<(), Fai
     assert_look(rt, alloc, b"", Look::Cat, b"/d", b"refused S1\n", NOT_FOUND)
 }
 
-#[test]
-fn a_region_is_looked_into(rt: HostRuntime) -> Result<(), Fail> {
-    let made = run_on(&rt, b"", MAKING, MADE)?;
-    is_looked_into(&rt, rt.alloc(), &made)
-}
-
 // A map of so many cells at most.
 fn assert_map<H: AllocGlobal + Abort>(
     rt: &H,
@@ -191,12 +179,6 @@ fn is_mapped<H: AllocGlobal + Abort>(rt: &H, made: &[u8]) -> Result<(), Fail> {
     assert_map(rt, made, 1024, BY_BLOCK, FOUND)?;
     assert_map(rt, made, 16, BY_FOUR, FOUND)?;
     assert_map(rt, b"", 16, b"", NOT_FOUND)
-}
-
-#[test]
-fn a_region_is_mapped(rt: HostRuntime) -> Result<(), Fail> {
-    let made = run_on(&rt, b"", MAKING, MADE)?;
-    is_mapped(&rt, &made)
 }
 
 // What a check by two workers prints in this form.
@@ -231,24 +213,11 @@ fn sums_up<H: AllocGlobal + Abort + Threads + Sync>(rt: &H, made: &mut [u8]) -> 
     assert_check(rt, made, Output::OnlyFaults, FAULT, 1)
 }
 
-#[test]
-fn a_check_sums_up_or_tells_faults_alone(rt: HostRuntime) -> Result<(), Fail> {
-    let mut made = run_on(&rt, b"", MAKING, MADE)?;
-    sums_up(&rt, &mut made)
-}
-
 fn closes(rt: &impl Abort, alloc: Global, made: &[u8]) {
     let mut out = Closing::new(alloc, 3);
     let answer = cat_image(alloc, made, b"/d/a", &mut out, &mut Vec::new(alloc));
     assert!(rt; answer == Err(ScriptError::Write));
     assert!(rt; out.taken() == b"AAA".as_slice());
-}
-
-#[test]
-fn a_closed_writer_has_the_front_of_a_file(rt: HostRuntime) -> Result<(), Fail> {
-    let made = run_on(&rt, b"", MAKING, MADE)?;
-    closes(&rt, rt.alloc(), &made);
-    Ok(())
 }
 
 // The headers of the directory and of its file, the file's block, and the two that end an archive.
@@ -268,8 +237,14 @@ fn archives(rt: &impl Abort, alloc: Global, made: &[u8]) {
 }
 
 #[test]
-fn an_archive_has_a_directory_and_its_file(rt: HostRuntime) -> Result<(), Fail> {
-    let made = run_on(&rt, b"", MAKING, MADE)?;
+fn a_region_is_handed_on_looked_into_mapped_archived_and_checked(
+    rt: HostRuntime,
+) -> Result<(), Fail> {
+    let mut made = run_on(&rt, b"", MAKING, MADE)?;
+    is_handed_on(&rt, &made)?;
+    is_looked_into(&rt, rt.alloc(), &made)?;
+    is_mapped(&rt, &made)?;
+    closes(&rt, rt.alloc(), &made);
     archives(&rt, rt.alloc(), &made);
-    Ok(())
+    sums_up(&rt, &mut made)
 }

@@ -55,22 +55,16 @@ fn tells_inodes<H: Abort>(rt: &H, report: &Value) {
     assert!(rt; number(report, "/inodes/2/extents/0/count") == Some(1));
     assert!(rt; report.pointer("/inodes/2/log/0").is_some());
     assert!(rt; report.pointer("/inodes/3").is_none());
+    assert!(rt; report.pointer("/faults/0").is_none());
+    assert!(rt; number(report, "/free/1/0/start").is_some());
 }
 
 #[test]
-fn a_report_is_read_back(rt: HostRuntime) -> Result<(), Fail> {
-    let made = run_on(&rt, b"", MAKING, MADE)?;
-    let report = report_of(&rt, &made)?;
-    tells_region(&rt, &report);
-    tells_inodes(&rt, &report);
-    assert!(&rt; report.pointer("/faults/0").is_none());
-    assert!(&rt; number(&report, "/free/1/0/start").is_some());
-    Ok(())
-}
-
-#[test]
-fn faults_are_read_back(rt: HostRuntime) -> Result<(), Fail> {
+fn a_report_and_its_faults_are_read_back(rt: HostRuntime) -> Result<(), Fail> {
     let mut made = run_on(&rt, b"", MAKING, MADE)?;
+    let sound = report_of(&rt, &made)?;
+    tells_region(&rt, &sound);
+    tells_inodes(&rt, &sound);
     // The valid word of inode 4, the third of the first CPU's table.
     clear(&mut made, 12_544);
     let report = report_of(&rt, &made)?;

@@ -78,28 +78,9 @@ fn take_out(rows: &mut Rows, inode: u64) -> Option<u64>
     Some(row.inode)
 }
 
-/// Takes out the row of an inode, which has one.
-fn remove_once(rt: &impl Abort, rows: &mut Rows, inode: u64)
-    requires { HasNumbersOf (fixed_layout SMALL) rows.old }
-    ensures { HasNumbersOf (fixed_layout SMALL) rows.new }
-{
-    assert!(rt; take_out(rows, inode) == Some(inode));
-    assert!(rt; take_out(rows, inode) == None);
-}
-
-/// The inode that the row of a number tells.
-fn told_at(rows: &Rows, number: u64) -> Option<u64> {
-    let row = rows.get(number)?;
-    Some(row.inode)
-}
-
-fn assert_row(rt: &impl Abort, rows: &Rows, number: u64, has_row: bool) {
-    let wanted = if has_row { Some(number) } else { None };
-    assert!(rt; told_at(rows, number) == wanted, "at {number}");
-}
-
 /// The rows of these inodes alone are listed, in this order.
 fn assert_listed(rt: &impl Abort, rows: &Rows, inodes: &[u64]) {
+    assert!(rt; rows.len() == inodes.len());
     let mut listed = rows.iter();
     for inode in inodes {
         match listed.next() {
@@ -110,99 +91,19 @@ fn assert_listed(rt: &impl Abort, rows: &Rows, inodes: &[u64]) {
     assert!(rt; listed.next().is_none());
 }
 
-/// Just these numbers have a row, and they are listed so.
-fn assert_numbers(rt: &impl Abort, rows: &Rows, numbers: &[u64]) {
-    assert!(rt; rows.len() == numbers.len());
-    for number in 0..33 {
-        assert_row(rt, rows, number, numbers.contains(&number));
-    }
-    assert_row(rt, rows, u64::MAX, false);
-    assert_listed(rt, rows, numbers);
-}
-
-/// The lowest number without a row.
-fn assert_unused(rt: &impl Abort, rows: &Rows, number: Option<u64>)
-    requires { HasNumbersOf (fixed_layout SMALL) rows.now }
-{
-    assert!(rt; rows.lowest_unused(0) == number);
-}
-
 fn come_and_go(rt: &impl Abort, alloc: Global, rows: &mut Rows) -> Result<(), AllocError>
     requires { HasNumbersOf (fixed_layout SMALL) rows.old }
 {
-    assert_numbers(rt, rows, &[2, 4]);
-    assert_unused(rt, rows, Some(1));
+    assert_listed(rt, rows, &[2, 4]);
     insert_new(alloc, rows, 1)?;
-    assert_unused(rt, rows, Some(3));
-    insert_new(alloc, rows, 31)?;
-    assert_numbers(rt, rows, &[1, 2, 4, 31]);
-    remove_once(rt, rows, 2);
-    assert_unused(rt, rows, Some(2));
-    assert_numbers(rt, rows, &[1, 4, 31]);
+    assert!(rt; rows.lowest_unused(0) == Some(3));
+    assert!(rt; take_out(rows, 2) == Some(2));
+    assert_listed(rt, rows, &[1, 4]);
     Ok(())
 }
 
 #[test]
-fn given_rows_are_found_by_their_numbers_and_come_and_go(rt: HostRuntime) -> Result<(), Fail> {
+fn given_rows_are_listed_by_their_numbers_and_come_and_go(rt: HostRuntime) -> Result<(), Fail> {
     let mut rows = two_files(rt.alloc())?;
     Ok(come_and_go(&rt, rt.alloc(), &mut rows)?)
-}
-
-/// Takes a row out, if there is one, and puts it in again with so many links.
-fn relink(rows: &mut Rows, inode: u64, links: u32)
-    requires { HasNumbersOf (fixed_layout SMALL) rows.old }
-    ensures { HasNumbersOf (fixed_layout SMALL) rows.new }
-{
-    if rows.get(inode).is_some() {
-        let mut row = rows.take(inode);
-        row.numbers.links = links;
-        rows.insert(row);
-    }
-}
-
-fn links_at(rows: &Rows, number: u64) -> Option<u32> {
-    let row = rows.get(number)?;
-    Some(row.numbers.links)
-}
-
-fn assert_links(rt: &impl Abort, rows: &Rows, number: u64, links: u32) {
-    assert!(rt; links_at(rows, number) == Some(links));
-}
-
-/// Puts in the rows of all numbers that have none.
-fn fill(alloc: Global, rows: &mut Rows) -> Result<(), AllocError>
-    requires { HasNumbersOf (fixed_layout SMALL) rows.old }
-    ensures { HasNumbersOf (fixed_layout SMALL) rows.new }
-{
-    for number in 1..32 {
-        insert_new(alloc, rows, number)?;
-    }
-    Ok(())
-}
-
-fn assert_relinked(rt: &impl Abort, rows: &mut Rows)
-    requires { HasNumbersOf (fixed_layout SMALL) rows.old }
-    ensures { HasNumbersOf (fixed_layout SMALL) rows.new }
-{
-    relink(rows, 2, 7);
-    relink(rows, 3, 7);
-    assert_numbers(rt, rows, &[2, 4]);
-    assert_links(rt, rows, 2, 7);
-    assert_links(rt, rows, 4, 1);
-}
-
-fn change_and_fill(rt: &impl Abort, alloc: Global, rows: &mut Rows) -> Result<(), AllocError>
-    requires { HasNumbersOf (fixed_layout SMALL) rows.old }
-{
-    assert_relinked(rt, rows);
-    fill(alloc, rows)?;
-    assert!(rt; rows.len() == 31);
-    assert_unused(rt, rows, None);
-    Ok(())
-}
-
-#[test]
-fn a_row_is_changed_and_at_last_no_number_is_unused(rt: HostRuntime) -> Result<(), Fail> {
-    let mut rows = two_files(rt.alloc())?;
-    Ok(change_and_fill(&rt, rt.alloc(), &mut rows)?)
 }

@@ -2,6 +2,7 @@
 
 use crate::broken_streams::{Closing, Failing};
 use crate::damage::{CHAINS, JOURNALS, LOGS, NAMES, REPLAYED};
+use crate::first_reasons::FIRST_REASONS;
 use crate::written::{REFUSED, STOPPED, WRITTEN};
 use nv_script::{ScriptError, run_script};
 use std::alloc::{AllocError, Global};
@@ -391,7 +392,7 @@ fn check_rows<H: AllocGlobal + Abort + Threads + Sync>(
     Ok(())
 }
 
-const ALL_ROWS: [&[(&str, &str, u8)]; 16] = [
+const ALL_ROWS: [&[(&str, &str, u8)]; 17] = [
     &FIRST_PATH,
     &LINES,
     &REFUSALS,
@@ -402,6 +403,7 @@ const ALL_ROWS: [&[(&str, &str, u8)]; 16] = [
     &WRITTEN,
     &STOPPED,
     &REFUSED,
+    &FIRST_REASONS,
     &STOPS,
     &LOGS,
     &CHAINS,

@@ -2,10 +2,8 @@
 
 use crate::broken_streams::{Closing, Failing};
 use nv_stream::{Next, ScriptError, read_line, write_text};
-use std::alloc::{AllocError, Global};
 use std::io::Read;
 use std::process::Abort;
-use std::test::Fail;
 
 /// The next line of a reader has these bytes, where there is one.
 fn assert_line<R: Read>(
@@ -30,29 +28,6 @@ fn lines_are_cut_at_byte_10(rt: HostRuntime) {
     assert_line(&rt, &mut reader, &mut line, Ok(Next::Line), b"b c");
     assert_line(&rt, &mut reader, &mut line, Ok(Next::End), b"");
     assert_line(&rt, &mut reader, &mut line, Ok(Next::End), b"");
-}
-
-/// What is read of a line of so many bytes, with and without an end of line behind it.
-fn assert_length(
-    rt: &impl Abort,
-    alloc: Global,
-    count: usize,
-    next: Next,
-) -> Result<(), AllocError> {
-    let mut input = vec![in alloc; b'#'; count]?;
-    let mut line = Vec::new(alloc);
-    assert!(rt; read_line(&mut input.as_slice(), &mut line) == Ok(next));
-    input.push(b'\n')?;
-    assert!(rt; read_line(&mut input.as_slice(), &mut line) == Ok(next));
-    assert!(rt; line.len() == count);
-    Ok(())
-}
-
-#[test]
-fn a_line_of_4096_bytes_is_the_longest(rt: HostRuntime) -> Result<(), Fail> {
-    assert_length(&rt, rt.alloc(), 4096, Next::Line)?;
-    assert_length(&rt, rt.alloc(), 4097, Next::TooLong)?;
-    Ok(())
 }
 
 #[test]
@@ -84,22 +59,4 @@ fn a_closed_writer_has_the_front(rt: HostRuntime) {
     assert_written(&rt, &mut writer, b"abcde", Ok(()), b"abcde");
     let closed = Err(ScriptError::Write);
     assert_written(&rt, &mut writer, b"fghij", closed, b"abcdefghi");
-}
-
-fn assert_text(
-    rt: &impl Abort,
-    alloc: Global,
-    error: ScriptError,
-    text: &str,
-) -> Result<(), AllocError> {
-    assert!(rt; format!(in alloc; "{error}")?.as_str() == text);
-    Ok(())
-}
-
-#[test]
-fn an_error_has_its_text(rt: HostRuntime) -> Result<(), Fail> {
-    assert_text(&rt, rt.alloc(), ScriptError::Read, "failed Read")?;
-    assert_text(&rt, rt.alloc(), ScriptError::Write, "failed Write")?;
-    assert_text(&rt, rt.alloc(), ScriptError::Memory, "failed Memory")?;
-    Ok(())
 }
