@@ -28,10 +28,11 @@ pub(crate) enum Call {
     ReplaceAcross,
     ReplaceWithin,
     RemoveDirectory,
+    Upgrade,
 }
 
 /// All calls, in their order: each can be done once those before it are.
-pub(crate) const CALLS: [Call; 21] = [
+pub(crate) const CALLS: [Call; 22] = [
     Call::MakeDirectory,
     Call::MakeDirectoryInIt,
     Call::CreateDeep,
@@ -53,6 +54,7 @@ pub(crate) const CALLS: [Call; 21] = [
     Call::ReplaceAcross,
     Call::ReplaceWithin,
     Call::RemoveDirectory,
+    Call::Upgrade,
 ];
 
 /// How a call is told.
@@ -79,6 +81,7 @@ pub(crate) fn name_of(call: Call) -> &'static str {
         Call::ReplaceAcross => "ReplaceAcross",
         Call::ReplaceWithin => "ReplaceWithin",
         Call::RemoveDirectory => "RemoveDirectory",
+        Call::Upgrade => "Upgrade",
     }
 }
 
@@ -106,6 +109,7 @@ pub(crate) fn make(fs: &mut Fs<MemRegion>, call: Call) -> Result<(), Refusal> {
         Call::ReplaceAcross => fs.replace(Cpu(0), b"/e/y", b"/f", Time(17)),
         Call::ReplaceWithin => fs.replace(Cpu(0), b"/e", b"/d", Time(18)),
         Call::RemoveDirectory => fs.rmdir(Cpu(0), b"/d", Time(19)),
+        Call::Upgrade => fs.upgrade(),
     }
 }
 
