@@ -42,6 +42,9 @@ fn look<R: Print>(rt: &R, fs: &Fs<MemRegion>) -> Result<()> {
         for run in fs.free_runs(Cpu(cpu)) {
             println!(rt; "cpu {} has {} free from {} on", cpu, run.count, run.start)?;
         }
+        if let Some(inode) = fs.unused_number(Cpu(cpu)) {
+            println!(rt; "cpu {} makes inode {} next", cpu, inode)?;
+        }
     }
     let bytes = fs.memory().len();
     println!(rt; "{} blocks free, {} bytes", fs.free().free_blocks(), bytes)?;
@@ -58,5 +61,7 @@ fn main(rt: HostRuntime) -> Result<()> {
         println!(rt; "the log of / needs its pages")?;
     }
     let _freed = (fs.clean(b"/")?, fs.clean_inode(1)?, fs.clean_page(1, None)?);
-    look(&rt, &fs)
+    look(&rt, &fs)?;
+    fs.upgrade()?;
+    Ok(println!(rt; "version {}", fs.superblock().version)?)
 }
