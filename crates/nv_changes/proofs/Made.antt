@@ -1,5 +1,5 @@
 -- What the calls of a change leave of a region that was opened, and why a change is refused.
-use Rattle.std.proofs.Common.{◌≡◌, ◌≢◌, ◌∙◌, ℕ, Bool, true, false, IsTrue, List, [], refl, sym, ap, subst, inl, inr}
+use Rattle.std.proofs.Common.{◌≡◌, ◌≢◌, ◌∙◌, ℕ, Bool, true, false, IsTrue, ◌||◌, List, [], ◌∷◌, refl, sym, ap, subst, inl, inr}
 use Rattle.nv_super.specs.Layout.{Layout}
 use Rattle.nv_region.specs.Region.{Region, size}
 use Rattle.nv_region.specs.RegionState.{RegionState, is_steady, steady_unburnt}
@@ -17,15 +17,17 @@ use Rattle.nv_paths.specs.Seen.{tree_of}
 use Rattle.nv_session.specs.Calls.{LeavesTree, mounted_as}
 use Rattle.nv_session.specs.Sessions.{IsSettled}
 use Rattle.nv_session.proofs.Moved.{same_size}
-use Rattle.nv_history.specs.Making.{AreMade}
+use Rattle.nv_history.specs.Making.{AreMade, change_tables, changes_tables}
+use Rattle.nv_history.specs.Said.{said}
 use Rattle.nv_history.specs.Halting.{HaltsAt}
 use Rattle.nv_history.specs.declared.calls.Call.{Call}
 use Rattle.nv_history.specs.declared.runs.Halted.{Halted}
 use Rattle.nv_script.specs.Cleaning.{CanClean, IsOpenedAs}
 use Rattle.nv_script.proofs.Cleanings.{shows_now}
-use Rattle.nv_changes.specs.Calls.{AreCallsOf}
+use Rattle.nv_changes.specs.Calls.{AreCallsOf, IsFirstCall, next_calls}
 use Rattle.nv_changes.specs.Changing.{IsChanged, IsChangedAs, IsHalted, IsMade, IsRefusal, tree_shown}
 use Rattle.nv_changes.specs.declared.change.Change.{Change}
+use Rattle.nv_changes.specs.declared.change.Change.TheVariants.{MakeDirectory, Remove, RemoveDirectory, Rename, Link, SetSize, SetMode, SetOwner, Put}
 use Rattle.nv_changes.specs.declared.changing.Changed.{Changed}
 use Rattle.nv_changes.specs.declared.changing.Changed.TheVariants as changed
 
@@ -55,6 +57,41 @@ not_on false never = refl
 -- a memory without a fuse wasn't stopped
 pub unstopped : (m : RegionState) → IsTrue (is_steady m) → IsTrue m.burnt → ⊥
 unstopped m steady burnt = let off : m.burnt ≡ false = steady_unburnt m steady in let never : true ≡ false = sym burnt ∙ off in cc
+
+-- ---- no call of a change changes how the tables are laid out
+
+abbrev changes : Call → Bool
+changes call = changes_tables (said call)
+
+first_keeps : (t : Tree) (change : Change) (cpu time : ℕ) (call : Call) → IsFirstCall t change cpu time call → changes call ≡ false
+first_keeps t (MakeDirectory path) cpu time call is = ap changes is
+first_keeps t (Remove path) cpu time call is = ap changes is
+first_keeps t (RemoveDirectory path) cpu time call is = ap changes is
+first_keeps t (Rename old new) cpu time call is = ap changes is
+first_keeps t (Link old new) cpu time call is = ap changes is
+first_keeps t (SetSize path size) cpu time call is = ap changes is
+first_keeps t (SetMode path mode) cpu time call is = ap changes is.4
+first_keeps t (SetOwner path owner group) cpu time call is = ap changes is.4
+first_keeps t (Put path bytes) cpu time call (inl there) = ap changes there.1
+first_keeps t (Put path bytes) cpu time call (inr none) = ap changes none.1
+
+next_keep : (change : Change) (cpu time : ℕ) → change_tables (next_calls change cpu time) ≡ false
+next_keep (MakeDirectory path) cpu time = refl
+next_keep (Remove path) cpu time = refl
+next_keep (RemoveDirectory path) cpu time = refl
+next_keep (Rename old new) cpu time = refl
+next_keep (Link old new) cpu time = refl
+next_keep (SetSize path size) cpu time = refl
+next_keep (SetMode path mode) cpu time = refl
+next_keep (SetOwner path owner group) cpu time = refl
+next_keep (Put path bytes) cpu time = refl
+
+both_keep : (a b : Bool) → a ≡ false → b ≡ false → (a || b) ≡ false
+both_keep true b off none = off
+both_keep false b off none = none
+
+pub calls_keep : (t : Tree) (change : Change) (cpu time : ℕ) (calls : List Call) → AreCallsOf t change cpu time calls → change_tables calls ≡ false
+calls_keep t change cpu time calls (first, is, are) = ap change_tables are ∙ both_keep (changes first) (change_tables (next_calls change cpu time)) (first_keeps t change cpu time first is) (next_keep change cpu time)
 
 module _ (R : Region) (o : Outcome) (m n : Mount RegionState) (is : IsOpenedAs R o m) (calls : List Call) (change : Change) (cpu time : ℕ) where
   same_tree : tree m ≡ tree_shown R o

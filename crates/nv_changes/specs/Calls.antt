@@ -2,6 +2,7 @@
 use Rattle.std.specs.Prelude.{◌≡◌, ◌⊎◌, ℕ, List, [], ◌∷◌, Option, Some, None}
 use Rattle.std.specs.Option.{unwrap_or}
 use Rattle.std.specs.Borrow.{Bor}
+use Rattle.nv_bytes.specs.declared.contents.Data.TheVariants.{Given}
 use Rattle.nv_tree.specs.Path.{IsPath}
 use Rattle.nv_tree.specs.Tree.{Node, Tree, found}
 use Rattle.nv_paths.specs.Seen.{LeadsTo}
@@ -48,7 +49,7 @@ IsFirstCall t (Put path bytes) cpu time call = BeginsFile t path cpu time call
 
 -- the calls behind it: all bytes are written from the first one on
 abbrev pub next_calls : Change → ℕ → ℕ → List Call
-next_calls (Put path bytes) cpu time = calls.Write cpu path 0 bytes time ∷ []
+next_calls (Put path bytes) cpu time = calls.Write cpu path 0 (Given bytes) time ∷ []
 next_calls _ cpu time = []
 
 -- the calls of a change

@@ -5,6 +5,7 @@ ghost use Rattle.nv_paths.specs.Seen.{tree_of};
 ghost use Rattle.nv_changes.specs.Calls.{AreCallsOf, BeginsFile, HasAttributes, IsFirstCall, IsThere, SetsMode, SetsOwner};
 
 use crate::change::Change;
+use nv_calls::Data;
 use nv_history::Call;
 use nv_region::MemRegion;
 use nv_session::Fs;
@@ -35,7 +36,7 @@ pub(crate) fn calls_of<'a>(
             cpu,
             path,
             offset: 0,
-            bytes,
+            content: Data::Given(bytes),
             time,
         })?;
     }

@@ -3,7 +3,7 @@ use Rattle.std.specs.Prelude.{◌≡◌, ℕ, ◌+◌, List, length}
 use Rattle.nv_region.specs.Region.{Region}
 use Rattle.nv_tree.specs.declared.refusal.Refusal.{Refusal}
 use Rattle.nv_tree.specs.Path.{Says}
-use Rattle.nv_tree.specs.Refusals.{Path, Tests, first_refusal, clean_tests, create_tests, link_tests, rename_tests, rmdir_tests, set_attr_tests, set_size_tests, unlink_tests, write_tests, IsRefusedBy}
+use Rattle.nv_tree.specs.Refusals.{Path, Tests, first_refusal, clean_tests, create_tests, link_tests, rename_tests, rmdir_tests, set_attr_tests, set_size_tests, unlink_tests, upgrade_tests, write_tests, IsRefusedBy}
 use Rattle.nv_paths.specs.Seen.{tree_of}
 use Rattle.nv_calls.specs.Mount.{Mount}
 use Rattle.nv_calls.specs.World.{world_of}
@@ -15,7 +15,7 @@ use Rattle.nv_calls.specs.SizeCall.{resized_blocks}
 use Rattle.nv_calls.specs.UnlinkCalls.{unlink_blocks}
 use Rattle.nv_calls.specs.WriteCall.{WriteNeeds}
 use Rattle.nv_history.specs.declared.calls.Call.{Call}
-use Rattle.nv_history.specs.declared.calls.Call.TheVariants.{Create, MakeDirectory, Write, SetSize, SetAttributes, Link, Unlink, RemoveDirectory, Rename, Clean}
+use Rattle.nv_history.specs.Said.{Said, said, Create, MakeDirectory, Write, SetSize, SetAttributes, Link, Unlink, RemoveDirectory, Rename, Clean, Upgrade}
 
 -- these are the tests by what the text says
 abbrev pub AskedBy : List ℕ → (Path → Tests) → Tests → Type 0
@@ -26,19 +26,20 @@ abbrev pub AskedByBoth : List ℕ → List ℕ → (Path → Path → Tests) →
 AskedByBoth old new asked tests = (p : Path) × (q : Path) × Says old p × Says new q × (tests ≡ asked p q)
 
 -- The tests of a call, where this region is mounted so: with how many blocks it needs.
-abbrev pub AreTestsOf : {P : Type 0} → Region → Mount P → Call → Tests → Type 0
-AreTestsOf R m (Create cpu path mode time) tests = AskedBy path.now (λ p. create_tests (world_of m) (tree_of R m.rows) cpu p (create_blocks m.rows (tree_of R m.rows) p)) tests
-AreTestsOf R m (MakeDirectory cpu path mode time) tests = AskedBy path.now (λ p. create_tests (world_of m) (tree_of R m.rows) cpu p (create_blocks m.rows (tree_of R m.rows) p)) tests
-AreTestsOf R m (Write cpu path offset bytes time) tests = (p : Path) × (count : ℕ) × Says path.now p × WriteNeeds R m cpu p offset (length bytes.now) time count
-    × (tests ≡ write_tests (world_of m) (tree_of R m.rows) cpu p (offset + length bytes.now) count)
-AreTestsOf R m (SetSize cpu path size time) tests = AskedBy path.now (λ p. set_size_tests (world_of m) (tree_of R m.rows) cpu p size (resized_blocks m.rows (tree_of R m.rows) p size)) tests
-AreTestsOf R m (SetAttributes cpu path mode owner group time) tests = AskedBy path.now (λ p. set_attr_tests (world_of m) (tree_of R m.rows) cpu p (attributes_blocks m.rows (tree_of R m.rows) p)) tests
-AreTestsOf R m (Link cpu old new time) tests = AskedByBoth old.now new.now (λ p q. link_tests (world_of m) (tree_of R m.rows) cpu p q (link_blocks m.rows (tree_of R m.rows) p q)) tests
-AreTestsOf R m (Unlink cpu path time) tests = AskedBy path.now (λ p. unlink_tests (world_of m) (tree_of R m.rows) cpu p (unlink_blocks m.rows (tree_of R m.rows) p)) tests
-AreTestsOf R m (RemoveDirectory cpu path time) tests = AskedBy path.now (λ p. rmdir_tests (world_of m) (tree_of R m.rows) cpu p (name_blocks m.rows (tree_of R m.rows) p)) tests
-AreTestsOf R m (Rename cpu old new time) tests = AskedByBoth old.now new.now (λ p q. rename_tests (world_of m) (tree_of R m.rows) cpu p q (rename_blocks m.rows (tree_of R m.rows) p q)) tests
-AreTestsOf R m (Clean path) tests = AskedBy path.now (λ p. clean_tests (world_of m) (tree_of R m.rows) p) tests
+abbrev pub AreTestsOf : {P : Type 0} → Region → Mount P → Said → Tests → Type 0
+AreTestsOf R m (Create cpu path mode time) tests = AskedBy path (λ p. create_tests (world_of m) (tree_of R m.rows) cpu p (create_blocks m.rows (tree_of R m.rows) p)) tests
+AreTestsOf R m (MakeDirectory cpu path mode time) tests = AskedBy path (λ p. create_tests (world_of m) (tree_of R m.rows) cpu p (create_blocks m.rows (tree_of R m.rows) p)) tests
+AreTestsOf R m (Write cpu path offset bytes time) tests = (p : Path) × (count : ℕ) × Says path p × WriteNeeds R m cpu p offset (length bytes) time count
+    × (tests ≡ write_tests (world_of m) (tree_of R m.rows) cpu p (offset + length bytes) count)
+AreTestsOf R m (SetSize cpu path size time) tests = AskedBy path (λ p. set_size_tests (world_of m) (tree_of R m.rows) cpu p size (resized_blocks m.rows (tree_of R m.rows) p size)) tests
+AreTestsOf R m (SetAttributes cpu path mode owner group time) tests = AskedBy path (λ p. set_attr_tests (world_of m) (tree_of R m.rows) cpu p (attributes_blocks m.rows (tree_of R m.rows) p)) tests
+AreTestsOf R m (Link cpu old new time) tests = AskedByBoth old new (λ p q. link_tests (world_of m) (tree_of R m.rows) cpu p q (link_blocks m.rows (tree_of R m.rows) p q)) tests
+AreTestsOf R m (Unlink cpu path time) tests = AskedBy path (λ p. unlink_tests (world_of m) (tree_of R m.rows) cpu p (unlink_blocks m.rows (tree_of R m.rows) p)) tests
+AreTestsOf R m (RemoveDirectory cpu path time) tests = AskedBy path (λ p. rmdir_tests (world_of m) (tree_of R m.rows) cpu p (name_blocks m.rows (tree_of R m.rows) p)) tests
+AreTestsOf R m (Rename cpu old new time) tests = AskedByBoth old new (λ p q. rename_tests (world_of m) (tree_of R m.rows) cpu p q (rename_blocks m.rows (tree_of R m.rows) p q)) tests
+AreTestsOf R m (Clean path) tests = AskedBy path (λ p. clean_tests (world_of m) (tree_of R m.rows) p) tests
+AreTestsOf R m Upgrade tests = tests ≡ upgrade_tests (world_of m) m.sup.version
 
 -- the refusal comes of a stop, is that of the first of its tests that holds, or is want of memory, where that comes last
 abbrev pub RefusesCall : {P : Type 0} → Region → Mount P → Call → Refusal → Type 0
-RefusesCall R m call refusal = (tests : Tests) × AreTestsOf R m call tests × IsRefusedBy (first_refusal tests) refusal
+RefusesCall R m call refusal = (tests : Tests) × AreTestsOf R m (said call) tests × IsRefusedBy (first_refusal tests) refusal

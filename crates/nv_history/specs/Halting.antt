@@ -7,7 +7,7 @@ use Rattle.nv_calls.specs.Mount.{Mount}
 use Rattle.nv_calls.specs.Same.{SameMount}
 use Rattle.nv_history.specs.declared.calls.Call.{Call}
 use Rattle.nv_history.specs.declared.runs.Halted.{Halted}
-use Rattle.nv_history.specs.Making.{AreMade}
+use Rattle.nv_history.specs.Making.{AreMadeOver}
 use Rattle.nv_history.specs.Asking.{RefusesCall}
 use Rattle.nv_super.specs.Layout.{Layout}
 
@@ -19,6 +19,6 @@ RefusesNext R m calls halted = (call : Call) × (slice_get calls halted.made ≡
 -- was refused so.
 pub record HaltsAt {P : Type 0} (l : Layout) (t : Tree) (calls : List Call) (halted : Halted) (R : Region) (new : Mount P) : Type 0 where
   pub asked : Mount P
-  pub made : AreMade l (take halted.made calls) t (tree_of R asked.rows)
+  pub made : AreMadeOver l (take halted.made calls) t asked.layout (tree_of R asked.rows)
   pub same : SameMount asked new
   pub why : RefusesNext R asked calls halted

@@ -16,7 +16,8 @@ use Rattle.nv_mounted.specs.Mounted.{faultless_outcome}
 use Rattle.nv_calls.specs.Stopped.{RecoversTo}
 use Rattle.nv_history.specs.declared.calls.Call.{Call}
 use Rattle.nv_history.specs.declared.runs.Halted.{Halted}
-use Rattle.nv_history.specs.Making.{AreMade, IsMadeBy}
+use Rattle.nv_history.specs.Making.{AreMadeOver, IsLaidBy, IsMadeBy}
+use Rattle.nv_history.specs.Said.{said}
 
 -- ---- recoveries
 
@@ -42,9 +43,13 @@ pub record RecoversTree (l : Layout) (IsShown : Tree → Type 0) (left : Region)
   pub recovers : RecoversTo left l rows free
   pub shows : IsShown (tree_of (undone l.sup left) rows)
 
+-- recovery finds what a call makes of a tree, in tables that are laid out as the call leaves them
+abbrev pub RecoversCall : Layout → Call → Tree → Region → Type 0
+RecoversCall l call t left = (k : Layout) × IsLaidBy l (said call) k × RecoversTree k (λ u. IsMadeBy k call t u) left
+
 -- recovery finds the tree that there was, or what a call makes of it
 abbrev pub BeforeOrMade : Layout → Call → Tree → Region → Type 0
-BeforeOrMade l call t left = ∥ (RecoversTree l (λ u. SameTree u t) left ⊎ RecoversTree l (λ u. IsMadeBy l call t u) left) ∥₁
+BeforeOrMade l call t left = ∥ (RecoversTree l (λ u. SameTree u t) left ⊎ RecoversCall l call t left) ∥₁
 
 -- ---- a run of calls
 
@@ -53,12 +58,13 @@ abbrev pub MayBeDone : List Call → Result ⊤ Halted → List Call → Type 0
 MayBeDone calls (Ok made) done = done ≡ calls
 MayBeDone calls (Err halted) done = (done ≡ take halted.made calls) ⊎ ((halted.refusal ≡ Stopped) × (done ≡ take (halted.made + 1) calls))
 
--- These calls make the tree of the rows that recovery finds, however often it is stopped and begun again.
+-- These calls make the tree of the rows that recovery finds, and the tables, however often it is stopped and begun again.
 pub record RecoversMade (l : Layout) (done : List Call) (t : Tree) (left : Region) : Type 0 where
+  pub layout : Layout
   pub rows : List Row
   pub free : List (List Run)
-  pub recovers : AlwaysRecoversTo left l rows free
-  pub made : AreMade l done t (tree_of (undone l.sup left) rows)
+  pub recovers : AlwaysRecoversTo left layout rows free
+  pub made : AreMadeOver l done t layout (tree_of (undone layout.sup left) rows)
 
 -- whatever a stop leaves of a run: recovery finds what such calls make
 abbrev pub RunLeaves : Layout → List Call → Tree → Result ⊤ Halted → Region → Type 0

@@ -1,19 +1,16 @@
 //! The calls that write, as values.
 
-ghost use Rattle.std.specs.Prelude.{◌≡◌, IfErr, OnOk, false};
-ghost use Rattle.nv_region.specs.Stops.{LeavesOnly};
-ghost use Rattle.nv_calls.specs.Keeping.{KeepsCall};
-ghost use Rattle.nv_history.specs.Making.{IsMadeBy};
-ghost use Rattle.nv_history.specs.Asking.{RefusesCall};
-ghost use Rattle.nv_history.specs.Stopping.{BeforeOrMade};
-ghost use Rattle.nv_calls.specs.Mount.{shown};
+ghost use Rattle.std.specs.Prelude.{◌≡◌};
+ghost use Rattle.nv_history.specs.Called.{Called, answered_by};
+ghost use Rattle.nv_history.specs.Said.{said};
+ghost use Rattle.nv_history.specs.declared.calls.Answer.TheVariants as answers;
 
-use nv_calls::{Cpu, Fs, Time};
+use nv_calls::{Cpu, Data, Fs, Time};
 use nv_region::Pmem;
 use nv_tree::Refusal;
 
 /// A call that writes, with what it is asked: as the methods of `Fs` have them.
-#[derive(Clone, Copy, Debug)]
+#[derive(Clone, Copy)]
 pub enum Call<'a> {
     /// Make a file.
     Create {
@@ -34,7 +31,7 @@ pub enum Call<'a> {
         cpu: u64,
         path: &'a [u8],
         offset: u64,
-        bytes: &'a [u8],
+        content: Data<'a>,
         time: u64,
     },
     /// Cut a file, or lengthen it by zeros.
@@ -79,50 +76,57 @@ pub enum Call<'a> {
         new: &'a [u8],
         time: u64,
     },
-    /// Take the first page that it can do without out of the log of an inode. Which one that is isn't answered.
+    /// Take the first page that it can do without out of the log of an inode.
     Clean {
         path: &'a [u8],
     },
+    /// Make a region of version 1 one of version 2.
+    Upgrade,
+}
+
+/// What a call answers that is made.
+#[derive(Clone, Copy, Debug, PartialEq, Eq)]
+pub enum Answer {
+    /// Nothing but that.
+    Done,
+    /// Of `Clean` the block of the page that went, or that the log needs each of its pages.
+    Cleaned(Option<u64>),
 }
 
 /// Makes a call.
-pub(crate) fn make_call<P: Pmem + Drop>(mount: &mut Fs<P>, call: &Call<'_>) -> Result<(), Refusal>
-    ensures made { OnOk result (IsMadeBy mount.old.layout call.now (shown P.region mount.old) (shown P.region mount.new)) }
-    ensures refused { mount.old.stopped ≡ false → IfErr result (RefusesCall (P.region mount.old.memory) mount.old call.now) }
-    // What every call that writes keeps.
-    ensures call { KeepsCall P.region P.fuse mount.old mount.new result }
-    // Whatever a stop leaves, at any exit: recovery finds what was mounted, or what the call makes, without faults.
-    ensures any_stop { mount.old.stopped ≡ false → mount.old.read_only ≡ false
-        → LeavesOnly (P.region mount.new.memory) (P.may_hold mount.new.memory) (BeforeOrMade mount.old.layout call.now (shown P.region mount.old)) }
+///
+/// Errors: those of its method.
+pub fn make_call<P: Pmem + Drop>(mount: &mut Fs<P>, call: &Call<'_>) -> Result<Answer, Refusal>
+    ensures { Called P.region P.may_hold P.fuse (said call.now) mount.old mount.new result }
 {
-    // What a stop leaves of a call that stores nothing.
-    mount.recovers_as_mounted();
+    // Which page can go, and which version there is, is said by what the mount keeps before the call.
+    mount.keeps();
     match *call {
         Call::Create {
             cpu,
             path,
             mode,
             time,
-        } => mount.create(Cpu(cpu), path, mode, Time(time)),
+        } => done(mount.create(Cpu(cpu), path, mode, Time(time))),
         Call::MakeDirectory {
             cpu,
             path,
             mode,
             time,
-        } => mount.mkdir(Cpu(cpu), path, mode, Time(time)),
+        } => done(mount.mkdir(Cpu(cpu), path, mode, Time(time))),
         Call::Write {
             cpu,
             path,
             offset,
-            bytes,
+            content,
             time,
-        } => mount.write(Cpu(cpu), path, offset, bytes, Time(time)),
+        } => done(mount.write_data(Cpu(cpu), path, offset, content, Time(time))),
         Call::SetSize {
             cpu,
             path,
             size,
             time,
-        } => mount.set_size(Cpu(cpu), path, size, Time(time)),
+        } => done(mount.set_size(Cpu(cpu), path, size, Time(time))),
         Call::SetAttributes {
             cpu,
             path,
@@ -130,24 +134,42 @@ pub(crate) fn make_call<P: Pmem + Drop>(mount: &mut Fs<P>, call: &Call<'_>) -> R
             owner,
             group,
             time,
-        } => mount.set_attr(Cpu(cpu), path, mode, owner, group, Time(time)),
+        } => done(mount.set_attr(Cpu(cpu), path, mode, owner, group, Time(time))),
         Call::Link {
             cpu,
             old,
             new,
             time,
-        } => mount.link(Cpu(cpu), old, new, Time(time)),
-        Call::Unlink { cpu, path, time } => mount.unlink(Cpu(cpu), path, Time(time)),
-        Call::RemoveDirectory { cpu, path, time } => mount.rmdir(Cpu(cpu), path, Time(time)),
+        } => done(mount.link(Cpu(cpu), old, new, Time(time))),
+        Call::Unlink { cpu, path, time } => done(mount.unlink(Cpu(cpu), path, Time(time))),
+        Call::RemoveDirectory { cpu, path, time } => done(mount.rmdir(Cpu(cpu), path, Time(time))),
         Call::Rename {
             cpu,
             old,
             new,
             time,
-        } => mount.rename(Cpu(cpu), old, new, Time(time)),
-        Call::Clean { path } => match mount.clean(path) {
-            Ok(_) => Ok(()),
-            Err(refusal) => Err(refusal),
-        },
+        } => done(mount.rename(Cpu(cpu), old, new, Time(time))),
+        Call::Clean { path } => cleaned(mount.clean(path)),
+        Call::Upgrade => done(mount.upgrade()),
+    }
+}
+
+// The answer of a call that tells nothing but that it is made.
+fn done(answer: Result<(), Refusal>) -> Result<Answer, Refusal>
+    ensures { result ≡ answered_by (λ made. answers.Done) answer }
+{
+    match answer {
+        Ok(()) => Ok(Answer::Done),
+        Err(refusal) => Err(refusal),
+    }
+}
+
+// That of `clean`.
+fn cleaned(answer: Result<Option<u64>, Refusal>) -> Result<Answer, Refusal>
+    ensures { result ≡ answered_by (λ page. answers.Cleaned page) answer }
+{
+    match answer {
+        Ok(page) => Ok(Answer::Cleaned(page)),
+        Err(refusal) => Err(refusal),
     }
 }

@@ -1,6 +1,6 @@
 //! Laws of runs of calls, and of recoveries that are stopped.
 
-ghost use Rattle.std.specs.Prelude.{◌≡◌, ℕ, List};
+ghost use Rattle.std.specs.Prelude.{◌≡◌, ℕ, List, false};
 ghost use Rattle.nv_region.specs.Region.{Region};
 ghost use Rattle.nv_super.specs.Layout.{Layout};
 ghost use Rattle.nv_super.specs.declared.superblock.Super.{Super};
@@ -11,7 +11,7 @@ ghost use Rattle.nv_rows.specs.Unused.{unused_number};
 ghost use Rattle.nv_tree.specs.Tree.{SameTree, Tree};
 ghost use Rattle.nv_paths.specs.Seen.{tree_of};
 ghost use Rattle.nv_history.specs.declared.calls.Call.{Call as CallValue};
-ghost use Rattle.nv_history.specs.Making.{AreMade, lowest_unused};
+ghost use Rattle.nv_history.specs.Making.{AreMade, AreMadeOver, change_tables, lowest_unused};
 ghost use Rattle.nv_history.specs.Stopping.{StoppedRecoveries};
 
 /// However often recoveries are stopped and begun again, the superblock stays, and the journals roll back to the same region.
@@ -22,6 +22,11 @@ pub fn stopped_recoveries_undo_the_same()
 /// Calls make one tree of a tree, up to what nobody can tell apart.
 pub fn calls_make_one_tree()
     ensures { (l : Layout) (calls : List CallValue) (t u v : Tree) → AreMade l calls t u → AreMade l calls t v → SameTree u v }
+{}
+
+/// No call but `upgrade` changes how the tables are laid out.
+pub fn tables_stay_but_for_upgrades()
+    ensures { (l k : Layout) (calls : List CallValue) (t u : Tree) → change_tables calls ≡ false → AreMadeOver l calls t k u → k ≡ l }
 {}
 
 /// The number that a new inode gets by the tree is the one that it gets by the rows.

@@ -8,6 +8,9 @@ mod runs;
 #[cfg(test)]
 mod tests;
 
-pub use calls::Call;
-pub use laws::{calls_make_one_tree, new_numbers_are_the_same, stopped_recoveries_undo_the_same};
+pub use calls::{Answer, Call, make_call};
+pub use laws::{
+    calls_make_one_tree, new_numbers_are_the_same, stopped_recoveries_undo_the_same,
+    tables_stay_but_for_upgrades,
+};
 pub use runs::{Halted, make_calls};

@@ -4,7 +4,7 @@ ghost use Rattle.nv_region.specs.Stops.{NothingPending};
 ghost use Rattle.nv_region.specs.RegionState.{fenced_or_last};
 
 use crate::{Call, Halted, make_calls};
-use nv_calls::{Fs, format};
+use nv_calls::{Data, Fs, format};
 use nv_outcome::rolled_back_outcome;
 use nv_recover::recover_one;
 use nv_region::{Fuse, Keep, MemRegion};
@@ -24,7 +24,7 @@ const CALLS: [Call<'static>; 3] = [
         cpu: 0,
         path: b"/a",
         offset: 0,
-        bytes: b"words",
+        content: Data::Given(b"words"),
         time: 3000,
     },
     Call::Rename {

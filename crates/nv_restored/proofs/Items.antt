@@ -18,7 +18,7 @@ use Rattle.nv_members.specs.Members.{IsNameOf, AreMembers}
 use Rattle.nv_members.specs.declared.member.Member.{Member}
 use Rattle.nv_untar.specs.Items.{Item}
 use Rattle.nv_history.specs.Making.{lowest_unused}
-use Rattle.nv_unpack.specs.Said.{Said, said, Create, MakeDirectory, Write, SetAttributes, Link}
+use Rattle.nv_history.specs.Said.{Said, said, Create, MakeDirectory, Write, SetAttributes, Link}
 use Rattle.nv_unpack.specs.Places.{place}
 use Rattle.nv_changes.specs.Calls.{IsThere}
 use Rattle.nv_unpack.specs.declared.maker.Maker.{Maker}

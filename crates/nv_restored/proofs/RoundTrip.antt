@@ -16,7 +16,7 @@ use Rattle.nv_unpack.specs.Making.{AreSteps}
 use Rattle.nv_restored.specs.Restored.{IsRestored}
 use Rattle.nv_restored.specs.Orderly.{IsEmpty, IsOrderly}
 use Rattle.nv_restored.specs.Numbers.{HasNumbersFor}
-use Rattle.nv_unpack.specs.Said.{said}
+use Rattle.nv_history.specs.Said.{said}
 use Rattle.nv_restored.proofs.Unpacked.{steps_unpacked}
 
 same_items : (a b : List Item) → ◌≡◌ {A = Result (List Item) Damage} (Ok a) (Ok b) → a ≡ b

@@ -11,7 +11,7 @@ use Rattle.nv_rows.specs.Unused.{numbers_in_table}
 use Rattle.nv_history.specs.declared.calls.Call.{Call}
 use Rattle.nv_history.specs.declared.calls.Call.TheVariants as calls
 use Rattle.nv_history.specs.Making.{AreMade, none, more, ByPath, ByPaths, IsMadeBy, is_unused_in, lowest_unused}
-use Rattle.nv_unpack.specs.Said.{Said, said, Create, MakeDirectory, Write, SetSize, SetAttributes, Link, Unlink, RemoveDirectory, Rename, Clean}
+use Rattle.nv_history.specs.Said.{Said, said, Create, MakeDirectory, Write, SetSize, SetAttributes, Link, Unlink, RemoveDirectory, Rename, Clean, Upgrade}
 use Rattle.nv_unpack.specs.declared.maker.Maker.{Maker}
 use Rattle.nv_unpack.specs.Ways.{MakesWay, ends_above}
 use Rattle.nv_unpack.specs.Ways as ways
@@ -52,11 +52,12 @@ SaidMakes l (Unlink cpu path time) t u = ByPath path (λ names. unlinked names t
 SaidMakes l (RemoveDirectory cpu path time) t u = ByPath path (λ names. removed names time t) u
 SaidMakes l (Rename cpu old new time) t u = ByPaths old new (λ names others. renamed names others time t) u
 SaidMakes l (Clean path) t u = ByPath path (λ names. t) u
+SaidMakes l Upgrade t u = SameTree u t
 
 said_makes : (l : Layout) (call : Call) (t u : Tree) → IsMadeBy l call t u → SaidMakes l (said call) t u
 said_makes l (calls.Create cpu path mode time) t u h = h
 said_makes l (calls.MakeDirectory cpu path mode time) t u h = h
-said_makes l (calls.Write cpu path offset bytes time) t u h = h
+said_makes l (calls.Write cpu path offset content time) t u h = h
 said_makes l (calls.SetSize cpu path size time) t u h = h
 said_makes l (calls.SetAttributes cpu path mode owner group time) t u h = h
 said_makes l (calls.Link cpu old new time) t u h = h
@@ -64,6 +65,7 @@ said_makes l (calls.Unlink cpu path time) t u h = h
 said_makes l (calls.RemoveDirectory cpu path time) t u h = h
 said_makes l (calls.Rename cpu old new time) t u h = h
 said_makes l (calls.Clean path) t u h = h
+said_makes l calls.Upgrade t u h = h
 
 -- The second tree is made by calls that say this.
 pub record AreSaid (l : Layout) (all : List Said) (t u : Tree) : Type 0 where

@@ -22,7 +22,7 @@ use Rattle.nv_members.specs.declared.member.Member.{Member}
 use Rattle.nv_untar.specs.declared.item.Item.{Item as ItemValue}
 use Rattle.nv_untar.specs.Items.{Item, item_of}
 use Rattle.nv_unpack.specs.Steps.{is_directory_item, is_directory_kind, item_in}
-use Rattle.nv_unpack.specs.Said.{Said, SetAttributes}
+use Rattle.nv_history.specs.Said.{Said, SetAttributes}
 use Rattle.nv_unpack.specs.Places.{place}
 use Rattle.nv_unpack.specs.declared.maker.Maker.{Maker}
 use Rattle.nv_unpack.specs.Calls.{IsDirectoryAt, MakesDirectory, attributes_call}

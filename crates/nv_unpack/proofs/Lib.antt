@@ -5,3 +5,4 @@ pub mod Unused
 pub mod Going
 pub mod Stepping
 pub mod Made
+mod Kept

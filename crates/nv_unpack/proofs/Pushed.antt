@@ -2,7 +2,7 @@
 use Rattle.std.proofs.Common.{◌≡◌, ◌∙◌, Bool, true, false, IsTrue, List, [], ◌∷◌, ◌++◌, map, sym, ap}
 use Rattle.std.proofs.lemmas.List.{append_assoc, map-append}
 use Rattle.nv_history.specs.declared.calls.Call.{Call}
-use Rattle.nv_unpack.specs.Said.{Said, said}
+use Rattle.nv_history.specs.Said.{Said, said}
 use Rattle.nv_unpack.specs.Calls.{Adds}
 
 -- one more

@@ -11,7 +11,7 @@ use Rattle.nv_untar.specs.Items.{Item, item_of}
 use Rattle.nv_unpack.specs.declared.step.Step.{Step}
 use Rattle.nv_unpack.specs.declared.step.Step.TheVariants as steps
 use Rattle.nv_history.specs.declared.calls.Call.{Call}
-use Rattle.nv_unpack.specs.Said.{Said, said, Create, MakeDirectory, Write, SetSize, SetAttributes, Link, Unlink}
+use Rattle.nv_history.specs.Said.{Said, said, Create, MakeDirectory, Write, SetSize, SetAttributes, Link, Unlink}
 
 -- a path leads to a directory
 abbrev pub IsDirectoryAt : Tree → List ℕ → Type 0

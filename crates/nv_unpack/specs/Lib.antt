@@ -1,5 +1,4 @@
 pub mod Places
-pub mod Said
 pub mod Steps
 pub mod Calls
 pub mod Turns

@@ -23,7 +23,7 @@ use Rattle.nv_unpack.specs.declared.halt.Halt.{Halt}
 use Rattle.nv_unpack.specs.declared.halt.Halt.TheVariants as halts
 use Rattle.nv_unpack.specs.Calls.{AreCallsAt}
 use Rattle.nv_unpack.specs.Places.{place}
-use Rattle.nv_unpack.specs.Said.{said}
+use Rattle.nv_history.specs.Said.{said}
 use Rattle.nv_unpack.specs.Steps.{item_in}
 use Rattle.nv_unpack.specs.Turns.{IsInodeMaker, IsMaker}
 use Rattle.nv_unpack.specs.Ways.{IsDirectoryCall, IsWayCall, MakesWay}

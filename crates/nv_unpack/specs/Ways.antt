@@ -8,7 +8,7 @@ use Rattle.nv_changes.specs.Calls.{IsThere}
 use Rattle.nv_history.specs.Making.{AreMade}
 use Rattle.nv_history.specs.declared.calls.Call.{Call}
 use Rattle.nv_unpack.specs.declared.maker.Maker.{Maker}
-use Rattle.nv_unpack.specs.Said.{said, MakeDirectory}
+use Rattle.nv_history.specs.Said.{said, MakeDirectory}
 use Rattle.nv_unpack.specs.Turns.{IsInodeMaker}
 
 -- a directory above a place ends in front of the byte at this index

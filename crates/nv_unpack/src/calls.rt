@@ -4,10 +4,11 @@ ghost use Rattle.std.specs.Prelude.{◌≡◌, ◌↔◌, false, map, IfOk, IsTr
 ghost use Rattle.nv_paths.specs.Seen.{tree_of};
 ghost use Rattle.nv_changes.specs.Calls.{IsThere};
 ghost use Rattle.nv_untar.specs.Items.{item_of};
-ghost use Rattle.nv_unpack.specs.Said.{said};
+ghost use Rattle.nv_history.specs.Said.{said};
 ghost use Rattle.nv_unpack.specs.Calls.{Adds, AreCallsAt, BeginsFile, IsDirectoryAt, MakesDirectory, MakesFile, MakesKind, MakesLink, attributes_call};
 
 use crate::step::Step;
+use nv_calls::Data;
 use nv_history::Call;
 use nv_region::MemRegion;
 use nv_session::Fs;
@@ -70,7 +71,7 @@ fn push_file<'a>(
         cpu,
         path: text,
         offset: 0,
-        bytes: item.bytes,
+        content: Data::Given(item.bytes),
         time: item.time,
     })?;
     calls.push(set_attributes(item, text, cpu))?;

@@ -1,7 +1,7 @@
 use Rattle.std.proofs.Common.{List, [], ◌∷◌, ap, refl}
 use Rattle.nv_paths.specs.Seen.{tree_of}
 use Rattle.nv_untar.specs.Items.{item_of}
-use Rattle.nv_unpack.specs.Said.{Said, Write, said}
+use Rattle.nv_history.specs.Said.{Said, Write, said}
 use Rattle.nv_unpack.specs.Calls.{MakesFile}
 use Rattle.nv_unpack.proofs.Pushed.{adds_three}
 use Rattle.nv_unpack.proofs.calls.push_file.Goals as goal

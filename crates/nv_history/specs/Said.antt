@@ -1,5 +1,6 @@
 -- What calls say, by the bytes of their texts.
 use Rattle.std.specs.Prelude.{ℕ, List}
+use Rattle.nv_bytes.specs.Data.{data_bytes}
 use Rattle.nv_history.specs.declared.calls.Call.{Call}
 use Rattle.nv_history.specs.declared.calls.Call.TheVariants as calls
 
@@ -15,12 +16,13 @@ pub data Said : Type 0 where
   RemoveDirectory : (cpu : ℕ) (path : List ℕ) (time : ℕ) → Said
   Rename : (cpu : ℕ) (old new : List ℕ) (time : ℕ) → Said
   Clean : (path : List ℕ) → Said
+  Upgrade : Said
 
 -- what a call says
 abbrev pub said : Call → Said
 said (calls.Create cpu path mode time) = Create cpu path.now mode time
 said (calls.MakeDirectory cpu path mode time) = MakeDirectory cpu path.now mode time
-said (calls.Write cpu path offset bytes time) = Write cpu path.now offset bytes.now time
+said (calls.Write cpu path offset content time) = Write cpu path.now offset (data_bytes content) time
 said (calls.SetSize cpu path size time) = SetSize cpu path.now size time
 said (calls.SetAttributes cpu path mode owner group time) = SetAttributes cpu path.now mode owner group time
 said (calls.Link cpu old new time) = Link cpu old.now new.now time
@@ -28,3 +30,4 @@ said (calls.Unlink cpu path time) = Unlink cpu path.now time
 said (calls.RemoveDirectory cpu path time) = RemoveDirectory cpu path.now time
 said (calls.Rename cpu old new time) = Rename cpu old.now new.now time
 said (calls.Clean path) = Clean path.now
+said calls.Upgrade = Upgrade
