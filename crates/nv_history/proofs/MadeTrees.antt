@@ -126,7 +126,7 @@ laid_once (saids.Clean path) l k m is other = is ∙ sym other
 laid_once saids.Upgrade l k m is other = is ∙ sym other
 
 -- those that change none leave them as they were
-laid_same : (s : Said) (l k : Layout) → changes_tables s ≡ false → IsLaidBy l s k → k ≡ l
+pub laid_same : (s : Said) (l k : Layout) → changes_tables s ≡ false → IsLaidBy l s k → k ≡ l
 laid_same (saids.Create cpu path mode time) l k off is = is
 laid_same (saids.MakeDirectory cpu path mode time) l k off is = is
 laid_same (saids.Write cpu path offset bytes time) l k off is = is

@@ -17,7 +17,7 @@ use Rattle.nv_restored.specs.Numbers.{HasNumbersFor}
 use Rattle.nv_members.specs.Members.{IsNameOf, AreMembers}
 use Rattle.nv_members.specs.declared.member.Member.{Member}
 use Rattle.nv_untar.specs.Items.{Item}
-use Rattle.nv_history.specs.Making.{lowest_unused}
+use Rattle.nv_history.specs.Making.{changes_tables, lowest_unused}
 use Rattle.nv_history.specs.Said.{Said, said, Create, MakeDirectory, Write, SetAttributes, Link}
 use Rattle.nv_unpack.specs.Places.{place}
 use Rattle.nv_changes.specs.Calls.{IsThere}
@@ -194,9 +194,9 @@ module _ (t : Tree) (members : List Member) (are : AreMembers t 1 false members)
         by cpu may one (inl is) said = absurd (missing is.0)
         by cpu may one (inr is) said =
             let names = next.front ++ m.name.now ∷ [] in
-            let x = more_said l one _ v w said in
-            let y = more_said l _ _ x.0 w x.2 in
-            let z = more_said l _ [] y.0 w y.2 in
+            let x = more_said l one _ v w (ap changes_tables is.1) said in
+            let y = more_said l _ _ x.0 w refl x.2 in
+            let z = more_said l _ [] y.0 w refl y.2 in
             let n = unused cpu may in
             let create : SaidMakes l (Create cpu (path_text names) a.mode a.time) v x.0 = subst (λ (c : Said). SaidMakes l c v x.0) is.1 x.1 in
             let begun = by_names (path_text names) names (λ r. created kinds.File (lowest_unused l v cpu) r a.mode a.time v) x.0 says_path create in
@@ -221,7 +221,7 @@ module _ (t : Tree) (members : List Member) (are : AreMembers t 1 false members)
         by cpu may all (inl is) said = let d = is.0 in absurd (missing (d.0, d.1, d.3, d.4.leads))
         by cpu may all (inr is) said =
             let names = next.front ++ m.name.now ∷ [] in
-            let x = more_said l (MakeDirectory cpu (path_text names) a.mode a.time) [] v w (subst (λ (c : List Said). AreSaid l c v w) is.1 said) in
+            let x = more_said l (MakeDirectory cpu (path_text names) a.mode a.time) [] v w refl (subst (λ (c : List Said). AreSaid l c v w) is.1 said) in
             let n = unused cpu may in
             let begun = by_names (path_text names) names (λ r. created kinds.Directory (lowest_unused l v cpu) r a.mode a.time v) x.0 says_path x.1 in
             let begun_now : SameTree x.0 (created kinds.Directory (Some n.0) names a.mode a.time v) = subst (λ (o : Option ℕ). SameTree x.0 (created kinds.Directory o names a.mode a.time v)) n.1 begun in (
@@ -246,7 +246,7 @@ module _ (t : Tree) (members : List Member) (are : AreMembers t 1 false members)
             let old = way_at t members are orderly text texts (IsFilled t) k f v stage m.first first.0 earlier first.1 in
             let old_is : place (codes "/") (text m.first) ≡ path_text old.names = ap (place (codes "/")) old.says ∙ file_place old.names old.good in
             let short_old : length (spelled old.names) ≤ 4096 = (let long = old.long in let fits = (are.each m.first first.0 first.1).short in omega (arith, long, fits)) in
-            let x = more_said l (Link cpu (place (codes "/") (text m.first)) (path_text names) a.time) [] v w (subst (λ (c : List Said). AreSaid l c v w) is.1 said) in
+            let x = more_said l (Link cpu (place (codes "/") (text m.first)) (path_text names) a.time) [] v w refl (subst (λ (c : List Said). AreSaid l c v w) is.1 said) in
             let link : SaidMakes l (Link cpu (path_text old.names) (path_text names) a.time) v x.0 = subst (λ (c : List ℕ). SaidMakes l (Link cpu c (path_text names) a.time) v x.0) old_is x.1 in
             let made = by_both (path_text old.names) (path_text names) old.names names (λ r q. linked r q a.time v) x.0 (path_of_names old.names old.good short_old) says_path link in
             let number : f m.inode ≡ Some old.number = ap f (sym first.2) ∙ old.of in (

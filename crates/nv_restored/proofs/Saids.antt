@@ -10,7 +10,8 @@ use Rattle.nv_tree.proofs.Texts.{says_one}
 use Rattle.nv_rows.specs.Unused.{numbers_in_table}
 use Rattle.nv_history.specs.declared.calls.Call.{Call}
 use Rattle.nv_history.specs.declared.calls.Call.TheVariants as calls
-use Rattle.nv_history.specs.Making.{AreMade, none, more, ByPath, ByPaths, IsMadeBy, is_unused_in, lowest_unused}
+use Rattle.nv_history.specs.Making.{AreMade, none, more, ByPath, ByPaths, IsMadeBy, changes_tables, is_unused_in, lowest_unused}
+use Rattle.nv_history.proofs.MadeTrees.{laid_same}
 use Rattle.nv_history.specs.Said.{Said, said, Create, MakeDirectory, Write, SetSize, SetAttributes, Link, Unlink, RemoveDirectory, Rename, Clean, Upgrade}
 use Rattle.nv_unpack.specs.declared.maker.Maker.{Maker}
 use Rattle.nv_unpack.specs.Ways.{MakesWay, ends_above}
@@ -80,19 +81,25 @@ rest_of_both : (x y : Said) (xs ys : List Said) → x ∷ xs ≡ y ∷ ys → xs
 rest_of_both x y xs ys h = cc
 
 no_calls : (l : Layout) (calls : List Call) (t u : Tree) → map said calls ≡ [] → AreMade l calls t u → SameTree u t
-no_calls l [] t u say (none x y same) = same
+no_calls l [] t u say (_, none _ _ _ _ _ same) = same
 no_calls l (call ∷ calls) t u say made = absurd (cc)
 
 pub none_said : (l : Layout) (t u : Tree) → AreSaid l [] t u → SameTree u t
 none_said l t u h = no_calls l h.calls t u h.say h.made
 
-one_call : (l : Layout) (calls : List Call) (one : Said) (all : List Said) (t u : Tree) → map said calls ≡ one ∷ all → AreMade l calls t u → (v : Tree) × SaidMakes l one t v × AreSaid l all v u
-one_call l [] one all t u say made = absurd (cc)
-one_call l (call ∷ calls) one all t u say (more c cs x v y first rest) =
-    (v, subst (λ (z : Said). SaidMakes l z x v) (first_of_both (said c) one (map said cs) all say) (said_makes l c x v first), record { calls = cs; say = rest_of_both (said c) one (map said cs) all say; made = rest })
+-- by a call that doesn't change the tables
+one_call : (l : Layout) (calls : List Call) (one : Said) (all : List Said) (t u : Tree) → map said calls ≡ one ∷ all → changes_tables one ≡ false → AreMade l calls t u → (v : Tree) × SaidMakes l one t v × AreSaid l all v u
+one_call l [] one all t u say stays made = absurd (cc)
+one_call l (call ∷ calls) one all t u say stays (m, more _ _ _ k _ _ v _ laid first rest) =
+    let begins = first_of_both (said call) one (map said calls) all say in
+    let same = laid_same (said call) l k (ap changes_tables begins ∙ stays) laid in (
+      v,
+      subst (λ (z : Said). SaidMakes l z t v) begins (said_makes l call t v (subst (λ (j : Layout). IsMadeBy j call t v) same first)),
+      record { calls = calls; say = rest_of_both (said call) one (map said calls) all say; made = subst (λ (j : Layout). AreMade j calls v u) same (m, rest) },
+    )
 
-pub more_said : (l : Layout) (one : Said) (all : List Said) (t u : Tree) → AreSaid l (one ∷ all) t u → (v : Tree) × SaidMakes l one t v × AreSaid l all v u
-more_said l one all t u h = one_call l h.calls one all t u h.say h.made
+pub more_said : (l : Layout) (one : Said) (all : List Said) (t u : Tree) → changes_tables one ≡ false → AreSaid l (one ∷ all) t u → (v : Tree) × SaidMakes l one t v × AreSaid l all v u
+more_said l one all t u stays h = one_call l h.calls one all t u h.say stays h.made
 
 -- ---- paths
 

@@ -238,7 +238,7 @@ module _ (t : Tree) (members : List Member) (are : AreMembers t 1 false members)
             let step = is_set value v now.0 now.1 in
             let says : step.all ≡ SetAttributes step.cpu (path_text w.names) a.mode a.owner a.group a.time ∷ [] =
             step.are ∙ ap (λ (i : Item). SetAttributes step.cpu (place (codes "/") i.path) i.mode i.owner i.group i.time ∷ []) item_now ∙ ap (λ (p : List ℕ). SetAttributes step.cpu p a.mode a.owner a.group a.time ∷ []) there in
-            let x = more_said l (SetAttributes step.cpu (path_text w.names) a.mode a.owner a.group a.time) [] v now.0 (subst (λ (c : List Said). AreSaid l c v now.0) says step.made) in
+            let x = more_said l (SetAttributes step.cpu (path_text w.names) a.mode a.owner a.group a.time) [] v now.0 refl (subst (λ (c : List Said). AreSaid l c v now.0) says step.made) in
             let set = by_names (path_text w.names) w.names (λ r. attributed r a.mode a.owner a.group a.time v) x.0 (path_of_names w.names w.good short) x.1 in
             go now.0 (directory_set t members are orderly (text t members are orderly lost paths are_paths) (texts t members are orderly lost paths are_paths) (length members) f v k m a w.names now.0 below at kind shows (sym node_kind ∙ kind) w.good w.says
             (same_transitive now.0 x.0 (attributed w.names a.mode a.owner a.group a.time v) (none_said l x.0 now.0 x.2) set) stage) now.2
