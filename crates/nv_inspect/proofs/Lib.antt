@@ -1,3 +1,9 @@
+pub mod ListedNames
+pub mod Marking
+pub mod Pieces
+pub mod Stretches
+pub mod ReadNames
+pub mod Taking
 pub mod Holders
 pub mod Dying
 pub mod Counting

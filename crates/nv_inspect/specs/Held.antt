@@ -18,7 +18,7 @@ use Rattle.nv_inspect.specs.Dead.{IsDead}
 use Rattle.nv_inspect.specs.declared.fate.Fate.{Fate}
 use Rattle.nv_inspect.specs.declared.fate.Fate.TheVariants.{Stands, ChangesNothing, DeadBy}
 use Rattle.nv_inspect.specs.declared.word.Word.{Word}
-use Rattle.nv_inspect.specs.declared.pages.Piece.{Piece}
+use Rattle.nv_inspect.specs.declared.pieces.Piece.{Piece}
 use Rattle.nv_inspect.specs.declared.names.HeldNames.{HeldNames}
 use Rattle.nv_inspect.specs.declared.held.Held.{Held}
 
@@ -177,7 +177,7 @@ value_in h the_owner = h.owner.value
 value_in h the_group = h.group.value
 value_in h the_links = h.links.value
 value_in h the_time = h.time.value
-value_in h (the_page p) = block_held h.pages p
+value_in h (the_page p) = block_held h.pages.entries p
 value_in h (the_name q) = name_at h.names.targets q
 
 -- who holds it
@@ -188,7 +188,7 @@ holder_in h the_owner = h.owner.holder
 holder_in h the_group = h.group.holder
 holder_in h the_links = h.links.holder
 holder_in h the_time = h.time.holder
-holder_in h (the_page p) = page_holder h.pages p
+holder_in h (the_page p) = page_holder h.pages.entries p
 holder_in h (the_name q) = name_holder h.names q
 
 -- each subject is as these entries say, and held by the entry that holds it

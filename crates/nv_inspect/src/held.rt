@@ -10,12 +10,14 @@ ghost use Rattle.nv_names.specs.Names.{IsName};
 ghost use Rattle.nv_inspect.specs.Held.{HasName, HoldsAll, HoldsOne, LosesOne, Marks, TakesGood};
 
 use crate::names::HeldNames;
-use crate::pages::Pages;
+use crate::pages::{cut_pages, mark_pages, write_pages};
+use crate::pieces::Pieces;
 use crate::word::{Word, mark};
 use nv_entry::{AttrEntry, Entry, LinksEntry, NameEntry, WriteEntry};
 use nv_logpage::Placed;
 use nv_super::{Kind, Super};
 use std::alloc::{AllocError, Global};
+use std::collections::BTreeMap;
 
 /// The subjects of an inode, each with the place of the entry that holds it.
 #[derive(Drop)]
@@ -26,7 +28,7 @@ pub(crate) struct Held {
     pub group: Word,
     pub links: Word,
     pub time: Word,
-    pub pages: Pages,
+    pub pages: Pieces,
     pub names: HeldNames,
 }
 
@@ -42,7 +44,7 @@ impl Held {
             group: Word::new(0),
             links: Word::new(1),
             time: Word::new(created),
-            pages: Pages::new(alloc),
+            pages: BTreeMap::new(alloc),
             names: HeldNames::new(alloc),
         }
     }
@@ -91,7 +93,7 @@ impl Held {
     {
         self.size.say(Some(e.size), by, takers);
         self.time.say(Some(e.time), by, takers);
-        self.pages.write(sup, e, by, takers)
+        write_pages(&mut self.pages, sup, e, by, takers)
     }
 
     fn take_attributes(
@@ -109,7 +111,7 @@ impl Held {
         self.owner.say(Some(u64::from(e.owner)), by, takers);
         self.group.say(Some(u64::from(e.group)), by, takers);
         self.time.say(Some(e.time), by, takers);
-        self.pages.cut(e.size, by, takers)
+        cut_pages(&mut self.pages, e.size, by, takers)
     }
 
     fn take_name(
@@ -147,7 +149,7 @@ impl Held {
         mark(marks, self.group.holder, by);
         mark(marks, self.links.holder, by);
         mark(marks, self.time.holder, by);
-        self.pages.mark(0, None, by, marks);
+        mark_pages(&self.pages, 0, None, by, marks);
         self.names.mark_holders(by, marks)
     }
 }

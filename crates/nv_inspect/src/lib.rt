@@ -15,6 +15,7 @@ mod links;
 mod logs;
 mod names;
 mod pages;
+mod pieces;
 mod word;
 
 pub use laws::one_log_text;

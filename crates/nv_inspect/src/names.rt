@@ -49,7 +49,8 @@ impl HeldNames {
         ensures { OnOk result (Marks by (λ (k : ℕ). (q : List ℕ) × (name_holder self.now q ≡ Some k)) marks.old marks.new) }
     {
         let listed = self.holders.walk()?;
-        for line in &listed {
+        for k in 0..listed.len() {
+            let line = listed[k];
             mark(marks, Some(line.inode), by);
         }
         Ok(())

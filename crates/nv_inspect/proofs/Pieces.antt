@@ -1,0 +1,123 @@
+-- The piece that a page stands in, by the pages where pieces begin.
+use Rattle.std.proofs.Common.{◌≡◌, ◌≢◌, ◌∙◌, ◌<◌, ◌≤◌, ◌++◌, ℕ, zero, suc, Bool, true, false, cond, ◌&&◌, if◌then◌else◌, nat_le, nat_lt, List, [], ◌∷◌, Option, Some, None, unwrap_or, refl, ap, sym, subst, arith, inl, inr, ◌⊎◌}
+use Rattle.std.specs.Prelude.{IsTrue}
+use Rattle.std.specs.declared.ops.Bound.TheVariants.{Included, Excluded, Unbounded}
+use Rattle.std.specs.Ordering.{nat_cmp, is_lt, is_gt}
+use Rattle.std.specs.declared.cmp.Ordering.TheVariants.{Less, Equal, Greater}
+use Rattle.std.specs.Cmp.{nat_cmp_is}
+use Rattle.std.specs.BTreeMap.{BTreeMap}
+use Rattle.std.specs.BTreeMap.Range.{IsRangeOf}
+use Rattle.std.proofs.lemmas.Bool.{cases_lt, cases_order, false≢true}
+use Rattle.std.proofs.lemmas.Bool.Decides.{nat_tests}
+use Rattle.nv_inspect.specs.declared.pieces.Piece.{Piece}
+use Rattle.nv_inspect.specs.Held.{value_at, key_at, no_piece, piece_at, is_among, is_before}
+
+module _ {V : Type 0} (none : V) where
+  -- where one begins
+  pub here : (keys : ℕ → Option V) (p : ℕ) (v : V) → keys p ≡ Some v → value_at none keys p ≡ v
+  here keys zero v at = ap (λ (o : Option V). unwrap_or o none) at
+  here keys (suc p) v at = ap (λ (o : Option V). unwrap_or o (value_at none keys p)) at
+
+  -- as far as none begins
+  pub stays : (keys : ℕ → Option V) (p q : ℕ) → p ≤ q → ((r : ℕ) → p < r → r ≤ q → keys r ≡ None) → value_at none keys q ≡ value_at none keys p
+  stays keys p zero from no = ap (value_at none keys) (omega (arith, from))
+  stays keys p (suc q) from no = elim (cases_lt q p) [
+    | inl less ↦ ap (value_at none keys) (omega (arith, from, less))
+    | inr more ↦ ap (λ (o : Option V). unwrap_or o (value_at none keys q)) (no (suc q) (omega (arith, more)) (omega arith)) ∙ stays keys p q more (λ r over to. no r over (omega (arith, to)))
+  ]
+
+  pub nowhere : (keys : ℕ → Option V) (p : ℕ) → ((q : ℕ) → q ≤ p → keys q ≡ None) → value_at none keys p ≡ none
+  nowhere keys zero no = ap (λ (o : Option V). unwrap_or o none) (no zero (omega arith))
+  nowhere keys (suc p) no = ap (λ (o : Option V). unwrap_or o (value_at none keys p)) (no (suc p) (omega arith)) ∙ nowhere keys p (λ q to. no q (omega (arith, to)))
+
+  -- the same begin up to a page
+  pub same_front : (keys other : ℕ → Option V) (p : ℕ) → ((q : ℕ) → q ≤ p → keys q ≡ other q) → value_at none keys p ≡ value_at none other p
+  same_front keys other zero same = ap (λ (o : Option V). unwrap_or o none) (same zero (omega arith))
+  same_front keys other (suc p) same =
+      ap (λ (o : Option V). unwrap_or o (value_at none keys p)) (same (suc p) (omega arith))
+      ∙ ap (λ (v : V). unwrap_or (other (suc p)) v) (same_front keys other p (λ q to. same q (omega (arith, to))))
+
+  -- a page stands in the same, and the same begin behind it
+  pub same_behind : (keys other : ℕ → Option V) (e p : ℕ) → e ≤ p → value_at none keys e ≡ value_at none other e → ((q : ℕ) → e < q → keys q ≡ other q) → value_at none keys p ≡ value_at none other p
+  same_behind keys other e zero from at same = subst (λ (n : ℕ). value_at none keys n ≡ value_at none other n) (omega (arith, from)) at
+  same_behind keys other e (suc p) from at same = elim (cases_lt p e) [
+    | inl less ↦ subst (λ (n : ℕ). value_at none keys n ≡ value_at none other n) (omega (arith, from, less)) at
+    | inr more ↦ ap (λ (o : Option V). unwrap_or o (value_at none keys p)) (same (suc p) (omega (arith, more)))
+        ∙ ap (λ (v : V). unwrap_or (other (suc p)) v) (same_behind keys other e p more at same)
+  ]
+
+  -- All pages from the first on get a value.
+  pub set_open : (old mid new : ℕ → Option V) (first : ℕ) (v : V) → ((q : ℕ) → IsTrue (is_among first None q) → mid q ≡ None) → ((q : ℕ) → is_among first None q ≢ true → mid q ≡ old q)
+      → value_at none new first ≡ v → ((q : ℕ) → q ≢ first → new q ≡ mid q) → (p : ℕ) → value_at none new p ≡ (if is_among first None p then v else value_at none old p)
+  set_open old mid new first v cleared others at put p = elim (cases_lt p first) [
+    | inl less ↦ (let out : is_among first None p ≡ false = grind (arith, nat_tests) in
+        same_front new old p (λ q to. put q (λ e. omega (arith, e, to, less)) ∙ others q (λ e. (let from : first ≤ q = grind (arith, nat_tests) in omega (arith, from, to, less))))
+        ∙ sym (ap (λ (t : Bool). cond t v (value_at none old p)) out))
+    | inr from ↦ (let inside : is_among first None p ≡ true = grind (arith, nat_tests) in
+        stays new first p from (λ r over to. put r (λ e. omega (arith, e, over)) ∙ cleared r (grind (arith, nat_tests)))
+        ∙ at ∙ sym (ap (λ (t : Bool). cond t v (value_at none old p)) inside))
+  ]
+
+  -- The pages from the first on and before an end get a value, and the others keep theirs.
+  module _ (old mid mid2 new : ℕ → Option V) (first end : ℕ) (v : V) (some : first < end)
+      (cleared : (q : ℕ) → IsTrue (is_among first (Some end) q) → mid q ≡ None) (others : (q : ℕ) → is_among first (Some end) q ≢ true → mid q ≡ old q)
+      (at : value_at none mid2 first ≡ v) (put : (q : ℕ) → q ≢ first → mid2 q ≡ mid q)
+      (behind : value_at none new end ≡ value_at none old end) (put_behind : (q : ℕ) → q ≢ end → new q ≡ mid2 q) where
+    outside : (q : ℕ) → q ≢ first → q ≢ end → is_among first (Some end) q ≢ true → new q ≡ old q
+    outside q a b out = put_behind q b ∙ put q a ∙ others q out
+
+    new_first : value_at none new first ≡ v
+    new_first = same_front new mid2 first (λ q to. put_behind q (λ e. omega (arith, e, to, some))) ∙ at
+
+    pub set_closed : (p : ℕ) → value_at none new p ≡ (if is_among first (Some end) p then v else value_at none old p)
+    set_closed p = elim (cases_lt p first) [
+      | inl less ↦ (let out : is_among first (Some end) p ≡ false = grind (arith, nat_tests) in
+          same_front new old p (λ q to. outside q (λ e. omega (arith, e, to, less)) (λ e. omega (arith, e, to, less, some)) (λ e. (let from : first ≤ q = grind (arith, nat_tests) in omega (arith, from, to, less))))
+          ∙ sym (ap (λ (t : Bool). cond t v (value_at none old p)) out))
+      | inr from ↦ elim (cases_lt p end) [
+        | inl below ↦ (let inside : is_among first (Some end) p ≡ true = grind (arith, nat_tests) in
+            stays new first p from (λ r over to. put_behind r (λ e. omega (arith, e, to, below)) ∙ put r (λ e. omega (arith, e, over)) ∙ cleared r (grind (arith, nat_tests)))
+            ∙ new_first ∙ sym (ap (λ (t : Bool). cond t v (value_at none old p)) inside))
+        | inr past ↦ (let out : is_among first (Some end) p ≡ false = grind (arith, nat_tests) in
+            same_behind new old end p past behind (λ q over. outside q (λ e. omega (arith, e, over, some)) (λ e. omega (arith, e, over)) (λ e. (let below : q < end = grind (arith, nat_tests) in omega (arith, below, over))))
+            ∙ sym (ap (λ (t : Bool). cond t v (value_at none old p)) out))
+      ]
+    ]
+
+-- ---- what a range of the map says
+
+le_from : (x y : ℕ) → is_gt (nat_cmp x y) ≡ false → x ≤ y
+le_from x y h = elim (cases_order x y) [
+  | inl e ↦ omega (arith, e)
+  | inr w ↦ elim w [
+    | inl less ↦ omega (arith, less)
+    | inr more ↦ absurd (let is : Greater ≡ nat_cmp x y = nat_cmp_is x y Greater more in false≢true (sym h ∙ ap is_gt (sym is)))
+  ]
+]
+
+le_to : (x y : ℕ) → x ≤ y → is_gt (nat_cmp x y) ≡ false
+le_to x y h = elim (cases_order x y) [
+  | inl e ↦ ap is_gt (sym (nat_cmp_is x y Equal e))
+  | inr w ↦ elim w [
+    | inl less ↦ ap is_gt (sym (nat_cmp_is x y Less less))
+    | inr more ↦ absurd (omega (arith, h, more))
+  ]
+]
+
+module _ (pieces : BTreeMap ℕ Piece) (page : ℕ) (r : List (ℕ × Piece)) (range : IsRangeOf nat_cmp Unbounded (Included page) pieces r) where
+  pub last_piece : (t : List (ℕ × Piece)) (e : ℕ × Piece) → r ≡ t ++ e ∷ [] → piece_at pieces.entries page ≡ e.1
+  last_piece t e is =
+      let inside = range.3 e t is in
+      let from : e.0 ≤ page = le_from e.0 page inside.0.1 in
+      stays no_piece (key_at pieces.entries) e.0 page from (λ q over to.
+        elim (key_at pieces.entries q) as (λ (o : Option Piece). key_at pieces.entries q ≡ o → o ≡ None) [
+          | None ↦ λ h. refl
+          | Some b ↦ λ h. absurd (
+              let past : is_lt (nat_cmp e.0 q) ≡ false = range.4 e t is q (tt, le_to q page to) (rw h refl) in
+              let less : Less ≡ nat_cmp e.0 q = nat_cmp_is e.0 q Less over in
+              false≢true (sym past ∙ ap is_lt (sym less)))
+        ] refl)
+      ∙ here no_piece (key_at pieces.entries) e.0 e.1 inside.1
+
+  pub no_piece_yet : r ≡ [] → piece_at pieces.entries page ≡ no_piece
+  no_piece_yet is = nowhere no_piece (key_at pieces.entries) page (λ q to. range.5 is q (tt, le_to q page to))
