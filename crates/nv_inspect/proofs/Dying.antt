@@ -1,11 +1,11 @@
 -- The entries of a log that are dead, by what holds each subject, and one entry further.
-use Rattle.std.proofs.Common.{◌≡◌, ◌∙◌, ◌+◌, ◌<◌, ◌≤◌, ℕ, Bool, true, false, List, [], ◌∷◌, ◌++◌, length, get_or, take, drop, replicate, Option, Some, None, unwrap_or, refl, ap, sym, zero, suc, append-nil, length-replicate, subst, arith, inl, inr, ◌⊎◌, append_assoc}
+use Rattle.std.proofs.Common.{◌≡◌, ◌∙◌, ◌+◌, ◌<◌, ◌≤◌, ℕ, Bool, true, false, List, [], ◌∷◌, ◌++◌, length, get_or, take, drop, replicate, Option, Some, None, unwrap_or, refl, ap, sym, zero, suc, append-nil, subst, arith, inl, inr, ◌⊎◌, append_assoc}
 use Rattle.std.specs.Prelude.{slice_get}
 use Rattle.std.specs.Option.{IsSome}
 use Rattle.std.specs.List.{remove}
 use Rattle.std.proofs.lemmas.Bool.{cases_lt}
-use Rattle.std.proofs.lemmas.List.{take-append-drop, take-append-le, take_all, length-take, get_or_past}
-use Rattle.std.proofs.lemmas.Option.{slice_get-get_or}
+use Rattle.std.proofs.lemmas.List.{take-append-drop, take-append-le, take_all, take_more, length-take, length-take-le, get_or_past}
+use Rattle.std.proofs.lemmas.Option.{slice_get_cases}
 use Rattle.nv_super.specs.declared.superblock.Super.{Super}
 use Rattle.nv_super.specs.declared.kind.Kind.{Kind}
 use Rattle.nv_entry.specs.Content.{is_good}
@@ -17,20 +17,31 @@ use Rattle.nv_scan.proofs.Words.{word-more}
 use Rattle.nv_deadpages.specs.Dead.{SameState}
 use Rattle.nv_inspect.specs.declared.fate.Fate.{Fate}
 use Rattle.nv_inspect.specs.declared.fate.Fate.TheVariants.{Stands, ChangesNothing, DeadBy}
+use Rattle.nv_names.specs.Names.{name_at}
 use Rattle.nv_inspect.specs.declared.held.Held.{Held}
-use Rattle.nv_inspect.specs.Dead.{IsDead, IsDeadFrom, IsFate}
-use Rattle.nv_inspect.specs.Held.{Subject, the_size, the_mode, the_owner, the_group, the_links, the_time, the_page, the_name, Value, says, unsaid, word_on, value_in, holder_in, IsHeld, IsHolder, IsTaken, Says, Loses, Marks, HoldsAll, HoldsOne, LosesOne, TakesGood, IsTaker, AreTakers, fate_with, fate_by, killed_by}
+use Rattle.nv_inspect.specs.declared.word.Word.{Word}
+use Rattle.nv_inspect.specs.declared.pieces.Piece.{Piece}
+use Rattle.nv_inspect.specs.Dead.{AreFates, IsDead, IsDeadFrom, IsFate}
+use Rattle.nv_inspect.specs.Held.{Subject, the_size, the_mode, the_owner, the_group, the_links, the_time, the_page, the_name, Value, says, unsaid, word_on, value_in, holder_in, IsHeld, IsHolder, IsTaken, Says, Loses, Marks, HoldsAll, HoldsOne, LosesOne, TakesGood, IsTaker, AreTakers, fate_with, fate_by, killed_by, piece_at, no_piece, block_held, page_holder, block_by_shift, name_holder}
 use Rattle.nv_inspect.proofs.Holders.{held_more, still_held, inner_or_last, one_longer, remove_inner}
 
 some_there : (es : List Placed) (m : ℕ) → m < length es → slice_get es m ≡ None → ⊥
-some_there (x ∷ es) zero less none = cc
-some_there (x ∷ es) (suc m) less none = some_there es m (omega (arith, less)) none
-some_there [] m less none = omega (arith, less)
+some_there es m less none = elim (slice_get_cases es m).1 [
+  | inl w ↦ (let is = w.2 in cc)
+  | inr w ↦ (let past = w.0 in omega (arith, past, less))
+]
 
-get_or-replicate_none : (n k : ℕ) → get_or (replicate n None) k None ≡ None {A = ℕ}
-get_or-replicate_none zero k = refl
-get_or-replicate_none (suc n) zero = refl
-get_or-replicate_none (suc n) (suc k) = get_or-replicate_none n k
+abbrev unmarked_one : Option ℕ
+unmarked_one = None
+
+length_unmarked : (n : ℕ) → length (replicate n unmarked_one) ≡ n
+length_unmarked zero = refl
+length_unmarked (suc n) = ap suc (length_unmarked n)
+
+get_or_unmarked : (n k : ℕ) → get_or (replicate n unmarked_one) k unmarked_one ≡ unmarked_one
+get_or_unmarked zero k = refl
+get_or_unmarked (suc n) zero = refl
+get_or_unmarked (suc n) (suc k) = get_or_unmarked n k
 
 module _ (s : Super) (kind : Kind) (created : ℕ) where
   abbrev Dead : List Placed → ℕ → Type 0
@@ -119,7 +130,7 @@ module _ (s : Super) (kind : Kind) (created : ℕ) where
 
   said_or_not : {V : Type 0} (said : Option V) → IsSome said ⊎ (said ≡ None)
   said_or_not None = inr refl
-  said_or_not (Some v) = inl tt
+  said_or_not (Some v) = inl refl
 
   kept : (es : List Placed) (x : Placed) (h : Held) (k : ℕ) → is_good s kind x.entry ≡ true → HoldsAll s kind created es h → k < length es → (LosesOne x h k → ⊥) → Dead (es ++ x ∷ []) k → Dead es k
   kept es x h k good all below keeps dead = unheld_dead es h k all below (λ one. elim (said_or_not (says one.0 x)) [
@@ -223,7 +234,71 @@ module _ (s : Super) (kind : Kind) (created : ℕ) where
 
   pub fate_is : (es : List Placed) (h : Held) (takers holders : List (Option ℕ)) (n : ℕ) → HoldsAll s kind created es h → AreTakers s kind created es takers → Marks 0 (HoldsOne h) (replicate n None) holders → length es ≤ n
       → (k : ℕ) → k < length es → IsFate s kind created es k (fate_with es (get_or takers k None) (get_or holders k None))
-  fate_is es h takers holders n all were marks fits k there = elim (marks.each k (simp length-replicate (omega (arith, there, fits)))) [
+  fate_is es h takers holders n all were marks fits k there = elim (marks.each k (let long = length_unmarked n in omega (arith, there, fits, long))) [
     | inl one ↦ rw one.1 (λ dead. held_stands es h k all one.0 dead)
-    | inr none ↦ rw (none.1 ∙ get_or-replicate_none n k) (fate_of_dead es k there (unheld_dead es h k all there none.0) (get_or takers k None) (were.each k there))
+    | inr none ↦ rw (none.1 ∙ get_or_unmarked n k) (fate_of_dead es k there (unheld_dead es h k all there none.0) (get_or takers k None) (were.each k there))
   ]
+
+  -- ---- as the entries are taken
+
+  pub takers_none : (n : ℕ) → AreTakers s kind created [] (replicate n None)
+  takers_none n = record { each = λ k below. absurd (omega (arith, below)); later = λ k past. get_or_unmarked n k }
+
+  module _ (entries : List Placed) (place : ℕ) (x : Placed) (below : place < length entries) (is : x ≡ get_or entries place x) where
+    one_further : take place entries ++ x ∷ [] ≡ take (place + 1) entries
+    one_further = ap (λ (y : Placed). take place entries ++ y ∷ []) is ∙ sym (take_more entries place x below)
+
+    so_far : place ≡ length (take place entries)
+    so_far = sym (length-take-le place entries (omega (arith, below)))
+
+    pub good_held : (h new : Held) → is_good s kind x.entry ≡ true → HoldsAll s kind created (take place entries) h → TakesGood place x h new → HoldsAll s kind created (take (place + 1) entries) new
+    good_held h new good all takes = subst (λ (ys : List Placed). HoldsAll s kind created ys new) one_further
+        (hold_more (take place entries) x h new good all (subst (λ (n : ℕ). TakesGood n x h new) so_far takes))
+
+    pub good_takers : (h : Held) (old new : List (Option ℕ)) → is_good s kind x.entry ≡ true → HoldsAll s kind created (take place entries) h → length old ≡ length entries → Marks place (LosesOne x h) old new
+        → AreTakers s kind created (take place entries) old → AreTakers s kind created (take (place + 1) entries) new
+    good_takers h old new good all long marks were = subst (λ (ys : List Placed). AreTakers s kind created ys new) one_further
+        (takers_more (take place entries) x h old new good all (let front = so_far in omega (arith, front, long, below)) (subst (λ (n : ℕ). Marks n (LosesOne x h) old new) so_far marks) were)
+
+    pub bad_held : (h : Held) → is_good s kind x.entry ≡ false → HoldsAll s kind created (take place entries) h → HoldsAll s kind created (take (place + 1) entries) h
+    bad_held h bad all = subst (λ (ys : List Placed). HoldsAll s kind created ys h) one_further (hold_skip (take place entries) x h bad all)
+
+    pub bad_takers : (takers : List (Option ℕ)) → is_good s kind x.entry ≡ false → AreTakers s kind created (take place entries) takers → AreTakers s kind created (take (place + 1) entries) takers
+    bad_takers takers bad were = subst (λ (ys : List Placed). AreTakers s kind created ys takers) one_further (takers_skip (take place entries) x takers bad were)
+
+  pub all_held : (entries : List Placed) (place : ℕ) (h : Held) → length entries ≤ place → HoldsAll s kind created (take place entries) h → HoldsAll s kind created entries h
+  all_held entries place h past all = subst (λ (ys : List Placed). HoldsAll s kind created ys h) (take_all place entries past) all
+
+  pub all_takers : (entries : List Placed) (place : ℕ) (takers : List (Option ℕ)) → length entries ≤ place → AreTakers s kind created (take place entries) takers → AreTakers s kind created entries takers
+  all_takers entries place takers past were = subst (λ (ys : List Placed). AreTakers s kind created ys takers) (take_all place entries past) were
+
+  pub are_fates : (es : List Placed) (h : Held) (takers holders : List (Option ℕ)) (fates : List Fate) → HoldsAll s kind created es h → AreTakers s kind created es takers → Marks 0 (HoldsOne h) (replicate (length es) None) holders
+      → length fates ≡ length es → ((k : ℕ) → k < length es → get_or fates k Stands ≡ fate_with es (get_or takers k None) (get_or holders k None)) → AreFates s kind created es fates
+  are_fates es h takers holders fates all were marks long each = record {
+    long = long;
+    each = λ k below. subst (λ (f : Fate). IsFate s kind created es k f) (sym (each k below)) (fate_is es h takers holders (length es) all were marks (omega arith) k below);
+  }
+
+-- nothing was said before the first entry
+pub none_held : (s : Super) (kind : Kind) (created : ℕ) (h : Held) → h.size ≡ record { value = 0; holder = None } → h.mode ≡ record { value = 0; holder = None } → h.owner ≡ record { value = 0; holder = None }
+    → h.group ≡ record { value = 0; holder = None } → h.links ≡ record { value = 1; holder = None } → h.time ≡ record { value = created; holder = None }
+    → ((p : ℕ) → piece_at h.pages.entries p ≡ no_piece) → ((q : List ℕ) → name_at h.names.targets q ≡ None) → ((q : List ℕ) → name_holder h.names q ≡ None) → HoldsAll s kind created [] h
+none_held s kind created h size mode owner group links time pages names holders = all where
+  free : {V : Type 0} (word : List Placed → V) (value : V) (holder : Option ℕ) → value ≡ word [] → holder ≡ None → IsHeld word [] value holder
+  free word value holder is none = record {
+    is = is;
+    holds = record { by = λ k h. absurd (cc); others = λ k below no. absurd (omega (arith, below)) };
+  }
+
+  of_word : (word : List Placed → ℕ) (w : Word) (value : ℕ) → w ≡ record { value = value; holder = None } → value ≡ word [] → IsHeld word [] w.value w.holder
+  of_word word w value is same = free word w.value w.holder (ap (λ (x : Word). x.value) is ∙ same) (ap (λ (x : Word). x.holder) is)
+
+  all : (subject : Subject) → IsHeld (word_on s kind created subject) [] (value_in h subject) (holder_in h subject)
+  all the_size = of_word (word_on s kind created the_size) h.size 0 size refl
+  all the_mode = of_word (word_on s kind created the_mode) h.mode 0 mode refl
+  all the_owner = of_word (word_on s kind created the_owner) h.owner 0 owner refl
+  all the_group = of_word (word_on s kind created the_group) h.group 0 group refl
+  all the_links = of_word (word_on s kind created the_links) h.links 1 links refl
+  all the_time = of_word (word_on s kind created the_time) h.time created time refl
+  all (the_page p) = free (word_on s kind created (the_page p)) (block_held h.pages.entries p) (page_holder h.pages.entries p) (ap (λ (x : Piece). block_by_shift p x.shift) (pages p)) (ap (λ (x : Piece). x.holder) (pages p))
+  all (the_name q) = free (word_on s kind created (the_name q)) (name_at h.names.targets q) (name_holder h.names q) (names q) (holders q)

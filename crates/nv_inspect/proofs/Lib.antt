@@ -1,3 +1,5 @@
+pub mod NameWords
+pub mod PageWords
 pub mod ListedNames
 pub mod Marking
 pub mod Pieces

@@ -7,11 +7,37 @@ use Rattle.nv_inspect.specs.declared.pieces.Piece.{Piece}
 use Rattle.nv_inspect.specs.Held.{piece_at, page_holder, said_piece, is_among, is_before, Marks}
 use Rattle.nv_inspect.proofs.Marking.{marks_as, marks_none, marks_then}
 
+le_is : (x y : ℕ) → nat_le x y ≡ true → x ≤ y
+le_is x y h = grind (arith, nat_tests)
+
+is_le : (x y : ℕ) → x ≤ y → nat_le x y ≡ true
+is_le x y h = grind (arith, nat_tests)
+
+no_le : (x y : ℕ) → y < x → nat_le x y ≡ false
+no_le x y h = grind (arith, nat_tests)
+
+is_lt : (x y : ℕ) → x < y → nat_lt x y ≡ true
+is_lt x y h = grind (arith, nat_tests)
+
+no_lt : (x y : ℕ) → y ≤ x → nat_lt x y ≡ false
+no_lt x y h = grind (arith, nat_tests)
+
+below_end : (e p page : ℕ) → nat_lt page e ≡ false → nat_lt p e ≡ true → p < page
+below_end e p page no yes = grind (arith, nat_tests)
+
+and_split : (b c : Bool) → (b && c) ≡ true → (b ≡ true) × (c ≡ true)
+and_split true c h = (refl, h)
+and_split false c h = absurd (false≢true h)
+
+and_false : (b : Bool) → (b && false) ≡ false
+and_false true = refl
+and_false false = refl
+
 is_among_split : (first : ℕ) (end : Option ℕ) (p : ℕ) → IsTrue (is_among first end p) → (first ≤ p) × IsTrue (is_before end p)
-is_among_split first end p h = (grind (arith, nat_tests), grind (arith, nat_tests))
+is_among_split first end p h = let w = and_split (nat_le first p) (is_before end p) h in (le_is first p w.0, w.1)
 
 is_among_both : (first : ℕ) (end : Option ℕ) (p : ℕ) → first ≤ p → IsTrue (is_before end p) → IsTrue (is_among first end p)
-is_among_both first end p from before = grind (arith, nat_tests)
+is_among_both first end p from before = ap (λ (t : Bool). t && is_before end p) (is_le first p from) ∙ before
 
 -- ---- what is said
 
@@ -46,27 +72,23 @@ module _ (first : ℕ) (end shift : Option ℕ) (by : ℕ) (old now : List (ℕ 
     ]
   ] refl where
     reached : (e : Option ℕ) (p : ℕ) → is_before e page ≡ false → IsTrue (is_before e p) → p < page
-    reached None p no yes = absurd (cc)
-    reached (Some e) p no yes = grind (arith, nat_tests)
+    reached None p no yes = absurd (false≢true (sym no))
+    reached (Some e) p no yes = below_end e p page no yes
 
   -- one stretch further
   module _ (new : List (ℕ × Piece)) (stretch_end to : Option ℕ) (piece : Piece) (so_far : IsSaidTo first end shift by old now page)
       (here : piece ≡ piece_at now page) (same : (p : ℕ) → IsTrue (is_among page stretch_end p) → piece_at now p ≡ piece_at now page)
       (earlier : (p : ℕ) → is_before to p ≡ (is_before stretch_end p && is_before end p))
       (set : (p : ℕ) → piece_at new p ≡ (if is_among page to p then said_piece by shift piece else piece_at now p)) where
-    both : (b c : Bool) → (b && c) ≡ true → (b ≡ true) × (c ≡ true)
-    both true c h = (refl, h)
-    both false c h = absurd (cc)
-
     ends : (p : ℕ) → IsTrue (is_before to p) → (is_before stretch_end p ≡ true) × (is_before end p ≡ true)
-    ends p h = both (is_before stretch_end p) (is_before end p) (sym (earlier p) ∙ h)
+    ends p h = and_split (is_before stretch_end p) (is_before end p) (sym (earlier p) ∙ h)
 
     set_here : (p : ℕ) → page ≤ p → IsTrue (is_before to p) → piece_at new p ≡ said_piece by shift (piece_at old p)
     set_here p from before = set p ∙ ap (λ (t : Bool). cond t (said_piece by shift piece) (piece_at now p)) (is_among_both page to p from before)
         ∙ ap (said_piece by shift) (here ∙ sym (same p (is_among_both page stretch_end p from (ends p before).0)) ∙ so_far.behind p from)
 
     not_among : (p : ℕ) → p < page → is_among page to p ≡ false
-    not_among p less = grind (arith, nat_tests)
+    not_among p less = ap (λ (t : Bool). t && is_before to p) (no_le page p less)
 
     set_front : (p : ℕ) → p < page → piece_at new p ≡ piece_at now p
     set_front p less = set p ∙ ap (λ (t : Bool). cond t (said_piece by shift piece) (piece_at now p)) (not_among p less)
@@ -86,10 +108,10 @@ module _ (first : ℕ) (end shift : Option ℕ) (by : ℕ) (old now : List (ℕ 
       behind = λ p past. set p ∙ ap (λ (t : Bool). cond t (said_piece by shift piece) (piece_at now p)) (behind_next p past) ∙ so_far.behind p (omega (arith, past, ahead));
     } where
       before_next : (p : ℕ) → p < next → IsTrue (is_before to p)
-      before_next p below = ap (λ (e : Option ℕ). is_before e p) is ∙ (let yes : nat_lt p next ≡ true = grind (arith, nat_tests) in yes)
+      before_next p below = ap (λ (e : Option ℕ). is_before e p) is ∙ is_lt p next below
 
       behind_next : (p : ℕ) → next ≤ p → is_among page to p ≡ false
-      behind_next p past = ap (λ (e : Option ℕ). is_among page e p) is ∙ (let no : is_among page (Some next) p ≡ false = grind (arith, nat_tests) in no)
+      behind_next p past = ap (λ (e : Option ℕ). is_among page e p) is ∙ ap (λ (t : Bool). nat_le page p && t) (no_lt p next past) ∙ and_false (nat_le page p)
 
     pub said_all : to ≡ None → (p : ℕ) → piece_at new p ≡ (if is_among first end p then said_piece by shift (piece_at old p) else piece_at old p)
     said_all is p = elim (is_among first end p) as (λ (t : Bool). is_among first end p ≡ t → piece_at new p ≡ cond t (said_piece by shift (piece_at old p)) (piece_at old p)) [
@@ -127,8 +149,8 @@ module _ (pieces : List (ℕ × Piece)) (first : ℕ) (end : Option ℕ) (by : �
       (λ k h. (h.at, (h.among, h.holds)))
       (λ k h. record { at = h.0; among = h.1.0; front = reached end h.0 done (is_among_split first end h.0 h.1.0).1; holds = h.1.1 }) marks where
     reached : (e : Option ℕ) (p : ℕ) → is_before e page ≡ false → IsTrue (is_before e p) → p < page
-    reached None p no yes = absurd (cc)
-    reached (Some e) p no yes = grind (arith, nat_tests)
+    reached None p no yes = absurd (false≢true (sym no))
+    reached (Some e) p no yes = below_end e p page no yes
 
   module _ (page : ℕ) (stretch_end : Option ℕ) (piece : Piece) (from : first ≤ page) (before : IsTrue (is_before end page)) (here : piece ≡ piece_at pieces page)
       (same : (p : ℕ) → IsTrue (is_among page stretch_end p) → piece_at pieces p ≡ piece_at pieces page) (old mid new : List (Option ℕ))
@@ -150,7 +172,7 @@ module _ (pieces : List (ℕ × Piece)) (first : ℕ) (end : Option ℕ) (by : �
           | inr past ↦ inr (holder_of h.at k past (inside h.at h.front) h.holds)
         ]) where
       inside : (p : ℕ) → p < next → IsTrue (is_before stretch_end p)
-      inside p below = ap (λ (e : Option ℕ). is_before e p) is ∙ (let yes : nat_lt p next ≡ true = grind (arith, nat_tests) in yes)
+      inside p below = ap (λ (e : Option ℕ). is_before e p) is ∙ is_lt p next below
 
     pub front_open : stretch_end ≡ None → Marks by (HoldsPage pieces first end) old new
     front_open is = marks_then by (HoldsFront pieces first end page) (λ (k : ℕ). piece.holder ≡ Some k) (HoldsPage pieces first end) old mid new first_marks next_marks

@@ -1,6 +1,7 @@
 -- What an entry says of each subject, and who loses what.
 use Rattle.std.proofs.Common.{◌≡◌, ◌∙◌, ℕ, List, length, get_or, Option, Some, None, refl, sym, inl, inr, ◌⊎◌}
 use Rattle.std.specs.Option.{IsSome}
+use Rattle.std.proofs.lemmas.Bool.{false≢true}
 use Rattle.nv_entry.specs.declared.entry.WriteEntry.{WriteEntry}
 use Rattle.nv_entry.specs.declared.entry.AttrEntry.{AttrEntry}
 use Rattle.nv_entry.specs.declared.entry.NameEntry.{NameEntry}
@@ -30,14 +31,14 @@ takes_by by x old new size mode owner group links time pages names (the_name q) 
 -- ---- who loses something by an entry of each kind
 
 loses_links : (at : ℕ) (e : LinksEntry) (h : Held) (k : ℕ) (subject : Subject) → Loses (says subject (placed at (Links e))) (holder_in h subject) k → Loses (Some e.count) h.links.holder k ⊎ Loses (Some e.time) h.time.holder k
-loses_links at e h k the_size w = absurd w.0
-loses_links at e h k the_mode w = absurd w.0
-loses_links at e h k the_owner w = absurd w.0
-loses_links at e h k the_group w = absurd w.0
+loses_links at e h k the_size w = absurd (false≢true w.0)
+loses_links at e h k the_mode w = absurd (false≢true w.0)
+loses_links at e h k the_owner w = absurd (false≢true w.0)
+loses_links at e h k the_group w = absurd (false≢true w.0)
 loses_links at e h k the_links w = inl w
 loses_links at e h k the_time w = inr w
-loses_links at e h k (the_page p) w = absurd w.0
-loses_links at e h k (the_name q) w = absurd w.0
+loses_links at e h k (the_page p) w = absurd (false≢true w.0)
+loses_links at e h k (the_name q) w = absurd (false≢true w.0)
 
 pub marks_links : (by at : ℕ) (e : LinksEntry) (h : Held) (old mid new : List (Option ℕ)) → Marks by (Loses (Some e.count) h.links.holder) old mid → Marks by (Loses (Some e.time) h.time.holder) mid new
     → Marks by (LosesOne (placed at (Links e)) h) old new
@@ -49,13 +50,13 @@ abbrev pub LosesName : ℕ → NameEntry → Held → ℕ → Type 0
 LosesName at e h k = (q : List ℕ) × Loses (name_in q at (Name e)) (name_holder h.names q) k
 
 loses_name : (at : ℕ) (e : NameEntry) (h : Held) (k : ℕ) (subject : Subject) → Loses (says subject (placed at (Name e))) (holder_in h subject) k → Loses (Some e.time) h.time.holder k ⊎ LosesName at e h k
-loses_name at e h k the_size w = absurd w.0
-loses_name at e h k the_mode w = absurd w.0
-loses_name at e h k the_owner w = absurd w.0
-loses_name at e h k the_group w = absurd w.0
-loses_name at e h k the_links w = absurd w.0
+loses_name at e h k the_size w = absurd (false≢true w.0)
+loses_name at e h k the_mode w = absurd (false≢true w.0)
+loses_name at e h k the_owner w = absurd (false≢true w.0)
+loses_name at e h k the_group w = absurd (false≢true w.0)
+loses_name at e h k the_links w = absurd (false≢true w.0)
 loses_name at e h k the_time w = inl w
-loses_name at e h k (the_page p) w = absurd w.0
+loses_name at e h k (the_page p) w = absurd (false≢true w.0)
 loses_name at e h k (the_name q) w = inr (q, w)
 
 pub marks_name : (by at : ℕ) (e : NameEntry) (h : Held) (old mid new : List (Option ℕ)) → Marks by (Loses (Some e.time) h.time.holder) old mid → Marks by (LosesName at e h) mid new
@@ -72,13 +73,13 @@ LosesSize size time h k = Loses (Some size) h.size.holder k ⊎ Loses (Some time
 
 loses_write : (at : ℕ) (e : WriteEntry) (h : Held) (k : ℕ) (subject : Subject) → Loses (says subject (placed at (Write e))) (holder_in h subject) k → LosesSize e.size e.time h k ⊎ LosesPage (λ (p : ℕ). block_in p (Write e)) h k
 loses_write at e h k the_size w = inl (inl w)
-loses_write at e h k the_mode w = absurd w.0
-loses_write at e h k the_owner w = absurd w.0
-loses_write at e h k the_group w = absurd w.0
-loses_write at e h k the_links w = absurd w.0
+loses_write at e h k the_mode w = absurd (false≢true w.0)
+loses_write at e h k the_owner w = absurd (false≢true w.0)
+loses_write at e h k the_group w = absurd (false≢true w.0)
+loses_write at e h k the_links w = absurd (false≢true w.0)
 loses_write at e h k the_time w = inl (inr w)
 loses_write at e h k (the_page p) w = inr (p, w)
-loses_write at e h k (the_name q) w = absurd w.0
+loses_write at e h k (the_name q) w = absurd (false≢true w.0)
 
 pub marks_write : (by at : ℕ) (e : WriteEntry) (h : Held) (old mid mid2 new : List (Option ℕ)) → Marks by (Loses (Some e.size) h.size.holder) old mid → Marks by (Loses (Some e.time) h.time.holder) mid mid2
     → Marks by (LosesPage (λ (p : ℕ). block_in p (Write e)) h) mid2 new → Marks by (LosesOne (placed at (Write e)) h) old new
@@ -101,10 +102,10 @@ loses_attr at e h k the_size w = inl (inl (inl w))
 loses_attr at e h k the_mode w = inl (inl (inr w))
 loses_attr at e h k the_owner w = inl (inr (inl w))
 loses_attr at e h k the_group w = inl (inr (inr w))
-loses_attr at e h k the_links w = absurd w.0
+loses_attr at e h k the_links w = absurd (false≢true w.0)
 loses_attr at e h k the_time w = inr (inl w)
 loses_attr at e h k (the_page p) w = inr (inr (p, w))
-loses_attr at e h k (the_name q) w = absurd w.0
+loses_attr at e h k (the_name q) w = absurd (false≢true w.0)
 
 pub marks_attr : (by at : ℕ) (e : AttrEntry) (h : Held) (a b c d f g new : List (Option ℕ)) → Marks by (Loses (Some e.size) h.size.holder) a b → Marks by (Loses (Some e.mode) h.mode.holder) b c
     → Marks by (Loses (Some e.owner) h.owner.holder) c d → Marks by (Loses (Some e.group) h.group.holder) d f → Marks by (Loses (Some e.time) h.time.holder) f g
@@ -125,14 +126,14 @@ marks_attr by at e h a b c d f g new size mode owner group time pages =
 
 -- by one that says nothing
 loses_next : (at : ℕ) (h : Held) (k : ℕ) (subject : Subject) → Loses (says subject (placed at NextPage)) (holder_in h subject) k → ⊥
-loses_next at h k the_size w = w.0
-loses_next at h k the_mode w = w.0
-loses_next at h k the_owner w = w.0
-loses_next at h k the_group w = w.0
-loses_next at h k the_links w = w.0
-loses_next at h k the_time w = w.0
-loses_next at h k (the_page p) w = w.0
-loses_next at h k (the_name q) w = w.0
+loses_next at h k the_size w = false≢true w.0
+loses_next at h k the_mode w = false≢true w.0
+loses_next at h k the_owner w = false≢true w.0
+loses_next at h k the_group w = false≢true w.0
+loses_next at h k the_links w = false≢true w.0
+loses_next at h k the_time w = false≢true w.0
+loses_next at h k (the_page p) w = false≢true w.0
+loses_next at h k (the_name q) w = false≢true w.0
 
 pub marks_next : (by at : ℕ) (h : Held) (old : List (Option ℕ)) → Marks by (LosesOne (placed at NextPage) h) old old
 marks_next by at h old = marks_none by (LosesOne (placed at NextPage) h) old (λ k one. loses_next at h k one.0 one.1)

@@ -78,7 +78,8 @@ fn take(
     ensures marks { Marks by (λ (k : ℕ). (p : ℕ) × IsTrue (is_among first end p) × (page_holder pieces.old.entries p ≡ Some k)) takers.old takers.new }
 {
     mark_pages(pieces, first, end, by, takers);
-    say(pieces, first, end, shift, by)
+    say(pieces, first, end, shift, by)?;
+    Ok(())
 }
 
 /// Takes what an entry at place `by` that gives a file this size says of the pages from there on: they have no block.
@@ -93,7 +94,8 @@ pub(crate) fn cut_pages(
     ensures pages { OnOk result ((p : ℕ) → Says by (cuts size p) (block_held pieces.old.entries p) (page_holder pieces.old.entries p) (block_held pieces.new.entries p) (page_holder pieces.new.entries p)) }
     ensures marks { Marks by (λ (k : ℕ). (p : ℕ) × Loses (cuts size p) (page_holder pieces.old.entries p) k) takers.old takers.new }
 {
-    take(pieces, first_page_past(size), None, None, by, takers)
+    take(pieces, first_page_past(size), None, None, by, takers)?;
+    Ok(())
 }
 
 /// Takes what a good write entry at place `by` says of pages.
@@ -114,7 +116,8 @@ pub(crate) fn write_pages(
     let end = e.offset + u64::from(e.count);
     let shift = e.block + (MAX_FILE_PAGES - e.offset);
     take(pieces, e.offset, Some(end), Some(shift), by, takers)?;
-    cut_pages(pieces, e.size, by, takers)
+    cut_pages(pieces, e.size, by, takers)?;
+    Ok(())
 }
 
 /// What the entry at place `by` makes of a piece of whose pages it says this.

@@ -1,6 +1,6 @@
 //! Pieces of pages of which the same is known, each by the page where it begins: it goes on to where the next one does.
 
-ghost use Rattle.std.specs.Prelude.{◌≡◌, ◌≢◌, ◌<◌, ◌≤◌, ℕ, true, ◌&&◌, if◌then◌else◌, None, IfSome, IfNone, IsTrue, OnOk};
+ghost use Rattle.std.specs.Prelude.{◌≡◌, ◌≢◌, ◌<◌, ◌≤◌, ℕ, true, ◌&&◌, if◌then◌else◌, None, Some, IfSome, IfNone, IsTrue, OnOk};
 ghost use Rattle.nv_inspect.specs.Held.{is_among, is_before, key_at, no_piece, piece_at};
 
 use std::alloc::AllocError;
@@ -85,11 +85,16 @@ pub(crate) fn set(
 {
     match end {
         Some(end) => set_before(pieces, first, end, new),
-        None => {
-            clear(pieces, first, None);
-            put(pieces, first, new)
-        }
+        None => set_behind(pieces, first, new),
     }
+}
+
+fn set_behind(pieces: &mut Pieces, first: u64, new: Piece) -> Result<(), AllocError>
+    ensures { OnOk result ((p : ℕ) → piece_at pieces.new.entries p ≡ (if is_among first None p then new else piece_at pieces.old.entries p)) }
+{
+    clear(pieces, first, None);
+    put(pieces, first, new)?;
+    Ok(())
 }
 
 fn set_before(pieces: &mut Pieces, first: u64, end: u64, new: Piece) -> Result<(), AllocError>
@@ -99,7 +104,8 @@ fn set_before(pieces: &mut Pieces, first: u64, end: u64, new: Piece) -> Result<(
     let behind = piece(pieces, end);
     clear(pieces, first, Some(end));
     put(pieces, first, new)?;
-    put(pieces, end, behind)
+    put(pieces, end, behind)?;
+    Ok(())
 }
 
 /// Makes this the piece of a page and of those behind it, up to where another begins.
