@@ -1,6 +1,6 @@
 -- The entries of a log that are dead, by what holds each subject, and one entry further.
-use Rattle.std.proofs.Common.{◌≡◌, ◌∙◌, ◌+◌, ◌<◌, ◌≤◌, ℕ, Bool, true, false, List, [], ◌∷◌, ◌++◌, length, get_or, take, drop, replicate, Option, Some, None, unwrap_or, refl, ap, sym, zero, suc, append-nil, subst, arith, inl, inr, ◌⊎◌, append_assoc}
-use Rattle.std.specs.Prelude.{slice_get}
+use Rattle.std.proofs.Common.{◌≡◌, ◌∙◌, ◌+◌, ◌<◌, ◌≤◌, ℕ, Bool, true, false, List, [], ◌∷◌, ◌++◌, length, get_or, take, drop,  Option, Some, None, unwrap_or, refl, ap, sym, zero, suc, append-nil, subst, arith, inl, inr, ◌⊎◌, append_assoc}
+use Rattle.std.specs.Prelude.{replicate, slice_get}
 use Rattle.std.specs.Option.{IsSome}
 use Rattle.std.specs.List.{remove}
 use Rattle.std.proofs.lemmas.Bool.{cases_lt}

@@ -1,3 +1,4 @@
+pub mod Among
 pub mod NameWords
 pub mod PageWords
 pub mod ListedNames

@@ -22,7 +22,7 @@ use Rattle.nv_inspect.specs.Log.{IsLogText, created_at, head_line, read_text}
 module _ (s : Super) (kind : Kind) (created : ℕ) (es : List Placed) where
   one_killer : (k a b : ℕ) → IsDeadBy s kind created es k a → IsDeadBy s kind created es k b → a ≡ b
   one_killer k a b x y = elim (cases_order x.by y.by) [
-    | inl same ↦ (let first = x.is in let second = y.is in let one = x.place in let other = y.place in cc)
+    | inl same ↦ (let first = x.is in let second = y.is in let killers : x.killer ≡ y.killer = cc in sym x.place ∙ ap (λ (z : Placed). z.at) killers ∙ y.place)
     | inr w ↦ elim w [
       | inl less ↦ absurd (y.from.first x.by less x.from.dead)
       | inr more ↦ absurd (x.from.first y.by more y.from.dead)

@@ -16,6 +16,10 @@ use Rattle.nv_inspect.specs.Held.{piece_at, block_held, page_holder, block_by_sh
 use Rattle.nv_inspect.proofs.Marking.{marks_as, marks_then}
 use Rattle.nv_inspect.proofs.Stretches.{HoldsPage}
 
+-- no block
+abbrev unmapped : Option (Option ℕ)
+unmapped = Some None
+
 -- ---- one page
 
 taken_far : (by p a d : ℕ) → 262144 < p + d → a ≢ d → p + a - 262144 ≢ p + d - 262144
@@ -24,8 +28,8 @@ taken_far by p a d far differs same = differs (omega (arith, far, same))
 -- who holds a page whose blocks were shifted so far, and are so now
 taken_by : (by p : ℕ) (old shift : Option ℕ) → ((d : ℕ) → shift ≡ Some d → 262144 < p + d) → IsTaken by (block_by_shift p old) (block_by_shift p shift) (if same_shift old shift then None else Some by)
 taken_by by p None None far = inl (refl, refl)
-taken_by by p None (Some d) far = inr (λ e. cc, refl)
-taken_by by p (Some a) None far = inr (λ e. cc, refl)
+taken_by by p None (Some d) far = inr (λ e. (cc), refl)
+taken_by by p (Some a) None far = inr (λ e. (cc), refl)
 taken_by by p (Some a) (Some d) far = elim (eqb_tells a d) [
   | inl w ↦ rw w.0 (inl (ap (λ (x : ℕ). Some (p + x - 262144)) w.1, refl))
   | inr w ↦ rw w.0 (inr (λ e. (let same : p + a - 262144 ≡ p + d - 262144 = cc in taken_far by p a d (far d refl) w.1 same), refl))
@@ -39,7 +43,7 @@ module _ (by p : ℕ) (shift : Option ℕ) (far : (d : ℕ) → shift ≡ Some d
     subst (λ (x : Piece). IsTaken by (block_held old p) said x.holder) (sym at) (subst (λ (v : Option ℕ). IsTaken by (block_held old p) v (if same_shift (piece_at old p).shift shift then None else Some by)) is (taken_by by p (piece_at old p).shift shift far)))
 
 -- nothing is said of it
-none_said : (by p : ℕ) (old new : List (ℕ × Piece)) → piece_at new p ≡ piece_at old p → Says by (None {T = Option ℕ}) (block_held old p) (page_holder old p) (block_held new p) (page_holder new p)
+none_said : (by p : ℕ) (old new : List (ℕ × Piece)) → piece_at new p ≡ piece_at old p → Says by None (block_held old p) (page_holder old p) (block_held new p) (page_holder new p)
 none_said by p old new at = (ap (λ (x : Piece). block_by_shift p x.shift) at, ap (λ (x : Piece). x.holder) at)
 
 -- ---- a cut
@@ -56,14 +60,14 @@ module _ (by size first : ℕ) (past : (p : ℕ) → nat_le first p ≡ nat_le s
       → Says by (cuts size p) (block_held old p) (page_holder old p) (block_held new p) (page_holder new p)
   cut_said new set p = by_test (nat_le size (p * 4096)) (set p ∙ ap (λ (t : Bool). cond t (said_piece by None (piece_at old p)) (piece_at old p)) (among_cut p)) where
     by_test : (t : Bool) → piece_at new p ≡ cond t (said_piece by None (piece_at old p)) (piece_at old p) → Says by (if t then Some None else None) (block_held old p) (page_holder old p) (block_held new p) (page_holder new p)
-    by_test true at = one_said by p None (λ d e. absurd (let no : None ≡ Some d = e in cc)) old new None refl at
+    by_test true at = one_said by p None (λ d e. absurd (cc)) old new None refl at
     by_test false at = none_said by p old new at
 
-  cut_some : (t : Bool) → t ≡ true → IsSome (if t then Some (None {T = ℕ}) else None)
+  cut_some : (t : Bool) → t ≡ true → IsSome (if t then unmapped else None)
   cut_some true e = refl
   cut_some false e = e
 
-  some_cut : (t : Bool) → IsSome (if t then Some (None {T = ℕ}) else None) → t ≡ true
+  some_cut : (t : Bool) → IsSome (if t then unmapped else None) → t ≡ true
   some_cut true e = refl
   some_cut false e = e
 
@@ -136,7 +140,7 @@ module _ (by : ℕ) (e : WriteEntry) (good : IsGoodWrite e) (shift : ℕ) (shift
   same_holder : (p : ℕ) → in_run e.offset e.count p ≡ false → page_holder mid p ≡ page_holder old p
   same_holder p outside = ap (λ (x : Piece). x.holder) (mid_at p false outside)
 
-  some_is : (t : Bool) → IsSome (if t then Some (None {T = ℕ}) else None) → t ≡ true
+  some_is : (t : Bool) → IsSome (if t then unmapped else None) → t ≡ true
   some_is true h = refl
   some_is false h = h
 

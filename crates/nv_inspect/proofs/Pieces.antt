@@ -8,8 +8,8 @@ use Rattle.std.specs.Cmp.{nat_cmp_is}
 use Rattle.std.specs.BTreeMap.{BTreeMap}
 use Rattle.std.specs.BTreeMap.Range.{IsRangeOf}
 use Rattle.std.proofs.lemmas.Bool.{cases_lt, cases_order, false≢true}
-use Rattle.std.proofs.lemmas.Bool.Decides.{nat_tests}
 use Rattle.nv_inspect.specs.declared.pieces.Piece.{Piece}
+use Rattle.nv_inspect.proofs.Among.{among_behind, among_both, among_front, among_open, among_to, is_among_split}
 use Rattle.nv_inspect.specs.Held.{value_at, key_at, no_piece, piece_at, is_among, is_before}
 
 module _ {V : Type 0} (none : V) where
@@ -50,11 +50,11 @@ module _ {V : Type 0} (none : V) where
   pub set_open : (old mid new : ℕ → Option V) (first : ℕ) (v : V) → ((q : ℕ) → IsTrue (is_among first None q) → mid q ≡ None) → ((q : ℕ) → is_among first None q ≢ true → mid q ≡ old q)
       → value_at none new first ≡ v → ((q : ℕ) → q ≢ first → new q ≡ mid q) → (p : ℕ) → value_at none new p ≡ (if is_among first None p then v else value_at none old p)
   set_open old mid new first v cleared others at put p = elim (cases_lt p first) [
-    | inl less ↦ (let out : is_among first None p ≡ false = grind (arith, nat_tests) in
-        same_front new old p (λ q to. put q (λ e. omega (arith, e, to, less)) ∙ others q (λ e. (let from : first ≤ q = grind (arith, nat_tests) in omega (arith, from, to, less))))
+    | inl less ↦ (let out = among_front first None p less in
+        same_front new old p (λ q to. put q (λ e. omega (arith, e, to, less)) ∙ others q (λ e. (let from = (is_among_split first None q e).0 in omega (arith, from, to, less))))
         ∙ sym (ap (λ (t : Bool). cond t v (value_at none old p)) out))
-    | inr from ↦ (let inside : is_among first None p ≡ true = grind (arith, nat_tests) in
-        stays new first p from (λ r over to. put r (λ e. omega (arith, e, over)) ∙ cleared r (grind (arith, nat_tests)))
+    | inr from ↦ (let inside = among_open first p from in
+        stays new first p from (λ r over to. put r (λ e. omega (arith, e, over)) ∙ cleared r (among_open first r (omega (arith, over))))
         ∙ at ∙ sym (ap (λ (t : Bool). cond t v (value_at none old p)) inside))
   ]
 
@@ -71,15 +71,15 @@ module _ {V : Type 0} (none : V) where
 
     pub set_closed : (p : ℕ) → value_at none new p ≡ (if is_among first (Some end) p then v else value_at none old p)
     set_closed p = elim (cases_lt p first) [
-      | inl less ↦ (let out : is_among first (Some end) p ≡ false = grind (arith, nat_tests) in
-          same_front new old p (λ q to. outside q (λ e. omega (arith, e, to, less)) (λ e. omega (arith, e, to, less, some)) (λ e. (let from : first ≤ q = grind (arith, nat_tests) in omega (arith, from, to, less))))
+      | inl less ↦ (let out = among_front first (Some end) p less in
+          same_front new old p (λ q to. outside q (λ e. omega (arith, e, to, less)) (λ e. omega (arith, e, to, less, some)) (λ e. (let from = (is_among_split first (Some end) q e).0 in omega (arith, from, to, less))))
           ∙ sym (ap (λ (t : Bool). cond t v (value_at none old p)) out))
       | inr from ↦ elim (cases_lt p end) [
-        | inl below ↦ (let inside : is_among first (Some end) p ≡ true = grind (arith, nat_tests) in
-            stays new first p from (λ r over to. put_behind r (λ e. omega (arith, e, to, below)) ∙ put r (λ e. omega (arith, e, over)) ∙ cleared r (grind (arith, nat_tests)))
+        | inl below ↦ (let inside = among_both first end p from below in
+            stays new first p from (λ r over to. put_behind r (λ e. omega (arith, e, to, below)) ∙ put r (λ e. omega (arith, e, over)) ∙ cleared r (among_both first end r (omega (arith, from, over)) (omega (arith, to, below))))
             ∙ new_first ∙ sym (ap (λ (t : Bool). cond t v (value_at none old p)) inside))
-        | inr past ↦ (let out : is_among first (Some end) p ≡ false = grind (arith, nat_tests) in
-            same_behind new old end p past behind (λ q over. outside q (λ e. omega (arith, e, over, some)) (λ e. omega (arith, e, over)) (λ e. (let below : q < end = grind (arith, nat_tests) in omega (arith, below, over))))
+        | inr past ↦ (let out = among_behind first end p past in
+            same_behind new old end p past behind (λ q over. outside q (λ e. omega (arith, e, over, some)) (λ e. omega (arith, e, over)) (λ e. (let below = among_to first end q e in omega (arith, below, over))))
             ∙ sym (ap (λ (t : Bool). cond t v (value_at none old p)) out))
       ]
     ]

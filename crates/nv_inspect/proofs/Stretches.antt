@@ -2,42 +2,10 @@
 use Rattle.std.proofs.Common.{◌≡◌, ◌≢◌, ◌∙◌, ◌+◌, ◌-◌, ◌<◌, ◌≤◌, ℕ, Bool, true, false, cond, ◌&&◌, if◌then◌else◌, nat_le, nat_lt, List, Option, Some, None, refl, ap, sym, subst, arith, inl, inr, ◌⊎◌}
 use Rattle.std.specs.Prelude.{IsTrue}
 use Rattle.std.proofs.lemmas.Bool.{cases_lt, false≢true}
-use Rattle.std.proofs.lemmas.Bool.Decides.{nat_tests}
 use Rattle.nv_inspect.specs.declared.pieces.Piece.{Piece}
 use Rattle.nv_inspect.specs.Held.{piece_at, page_holder, said_piece, is_among, is_before, Marks}
+use Rattle.nv_inspect.proofs.Among.{and_false, and_split, below_end, is_among_both, is_among_split, is_lt, no_le, no_lt}
 use Rattle.nv_inspect.proofs.Marking.{marks_as, marks_none, marks_then}
-
-le_is : (x y : ℕ) → nat_le x y ≡ true → x ≤ y
-le_is x y h = grind (arith, nat_tests)
-
-is_le : (x y : ℕ) → x ≤ y → nat_le x y ≡ true
-is_le x y h = grind (arith, nat_tests)
-
-no_le : (x y : ℕ) → y < x → nat_le x y ≡ false
-no_le x y h = grind (arith, nat_tests)
-
-is_lt : (x y : ℕ) → x < y → nat_lt x y ≡ true
-is_lt x y h = grind (arith, nat_tests)
-
-no_lt : (x y : ℕ) → y ≤ x → nat_lt x y ≡ false
-no_lt x y h = grind (arith, nat_tests)
-
-below_end : (e p page : ℕ) → nat_lt page e ≡ false → nat_lt p e ≡ true → p < page
-below_end e p page no yes = grind (arith, nat_tests)
-
-and_split : (b c : Bool) → (b && c) ≡ true → (b ≡ true) × (c ≡ true)
-and_split true c h = (refl, h)
-and_split false c h = absurd (false≢true h)
-
-and_false : (b : Bool) → (b && false) ≡ false
-and_false true = refl
-and_false false = refl
-
-is_among_split : (first : ℕ) (end : Option ℕ) (p : ℕ) → IsTrue (is_among first end p) → (first ≤ p) × IsTrue (is_before end p)
-is_among_split first end p h = let w = and_split (nat_le first p) (is_before end p) h in (le_is first p w.0, w.1)
-
-is_among_both : (first : ℕ) (end : Option ℕ) (p : ℕ) → first ≤ p → IsTrue (is_before end p) → IsTrue (is_among first end p)
-is_among_both first end p from before = ap (λ (t : Bool). t && is_before end p) (is_le first p from) ∙ before
 
 -- ---- what is said
 

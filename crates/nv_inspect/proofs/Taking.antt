@@ -1,18 +1,21 @@
 -- What an entry says of each subject, and who loses what.
-use Rattle.std.proofs.Common.{◌≡◌, ◌∙◌, ℕ, List, length, get_or, Option, Some, None, refl, sym, inl, inr, ◌⊎◌}
+use Rattle.std.proofs.Common.{◌≡◌, ◌∙◌, ℕ, List, length, get_or, Option, Some, None, refl, sym, subst, arith, inl, inr, ◌⊎◌}
 use Rattle.std.specs.Option.{IsSome}
+use Rattle.std.specs.Prelude.{IsTrue}
 use Rattle.std.proofs.lemmas.Bool.{false≢true}
 use Rattle.nv_entry.specs.declared.entry.WriteEntry.{WriteEntry}
 use Rattle.nv_entry.specs.declared.entry.AttrEntry.{AttrEntry}
 use Rattle.nv_entry.specs.declared.entry.NameEntry.{NameEntry}
 use Rattle.nv_entry.specs.declared.entry.LinksEntry.{LinksEntry}
+use Rattle.nv_entry.specs.declared.entry.Entry.{Entry}
 use Rattle.nv_entry.specs.declared.entry.Entry.TheVariants.{NextPage, Write, Attr, Name, Links}
 use Rattle.nv_logpage.specs.declared.found.Placed.{Placed}
 use Rattle.nv_logpage.specs.Reads.{placed}
 use Rattle.nv_names.specs.Names.{name_at}
 use Rattle.nv_scan.specs.State.{says_size, says_mode, says_owner, says_group, says_links, says_time, says_block, says_name, block_in, cuts, name_in}
 use Rattle.nv_inspect.specs.declared.held.Held.{Held}
-use Rattle.nv_inspect.specs.Held.{Subject, the_size, the_mode, the_owner, the_group, the_links, the_time, the_page, the_name, says, value_in, holder_in, block_held, page_holder, name_holder, Says, SaysWord, Loses, Marks, HoldsOne, LosesOne, TakesGood}
+use Rattle.nv_inspect.specs.Held.{Subject, the_size, the_mode, the_owner, the_group, the_links, the_time, the_page, the_name, says, value_in, holder_in, block_held, page_holder, name_holder, Says, SaysWord, Loses, Marks, HoldsOne, LosesOne, TakesGood, is_among}
+use Rattle.nv_inspect.proofs.Among.{among_open}
 use Rattle.nv_inspect.proofs.Marking.{marks_as, marks_both, marks_none, marks_then}
 
 pub takes_by : (by : ℕ) (x : Placed) (old new : Held) → SaysWord by (says_size x) old.size new.size → SaysWord by (says_mode x) old.mode new.mode → SaysWord by (says_owner x) old.owner new.owner
@@ -183,3 +186,26 @@ marks_held by h a b c d e f g i new size mode owner group links time pages names
         (marks_both by (λ (k : ℕ). h.links.holder ≡ Some k) (λ (k : ℕ). h.time.holder ≡ Some k) e f g links time))
       (marks_both by (HoldsAPage h) (HoldsAName h) g i new pages names)
       (λ k w. holds_whole h k w) (λ k one. holds_part h k one.0 one.1)
+
+-- ---- an entry that says nothing
+
+takes_nothing : (by at : ℕ) (h : Held) (subject : Subject) → Says by (says subject (placed at NextPage)) (value_in h subject) (holder_in h subject) (value_in h subject) (holder_in h subject)
+takes_nothing by at h the_size = (refl, refl)
+takes_nothing by at h the_mode = (refl, refl)
+takes_nothing by at h the_owner = (refl, refl)
+takes_nothing by at h the_group = (refl, refl)
+takes_nothing by at h the_links = (refl, refl)
+takes_nothing by at h the_time = (refl, refl)
+takes_nothing by at h (the_page p) = (refl, refl)
+takes_nothing by at h (the_name q) = (refl, refl)
+
+pub takes_next : (by : ℕ) (x : Placed) (h : Held) → x.entry ≡ NextPage → TakesGood by x h h
+takes_next by x h is = subst (λ (e : Entry). TakesGood by (placed x.at e) h h) (sym is) (takes_nothing by x.at h)
+
+pub marks_next_entry : (by : ℕ) (x : Placed) (h : Held) (old : List (Option ℕ)) → x.entry ≡ NextPage → Marks by (LosesOne x h) old old
+marks_next_entry by x h old is = subst (λ (e : Entry). Marks by (LosesOne (placed x.at e) h) old old) (sym is) (marks_next by x.at h old)
+
+-- all pages are among these
+pub marks_each_page : (by : ℕ) (h : Held) (old new : List (Option ℕ)) → Marks by (λ (k : ℕ). (p : ℕ) × IsTrue (is_among 0 None p) × (page_holder h.pages.entries p ≡ Some k)) old new → Marks by (HoldsAPage h) old new
+marks_each_page by h old new marks = marks_as by (λ (k : ℕ). (p : ℕ) × IsTrue (is_among 0 None p) × (page_holder h.pages.entries p ≡ Some k)) (HoldsAPage h) old new
+    (λ k w. (w.0, w.1.1)) (λ k w. (w.0, (among_open 0 w.0 (omega arith), w.1))) marks

@@ -93,7 +93,8 @@ impl Held {
     {
         self.size.say(Some(e.size), by, takers);
         self.time.say(Some(e.time), by, takers);
-        write_pages(&mut self.pages, sup, e, by, takers)
+        write_pages(&mut self.pages, sup, e, by, takers)?;
+        Ok(())
     }
 
     fn take_attributes(
@@ -107,11 +108,12 @@ impl Held {
         ensures marks { OnOk result (Marks by (LosesOne (placed _at (Entry.Attr e.now)) self.old) takers.old takers.new) }
     {
         self.size.say(Some(e.size), by, takers);
-        self.mode.say(Some(u64::from(e.mode)), by, takers);
-        self.owner.say(Some(u64::from(e.owner)), by, takers);
-        self.group.say(Some(u64::from(e.group)), by, takers);
+        self.mode.say(Some(e.mode as u64), by, takers);
+        self.owner.say(Some(e.owner as u64), by, takers);
+        self.group.say(Some(e.group as u64), by, takers);
         self.time.say(Some(e.time), by, takers);
-        cut_pages(&mut self.pages, e.size, by, takers)
+        cut_pages(&mut self.pages, e.size, by, takers)?;
+        Ok(())
     }
 
     fn take_name(
@@ -126,14 +128,15 @@ impl Held {
         ensures marks { OnOk result (Marks by (LosesOne (placed at (Entry.Name e.now)) self.old) takers.old takers.new) }
     {
         self.time.say(Some(e.time), by, takers);
-        self.names.say(e, at, by, takers)
+        self.names.say_name(e, at, by, takers)?;
+        Ok(())
     }
 
     fn take_links(&mut self, _at: u64, e: &LinksEntry, by: u64, takers: &mut [Option<u64>])
         ensures takes { TakesGood by (placed _at (Entry.Links e.now)) self.old self.new }
         ensures marks { Marks by (LosesOne (placed _at (Entry.Links e.now)) self.old) takers.old takers.new }
     {
-        self.links.say(Some(u64::from(e.count)), by, takers);
+        self.links.say(Some(e.count as u64), by, takers);
         self.time.say(Some(e.time), by, takers);
     }
 
@@ -150,6 +153,7 @@ impl Held {
         mark(marks, self.links.holder, by);
         mark(marks, self.time.holder, by);
         mark_pages(&self.pages, 0, None, by, marks);
-        self.names.mark_holders(by, marks)
+        self.names.mark_holders(by, marks)?;
+        Ok(())
     }
 }

@@ -60,7 +60,7 @@ impl HeldNames {
     /// that held the name.
     ///
     /// Errors: `AllocError` where a growth was refused; of the names nothing is said then.
-    pub fn say(
+    pub fn say_name(
         &mut self,
         e: &NameEntry,
         at: u64,
@@ -76,7 +76,8 @@ impl HeldNames {
         let said = said_of(e, at);
         let holder = taken(self.targets.get(name), said, by);
         hold(&mut self.holders, name, holder)?;
-        set(&mut self.targets, name, said)
+        set(&mut self.targets, name, said)?;
+        Ok(())
     }
 
 }

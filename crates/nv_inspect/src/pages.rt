@@ -113,7 +113,7 @@ pub(crate) fn write_pages(
     ensures pages { OnOk result ((p : ℕ) → Says by (block_in p (Entry.Write e.now)) (block_held pieces.old.entries p) (page_holder pieces.old.entries p) (block_held pieces.new.entries p) (page_holder pieces.new.entries p)) }
     ensures marks { OnOk result (Marks by (λ (k : ℕ). (p : ℕ) × Loses (block_in p (Entry.Write e.now)) (page_holder pieces.old.entries p) k) takers.old takers.new) }
 {
-    let end = e.offset + u64::from(e.count);
+    let end = e.offset + e.count as u64;
     let shift = e.block + (MAX_FILE_PAGES - e.offset);
     take(pieces, e.offset, Some(end), Some(shift), by, takers)?;
     cut_pages(pieces, e.size, by, takers)?;

@@ -57,7 +57,7 @@ fn last_up_to(pieces: &Pieces, page: u64) -> Option<Piece>
     ensures some { IfSome result (λ piece. piece_at pieces.now.entries page ≡ piece) }
     ensures none { IfNone result (piece_at pieces.now.entries page ≡ no_piece) }
 {
-    let (_, piece) = pieces.range(..=page).next_back()?;
+    let (_start, piece) = pieces.range(..=page).next_back()?;
     Some(*piece)
 }
 
