@@ -17,11 +17,14 @@ no_le x y h = grind (arith, nat_tests)
 pub is_lt : (x y : ℕ) → x < y → nat_lt x y ≡ true
 is_lt x y h = grind (arith, nat_tests)
 
+pub lt_is : (x y : ℕ) → nat_lt x y ≡ true → x < y
+lt_is x y h = grind (arith, nat_tests)
+
 pub no_lt : (x y : ℕ) → y ≤ x → nat_lt x y ≡ false
 no_lt x y h = grind (arith, nat_tests)
 
 pub below_end : (e p page : ℕ) → nat_lt page e ≡ false → nat_lt p e ≡ true → p < page
-below_end e p page no yes = grind (arith, nat_tests)
+below_end e p page never yes = grind (arith, nat_tests)
 
 pub and_split : (b c : Bool) → (b && c) ≡ true → (b ≡ true) × (c ≡ true)
 and_split true c h = (refl, h)
@@ -50,6 +53,4 @@ pub among_both : (first end p : ℕ) → first ≤ p → p < end → is_among fi
 among_both first end p from below = is_among_both first (Some end) p from (is_lt p end below)
 
 pub among_to : (first end p : ℕ) → is_among first (Some end) p ≡ true → p < end
-among_to first end p h = lt_is p end (and_split (nat_le first p) (nat_lt p end) h).1 where
-  lt_is : (x y : ℕ) → nat_lt x y ≡ true → x < y
-  lt_is x y e = grind (arith, nat_tests)
+among_to first end p h = lt_is p end (and_split (nat_le first p) (nat_lt p end) h).1

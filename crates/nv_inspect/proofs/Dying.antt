@@ -95,9 +95,9 @@ module _ (s : Super) (kind : Kind) (created : ℕ) where
 
   -- and one that holds none is dead
   pub unheld_dead : (es : List Placed) (h : Held) (k : ℕ) → HoldsAll s kind created es h → k < length es → (HoldsOne h k → ⊥) → Dead es k
-  unheld_dead es h k all there no = record {
+  unheld_dead es h k all there never = record {
     there = there;
-    same = same_state es (remove es k) (λ subject. (all subject).holds.others k there (λ e. no (subject, e)));
+    same = same_state es (remove es k) (λ subject. (all subject).holds.others k there (λ e. never (subject, e)));
   }
 
   -- ---- dead entries stay dead
@@ -162,16 +162,16 @@ module _ (s : Super) (kind : Kind) (created : ℕ) where
   taker_kept : (es : List Placed) (x : Placed) (k : ℕ) → k < length es → (Dead (es ++ x ∷ []) k → Dead es k) → (taker : Option ℕ) → Taker es k taker → Taker (es ++ x ∷ []) k taker
   taker_kept es x k below back None was = λ dead. subst (λ (ys : List Placed). Dead ys k) (sym (inner_take es x (k + 1) (omega arith))) (was (back dead))
   taker_kept es x k below back (Some m) was = (was.0,
-    (let inside = was.1 in let long = one_longer es x in omega (arith, inside, long),
-    (λ dead. subst (λ (ys : List Placed). Dead ys k) (sym (inner_take es x (m + 1) (let inside = was.1 in omega (arith, inside)))) (was.2 (back dead)),
-    λ dead. was.3 (subst (λ (ys : List Placed). Dead ys k) (inner_take es x m (let inside = was.1 in omega (arith, inside))) dead))))
+    (let inside = was.1 in let long = one_longer es x in omega (arith, inside, long)),
+    (λ dead. subst (λ (ys : List Placed). Dead ys k) (sym (inner_take es x (m + 1) (let inside = was.1 in omega (arith, inside)))) (was.2 (back dead))),
+    (λ dead. was.3 (subst (λ (ys : List Placed). Dead ys k) (inner_take es x m (let inside = was.1 in omega (arith, inside))) dead)))
 
   -- of an entry from which this one takes something
   taker_now : (es : List Placed) (x : Placed) (h : Held) (k : ℕ) → HoldsAll s kind created es h → k < length es → HoldsOne h k → Taker (es ++ x ∷ []) k (Some (length es))
   taker_now es x h k all below one = (below,
-    (let long = one_longer es x in omega (arith, long),
-    (λ dead. subst (λ (ys : List Placed). Dead ys k) (sym (whole_take es x)) dead,
-    λ dead. held_stands es h k all one (subst (λ (ys : List Placed). Dead ys k) (front_take es x) dead))))
+    (let long = one_longer es x in omega (arith, long)),
+    (λ dead. subst (λ (ys : List Placed). Dead ys k) (sym (whole_take es x)) dead),
+    (λ dead. held_stands es h k all one (subst (λ (ys : List Placed). Dead ys k) (front_take es x) dead)))
 
   -- of the entry itself
   taker_last : (es : List Placed) (x : Placed) (k : ℕ) → k ≡ length es → Taker (es ++ x ∷ []) k None
@@ -287,7 +287,7 @@ none_held s kind created h size mode owner group links time pages names holders 
   free : {V : Type 0} (word : List Placed → V) (value : V) (holder : Option ℕ) → value ≡ word [] → holder ≡ None → IsHeld word [] value holder
   free word value holder is none = record {
     is = is;
-    holds = record { by = λ k h. absurd (cc); others = λ k below no. absurd (omega (arith, below)) };
+    holds = record { by = λ k h. absurd (cc); others = λ k below never. absurd (omega (arith, below)) };
   }
 
   of_word : (word : List Placed → ℕ) (w : Word) (value : ℕ) → w ≡ record { value = value; holder = None } → value ≡ word [] → IsHeld word [] w.value w.holder

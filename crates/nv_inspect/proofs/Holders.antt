@@ -1,5 +1,5 @@
 -- Who holds a subject, one entry further.
-use Rattle.std.proofs.Common.{◌≡◌, ◌∙◌, ◌+◌, ◌<◌, ◌≤◌, ℕ, List, [], ◌∷◌, ◌++◌, length, Option, Some, None, unwrap_or, refl, ap, sym, subst, arith, inl, inr, ◌⊎◌, length-append, append-nil}
+use Rattle.std.proofs.Common.{◌≡◌, ◌∙◌, ◌+◌, ◌-◌, ◌<◌, ◌≤◌, ℕ, List, [], ◌∷◌, ◌++◌, length, Option, Some, None, unwrap_or, refl, ap, sym, subst, arith, inl, inr, ◌⊎◌, length-append, append-nil}
 use Rattle.std.proofs.lemmas.Bool.{cases_lt}
 use Rattle.std.specs.List.{remove}
 use Rattle.std.proofs.lemmas.List.Edits.{remove-append_left, remove-append_right}
@@ -33,8 +33,8 @@ module _ {V : Type 0} (word : List Placed → V) (es : List Placed) (x : Placed)
     still_held = record {
       by = λ k h. (let b = is.by k h in (let long = one_longer es x in let in_es = b.0 in omega (arith, in_es, long)),
           λ e. (is.by k h).1 (sym (inner_same k (is.by k h).0) ∙ e ∙ same es));
-      others = λ k below no. elim (inner_or_last es x k below) [
-        | inl less ↦ inner_same k less ∙ is.others k less no ∙ sym (same es)
+      others = λ k below never. elim (inner_or_last es x k below) [
+        | inl less ↦ inner_same k less ∙ is.others k less never ∙ sym (same es)
         | inr last ↦ ap word (remove_last es x k last) ∙ sym (same es)
       ];
     }
@@ -50,7 +50,7 @@ module _ {V : Type 0} (word : List Placed → V) (es : List Placed) (x : Placed)
     pub taken_over : (new : Option ℕ) → IsTaken (length es) (word es) v new → IsHolder word (es ++ x ∷ []) new
     taken_over new (inl same) = record {
       by = λ k h. absurd (let none = same.1 in cc);
-      others = λ k below no. elim (inner_or_last es x k below) [
+      others = λ k below never. elim (inner_or_last es x k below) [
         | inl less ↦ inner_said k less
         | inr last ↦ last_said k last ∙ same.0 ∙ sym (said es)
       ];
@@ -58,9 +58,9 @@ module _ {V : Type 0} (word : List Placed → V) (es : List Placed) (x : Placed)
     taken_over new (inr other) = record {
       by = λ k h. (let some = other.1 in let last : k ≡ length es = cc in
           (let long = one_longer es x in omega (arith, last, long), λ e. other.0 (sym (last_said k last) ∙ e ∙ said es)));
-      others = λ k below no. elim (inner_or_last es x k below) [
+      others = λ k below never. elim (inner_or_last es x k below) [
         | inl less ↦ inner_said k less
-        | inr last ↦ absurd (no (other.1 ∙ ap Some (sym last)))
+        | inr last ↦ absurd (never (other.1 ∙ ap Some (sym last)))
       ];
     }
 

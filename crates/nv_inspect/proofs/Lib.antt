@@ -1,9 +1,10 @@
+pub mod Lines
 pub mod Among
 pub mod NameWords
 pub mod PageWords
 pub mod ListedNames
 pub mod Marking
-pub mod Pieces
+pub mod Steps
 pub mod Stretches
 pub mod ReadNames
 pub mod Taking

@@ -41,7 +41,7 @@ module _ (by : ℕ) (listed : List Named) where
 
   pub all_told : (of : Names) (n : ℕ) (old new : List (Option ℕ)) → HasNames of (map line_of listed) → length listed ≤ n → Marks by (TellsOf listed n) old new → Marks by (λ (k : ℕ). (q : List ℕ) × (option_map first_of (name_at of q) ≡ Some k)) old new
   all_told of n old new has fits marks = marks_as by (TellsOf listed n) (λ (k : ℕ). (q : List ℕ) × (option_map first_of (name_at of q) ≡ Some k)) old new
-      (λ k t. (t.line.name.now, ap (option_map first_of) (target t.line (t.at, (slice_get_within listed t.at t.line t.is, get_or_from_slice_get listed t.at t.line t.line t.is))) ∙ ap Some t.tells))
+      (λ k t. (t.line.name.now, ap (option_map first_of) (target t.line (t.at, slice_get_within listed t.at t.line t.is, get_or_from_slice_get listed t.at t.line t.line t.is)) ∙ ap Some t.tells))
       (λ k w. from_name k w.0 w.1 (name_at of w.0) refl) marks where
     target : (line : Named) → Contains listed line → name_at of line.name.now ≡ Some (line.inode, line.place)
     target line c = named_line of listed has line c

@@ -28,7 +28,7 @@ module _ (by : ℕ) where
 
   -- of none
   pub marks_none : (P : ℕ → Type 0) (old : List (Option ℕ)) → ((k : ℕ) → P k → ⊥) → Marks by P old old
-  marks_none P old no = record { long = refl; each = λ k below. inr (no k, refl) }
+  marks_none P old never = record { long = refl; each = λ k below. inr (never k, refl) }
 
   -- of these and then those, which are all
   pub marks_then : (P Q all : ℕ → Type 0) (old mid new : List (Option ℕ)) → Marks by P old mid → Marks by Q mid new → ((k : ℕ) → P k ⊎ Q k → all k) → ((k : ℕ) → all k → P k ⊎ Q k) → Marks by all old new

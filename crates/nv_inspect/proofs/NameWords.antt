@@ -23,15 +23,16 @@ module _ (by at : ℕ) (e : NameEntry) (old_targets old_holders : Names) where
   abbrev holder_of : Names → List ℕ → Option ℕ
   holder_of holders q = option_map first_of (name_at holders q)
 
-  pub name_said : (new_targets new_holders : Names) (said : Option (ℕ × ℕ)) (holder : Option ℕ) → said ≡ named_by at e.inode e.operation → IsTaken by (name_at old_targets e.name) said holder
-      → ((q : List ℕ) → name_at new_targets q ≡ (if pointwise nat_eq q e.name then said else name_at old_targets q))
-      → ((q : List ℕ) → option_map first_of (name_at new_holders q) ≡ (if pointwise nat_eq q e.name then holder else option_map first_of (name_at old_holders q)))
+  pub name_said : (name : List ℕ) → name ≡ e.name → (new_targets new_holders : Names) (said : Option (ℕ × ℕ)) (holder : Option ℕ) → said ≡ named_by at e.inode e.operation → IsTaken by (name_at old_targets name) said holder
+      → ((q : List ℕ) → name_at new_targets q ≡ (if pointwise nat_eq q name then said else name_at old_targets q))
+      → ((q : List ℕ) → option_map first_of (name_at new_holders q) ≡ (if pointwise nat_eq q name then holder else option_map first_of (name_at old_holders q)))
       → (q : List ℕ) → Says by (name_in q at (Name e)) (name_at old_targets q) (option_map first_of (name_at old_holders q)) (name_at new_targets q) (option_map first_of (name_at new_holders q))
-  name_said new_targets new_holders said holder is taken set hold q = by_test (pointwise nat_eq q e.name) refl (set q) (hold q) where
+  name_said given given_is new_targets new_holders said holder is taken set hold q =
+      by_test (pointwise nat_eq q e.name) refl (set q ∙ ap (λ (n : List ℕ). cond (pointwise nat_eq q n) said (name_at old_targets q)) given_is) (hold q ∙ ap (λ (n : List ℕ). cond (pointwise nat_eq q n) holder (holder_of old_holders q)) given_is) where
     by_test : (t : Bool) → pointwise nat_eq q e.name ≡ t → name_at new_targets q ≡ cond t said (name_at old_targets q) → holder_of new_holders q ≡ cond t holder (holder_of old_holders q)
         → Says by (if t then Some (named_by at e.inode e.operation) else None) (name_at old_targets q) (holder_of old_holders q) (name_at new_targets q) (holder_of new_holders q)
     by_test true same target held =
-        let name : e.name ≡ q = sym (same_keys q e.name same) in
+        let name : given ≡ q = given_is ∙ sym (same_keys q e.name same) in
         (target ∙ is, subst (λ (h : Option ℕ). IsTaken by (name_at old_targets q) (named_by at e.inode e.operation) h) (sym held)
           (subst (λ (v : Option (ℕ × ℕ)). IsTaken by (name_at old_targets q) v holder) is (subst (λ (n : List ℕ). IsTaken by (name_at old_targets n) said holder) name taken)))
     by_test false other target held = (target, held)

@@ -16,7 +16,7 @@ use Rattle.nv_inspect.specs.Held.{piece_at, block_held, page_holder, block_by_sh
 use Rattle.nv_inspect.proofs.Marking.{marks_as, marks_then}
 use Rattle.nv_inspect.proofs.Stretches.{HoldsPage}
 
--- no block
+-- never block
 abbrev unmapped : Option (Option ℕ)
 unmapped = Some None
 
@@ -73,8 +73,8 @@ module _ (by size first : ℕ) (past : (p : ℕ) → nat_le first p ≡ nat_le s
 
   pub cut_marks : (a b : List (Option ℕ)) → Marks by (HoldsPage old first None) a b → Marks by (λ (k : ℕ). (p : ℕ) × Loses (cuts size p) (page_holder old p) k) a b
   cut_marks a b marks = marks_as by (HoldsPage old first None) (λ (k : ℕ). (p : ℕ) × Loses (cuts size p) (page_holder old p) k) a b
-      (λ k h. (h.0, (cut_some (nat_le size (h.0 * 4096)) (sym (among_cut h.0) ∙ h.1.0), h.1.1)))
-      (λ k h. (h.0, (among_cut h.0 ∙ some_cut (nat_le size (h.0 * 4096)) h.1.0, h.1.1))) marks
+      (λ k h. (h.0, (cut_some (nat_le size (h.0 * 4096)) (sym (among_cut h.0) ∙ h.1), h.2)))
+      (λ k h. (h.0, among_cut h.0 ∙ some_cut (nat_le size (h.0 * 4096)) h.1.0, h.1.1)) marks
 
 -- ---- a write
 
@@ -150,14 +150,14 @@ module _ (by : ℕ) (e : WriteEntry) (good : IsGoodWrite e) (shift : ℕ) (shift
 
   into_parts : (k p : ℕ) → Loses (block_in p (Write e)) (page_holder old p) k → (t : Bool) → in_run e.offset e.count p ≡ t
       → HoldsPage old e.offset (Some (e.offset + e.count)) k ⊎ ((q : ℕ) × Loses (cuts e.size q) (page_holder mid q) k)
-  into_parts k p h true inside = inl (p, (inside, h.1))
+  into_parts k p h true inside = inl (p, inside, h.1)
   into_parts k p h false outside = inr (p, (rw outside at h.0, same_holder p outside ∙ h.1))
 
   pub write_marks : (a b c : List (Option ℕ)) → Marks by (HoldsPage old e.offset (Some (e.offset + e.count))) a b → Marks by (λ (k : ℕ). (p : ℕ) × Loses (cuts e.size p) (page_holder mid p) k) b c
       → Marks by (λ (k : ℕ). (p : ℕ) × Loses (block_in p (Write e)) (page_holder old p) k) a c
   write_marks a b c first next = marks_then by (HoldsPage old e.offset (Some (e.offset + e.count))) (λ (k : ℕ). (p : ℕ) × Loses (cuts e.size p) (page_holder mid p) k) LosesWritten a b c first next
       (λ k h. elim h [
-        | inl w ↦ (w.0, (written_some w.0 true w.1.0 refl, w.1.1))
+        | inl w ↦ (w.0, (written_some w.0 true w.1 refl, w.2))
         | inr w ↦ from_cut k w.0 w.1 (in_run e.offset e.count w.0) refl
       ])
       (λ k h. into_parts k h.0 h.1 (in_run e.offset e.count h.0) refl)

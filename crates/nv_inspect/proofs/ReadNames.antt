@@ -18,8 +18,9 @@ has_name R p (Attr e) h = tt
 has_name R p (Name e) h = record { some = h.is_name.some; short = h.is_name.fits }
 has_name R p (Links e) h = tt
 
-pub read_have_names : (R : Region) (s : Super) (tail : ℕ) (pages : List ℕ) (p : ℕ) (es : List Placed) (all : List ℕ) (fault : Option LogEnd) → ReadsOn R s tail pages p es all fault → HaveNames es
-read_have_names R s tail pages p [] all fault r k x below is = absurd (omega (arith, below))
-read_have_names R s tail pages p (y ∷ es) all fault (reads f more) zero x below is = subst (λ (z : Placed). HasName z.entry) (sym is) (has_name R p y.entry (got_entry R s tail pages p y f).here.0)
-read_have_names R s tail pages p (y ∷ es) all fault (reads f more) (suc k) x below is = read_have_names R s tail pages _ es all fault more k x (omega (arith, below)) is
-read_have_names R s tail pages p (y ∷ es) all fault (turns f more) k x below is = read_have_names R s tail _ _ (y ∷ es) all fault more k x below is
+module _ (R : Region) (s : Super) (tail : ℕ) where
+  pub read_have_names : {pages : List ℕ} {p : ℕ} {es : List Placed} {all : List ℕ} {fault : Option LogEnd} → ReadsOn R s tail pages p es all fault → HaveNames es
+  read_have_names (ends f) k x below is = absurd (omega (arith, below))
+  read_have_names (reads f more) zero x below is = subst (λ (z : Placed). HasName z.entry) (sym is) (has_name R _ _ (got_entry R s tail _ _ _ f).here.0)
+  read_have_names (reads f more) (suc k) x below is = read_have_names more k x (omega (arith, below)) is
+  read_have_names (turns f more) k x below is = read_have_names more k x below is

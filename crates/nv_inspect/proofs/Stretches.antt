@@ -1,10 +1,10 @@
 -- Pages of which an entry says something, stretch by stretch.
 use Rattle.std.proofs.Common.{◌≡◌, ◌≢◌, ◌∙◌, ◌+◌, ◌-◌, ◌<◌, ◌≤◌, ℕ, Bool, true, false, cond, ◌&&◌, if◌then◌else◌, nat_le, nat_lt, List, Option, Some, None, refl, ap, sym, subst, arith, inl, inr, ◌⊎◌}
-use Rattle.std.specs.Prelude.{IsTrue}
+use Rattle.std.specs.Prelude.{IfSome, IsTrue}
 use Rattle.std.proofs.lemmas.Bool.{cases_lt, false≢true}
 use Rattle.nv_inspect.specs.declared.pieces.Piece.{Piece}
 use Rattle.nv_inspect.specs.Held.{piece_at, page_holder, said_piece, is_among, is_before, Marks}
-use Rattle.nv_inspect.proofs.Among.{and_false, and_split, below_end, is_among_both, is_among_split, is_lt, no_le, no_lt}
+use Rattle.nv_inspect.proofs.Among.{and_false, and_split, below_end, is_among_both, is_among_split, is_lt, lt_is, no_le, no_lt}
 use Rattle.nv_inspect.proofs.Marking.{marks_as, marks_none, marks_then}
 
 -- ---- what is said
@@ -40,8 +40,8 @@ module _ (first : ℕ) (end shift : Option ℕ) (by : ℕ) (old now : List (ℕ 
     ]
   ] refl where
     reached : (e : Option ℕ) (p : ℕ) → is_before e page ≡ false → IsTrue (is_before e p) → p < page
-    reached None p no yes = absurd (false≢true (sym no))
-    reached (Some e) p no yes = below_end e p page no yes
+    reached None p never yes = absurd (false≢true (sym never))
+    reached (Some e) p never yes = below_end e p page never yes
 
   -- one stretch further
   module _ (new : List (ℕ × Piece)) (stretch_end to : Option ℕ) (piece : Piece) (so_far : IsSaidTo first end shift by old now page)
@@ -85,15 +85,15 @@ module _ (first : ℕ) (end shift : Option ℕ) (by : ℕ) (old now : List (ℕ 
     said_all is p = elim (is_among first end p) as (λ (t : Bool). is_among first end p ≡ t → piece_at new p ≡ cond t (said_piece by shift (piece_at old p)) (piece_at old p)) [
       | true ↦ λ among. elim (cases_lt p page) [
         | inl less ↦ set_front p less ∙ so_far.said p (is_among_split first end p among).0 less
-        | inr past ↦ set_here p past (open p)
+        | inr past ↦ set_here p past (endless p)
       ]
       | false ↦ λ out. elim (cases_lt p first) [
         | inl less ↦ set_front p (let from = so_far.from in omega (arith, less, from)) ∙ so_far.before p less
-        | inr from ↦ absurd (false≢true (sym out ∙ is_among_both first end p from (ends p (open p)).1))
+        | inr from ↦ absurd (false≢true (sym out ∙ is_among_both first end p from (ends p (endless p)).1))
       ]
     ] refl where
-      open : (p : ℕ) → IsTrue (is_before to p)
-      open p = ap (λ (e : Option ℕ). is_before e p) is
+      endless : (p : ℕ) → IsTrue (is_before to p)
+      endless p = ap (λ (e : Option ℕ). is_before e p) is
 
 -- ---- who holds them
 
@@ -114,11 +114,11 @@ module _ (pieces : List (ℕ × Piece)) (first : ℕ) (end : Option ℕ) (by : �
 
   pub front_all : (page : ℕ) (old new : List (Option ℕ)) → is_before end page ≡ false → Marks by (HoldsFront pieces first end page) old new → Marks by (HoldsPage pieces first end) old new
   front_all page old new done marks = marks_as by (HoldsFront pieces first end page) (HoldsPage pieces first end) old new
-      (λ k h. (h.at, (h.among, h.holds)))
-      (λ k h. record { at = h.0; among = h.1.0; front = reached end h.0 done (is_among_split first end h.0 h.1.0).1; holds = h.1.1 }) marks where
+      (λ k h. (h.at, h.among, h.holds))
+      (λ k h. record { at = h.0; among = h.1; front = reached end h.0 done (is_among_split first end h.0 h.1).1; holds = h.2 }) marks where
     reached : (e : Option ℕ) (p : ℕ) → is_before e page ≡ false → IsTrue (is_before e p) → p < page
-    reached None p no yes = absurd (false≢true (sym no))
-    reached (Some e) p no yes = below_end e p page no yes
+    reached None p never yes = absurd (false≢true (sym never))
+    reached (Some e) p never yes = below_end e p page never yes
 
   module _ (page : ℕ) (stretch_end : Option ℕ) (piece : Piece) (from : first ≤ page) (before : IsTrue (is_before end page)) (here : piece ≡ piece_at pieces page)
       (same : (p : ℕ) → IsTrue (is_among page stretch_end p) → piece_at pieces p ≡ piece_at pieces page) (old mid new : List (Option ℕ))
@@ -145,10 +145,22 @@ module _ (pieces : List (ℕ × Piece)) (first : ℕ) (end : Option ℕ) (by : �
     pub front_open : stretch_end ≡ None → Marks by (HoldsPage pieces first end) old new
     front_open is = marks_then by (HoldsFront pieces first end page) (λ (k : ℕ). piece.holder ≡ Some k) (HoldsPage pieces first end) old mid new first_marks next_marks
         (λ k h. elim h [
-          | inl w ↦ (w.at, (w.among, w.holds))
-          | inr e ↦ (page, (is_among_both first end page from before, holds_here k e))
+          | inl w ↦ (w.at, w.among, w.holds)
+          | inr e ↦ (page, is_among_both first end page from before, holds_here k e)
         ])
         (λ k h. elim (cases_lt h.0 page) [
-          | inl less ↦ inl (record { at = h.0; among = h.1.0; front = less; holds = h.1.1 })
-          | inr past ↦ inr (holder_of h.0 k past (ap (λ (e : Option ℕ). is_before e h.0) is) h.1.1)
+          | inl less ↦ inl (record { at = h.0; among = h.1; front = less; holds = h.2 })
+          | inr past ↦ inr (holder_of h.0 k past (ap (λ (e : Option ℕ). is_before e h.0) is) h.2)
         ])
+
+-- ---- the end of a stretch
+
+before_stretch : (stretch_end : Option ℕ) (page : ℕ) → IfSome stretch_end (λ e. page < e) → is_before stretch_end page ≡ true
+before_stretch None page ahead = refl
+before_stretch (Some e) page ahead = is_lt page e ahead
+
+pub before_to : (stretch_end end to : Option ℕ) (page : ℕ) → IfSome stretch_end (λ e. page < e) → is_before end page ≡ true → is_before to page ≡ (is_before stretch_end page && is_before end page) → is_before to page ≡ true
+before_to stretch_end end to page ahead before both = both ∙ ap (λ (t : Bool). t && is_before end page) (before_stretch stretch_end page ahead) ∙ before
+
+pub next_ahead : (to : Option ℕ) (page next : ℕ) → to ≡ Some next → is_before to page ≡ true → page < next
+next_ahead to page next is before = lt_is page next (sym (ap (λ (e : Option ℕ). is_before e page) is) ∙ before)

@@ -208,4 +208,4 @@ marks_next_entry by x h old is = subst (λ (e : Entry). Marks by (LosesOne (plac
 -- all pages are among these
 pub marks_each_page : (by : ℕ) (h : Held) (old new : List (Option ℕ)) → Marks by (λ (k : ℕ). (p : ℕ) × IsTrue (is_among 0 None p) × (page_holder h.pages.entries p ≡ Some k)) old new → Marks by (HoldsAPage h) old new
 marks_each_page by h old new marks = marks_as by (λ (k : ℕ). (p : ℕ) × IsTrue (is_among 0 None p) × (page_holder h.pages.entries p ≡ Some k)) (HoldsAPage h) old new
-    (λ k w. (w.0, w.1.1)) (λ k w. (w.0, (among_open 0 w.0 (omega arith), w.1))) marks
+    (λ k w. (w.0, w.2)) (λ k w. (w.0, among_open 0 w.0 (omega arith), w.1)) marks

@@ -10,7 +10,7 @@ ghost use Rattle.nv_entry.specs.Content.{is_write_out_of_range};
 ghost use Rattle.nv_scan.specs.State.{block_in, cuts};
 ghost use Rattle.nv_inspect.specs.Held.{block_held, is_among, page_holder, piece_at, said_piece, same_shift, Loses, Marks, Says};
 
-use crate::pieces::{Piece, Pieces, earlier, is_before, set, stretch};
+use crate::pieces::{Piece, Pieces, earlier, is_before, set, stretch_at};
 use crate::word::mark;
 use nv_entry::{Entry, WriteEntry};
 use nv_radix::MAX_FILE_PAGES;
@@ -30,7 +30,7 @@ pub(crate) fn mark_pages(
 {
     let mut page = first;
     while is_before(end, page) {
-        let here = stretch(pieces, page);
+        let here = stretch_at(pieces, page);
         mark(takers, here.piece.holder, by);
         match here.end {
             Some(next) => page = next,
@@ -54,7 +54,7 @@ fn say(
 {
     let mut page = first;
     while is_before(end, page) {
-        let here = stretch(pieces, page);
+        let here = stretch_at(pieces, page);
         let to = earlier(here.end, end);
         set(pieces, page, to, said(here.piece, shift, by))?;
         match to {

@@ -28,19 +28,19 @@ pub(crate) struct Stretch {
 }
 
 /// The piece that a page stands in, and how far it goes on.
-pub(crate) fn stretch(pieces: &Pieces, page: u64) -> Stretch
+pub(crate) fn stretch_at(pieces: &Pieces, page: u64) -> Stretch
     ensures piece { result.piece ≡ piece_at pieces.now.entries page }
     ensures ahead { IfSome result.end (λ end. page < end) }
     ensures same { (p : ℕ) → IsTrue (is_among page result.end p) → piece_at pieces.now.entries p ≡ piece_at pieces.now.entries page }
 {
     Stretch {
-        piece: piece(pieces, page),
+        piece: piece_of(pieces, page),
         end: next(pieces, page),
     }
 }
 
 /// The piece that a page stands in.
-fn piece(pieces: &Pieces, page: u64) -> Piece
+fn piece_of(pieces: &Pieces, page: u64) -> Piece
     ensures { result ≡ piece_at pieces.now.entries page }
 {
     match last_up_to(pieces, page) {
@@ -101,7 +101,7 @@ fn set_before(pieces: &mut Pieces, first: u64, end: u64, new: Piece) -> Result<(
     requires { first < end }
     ensures { OnOk result ((p : ℕ) → piece_at pieces.new.entries p ≡ (if is_among first (Some end) p then new else piece_at pieces.old.entries p)) }
 {
-    let behind = piece(pieces, end);
+    let behind = piece_of(pieces, end);
     clear(pieces, first, Some(end));
     put(pieces, first, new)?;
     put(pieces, end, behind)?;
@@ -113,7 +113,7 @@ fn put(pieces: &mut Pieces, page: u64, new: Piece) -> Result<(), AllocError>
     ensures here { OnOk result (piece_at pieces.new.entries page ≡ new) }
     ensures others { OnOk result ((q : ℕ) → q ≢ page → key_at pieces.new.entries q ≡ key_at pieces.old.entries q) }
 {
-    if piece(pieces, page) != new {
+    if piece_of(pieces, page) != new {
         let _had = pieces.insert(page, new)?;
     }
     Ok(())

@@ -4,8 +4,8 @@ use Rattle.nv_inspect.proofs.Stretches.{HoldsFront}
 use Rattle.nv_inspect.proofs.pages.mark_pages.Given as goal
 
 -- the holders of the pages before this one are marked
-abbrev pub invariant-loop-page : goal.invariant-loop-page
-invariant-loop-page l = (l.first ≤ l.page) × Marks l.by (HoldsFront l.pieces.entries l.first l.end l.page) l.initial.takers l.takers
+abbrev pub invariant-loop-end : goal.invariant-loop-end
+invariant-loop-end l = (l.first ≤ l.page) × Marks l.by (HoldsFront l.pieces.entries l.first l.end l.page) l.initial.takers l.takers
 
-abbrev pub decreases-loop-page : goal.decreases-loop-page
-decreases-loop-page l = 2 ^ 64 - l.page
+abbrev pub decreases-loop-end : goal.decreases-loop-end
+decreases-loop-end l = 2 ^ 64 - l.page

@@ -1,6 +1,6 @@
 -- The piece that a page stands in, by the pages where pieces begin.
 use Rattle.std.proofs.Common.{◌≡◌, ◌≢◌, ◌∙◌, ◌<◌, ◌≤◌, ◌++◌, ℕ, zero, suc, Bool, true, false, cond, ◌&&◌, if◌then◌else◌, nat_le, nat_lt, List, [], ◌∷◌, Option, Some, None, unwrap_or, refl, ap, sym, subst, arith, inl, inr, ◌⊎◌}
-use Rattle.std.specs.Prelude.{IsTrue}
+use Rattle.std.specs.Prelude.{IfNone, IfSome, IsTrue}
 use Rattle.std.specs.declared.ops.Bound.TheVariants.{Included, Excluded, Unbounded}
 use Rattle.std.specs.Ordering.{nat_cmp, is_lt, is_gt}
 use Rattle.std.specs.declared.cmp.Ordering.TheVariants.{Less, Equal, Greater}
@@ -20,15 +20,15 @@ module _ {V : Type 0} (none : V) where
 
   -- as far as none begins
   pub stays : (keys : ℕ → Option V) (p q : ℕ) → p ≤ q → ((r : ℕ) → p < r → r ≤ q → keys r ≡ None) → value_at none keys q ≡ value_at none keys p
-  stays keys p zero from no = ap (value_at none keys) (omega (arith, from))
-  stays keys p (suc q) from no = elim (cases_lt q p) [
-    | inl less ↦ ap (value_at none keys) (omega (arith, from, less))
-    | inr more ↦ ap (λ (o : Option V). unwrap_or o (value_at none keys q)) (no (suc q) (omega (arith, more)) (omega arith)) ∙ stays keys p q more (λ r over to. no r over (omega (arith, to)))
+  stays keys p zero from never = (let place : zero ≡ p = omega (arith, from) in ap (value_at none keys) place)
+  stays keys p (suc q) from never = elim (cases_lt q p) [
+    | inl less ↦ (let place : suc q ≡ p = omega (arith, from, less) in ap (value_at none keys) place)
+    | inr more ↦ ap (λ (o : Option V). unwrap_or o (value_at none keys q)) (never (suc q) (omega (arith, more)) (omega arith)) ∙ stays keys p q more (λ r over to. never r over (omega (arith, to)))
   ]
 
   pub nowhere : (keys : ℕ → Option V) (p : ℕ) → ((q : ℕ) → q ≤ p → keys q ≡ None) → value_at none keys p ≡ none
-  nowhere keys zero no = ap (λ (o : Option V). unwrap_or o none) (no zero (omega arith))
-  nowhere keys (suc p) no = ap (λ (o : Option V). unwrap_or o (value_at none keys p)) (no (suc p) (omega arith)) ∙ nowhere keys p (λ q to. no q (omega (arith, to)))
+  nowhere keys zero never = ap (λ (o : Option V). unwrap_or o none) (never zero (omega arith))
+  nowhere keys (suc p) never = ap (λ (o : Option V). unwrap_or o (value_at none keys p)) (never (suc p) (omega arith)) ∙ nowhere keys p (λ q to. never q (omega (arith, to)))
 
   -- the same begin up to a page
   pub same_front : (keys other : ℕ → Option V) (p : ℕ) → ((q : ℕ) → q ≤ p → keys q ≡ other q) → value_at none keys p ≡ value_at none other p
@@ -39,9 +39,9 @@ module _ {V : Type 0} (none : V) where
 
   -- a page stands in the same, and the same begin behind it
   pub same_behind : (keys other : ℕ → Option V) (e p : ℕ) → e ≤ p → value_at none keys e ≡ value_at none other e → ((q : ℕ) → e < q → keys q ≡ other q) → value_at none keys p ≡ value_at none other p
-  same_behind keys other e zero from at same = subst (λ (n : ℕ). value_at none keys n ≡ value_at none other n) (omega (arith, from)) at
+  same_behind keys other e zero from at same = (let place : e ≡ zero = omega (arith, from) in subst (λ (n : ℕ). value_at none keys n ≡ value_at none other n) place at)
   same_behind keys other e (suc p) from at same = elim (cases_lt p e) [
-    | inl less ↦ subst (λ (n : ℕ). value_at none keys n ≡ value_at none other n) (omega (arith, from, less)) at
+    | inl less ↦ (let place : e ≡ suc p = omega (arith, from, less) in subst (λ (n : ℕ). value_at none keys n ≡ value_at none other n) place at)
     | inr more ↦ ap (λ (o : Option V). unwrap_or o (value_at none keys p)) (same (suc p) (omega (arith, more)))
         ∙ ap (λ (v : V). unwrap_or (other (suc p)) v) (same_behind keys other e p more at same)
   ]
@@ -121,3 +121,18 @@ module _ (pieces : BTreeMap ℕ Piece) (page : ℕ) (r : List (ℕ × Piece)) (r
 
   pub no_piece_yet : r ≡ [] → piece_at pieces.entries page ≡ no_piece
   no_piece_yet is = nowhere no_piece (key_at pieces.entries) page (λ q to. range.5 is q (tt, le_to q page to))
+
+-- ---- what the next piece says
+
+pub same_to : (pieces : List (ℕ × Piece)) (page : ℕ) (end : Option ℕ) → IfSome end (λ next. (page < next) × ((q : ℕ) → page < q → q < next → key_at pieces q ≡ None)) → IfNone end ((q : ℕ) → page < q → key_at pieces q ≡ None)
+    → (p : ℕ) → IsTrue (is_among page end p) → piece_at pieces p ≡ piece_at pieces page
+same_to pieces page None some without p among = stays no_piece (key_at pieces) page p (is_among_split page None p among).0 (λ r over to. without r over)
+same_to pieces page (Some next) some without p among = stays no_piece (key_at pieces) page p (is_among_split page (Some next) p among).0
+    (λ r over to. some.1 r over (let below = among_to page next p among in omega (arith, to, below)))
+
+pub if_none : {T : Type 0} (o : Option T) (P : Type 0) → P → IfNone o P
+if_none None P p = p
+if_none (Some t) P p = tt
+
+pub no_pieces : (pieces : List (ℕ × Piece)) → pieces ≡ [] → (p : ℕ) → piece_at pieces p ≡ no_piece
+no_pieces pieces empty p = ap (λ (es : List (ℕ × Piece)). piece_at es p) empty ∙ nowhere no_piece (key_at []) p (λ q to. refl)
