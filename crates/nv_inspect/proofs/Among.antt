@@ -24,7 +24,7 @@ pub no_lt : (x y : ℕ) → y ≤ x → nat_lt x y ≡ false
 no_lt x y h = grind (arith, nat_tests)
 
 pub below_end : (e p page : ℕ) → nat_lt page e ≡ false → nat_lt p e ≡ true → p < page
-below_end e p page never yes = grind (arith, nat_tests)
+below_end e p page never is_so = grind (arith, nat_tests)
 
 pub and_split : (b c : Bool) → (b && c) ≡ true → (b ≡ true) × (c ≡ true)
 and_split true c h = (refl, h)

@@ -34,7 +34,7 @@ some_there es m less none = elim (slice_get_cases es m).1 [
 abbrev unmarked_one : Option ℕ
 unmarked_one = None
 
-length_unmarked : (n : ℕ) → length (replicate n unmarked_one) ≡ n
+pub length_unmarked : (n : ℕ) → length (replicate n unmarked_one) ≡ n
 length_unmarked zero = refl
 length_unmarked (suc n) = ap suc (length_unmarked n)
 

@@ -55,7 +55,7 @@ module _ (R : Region) (l : Layout) (row : Row) where
       let fates : a.3 ≡ b.3 = fates_once l.sup row.kind (created_at R l row.inode) b.0 a.3 b.3 (subst (λ (es : List Placed). AreFates l.sup row.kind (created_at R l row.inode) es a.3) same.0 a.5) b.5 in
       a.6 ∙ (λ i. read_text l.sup row (same.0 i) (fates i) (same.1 i) (same.2 i)) ∙ sym b.6
 
-  rest_once : (b : Bool) (text other : List ℕ) → MatchBool b (Told text) (text ≡ line (codes "  never log, by I3")) → MatchBool b (Told other) (other ≡ line (codes "  never log, by I3")) → text ≡ other
+  rest_once : (b : Bool) (text other : List ℕ) → MatchBool b (Told text) (text ≡ line (codes "  no log, by I3")) → MatchBool b (Told other) (other ≡ line (codes "  no log, by I3")) → text ≡ other
   rest_once true text other x y = told_once text other x y
   rest_once false text other x y = x ∙ sym y
 

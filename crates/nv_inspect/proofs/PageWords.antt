@@ -134,8 +134,8 @@ module _ (by : ℕ) (e : WriteEntry) (good : IsGoodWrite e) (shift : ℕ) (shift
   LosesWritten k = (p : ℕ) × Loses (block_in p (Write e)) (page_holder old p) k
 
   written_some : (p : ℕ) (t : Bool) → in_run e.offset e.count p ≡ t → t ≡ true → IsSome (block_in p (Write e))
-  written_some p true is yes = rw is refl
-  written_some p false is yes = absurd (false≢true yes)
+  written_some p true is is_so = rw is refl
+  written_some p false is is_so = absurd (false≢true is_so)
 
   same_holder : (p : ℕ) → in_run e.offset e.count p ≡ false → page_holder mid p ≡ page_holder old p
   same_holder p outside = ap (λ (x : Piece). x.holder) (mid_at p false outside)

@@ -40,8 +40,8 @@ module _ (first : ℕ) (end shift : Option ℕ) (by : ℕ) (old now : List (ℕ 
     ]
   ] refl where
     reached : (e : Option ℕ) (p : ℕ) → is_before e page ≡ false → IsTrue (is_before e p) → p < page
-    reached None p never yes = absurd (false≢true (sym never))
-    reached (Some e) p never yes = below_end e p page never yes
+    reached None p never is_so = absurd (false≢true (sym never))
+    reached (Some e) p never is_so = below_end e p page never is_so
 
   -- one stretch further
   module _ (new : List (ℕ × Piece)) (stretch_end to : Option ℕ) (piece : Piece) (so_far : IsSaidTo first end shift by old now page)
@@ -117,8 +117,8 @@ module _ (pieces : List (ℕ × Piece)) (first : ℕ) (end : Option ℕ) (by : �
       (λ k h. (h.at, h.among, h.holds))
       (λ k h. record { at = h.0; among = h.1; front = reached end h.0 done (is_among_split first end h.0 h.1).1; holds = h.2 }) marks where
     reached : (e : Option ℕ) (p : ℕ) → is_before e page ≡ false → IsTrue (is_before e p) → p < page
-    reached None p never yes = absurd (false≢true (sym never))
-    reached (Some e) p never yes = below_end e p page never yes
+    reached None p never is_so = absurd (false≢true (sym never))
+    reached (Some e) p never is_so = below_end e p page never is_so
 
   module _ (page : ℕ) (stretch_end : Option ℕ) (piece : Piece) (from : first ≤ page) (before : IsTrue (is_before end page)) (here : piece ≡ piece_at pieces page)
       (same : (p : ℕ) → IsTrue (is_among page stretch_end p) → piece_at pieces p ≡ piece_at pieces page) (old mid new : List (Option ℕ))

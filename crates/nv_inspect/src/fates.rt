@@ -3,8 +3,9 @@
 //! The entries are taken one after another. Each holds what would be another without it, until a later entry says something of that.
 //! An entry that holds nothing any more is dead, by the one that took the last from it.
 
-ghost use Rattle.std.specs.Prelude.{◌≡◌, replicate, length, IfOk, OnOk, None};
+ghost use Rattle.std.specs.Prelude.{◌≡◌, ℕ, ◌<◌, replicate, length, get_or, IfOk, OnOk, None};
 ghost use Rattle.nv_super.specs.Layout.{HasAreas};
+ghost use Rattle.nv_inspect.specs.declared.fate.Fate.TheVariants.{Stands};
 ghost use Rattle.nv_inspect.specs.Dead.{AreFates};
 ghost use Rattle.nv_inspect.specs.Held.{AreTakers, HaveNames, HoldsAll, fate_with};
 
@@ -33,6 +34,22 @@ pub(crate) fn fates_of(
     let held = take_all(alloc, sup, kind, created, entries, &mut takers)?;
     let mut holders = unmarked(alloc, entries.len())?;
     held.mark_holders(0, &mut holders)?;
+    let fates = fates_by(alloc, entries, &takers, &holders)?;
+    Ok(fates)
+}
+
+/// The fate of each entry by its taker, and whether it is marked as a holder.
+fn fates_by(
+    alloc: Global,
+    entries: &[Placed],
+    takers: &[Option<u64>],
+    holders: &[Option<u64>],
+) -> Result<Vec<Fate>, AllocError>
+    requires takers { length takers.now ≡ length entries.now }
+    requires holders { length holders.now ≡ length entries.now }
+    ensures long { IfOk result (λ fates. length fates.items ≡ length entries.now) }
+    ensures each { IfOk result (λ fates. (k : ℕ) → k < length entries.now → get_or fates.items k Stands ≡ fate_with entries.now (get_or takers.now k None) (get_or holders.now k None)) }
+{
     let mut fates = Vec::new(alloc);
     for place in 0..entries.len() {
         fates.push(fate(entries, takers[place], holders[place]))?;

@@ -1,6 +1,6 @@
 //! The text of the log of an inode in use.
 
-ghost use Rattle.std.specs.Prelude.{◌≡◌, ◌++◌, List, ℕ, Option, true, length, OnOk, string_bytes};
+ghost use Rattle.std.specs.Prelude.{◌≡◌, ◌++◌, List, ℕ, Option, true, length, get_or, ◌<◌, OnOk, string_bytes};
 ghost use Rattle.nv_region.specs.Region.{HasBlocks};
 ghost use Rattle.nv_super.specs.Layout.{HasAreas};
 ghost use Rattle.nv_inode.specs.Slot.{is_right_log};
@@ -8,6 +8,7 @@ ghost use Rattle.nv_logpage.specs.declared.found.LogEnd.{LogEnd as LogEndValue};
 ghost use Rattle.nv_logpage.specs.declared.found.Placed.{Placed as PlacedValue};
 ghost use Rattle.nv_logpage.specs.Reads.{Reads};
 ghost use Rattle.nv_inspect.specs.declared.fate.Fate.{Fate as FateValue};
+ghost use Rattle.nv_inspect.specs.declared.fate.Fate.TheVariants.{Stands};
 ghost use Rattle.nv_inspect.specs.Dead.{AreFates};
 ghost use Rattle.nv_inspect.specs.Log.{IsLogText, created_at, lines_of, end_line, head_line, log_fault_word, read_text};
 
@@ -148,9 +149,17 @@ fn push_lines(
     let mut left = pages;
     for (place, placed) in entries.iter().enumerate() {
         left = push_links_to(out, left, placed.at / BLOCK_SIZE)?;
-        push_entry(out, sup, row, fates[place], placed)?;
+        push_entry(out, sup, row, fate_at(fates, place), placed)?;
     }
     push_links(out, left)
+}
+
+// What became of the entry at a place.
+fn fate_at(fates: &[Fate], place: usize) -> Fate
+    requires { place < length fates.now }
+    ensures { result ≡ get_or fates.now place Stands }
+{
+    fates[place]
 }
 
 // Where the reading ended.
