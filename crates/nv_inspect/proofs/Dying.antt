@@ -1,9 +1,10 @@
 -- The entries of a log that are dead, by what holds each subject, and one entry further.
-use Rattle.std.proofs.Common.{◌≡◌, ◌∙◌, ◌+◌, ◌<◌, ◌≤◌, ℕ, Bool, true, false, List, [], ◌∷◌, ◌++◌, length, get_or, take, drop,  Option, Some, None, unwrap_or, refl, ap, sym, zero, suc, append-nil, subst, arith, inl, inr, ◌⊎◌, append_assoc}
+use Rattle.std.proofs.Common.{◌≡◌, ◌∙◌, ◌+◌, ◌<◌, ◌≤◌, ℕ, Bool, true, false, List, [], ◌∷◌, ◌++◌, length, get_or, take, drop, Option, Some, None, unwrap_or, refl, ap, sym, zero, suc, append-nil, subst, arith, inl, inr, ◌⊎◌, append_assoc}
 use Rattle.std.specs.Prelude.{replicate, slice_get}
 use Rattle.std.specs.Option.{IsSome}
 use Rattle.std.specs.List.{remove}
 use Rattle.std.proofs.lemmas.Bool.{cases_lt}
+use Rattle.std.proofs.Math.Seq.{take-append_seam}
 use Rattle.std.proofs.lemmas.List.{take-append-drop, take-append-le, take_all, take_more, length-take, length-take-le, get_or_past}
 use Rattle.std.proofs.lemmas.Option.{slice_get_cases}
 use Rattle.nv_super.specs.declared.superblock.Super.{Super}
@@ -24,6 +25,10 @@ use Rattle.nv_inspect.specs.declared.pieces.Piece.{Piece}
 use Rattle.nv_inspect.specs.Dead.{AreFates, IsDead, IsDeadFrom, IsFate}
 use Rattle.nv_inspect.specs.Held.{Subject, the_size, the_mode, the_owner, the_group, the_links, the_time, the_page, the_name, Value, says, unsaid, word_on, value_in, holder_in, IsHeld, IsHolder, IsTaken, Says, Loses, Marks, HoldsAll, HoldsOne, LosesOne, TakesGood, IsTaker, AreTakers, fate_with, fate_by, killed_by, piece_at, no_piece, block_held, page_holder, block_by_shift, name_holder}
 use Rattle.nv_inspect.proofs.Holders.{held_more, still_held, inner_or_last, one_longer, remove_inner}
+
+-- what was written to the front of a list, where it fills it
+pub front_only : {A : Type 0} (n : ℕ) (xs ys : List A) → n ≡ length xs → take n (xs ++ ys) ≡ xs
+front_only n xs ys is = ap (λ (m : ℕ). take m (xs ++ ys)) is ∙ take-append_seam xs ys
 
 some_there : (es : List Placed) (m : ℕ) → m < length es → slice_get es m ≡ None → ⊥
 some_there es m less none = elim (slice_get_cases es m).1 [
@@ -106,8 +111,8 @@ module _ (s : Super) (kind : Kind) (created : ℕ) where
   dead_more es x k dead = record {
     there = (let there = dead.there in let long = one_longer es x in omega (arith, there, long));
     same = same_state (es ++ x ∷ []) (remove (es ++ x ∷ []) k) (λ subject.
-      ap (word subject) (remove_inner es x k dead.there) ∙ law subject (remove es k) x (is_good s kind x.entry) refl
-      ∙ ap (word_after (is_good s kind x.entry) (says subject x)) (same_words es (remove es k) dead.same subject) ∙ sym (law subject es x (is_good s kind x.entry) refl));
+        ap (word subject) (remove_inner es x k dead.there) ∙ law subject (remove es k) x (is_good s kind x.entry) refl
+        ∙ ap (word_after (is_good s kind x.entry) (says subject x)) (same_words es (remove es k) dead.same subject) ∙ sym (law subject es x (is_good s kind x.entry) refl));
   }
 
   dead_longer : (es more : List Placed) (k : ℕ) → Dead es k → Dead (es ++ more) k
@@ -161,17 +166,21 @@ module _ (s : Super) (kind : Kind) (created : ℕ) where
   -- of an entry from which nothing was taken
   taker_kept : (es : List Placed) (x : Placed) (k : ℕ) → k < length es → (Dead (es ++ x ∷ []) k → Dead es k) → (taker : Option ℕ) → Taker es k taker → Taker (es ++ x ∷ []) k taker
   taker_kept es x k below back None was = λ dead. subst (λ (ys : List Placed). Dead ys k) (sym (inner_take es x (k + 1) (omega arith))) (was (back dead))
-  taker_kept es x k below back (Some m) was = (was.0,
+  taker_kept es x k below back (Some m) was = (
+    was.0,
     (let inside = was.1 in let long = one_longer es x in omega (arith, inside, long)),
     (λ dead. subst (λ (ys : List Placed). Dead ys k) (sym (inner_take es x (m + 1) (let inside = was.1 in omega (arith, inside)))) (was.2 (back dead))),
-    (λ dead. was.3 (subst (λ (ys : List Placed). Dead ys k) (inner_take es x m (let inside = was.1 in omega (arith, inside))) dead)))
+    (λ dead. was.3 (subst (λ (ys : List Placed). Dead ys k) (inner_take es x m (let inside = was.1 in omega (arith, inside))) dead)),
+  )
 
   -- of an entry from which this one takes something
   taker_now : (es : List Placed) (x : Placed) (h : Held) (k : ℕ) → HoldsAll s kind created es h → k < length es → HoldsOne h k → Taker (es ++ x ∷ []) k (Some (length es))
-  taker_now es x h k all below one = (below,
+  taker_now es x h k all below one = (
+    below,
     (let long = one_longer es x in omega (arith, long)),
     (λ dead. subst (λ (ys : List Placed). Dead ys k) (sym (whole_take es x)) dead),
-    (λ dead. held_stands es h k all one (subst (λ (ys : List Placed). Dead ys k) (front_take es x) dead)))
+    (λ dead. held_stands es h k all one (subst (λ (ys : List Placed). Dead ys k) (front_take es x) dead)),
+  )
 
   -- of the entry itself
   taker_last : (es : List Placed) (x : Placed) (k : ℕ) → k ≡ length es → Taker (es ++ x ∷ []) k None

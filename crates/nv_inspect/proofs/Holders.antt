@@ -31,8 +31,10 @@ module _ {V : Type 0} (word : List Placed → V) (es : List Placed) (x : Placed)
 
     pub still_held : IsHolder word (es ++ x ∷ []) holder
     still_held = record {
-      by = λ k h. (let b = is.by k h in (let long = one_longer es x in let in_es = b.0 in omega (arith, in_es, long)),
-          λ e. (is.by k h).1 (sym (inner_same k (is.by k h).0) ∙ e ∙ same es));
+      by = λ k h. (
+        let b = is.by k h in (let long = one_longer es x in let in_es = b.0 in omega (arith, in_es, long)),
+        λ e. (is.by k h).1 (sym (inner_same k (is.by k h).0) ∙ e ∙ same es),
+      );
       others = λ k below never. elim (inner_or_last es x k below) [
         | inl less ↦ inner_same k less ∙ is.others k less never ∙ sym (same es)
         | inr last ↦ ap word (remove_last es x k last) ∙ sym (same es)

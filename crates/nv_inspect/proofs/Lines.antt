@@ -26,6 +26,6 @@ lines_next s row fates left entries place x fate long below is fate_is =
     ∙ ap (λ (fs : List Fate). lines_of s row fs left (x ∷ drop (place + 1) entries)) (front_of fates place fate (omega (arith, long, below)) (fate_is ∙ get_or_default fates place Stands fate (omega (arith, long, below))))
 
 -- a text with a line more, and the lines that are left
-pub lines_step : (before linked told links entry rest lines whole : List ℕ) → linked ≡ before ++ links → told ≡ linked ++ entry → lines ≡ links ++ (entry ++ rest) → before ++ lines ≡ whole → told ++ rest ≡ whole
+pub lines_step : (before linked told links entry rest lines whole : List ℕ) → linked ≡ before ++ links → told ≡ linked ++ entry → lines ≡ links ++ entry ++ rest → before ++ lines ≡ whole → told ++ rest ≡ whole
 lines_step before linked told links entry rest lines whole first second next so_far =
-    ap (λ (t : List ℕ). t ++ rest) (second ∙ ap (λ (t : List ℕ). t ++ entry) first) ∙ append_assoc (before ++ links) entry rest ∙ append_assoc before links (entry ++ rest) ∙ ap (λ (t : List ℕ). before ++ t) (sym next) ∙ so_far
+    ap (λ (t : List ℕ). t ++ rest) (second ∙ ap (λ (t : List ℕ). t ++ entry) first ∙ append_assoc before links entry) ∙ append_assoc before (links ++ entry) rest ∙ ap (λ (t : List ℕ). before ++ t) (sym next) ∙ so_far

@@ -43,21 +43,21 @@ module _ (by : ℕ) (listed : List Named) where
   all_told of n old new has fits marks = marks_as by (TellsOf listed n) (λ (k : ℕ). (q : List ℕ) × (option_map first_of (name_at of q) ≡ Some k)) old new
       (λ k t. (t.line.name.now, ap (option_map first_of) (target t.line (t.at, slice_get_within listed t.at t.line t.is, get_or_from_slice_get listed t.at t.line t.line t.is)) ∙ ap Some t.tells))
       (λ k w. from_name k w.0 w.1 (name_at of w.0) refl) marks where
-    target : (line : Named) → Contains listed line → name_at of line.name.now ≡ Some (line.inode, line.place)
-    target line c = named_line of listed has line c
+        target : (line : Named) → Contains listed line → name_at of line.name.now ≡ Some (line.inode, line.place)
+        target line c = named_line of listed has line c
 
-    from_name : (k : ℕ) (q : List ℕ) → option_map first_of (name_at of q) ≡ Some k → (o : Option (ℕ × ℕ)) → name_at of q ≡ o → TellsOf listed n k
-    from_name k q holds None at = absurd (let none : option_map first_of (name_at of q) ≡ None = ap (option_map first_of) at in cc)
-    from_name k q holds (Some x) at =
-        let c = has.all q (subst (λ (o : Option (ℕ × ℕ)). IsSome o) (sym at) refl) in
-        let w = from_map (λ (e : List ℕ × ℕ × ℕ). e.0) (map line_of listed) q c in
-        let v = from_map line_of listed w.0 w.1 in
-        let line = v.0 in
-        let name : line.name.now ≡ q = sym (w.2 ∙ ap (λ (e : List ℕ × ℕ × ℕ). e.0) v.2) in
-        record {
-          at = v.1.0;
-          line = line;
-          front = (let below = v.1.1 in omega (arith, below, fits));
-          is = slice_get-get_or listed v.1.0 line v.1.1 ∙ ap Some v.1.2;
-          tells = (let told : Some line.inode ≡ Some k = sym (ap (option_map first_of) (target line v.1)) ∙ ap (λ (p : List ℕ). option_map first_of (name_at of p)) name ∙ holds in cc);
-        }
+        from_name : (k : ℕ) (q : List ℕ) → option_map first_of (name_at of q) ≡ Some k → (o : Option (ℕ × ℕ)) → name_at of q ≡ o → TellsOf listed n k
+        from_name k q holds None at = absurd (let none : option_map first_of (name_at of q) ≡ None = ap (option_map first_of) at in cc)
+        from_name k q holds (Some x) at =
+            let c = has.all q (subst (λ (o : Option (ℕ × ℕ)). IsSome o) (sym at) refl) in
+            let w = from_map (λ (e : List ℕ × ℕ × ℕ). e.0) (map line_of listed) q c in
+            let v = from_map line_of listed w.0 w.1 in
+            let line = v.0 in
+            let name : line.name.now ≡ q = sym (w.2 ∙ ap (λ (e : List ℕ × ℕ × ℕ). e.0) v.2) in
+            record {
+              at = v.1.0;
+              line = line;
+              front = (let below = v.1.1 in omega (arith, below, fits));
+              is = slice_get-get_or listed v.1.0 line v.1.1 ∙ ap Some v.1.2;
+              tells = (let told : Some line.inode ≡ Some k = sym (ap (option_map first_of) (target line v.1)) ∙ ap (λ (p : List ℕ). option_map first_of (name_at of p)) name ∙ holds in cc);
+            }

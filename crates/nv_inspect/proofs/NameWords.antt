@@ -29,13 +29,15 @@ module _ (by at : ℕ) (e : NameEntry) (old_targets old_holders : Names) where
       → (q : List ℕ) → Says by (name_in q at (Name e)) (name_at old_targets q) (option_map first_of (name_at old_holders q)) (name_at new_targets q) (option_map first_of (name_at new_holders q))
   name_said given given_is new_targets new_holders said holder is taken set hold q =
       by_test (pointwise nat_eq q e.name) refl (set q ∙ ap (λ (n : List ℕ). cond (pointwise nat_eq q n) said (name_at old_targets q)) given_is) (hold q ∙ ap (λ (n : List ℕ). cond (pointwise nat_eq q n) holder (holder_of old_holders q)) given_is) where
-    by_test : (t : Bool) → pointwise nat_eq q e.name ≡ t → name_at new_targets q ≡ cond t said (name_at old_targets q) → holder_of new_holders q ≡ cond t holder (holder_of old_holders q)
-        → Says by (if t then Some (named_by at e.inode e.operation) else None) (name_at old_targets q) (holder_of old_holders q) (name_at new_targets q) (holder_of new_holders q)
-    by_test true same target held =
-        let name : given ≡ q = given_is ∙ sym (same_keys q e.name same) in
-        (target ∙ is, subst (λ (h : Option ℕ). IsTaken by (name_at old_targets q) (named_by at e.inode e.operation) h) (sym held)
-          (subst (λ (v : Option (ℕ × ℕ)). IsTaken by (name_at old_targets q) v holder) is (subst (λ (n : List ℕ). IsTaken by (name_at old_targets n) said holder) name taken)))
-    by_test false other target held = (target, held)
+        by_test : (t : Bool) → pointwise nat_eq q e.name ≡ t → name_at new_targets q ≡ cond t said (name_at old_targets q) → holder_of new_holders q ≡ cond t holder (holder_of old_holders q)
+            → Says by (if t then Some (named_by at e.inode e.operation) else None) (name_at old_targets q) (holder_of old_holders q) (name_at new_targets q) (holder_of new_holders q)
+        by_test true same target held =
+            let name : given ≡ q = given_is ∙ sym (same_keys q e.name same) in (
+              target ∙ is,
+              subst (λ (h : Option ℕ). IsTaken by (name_at old_targets q) (named_by at e.inode e.operation) h) (sym held)
+                  (subst (λ (v : Option (ℕ × ℕ)). IsTaken by (name_at old_targets q) v holder) is (subst (λ (n : List ℕ). IsTaken by (name_at old_targets n) said holder) name taken)),
+            )
+        by_test false other target held = (target, held)
 
   some_is : (t : Bool) → IsSome (if t then Some (named_by at e.inode e.operation) else None) → t ≡ true
   some_is true h = refl

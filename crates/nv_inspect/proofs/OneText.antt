@@ -42,7 +42,7 @@ module _ (s : Super) (kind : Kind) (created : ℕ) (es : List Placed) where
 
   fates_once : (f g : List Fate) → AreFates s kind created es f → AreFates s kind created es g → f ≡ g
   fates_once f g x y = ext_get_or Stands f g (x.long ∙ sym y.long) (λ k below.
-    (let there : k < length es = (let long = x.long in omega (arith, below, long)) in fate_once k (get_or f k Stands) (get_or g k Stands) (x.each k there) (y.each k there)))
+      (let there : k < length es = (let long = x.long in omega (arith, below, long)) in fate_once k (get_or f k Stands) (get_or g k Stands) (x.each k there) (y.each k there)))
 
 module _ (R : Region) (l : Layout) (row : Row) where
   abbrev Told : List ℕ → Type 0

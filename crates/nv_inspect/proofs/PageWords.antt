@@ -40,7 +40,8 @@ module _ (by p : ℕ) (shift : Option ℕ) (far : (d : ℕ) → shift ≡ Some d
   one_said : (said : Option ℕ) → block_by_shift p shift ≡ said → piece_at new p ≡ said_piece by shift (piece_at old p) → Says by (Some said) (block_held old p) (page_holder old p) (block_held new p) (page_holder new p)
   one_said said is at = (
     ap (λ (x : Piece). block_by_shift p x.shift) at ∙ is,
-    subst (λ (x : Piece). IsTaken by (block_held old p) said x.holder) (sym at) (subst (λ (v : Option ℕ). IsTaken by (block_held old p) v (if same_shift (piece_at old p).shift shift then None else Some by)) is (taken_by by p (piece_at old p).shift shift far)))
+    subst (λ (x : Piece). IsTaken by (block_held old p) said x.holder) (sym at) (subst (λ (v : Option ℕ). IsTaken by (block_held old p) v (if same_shift (piece_at old p).shift shift then None else Some by)) is (taken_by by p (piece_at old p).shift shift far)),
+  )
 
 -- nothing is said of it
 none_said : (by p : ℕ) (old new : List (ℕ × Piece)) → piece_at new p ≡ piece_at old p → Says by None (block_held old p) (page_holder old p) (block_held new p) (page_holder new p)
@@ -123,10 +124,10 @@ module _ (by : ℕ) (e : WriteEntry) (good : IsGoodWrite e) (shift : ℕ) (shift
       → Says by (block_in p (Write e)) (block_held old p) (page_holder old p) (block_held new p) (page_holder new p)
   write_said cut p = elim (in_run e.offset e.count p) as (λ (t : Bool). in_run e.offset e.count p ≡ t → Says by (if t then Some (Some (e.block + (p - e.offset))) else cuts e.size p) (block_held old p) (page_holder old p) (block_held new p) (page_holder new p)) [
     | true ↦ λ inside.
-      let uncut : Says by None (block_held mid p) (page_holder mid p) (block_held new p) (page_holder new p) =
-      subst (λ (t : Bool). Says by (if t then Some None else None) (block_held mid p) (page_holder mid p) (block_held new p) (page_holder new p)) (not_cut_in p inside) (cut p) in
-      let said = one_said by p (Some shift) (far p inside) old mid (Some (e.block + (p - e.offset))) (block_is p inside) (mid_at p true inside) in
-      (uncut.0 ∙ said.0, subst (λ (h : Option ℕ). IsTaken by (block_held old p) (Some (e.block + (p - e.offset))) h) (sym uncut.1) said.1)
+        let uncut : Says by None (block_held mid p) (page_holder mid p) (block_held new p) (page_holder new p) =
+        subst (λ (t : Bool). Says by (if t then Some None else None) (block_held mid p) (page_holder mid p) (block_held new p) (page_holder new p)) (not_cut_in p inside) (cut p) in
+        let said = one_said by p (Some shift) (far p inside) old mid (Some (e.block + (p - e.offset))) (block_is p inside) (mid_at p true inside) in
+        (uncut.0 ∙ said.0, subst (λ (h : Option ℕ). IsTaken by (block_held old p) (Some (e.block + (p - e.offset))) h) (sym uncut.1) said.1)
     | false ↦ λ outside. subst (λ (x : Piece). Says by (cuts e.size p) (block_by_shift p x.shift) x.holder (block_held new p) (page_holder new p)) (mid_at p false outside) (cut p)
   ] refl
 

@@ -110,13 +110,13 @@ module _ (pieces : BTreeMap ℕ Piece) (page : ℕ) (r : List (ℕ × Piece)) (r
       let inside = range.3 e t is in
       let from : e.0 ≤ page = le_from e.0 page inside.0.1 in
       stays no_piece (key_at pieces.entries) e.0 page from (λ q over to.
-        elim (key_at pieces.entries q) as (λ (o : Option Piece). key_at pieces.entries q ≡ o → o ≡ None) [
-          | None ↦ λ h. refl
-          | Some b ↦ λ h. absurd (
-              let past : is_lt (nat_cmp e.0 q) ≡ false = range.4 e t is q (tt, le_to q page to) (rw h refl) in
-              let less : Less ≡ nat_cmp e.0 q = nat_cmp_is e.0 q Less over in
-              false≢true (sym past ∙ ap is_lt (sym less)))
-        ] refl)
+      elim (key_at pieces.entries q) as (λ (o : Option Piece). key_at pieces.entries q ≡ o → o ≡ None) [
+        | None ↦ λ h. refl
+        | Some b ↦ λ h. absurd (
+            let past : is_lt (nat_cmp e.0 q) ≡ false = range.4 e t is q (tt, le_to q page to) (rw h refl) in
+            let less : Less ≡ nat_cmp e.0 q = nat_cmp_is e.0 q Less over in
+            false≢true (sym past ∙ ap is_lt (sym less)))
+      ] refl)
       ∙ here no_piece (key_at pieces.entries) e.0 e.1 inside.1
 
   pub no_piece_yet : r ≡ [] → piece_at pieces.entries page ≡ no_piece

@@ -116,9 +116,9 @@ module _ (pieces : List (ℕ × Piece)) (first : ℕ) (end : Option ℕ) (by : �
   front_all page old new done marks = marks_as by (HoldsFront pieces first end page) (HoldsPage pieces first end) old new
       (λ k h. (h.at, h.among, h.holds))
       (λ k h. record { at = h.0; among = h.1; front = reached end h.0 done (is_among_split first end h.0 h.1).1; holds = h.2 }) marks where
-    reached : (e : Option ℕ) (p : ℕ) → is_before e page ≡ false → IsTrue (is_before e p) → p < page
-    reached None p never is_so = absurd (false≢true (sym never))
-    reached (Some e) p never is_so = below_end e p page never is_so
+        reached : (e : Option ℕ) (p : ℕ) → is_before e page ≡ false → IsTrue (is_before e p) → p < page
+        reached None p never is_so = absurd (false≢true (sym never))
+        reached (Some e) p never is_so = below_end e p page never is_so
 
   module _ (page : ℕ) (stretch_end : Option ℕ) (piece : Piece) (from : first ≤ page) (before : IsTrue (is_before end page)) (here : piece ≡ piece_at pieces page)
       (same : (p : ℕ) → IsTrue (is_among page stretch_end p) → piece_at pieces p ≡ piece_at pieces page) (old mid new : List (Option ℕ))
@@ -139,8 +139,8 @@ module _ (pieces : List (ℕ × Piece)) (first : ℕ) (end : Option ℕ) (by : �
           | inl less ↦ inl (record { at = h.at; among = h.among; front = less; holds = h.holds })
           | inr past ↦ inr (holder_of h.at k past (inside h.at h.front) h.holds)
         ]) where
-      inside : (p : ℕ) → p < next → IsTrue (is_before stretch_end p)
-      inside p below = ap (λ (e : Option ℕ). is_before e p) is ∙ is_lt p next below
+          inside : (p : ℕ) → p < next → IsTrue (is_before stretch_end p)
+          inside p below = ap (λ (e : Option ℕ). is_before e p) is ∙ is_lt p next below
 
     pub front_open : stretch_end ≡ None → Marks by (HoldsPage pieces first end) old new
     front_open is = marks_then by (HoldsFront pieces first end page) (λ (k : ℕ). piece.holder ≡ Some k) (HoldsPage pieces first end) old mid new first_marks next_marks

@@ -88,8 +88,8 @@ pub marks_write : (by at : ℕ) (e : WriteEntry) (h : Held) (old mid mid2 new : 
     → Marks by (LosesPage (λ (p : ℕ). block_in p (Write e)) h) mid2 new → Marks by (LosesOne (placed at (Write e)) h) old new
 marks_write by at e h old mid mid2 new size time pages =
     marks_then by (LosesSize e.size e.time h) (LosesPage (λ (p : ℕ). block_in p (Write e)) h) (LosesOne (placed at (Write e)) h) old mid2 new
-      (marks_both by (Loses (Some e.size) h.size.holder) (Loses (Some e.time) h.time.holder) old mid mid2 size time) pages
-      (λ k w. elim w [ inl a ↦ elim a [ inl x ↦ (the_size, x) | inr y ↦ (the_time, y) ] | inr b ↦ (the_page b.0, b.1) ]) (λ k one. loses_write at e h k one.0 one.1)
+    (marks_both by (Loses (Some e.size) h.size.holder) (Loses (Some e.time) h.time.holder) old mid mid2 size time) pages
+    (λ k w. elim w [ inl a ↦ elim a [ inl x ↦ (the_size, x) | inr y ↦ (the_time, y) ] | inr b ↦ (the_page b.0, b.1) ]) (λ k one. loses_write at e h k one.0 one.1)
 
 abbrev LosesMode : AttrEntry → Held → ℕ → Type 0
 LosesMode e h k = Loses (Some e.size) h.size.holder k ⊎ Loses (Some e.mode) h.mode.holder k
@@ -115,17 +115,17 @@ pub marks_attr : (by at : ℕ) (e : AttrEntry) (h : Held) (a b c d f g new : Lis
     → Marks by (LosesPage (λ (p : ℕ). cuts e.size p) h) g new → Marks by (LosesOne (placed at (Attr e)) h) a new
 marks_attr by at e h a b c d f g new size mode owner group time pages =
     marks_then by (λ (k : ℕ). LosesMode e h k ⊎ LosesOwner e h k) (LosesCut e h) (LosesOne (placed at (Attr e)) h) a f new
-      (marks_both by (LosesMode e h) (LosesOwner e h) a c f (marks_both by (Loses (Some e.size) h.size.holder) (Loses (Some e.mode) h.mode.holder) a b c size mode)
-        (marks_both by (Loses (Some e.owner) h.owner.holder) (Loses (Some e.group) h.group.holder) c d f owner group))
-      (marks_both by (Loses (Some e.time) h.time.holder) (LosesPage (λ (p : ℕ). cuts e.size p) h) f g new time pages)
-      (λ k w. elim w [
-        | inl u ↦ elim u [
-          | inl v ↦ elim v [ inl x ↦ (the_size, x) | inr y ↦ (the_mode, y) ]
-          | inr v ↦ elim v [ inl x ↦ (the_owner, x) | inr y ↦ (the_group, y) ]
-        ]
-        | inr u ↦ elim u [ inl x ↦ (the_time, x) | inr y ↦ (the_page y.0, y.1) ]
-      ])
-      (λ k one. loses_attr at e h k one.0 one.1)
+    (marks_both by (LosesMode e h) (LosesOwner e h) a c f (marks_both by (Loses (Some e.size) h.size.holder) (Loses (Some e.mode) h.mode.holder) a b c size mode)
+    (marks_both by (Loses (Some e.owner) h.owner.holder) (Loses (Some e.group) h.group.holder) c d f owner group))
+    (marks_both by (Loses (Some e.time) h.time.holder) (LosesPage (λ (p : ℕ). cuts e.size p) h) f g new time pages)
+    (λ k w. elim w [
+      | inl u ↦ elim u [
+        | inl v ↦ elim v [ inl x ↦ (the_size, x) | inr y ↦ (the_mode, y) ]
+        | inr v ↦ elim v [ inl x ↦ (the_owner, x) | inr y ↦ (the_group, y) ]
+      ]
+      | inr u ↦ elim u [ inl x ↦ (the_time, x) | inr y ↦ (the_page y.0, y.1) ]
+    ])
+    (λ k one. loses_attr at e h k one.0 one.1)
 
 -- by one that says nothing
 loses_next : (at : ℕ) (h : Held) (k : ℕ) (subject : Subject) → Loses (says subject (placed at NextPage)) (holder_in h subject) k → ⊥
@@ -179,13 +179,13 @@ pub marks_held : (by : ℕ) (h : Held) (a b c d e f g i new : List (Option ℕ))
     → Marks by (λ (k : ℕ). h.time.holder ≡ Some k) f g → Marks by (HoldsAPage h) g i → Marks by (HoldsAName h) i new → Marks by (HoldsOne h) a new
 marks_held by h a b c d e f g i new size mode owner group links time pages names =
     marks_then by (HoldsNumber h) (λ (k : ℕ). HoldsAPage h k ⊎ HoldsAName h k) (HoldsOne h) a g new
-      (marks_both by (λ (k : ℕ). ((h.size.holder ≡ Some k) ⊎ (h.mode.holder ≡ Some k)) ⊎ ((h.owner.holder ≡ Some k) ⊎ (h.group.holder ≡ Some k))) (λ (k : ℕ). (h.links.holder ≡ Some k) ⊎ (h.time.holder ≡ Some k)) a e g
-        (marks_both by (λ (k : ℕ). (h.size.holder ≡ Some k) ⊎ (h.mode.holder ≡ Some k)) (λ (k : ℕ). (h.owner.holder ≡ Some k) ⊎ (h.group.holder ≡ Some k)) a c e
-          (marks_both by (λ (k : ℕ). h.size.holder ≡ Some k) (λ (k : ℕ). h.mode.holder ≡ Some k) a b c size mode)
-          (marks_both by (λ (k : ℕ). h.owner.holder ≡ Some k) (λ (k : ℕ). h.group.holder ≡ Some k) c d e owner group))
-        (marks_both by (λ (k : ℕ). h.links.holder ≡ Some k) (λ (k : ℕ). h.time.holder ≡ Some k) e f g links time))
-      (marks_both by (HoldsAPage h) (HoldsAName h) g i new pages names)
-      (λ k w. holds_whole h k w) (λ k one. holds_part h k one.0 one.1)
+    (marks_both by (λ (k : ℕ). ((h.size.holder ≡ Some k) ⊎ (h.mode.holder ≡ Some k)) ⊎ ((h.owner.holder ≡ Some k) ⊎ (h.group.holder ≡ Some k))) (λ (k : ℕ). (h.links.holder ≡ Some k) ⊎ (h.time.holder ≡ Some k)) a e g
+    (marks_both by (λ (k : ℕ). (h.size.holder ≡ Some k) ⊎ (h.mode.holder ≡ Some k)) (λ (k : ℕ). (h.owner.holder ≡ Some k) ⊎ (h.group.holder ≡ Some k)) a c e
+    (marks_both by (λ (k : ℕ). h.size.holder ≡ Some k) (λ (k : ℕ). h.mode.holder ≡ Some k) a b c size mode)
+    (marks_both by (λ (k : ℕ). h.owner.holder ≡ Some k) (λ (k : ℕ). h.group.holder ≡ Some k) c d e owner group))
+    (marks_both by (λ (k : ℕ). h.links.holder ≡ Some k) (λ (k : ℕ). h.time.holder ≡ Some k) e f g links time))
+    (marks_both by (HoldsAPage h) (HoldsAName h) g i new pages names)
+    (λ k w. holds_whole h k w) (λ k one. holds_part h k one.0 one.1)
 
 -- ---- an entry that says nothing
 

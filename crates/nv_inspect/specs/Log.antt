@@ -89,7 +89,7 @@ created_at R l i = created_by R (slot_of l i)
 abbrev pub IsReadText : Region → Layout → Row → List ℕ → Type 0
 IsReadText R l row text = MatchBool (is_right_log l.sup row.head row.tail)
     ((es : List Placed) × (pages : List ℕ) × (end : Option LogEnd) × (fates : List Fate) × Reads R l.sup row.head row.tail es pages end
-        × AreFates l.sup row.kind (created_at R l row.inode) es fates × (text ≡ read_text l.sup row es fates pages end))
+    × AreFates l.sup row.kind (created_at R l row.inode) es fates × (text ≡ read_text l.sup row es fates pages end))
     (text ≡ line (codes "  no log, by I3"))
 
 -- the text of the log of an inode

@@ -70,7 +70,9 @@ fn push_stands(out: &mut String, index: &FileIndex, entry: &Entry) -> Result<(),
 {
     match entry {
         Entry::Write(e) => push_pages(out, index, e),
-        Entry::NextPage | Entry::Attr(_) | Entry::Name(_) | Entry::Links(_) => out.push_str("stands "),
+        Entry::NextPage | Entry::Attr(_) | Entry::Name(_) | Entry::Links(_) => out.push_str(
+            "stands ",
+        ),
     }
 }
 

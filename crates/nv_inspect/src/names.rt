@@ -79,7 +79,6 @@ impl HeldNames {
         set(&mut self.targets, name, said)?;
         Ok(())
     }
-
 }
 
 /// What an entry at an address says of its name: what it stands for, or that it isn't there.

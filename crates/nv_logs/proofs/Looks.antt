@@ -103,8 +103,13 @@ module _ (R : Region) (inode : Inode) (text : List ℕ) (answered : Answered) wh
           → TellsLog (tree_of (undone r.sup R) r.rows.items) (undone r.sup R) r.sup r.rows.items inode text answered.status
       whole_told inodes own tables rows (inl (row, asked, shown, status)) =
           let of = rows row (asked_there (tree_of (undone r.sup R) r.rows.items) r.rows.items inode row asked) in
-          inl (row, asked, subst (λ (l : Layout). IsLogText (undone r.sup R) l row text) (sym own) (same_text (layout_of r.sup R) (undone r.sup R) (undone r.sup memory.memory.region) inodes of.0 of.1 row of.2 text
-              (subst (λ (l : Layout). IsLogText (undone r.sup memory.memory.region) l row text) (sym tables) shown)), status)
+          inl (
+            row,
+            asked,
+            subst (λ (l : Layout). IsLogText (undone r.sup R) l row text) (sym own) (same_text (layout_of r.sup R) (undone r.sup R) (undone r.sup memory.memory.region) inodes of.0 of.1 row of.2 text
+                (subst (λ (l : Layout). IsLogText (undone r.sup memory.memory.region) l row text) (sym tables) shown)),
+            status,
+          )
       whole_told inodes own tables rows (inr refused) = inr refused
   found_look (gatherings.Refused fault) are m r found told faults = absurd found
 

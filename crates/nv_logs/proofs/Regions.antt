@@ -63,8 +63,8 @@ module _ (l : Layout) (U V : Region) (same : SameInodes l U V) (a : ℕ) (log : 
   same_text text told = (told.0, by (is_right_log l.sup row.head row.tail) refl told.1, told.2) where
     by : (b : Bool) → is_right_log l.sup row.head row.tail ≡ b
         → MatchBool b ((es : List Placed) × (pages : List ℕ) × (end : Option LogEnd) × (fates : List Fate) × Reads V l.sup row.head row.tail es pages end
-            × AreFates l.sup row.kind (created_at V l row.inode) es fates × (told.0 ≡ read_text l.sup row es fates pages end)) (told.0 ≡ line (codes "  no log, by I3"))
+        × AreFates l.sup row.kind (created_at V l row.inode) es fates × (told.0 ≡ read_text l.sup row es fates pages end)) (told.0 ≡ line (codes "  no log, by I3"))
         → MatchBool b ((es : List Placed) × (pages : List ℕ) × (end : Option LogEnd) × (fates : List Fate) × Reads U l.sup row.head row.tail es pages end
-            × AreFates l.sup row.kind (created_at U l row.inode) es fates × (told.0 ≡ read_text l.sup row es fates pages end)) (told.0 ≡ line (codes "  no log, by I3"))
+        × AreFates l.sup row.kind (created_at U l row.inode) es fates × (told.0 ≡ read_text l.sup row es fates pages end)) (told.0 ≡ line (codes "  no log, by I3"))
     by true good w = (w.0, w.1, w.2, w.3, reads_there w.0 w.1 w.2 good w.4, subst (λ (created : ℕ). AreFates l.sup row.kind created w.0 w.3) created_is w.5, w.6)
     by false bad none = none

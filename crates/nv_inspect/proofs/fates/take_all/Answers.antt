@@ -10,7 +10,7 @@ none_is : {T : Type 0} (o : Option T) (r b : Bool) → is_some o ≡ not r → r
 none_is None r b h e = (let s : false ≡ not r = h in by_test r s ∙ e) where
   by_test : (r : Bool) → false ≡ not r → true ≡ r
   by_test true h = refl
-  by_test false h = h
+  by_test false h = sym h
 none_is (Some t) r b h e = (let s : true ≡ not r = h in by_test r s ∙ e) where
   by_test : (r : Bool) → true ≡ not r → false ≡ r
   by_test true h = sym h
@@ -41,7 +41,7 @@ loop-place-preserved c =
           record {
             held = subst (λ (h : Held). HoldsAll s kind created (take (place + 1) entries) h) (sym w.held-is) (good_held s kind created entries place x below is c.loop-place.held w.take.new.self good so_far.held w.in_ok-take.ensures.takes);
             takers = subst (λ (t : List (Option ℕ)). AreTakers s kind created (take (place + 1) entries) t) (sym w.takers-is)
-              (good_takers s kind created entries place x below is c.loop-place.held c.loop-place.takers w.take.new.takers good so_far.held long w.in_ok-take.ensures.marks so_far.takers);
+                (good_takers s kind created entries place x below is c.loop-place.held c.loop-place.takers w.take.new.takers good so_far.held long w.in_ok-take.ensures.marks so_far.takers);
             long = c.if-is_none.auto.takers ∙ so_far.long;
           })
       | else-is_none w ↦ (

@@ -18,7 +18,7 @@ loop-place-preserved c =
     let links = links_to (x.at / 4096) left in
     let entry = entry_line s row fate x in
     let next = lines_next s row fates left entries place x fate c.requires.fates below c.index-entries-place.is c.fate_at.ensures
-      ∙ ap (λ (pages : List ℕ). links ++ (entry ++ lines_of s row (drop (place + 1) fates) pages (drop (place + 1) entries))) (sym c.in_ok-left.ensures.rest) in
+    ∙ ap (λ (pages : List ℕ). links ++ entry ++ lines_of s row (drop (place + 1) fates) pages (drop (place + 1) entries)) (sym c.in_ok-left.ensures.rest) in
     lines_step (string_bytes c.loop-place.out) (string_bytes c.push_links_to.new.out) (string_bytes c.push_entry.new.out) links entry
-      (lines_of s row (drop (place + 1) fates) c.in_ok-left.left.now (drop (place + 1) entries)) (lines_of s row (drop place fates) left (drop place entries))
-      (string_bytes c.args.out.now ++ lines_of s row fates c.args.pages.now entries) c.in_ok-left.ensures.text c.in_ok-push_entry.ensures next c.loop-place.invariant
+    (lines_of s row (drop (place + 1) fates) c.in_ok-left.left.now (drop (place + 1) entries)) (lines_of s row (drop place fates) left (drop place entries))
+    (string_bytes c.args.out.now ++ lines_of s row fates c.args.pages.now entries) c.in_ok-left.ensures.text c.in_ok-push_entry.ensures next c.loop-place.invariant

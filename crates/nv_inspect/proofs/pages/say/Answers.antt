@@ -19,7 +19,7 @@ loop-end-preserved c =
     let before : is_before to c.loop-end.page ≡ true = before_to here.end c.args.end to c.loop-end.page c.stretch_at-here.ensures.ahead (sym c.is_before.ensures ∙ c.loop-end-test.true) (c.earlier-to.ensures c.loop-end.page) in
     let set = subst (λ (x : Piece). (p : ℕ) → piece_at c.set.new.pieces.entries p ≡ (if is_among c.loop-end.page to p then x else piece_at c.loop-end.pieces.entries p)) c.said.ensures c.in_ok-set.ensures in
     said_more c.args.first c.args.end c.args.shift c.args.by c.args.pieces.now.entries c.loop-end.pieces.entries c.loop-end.page c.set.new.pieces.entries here.end to here.piece c.loop-end.invariant c.stretch_at-here.ensures.piece c.stretch_at-here.ensures.same
-      c.earlier-to.ensures set c.in-Some.next c.in-Some.is (next_ahead to c.loop-end.page c.in-Some.next c.in-Some.is before)
+    c.earlier-to.ensures set c.in-Some.next c.in-Some.is (next_ahead to c.loop-end.page c.in-Some.next c.in-Some.is before)
 
 pub returns-in-None : goal.returns-in-None
 returns-in-None c =
@@ -27,7 +27,7 @@ returns-in-None c =
     let to = c.earlier-to.result in
     let set = subst (λ (x : Piece). (p : ℕ) → piece_at c.set.new.pieces.entries p ≡ (if is_among c.loop-end.page to p then x else piece_at c.loop-end.pieces.entries p)) c.said.ensures c.in_ok-set.ensures in
     said_all c.args.first c.args.end c.args.shift c.args.by c.args.pieces.now.entries c.loop-end.pieces.entries c.loop-end.page c.set.new.pieces.entries here.end to here.piece c.loop-end.invariant c.stretch_at-here.ensures.piece c.stretch_at-here.ensures.same
-      c.earlier-to.ensures set c.in-None.is
+    c.earlier-to.ensures set c.in-None.is
 
 pub returns : goal.returns
 returns c = all_said c.args.first c.args.end c.args.shift c.args.by c.args.pieces.now.entries c.loop-end.pieces.entries c.loop-end.page c.loop-end.invariant (sym c.is_before.ensures ∙ c.loop-end-test.false)

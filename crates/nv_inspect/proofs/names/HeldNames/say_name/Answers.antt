@@ -10,7 +10,7 @@ returns-clause-names c =
     let said = option_map inode_and_place c.said_of-said.result in
     let taken = subst (λ (before : Option (ℕ × ℕ)). IsTaken c.args.by before said c.taken-holder.result) c.get.ensures c.taken-holder.ensures in
     name_said c.args.by c.args.at c.args.e.now c.args.self.now.targets c.args.self.now.holders c.as_slice-name.result.now c.as_slice-name.ensures.value c.set.new.targets c.hold.new.holders said c.taken-holder.result c.said_of-said.ensures taken
-      c.in_ok-set.ensures c.in_ok-hold.ensures
+    c.in_ok-set.ensures c.in_ok-hold.ensures
 
 pub returns-clause-marks : goal.returns-clause-marks
 returns-clause-marks c = name_marks c.args.by c.args.at c.args.e.now c.args.self.now.targets c.args.self.now.holders c.args.takers.now c.mark.new.takers
