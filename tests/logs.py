@@ -110,10 +110,10 @@ def overwritten():
 OVERWRITTEN = """\
 inode 2 file
   log 4 tail 16576
-  block 4 offset 0 gone attributes mode 420 owner 0 group 0 size 0 time 1
+  block 4 offset 0 dead by block 4 offset 136 attributes mode 420 owner 0 group 0 size 0 time 1
   block 4 offset 32 stands 1 of 3 write page 0 count 3 block 10 size 12288 time 2
   block 4 offset 72 stands 1 of 1 write page 0 count 1 block 13 size 12288 time 3
-  block 4 offset 112 gone links 2 time 4
+  block 4 offset 112 dead by block 4 offset 168 links 2 time 4
   block 4 offset 136 stands attributes mode 384 owner 7 group 8 size 8192 time 5
   block 4 offset 168 stands links 1 time 6
   ends at its tail
@@ -149,11 +149,11 @@ inode 1 dir
   log 3 tail 12512
   block 3 offset 0 stands attributes mode 493 owner 0 group 0 size 0 time 0
   block 3 offset 32 stands add time 0 name a 2
-  block 3 offset 64 gone add time 1 name b\\x20c 4
-  block 3 offset 96 gone add time 2 name d 3
-  block 3 offset 128 remove time 3 name b\\x20c 4
+  block 3 offset 64 dead by block 3 offset 128 add time 1 name b\\x20c 4
+  block 3 offset 96 dead by block 3 offset 192 add time 2 name d 3
+  block 3 offset 128 dead by block 3 offset 160 remove time 3 name b\\x20c 4
   block 3 offset 160 stands add time 4 name b\\x20c 5
-  block 3 offset 192 remove time 5 name d 3
+  block 3 offset 192 stands remove time 5 name d 3
   ends at its tail
 """
 
@@ -174,7 +174,7 @@ TWO_PAGES = """\
 inode 2 file
   log 4 8 tail 32808
   block 4 offset 0 stands attributes mode 420 owner 0 group 0 size 0 time 1
-  block 4 offset 32 stands 0 of 1 write page 0 count 1 block 10 size 4096 time 2
+  block 4 offset 32 dead by block 8 offset 0 write page 0 count 1 block 10 size 4096 time 2
   block 4 offset 4064 next page block 8
   block 8 offset 0 stands 1 of 1 write page 0 count 1 block 11 size 4096 time 3
   ends at its tail
@@ -190,10 +190,11 @@ def full_page():
 FULL_PAGE = (
     "inode 2 file\n  log 5 4 9 tail 36888\n"
     + "".join(
-        f"  block 5 offset {32 * k} gone attributes mode 420 owner 0 group 0 size 0 time {k}\n" for k in range(126)
+        f"  block 5 offset {32 * k} dead by block 5 offset {32 * k + 32} attributes mode 420 owner 0 group 0 size 0 time {k}\n"
+        for k in range(126)
     )
     + """\
-  block 5 offset 4032 stands attributes mode 420 owner 0 group 0 size 0 time 126
+  block 5 offset 4032 dead by block 9 offset 0 attributes mode 420 owner 0 group 0 size 0 time 126
   block 5 offset 4064 next page block 4
   block 4 offset 4064 next page block 9
   block 9 offset 0 stands links 1 time 127
@@ -225,6 +226,35 @@ inode 2 file
   block 4 offset 128 fault E2 add time 5 name x 2
   block 4 offset 160 fault E1 write page 0 count 2 block 31 size 8192 time 6
   block 4 offset 200 stands 1 of 1 write page 0 count 1 block 31 size 4096 time 7
+  ends at its tail
+"""
+
+
+def no_change():
+    """Attributes that stand already, one link, pages that are unmapped and mapped again, and one that is written where it lies."""
+    return file(
+        attributes(420, 0, 0),
+        attributes(420, 0, 0),
+        links(1, 0),
+        write(0, 3, 10, 12288, 1),
+        attributes(420, 0, 1),
+        write(0, 1, 13, 4096, 1),
+        write(0, 1, 13, 4096, 1),
+        write(2, 1, 14, 12288, 1),
+    )
+
+
+NO_CHANGE = """\
+inode 2 file
+  log 4 tail 16664
+  block 4 offset 0 dead by block 4 offset 32 attributes mode 420 owner 0 group 0 size 0 time 0
+  block 4 offset 32 changes nothing attributes mode 420 owner 0 group 0 size 0 time 0
+  block 4 offset 64 changes nothing links 1 time 0
+  block 4 offset 88 dead by block 4 offset 128 write page 0 count 3 block 10 size 12288 time 1
+  block 4 offset 128 dead by block 4 offset 160 attributes mode 420 owner 0 group 0 size 0 time 1
+  block 4 offset 160 dead by block 4 offset 200 write page 0 count 1 block 13 size 4096 time 1
+  block 4 offset 200 changes nothing write page 0 count 1 block 13 size 4096 time 1
+  block 4 offset 240 stands 1 of 1 write page 2 count 1 block 14 size 12288 time 1
   ends at its tail
 """
 
@@ -267,6 +297,7 @@ CASES = [
     ("a log of two pages", two_pages(), TWO_PAGES),
     ("a full page, and one with no entry", full_page(), FULL_PAGE),
     ("entries that don't count", no_count(), NO_COUNT),
+    ("entries that change nothing", no_change(), NO_CHANGE),
     ("a link that isn't the start of a data block", damaged(4 * BLOCK + LINK, 8), WRONG_LINK),
     ("a link back into the log", damaged(4 * BLOCK + LINK, 4 * BLOCK), ROUND),
     ("no entry where one could begin", damaged(4 * BLOCK + 72, 9), NO_ENTRY),

@@ -1,3 +1,15 @@
+pub mod Lines
+pub mod Among
+pub mod NameWords
+pub mod PageWords
+pub mod ListedNames
+pub mod Marking
+pub mod Steps
+pub mod Stretches
+pub mod ReadNames
+pub mod Taking
+pub mod Holders
+pub mod Dying
 pub mod Counting
 pub mod Small
 pub mod OneText

@@ -1,16 +1,14 @@
 //! The line of an entry in a log, with what became of it.
 
-ghost use Rattle.std.specs.Prelude.{◌≡◌, ◌+◌, ◌^◌, ◌≤◌, ◌++◌, OnOk, string_bytes};
+ghost use Rattle.std.specs.Prelude.{◌≡◌, ◌+◌, ◌^◌, ◌≤◌, ◌++◌, OnOk, codes, string_bytes};
 ghost use Rattle.nv_super.specs.Layout.{HasAreas};
-ghost use Rattle.nv_names.specs.Names.{name_at};
-ghost use Rattle.nv_inspect.specs.Entry.{lies_in, pages_standing, pages_text, stands_text, stands_at, named_text, standing_text, verdict_text, entry_line, IsSmallEntry};
+ghost use Rattle.nv_inspect.specs.Entry.{lies_in, pages_standing, pages_text, stands_text, fate_text, place_text, verdict_text, entry_line, IsSmallEntry};
 ghost use Rattle.nv_entry.specs.Content.{content_fault};
 
+use crate::fate::Fate;
 use crate::fields::{push_fields, push_place};
-use crate::lasts::Lasts;
-use nv_entry::{ContentFault, Entry, NameEntry, Operation, WriteEntry, check_content};
+use nv_entry::{ContentFault, Entry, WriteEntry, check_content};
 use nv_logpage::Placed;
-use nv_names::NameIndex;
 use nv_radix::FileIndex;
 use nv_scan::Row;
 use nv_super::Super;
@@ -22,16 +20,16 @@ pub(crate) fn push_entry(
     out: &mut String,
     sup: &Super,
     row: &Row,
-    lasts: &Lasts,
+    fate: Fate,
     placed: &Placed,
 ) -> Result<(), AllocError>
     requires { HasAreas sup.now }
-    ensures { OnOk result (string_bytes out.new ≡ string_bytes out.old ++ entry_line sup.now row.now lasts.now placed.now) }
+    ensures { OnOk result (string_bytes out.new ≡ string_bytes out.old ++ entry_line sup.now row.now fate placed.now) }
 {
     out.push_str("  ")?;
     push_place(out, placed.at)?;
     out.push_str(" ")?;
-    push_verdict(out, sup, row, lasts, placed)?;
+    push_verdict(out, sup, row, fate, &placed.entry)?;
     push_fields(out, &placed.entry)
 }
 
@@ -40,36 +38,51 @@ fn push_verdict(
     out: &mut String,
     sup: &Super,
     row: &Row,
-    lasts: &Lasts,
-    placed: &Placed,
+    fate: Fate,
+    entry: &Entry,
 ) -> Result<(), AllocError>
     requires { HasAreas sup.now }
-    ensures { OnOk result (string_bytes out.new ≡ string_bytes out.old ++ verdict_text row.now lasts.now placed.now (content_fault sup.now row.now.kind placed.now.entry)) }
+    ensures { OnOk result (string_bytes out.new ≡ string_bytes out.old ++ verdict_text row.now fate entry.now (content_fault sup.now row.now.kind entry.now)) }
 {
-    match check_content(sup, row.kind, &placed.entry) {
+    match check_content(sup, row.kind, entry) {
         Some(ContentFault::OutOfRange) => out.push_str("fault E1 "),
         Some(ContentFault::WrongKind) => out.push_str("fault E2 "),
-        None => push_standing(out, row, lasts, placed),
+        None => push_fate(out, row, entry, fate),
     }
 }
 
 // What became of an entry.
-fn push_standing(
-    out: &mut String,
-    row: &Row,
-    lasts: &Lasts,
-    placed: &Placed,
-) -> Result<(), AllocError>
-    requires { IsSmallEntry placed.now.entry }
-    ensures { OnOk result (string_bytes out.new ≡ string_bytes out.old ++ standing_text row.now lasts.now placed.now.at placed.now.entry) }
+fn push_fate(out: &mut String, row: &Row, entry: &Entry, fate: Fate) -> Result<(), AllocError>
+    requires { IsSmallEntry entry.now }
+    ensures { OnOk result (string_bytes out.new ≡ string_bytes out.old ++ fate_text row.now entry.now fate) }
 {
-    match &placed.entry {
-        Entry::NextPage => Ok(()),
-        Entry::Write(e) => push_pages(out, &row.index, e),
-        Entry::Attr(_) => push_stands(out, lies_in(lasts.attributes, placed.at)),
-        Entry::Name(e) => push_standing_name(out, row, placed.at, e),
-        Entry::Links(_) => push_stands(out, lies_in(lasts.links, placed.at)),
+    match fate {
+        Fate::Stands => push_stands(out, &row.index, entry),
+        Fate::ChangesNothing => out.push_str("changes nothing "),
+        Fate::DeadBy(at) => push_killer(out, at),
     }
+}
+
+// An entry stands.
+fn push_stands(out: &mut String, index: &FileIndex, entry: &Entry) -> Result<(), AllocError>
+    requires { IsSmallEntry entry.now }
+    ensures { OnOk result (string_bytes out.new ≡ string_bytes out.old ++ stands_text index.now entry.now) }
+{
+    match entry {
+        Entry::Write(e) => push_pages(out, index, e),
+        Entry::NextPage | Entry::Attr(_) | Entry::Name(_) | Entry::Links(_) => out.push_str(
+            "stands ",
+        ),
+    }
+}
+
+// By which entry it is dead.
+fn push_killer(out: &mut String, at: u64) -> Result<(), AllocError>
+    ensures { OnOk result (string_bytes out.new ≡ string_bytes out.old ++ codes "dead by " ++ place_text at ++ codes " ") }
+{
+    out.push_str("dead by ")?;
+    push_place(out, at)?;
+    out.push_str(" ")
 }
 
 // How many of the pages of a write lie where it wrote them.
@@ -102,32 +115,6 @@ fn lies_in(found: Option<u64>, place: u64) -> bool
 {
     match found {
         Some(lies) => lies == place,
-        None => false,
-    }
-}
-
-// Whether the name that an entry adds stands by it.
-fn push_standing_name(out: &mut String, row: &Row, at: u64, e: &NameEntry) -> Result<(), AllocError>
-    ensures { OnOk result (string_bytes out.new ≡ string_bytes out.old ++ named_text row.now at e.now e.now.operation) }
-{
-    match e.operation {
-        Operation::Add => push_stands(out, is_named_at(&row.names, e.name.as_slice(), at)),
-        Operation::Remove => Ok(()),
-    }
-}
-
-fn push_stands(out: &mut String, stands: bool) -> Result<(), AllocError>
-    ensures { OnOk result (string_bytes out.new ≡ string_bytes out.old ++ stands_text stands) }
-{
-    out.push_str(if stands { "stands " } else { "gone " })
-}
-
-// Whether an index has the name by the entry at this place.
-fn is_named_at(names: &NameIndex, name: &[u8], at: u64) -> bool
-    ensures { result ≡ stands_at (name_at names.now name.now) at }
-{
-    match names.get(name) {
-        Some(target) => target.place == at,
         None => false,
     }
 }

@@ -42,19 +42,19 @@ use Rattle.nv_logs.proofs.Regions.{same_text}
 
 -- ---- one log behind another
 
-module _ (R : Region) (s : Super) where
-  logs_snoc : (rows : List Row) (row : Row) (text more : List ℕ) → AreLogTexts R s rows text → IsLogText R s row more → AreLogTexts R s (rows ++ row ∷ []) (text ++ more)
+module _ (R : Region) (l : Layout) where
+  logs_snoc : (rows : List Row) (row : Row) (text more : List ℕ) → AreLogTexts R l rows text → IsLogText R l row more → AreLogTexts R l (rows ++ row ∷ []) (text ++ more)
   logs_snoc [] row text more are shown = (more, [], shown, refl, ap (λ t. t ++ more) are ∙ sym (append-nil more))
   logs_snoc (x ∷ rows) row text more are shown = (are.0, are.1 ++ more, are.2, logs_snoc rows row are.1 more are.3 shown, ap (λ t. t ++ more) are.4 ∙ append_assoc are.0 are.1 more)
 
   -- the log of one row more
-  pub adds_log : (rows : List Row) (row : Row) (old mid new : List ℕ) → AddsText (AreLogTexts R s rows) old mid → AddsText (IsLogText R s row) mid new → AddsText (AreLogTexts R s (rows ++ row ∷ [])) old new
-  adds_log rows row old mid new a b = adds_both (AreLogTexts R s rows) (IsLogText R s row) (AreLogTexts R s (rows ++ row ∷ [])) old mid new (λ t u are is. logs_snoc rows row t u are is) a b
+  pub adds_log : (rows : List Row) (row : Row) (old mid new : List ℕ) → AddsText (AreLogTexts R l rows) old mid → AddsText (IsLogText R l row) mid new → AddsText (AreLogTexts R l (rows ++ row ∷ [])) old new
+  adds_log rows row old mid new a b = adds_both (AreLogTexts R l rows) (IsLogText R l row) (AreLogTexts R l (rows ++ row ∷ [])) old mid new (λ t u are is. logs_snoc rows row t u are is) a b
 
 -- ---- regions with the same inodes
 
 module _ (l : Layout) (U V : Region) (same : SameInodes l U V) where
-  same_texts : (rows : List Row) → ((row : Row) → Contains rows row → (a : ℕ) × (log : Log) × IsRow V l a log row) → (text : List ℕ) → AreLogTexts V l.sup rows text → AreLogTexts U l.sup rows text
+  same_texts : (rows : List Row) → ((row : Row) → Contains rows row → (a : ℕ) × (log : Log) × IsRow V l a log row) → (text : List ℕ) → AreLogTexts V l rows text → AreLogTexts U l rows text
   same_texts [] each text are = are
   same_texts (row ∷ rows) each text are =
       let of = each row (Contains-head row rows) in
@@ -69,16 +69,16 @@ refused_look R refusal text answered is said = inl ((is.0, is.1, subst (λ (x : 
 -- ---- a region over its bytes
 
 module _ {E : Type 0} (bytes : List ℕ) (memory : ImageState) (r : Recovered) (is : IsRecovered (region_of bytes) (images.Recovered memory r)) where
-  pub image_answer : (result : Result Look E) → IfOk result (λ look. AreLogTexts memory.region r.sup r.rows.items (string_bytes look.text)) → IfOk result (λ look. look.answered.status ≡ 0)
+  pub image_answer : (result : Result Look E) → IfOk result (λ look. AreLogTexts memory.region (layout_of r.sup memory.region) r.rows.items (string_bytes look.text)) → IfOk result (λ look. look.answered.status ≡ 0)
       → IfOk result (λ look. look.answered.faults ≡ length r.faults.items) → IfOk result (λ look. IsLogsLook (region_of bytes) (string_bytes look.text) look.answered)
-  image_answer (Ok look) told status faults = inr (outcome_of r, is.0, subst (λ (Q : Region). AreLogTexts Q r.sup r.rows.items (string_bytes look.text)) is.1 told, status, faults)
+  image_answer (Ok look) told status faults = inr (outcome_of r, is.0, subst (λ (Q : Region). AreLogTexts Q (layout_of r.sup Q) r.rows.items (string_bytes look.text)) is.1 told, status, faults)
   image_answer (Err e) told status faults = tt
 
 -- ---- what was gathered
 
 module _ {E : Type 0} (R : Region) where
   pub found_answer : (g : Gathered) → AreGathered R g → (m : MetadataState) (r : Recovered) → IsFoundIn g (gathered_images.Recovered m r) → (result : Result Look E)
-      → IfOk result (λ look. AreLogTexts m.memory.region r.sup r.rows.items (string_bytes look.text)) → IfOk result (λ look. look.answered.status ≡ 0)
+      → IfOk result (λ look. AreLogTexts m.memory.region (layout_of r.sup m.memory.region) r.rows.items (string_bytes look.text)) → IfOk result (λ look. look.answered.status ≡ 0)
       → IfOk result (λ look. look.answered.faults ≡ length r.faults.items) → IfOk result (λ look. IsLogsLook R (string_bytes look.text) look.answered)
   found_answer (gatherings.Metadata s memory) are m r found (Ok look) told status faults =
       let S = memory.memory.region in
@@ -88,8 +88,10 @@ module _ {E : Type 0} (R : Region) where
       let inodes = subst (λ (x : Super). SameInodes (layout_of x R) (undone x R) (undone x S)) (sym sup) same in
       let tables : layout_of r.sup R ≡ layout_of r.sup (undone r.sup S) = sym (undone_layout r.sup R (layout_of_super R r.sup outcome.sup)) ∙ tables_laid S (outcome_of r) (layout_of r.sup (undone r.sup R)) found.0 refl (sym outcome.tables) in
       let rows = subst (λ (l : Layout). (row : Row) → Contains r.rows.items row → (a : ℕ) × (log : Log) × IsRow (undone r.sup S) l a log row) (sym tables) found.0.rows.each in
-      let here : AreLogTexts (undone r.sup S) r.sup r.rows.items (string_bytes look.text) = subst (λ (Q : Region). AreLogTexts Q r.sup r.rows.items (string_bytes look.text)) found.1 told in
-      inr (outcome_of r, outcome, same_texts (layout_of r.sup R) (undone r.sup R) (undone r.sup S) inodes r.rows.items rows (string_bytes look.text) here, status, faults)
+      let here : AreLogTexts (undone r.sup S) (layout_of r.sup (undone r.sup S)) r.rows.items (string_bytes look.text) = subst (λ (Q : Region). AreLogTexts Q (layout_of r.sup Q) r.rows.items (string_bytes look.text)) found.1 told in
+      let low : AreLogTexts (undone r.sup S) (layout_of r.sup R) r.rows.items (string_bytes look.text) = subst (λ (l : Layout). AreLogTexts (undone r.sup S) l r.rows.items (string_bytes look.text)) (sym tables) here in
+      let own = undone_layout r.sup R (layout_of_super R r.sup outcome.sup) in
+      inr (outcome_of r, outcome, subst (λ (l : Layout). AreLogTexts (undone r.sup R) l r.rows.items (string_bytes look.text)) (sym own) (same_texts (layout_of r.sup R) (undone r.sup R) (undone r.sup S) inodes r.rows.items rows (string_bytes look.text) low), status, faults)
   found_answer (gatherings.Metadata s memory) are m r found (Err e) told status faults = tt
   found_answer (gatherings.Refused fault) are m r found result told status faults = absurd found
 

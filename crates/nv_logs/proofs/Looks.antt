@@ -6,7 +6,7 @@ use Rattle.nv_region.specs.Region.{Region, HasBlocks, region_of}
 use Rattle.nv_region.specs.ImageState.{ImageState}
 use Rattle.nv_region.proofs.Fronted.{short_rest}
 use Rattle.nv_super.specs.declared.superblock.Super.{Super}
-use Rattle.nv_super.specs.Layout.{HasAreas, Layout}
+use Rattle.nv_super.specs.Layout.{IsLayout, Layout}
 use Rattle.nv_inode.specs.Chains.{layout_of}
 use Rattle.nv_scan.specs.Inode.{Log}
 use Rattle.nv_scan.specs.Rows.{IsRow}
@@ -51,8 +51,8 @@ refused_look inode R refusal text answered is said = inl ((is.0, is.1, subst (λ
 -- ---- a region over its bytes
 
 module _ (bytes : List ℕ) (memory : ImageState) (r : Recovered) (is : IsRecovered (region_of bytes) (images.Recovered memory r)) where
-  pub image_areas : HasAreas r.sup
-  image_areas = (layout_of_super (region_of bytes) r.sup is.0.sup).areas
+  pub image_layout : IsLayout r.sup
+  image_layout = layout_of_super (region_of bytes) r.sup is.0.sup
 
   pub image_blocks : HasBlocks memory.region r.sup.blocks
   image_blocks = subst (λ (Q : Region). HasBlocks Q r.sup.blocks) (sym is.1) (blocks_undone (region_of bytes) r.sup r.sup.blocks (blocks_of (region_of bytes) r.sup is.0.sup (short_rest bytes)))
@@ -71,9 +71,9 @@ module _ (bytes : List ℕ) (memory : ImageState) (r : Recovered) (is : IsRecove
 
 -- ---- what was gathered
 
-pub found_areas : (g : Gathered) (m : MetadataState) (r : Recovered) → IsFoundIn g (gathered_images.Recovered m r) → HasAreas r.sup
-found_areas (gatherings.Metadata s memory) m r found = (layout_of_super memory.memory.region r.sup found.0.sup).areas
-found_areas (gatherings.Refused fault) m r found = absurd found
+pub found_layout : (g : Gathered) (m : MetadataState) (r : Recovered) → IsFoundIn g (gathered_images.Recovered m r) → IsLayout r.sup
+found_layout (gatherings.Metadata s memory) m r found = layout_of_super memory.memory.region r.sup found.0.sup
+found_layout (gatherings.Refused fault) m r found = absurd found
 
 pub found_blocks : (g : Gathered) (m : MetadataState) (r : Recovered) → IsOpen g → IsFoundIn g (gathered_images.Recovered m r) → HasBlocks m.memory.region r.sup.blocks
 found_blocks (gatherings.Metadata s memory) m r ready found =
@@ -96,15 +96,21 @@ module _ (R : Region) (inode : Inode) (text : List ℕ) (answered : Answered) wh
       let rows = subst (λ (l : Layout). (row : Row) → Contains r.rows.items row → (a : ℕ) × (log : Log) × IsRow (undone r.sup S) l a log row) (sym tables) found.0.rows.each in
       let here : TellsLog (tree_of (undone r.sup R) r.rows.items) (undone r.sup S) r.sup r.rows.items inode text answered.status =
       subst (λ (Q : Region). TellsLog (tree_of (undone r.sup R) r.rows.items) Q r.sup r.rows.items inode text answered.status) found.1 (told (undone r.sup R)) in
-      inr (outcome_of r, outcome, whole_told inodes rows here, faults)
+      inr (outcome_of r, outcome, whole_told inodes (undone_layout r.sup R (layout_of_super R r.sup outcome.sup)) tables rows here, faults)
     where
-      whole_told : SameInodes (layout_of r.sup R) (undone r.sup R) (undone r.sup memory.memory.region)
+      whole_told : SameInodes (layout_of r.sup R) (undone r.sup R) (undone r.sup memory.memory.region) → layout_of r.sup (undone r.sup R) ≡ layout_of r.sup R → layout_of r.sup R ≡ layout_of r.sup (undone r.sup memory.memory.region)
           → ((row : Row) → Contains r.rows.items row → (a : ℕ) × (log : Log) × IsRow (undone r.sup memory.memory.region) (layout_of r.sup R) a log row) → TellsLog (tree_of (undone r.sup R) r.rows.items) (undone r.sup memory.memory.region) r.sup r.rows.items inode text answered.status
           → TellsLog (tree_of (undone r.sup R) r.rows.items) (undone r.sup R) r.sup r.rows.items inode text answered.status
-      whole_told inodes rows (inl (row, asked, shown, status)) =
+      whole_told inodes own tables rows (inl (row, asked, shown, status)) =
           let of = rows row (asked_there (tree_of (undone r.sup R) r.rows.items) r.rows.items inode row asked) in
-          inl (row, asked, same_text (layout_of r.sup R) (undone r.sup R) (undone r.sup memory.memory.region) inodes of.0 of.1 row of.2 text shown, status)
-      whole_told inodes rows (inr refused) = inr refused
+          inl (
+            row,
+            asked,
+            subst (λ (l : Layout). IsLogText (undone r.sup R) l row text) (sym own) (same_text (layout_of r.sup R) (undone r.sup R) (undone r.sup memory.memory.region) inodes of.0 of.1 row of.2 text
+                (subst (λ (l : Layout). IsLogText (undone r.sup memory.memory.region) l row text) (sym tables) shown)),
+            status,
+          )
+      whole_told inodes own tables rows (inr refused) = inr refused
   found_look (gatherings.Refused fault) are m r found told faults = absurd found
 
   pub unfound_look : (g : Gathered) → AreGathered R g → (refusal : texts.Refusal) → IsFoundIn g (gathered_images.Refused refusal) → IsRefusal (refusal_name refusal) text answered.status × (answered.faults ≡ 0) → IsLogLook inode R text answered
@@ -120,7 +126,7 @@ module _ {E : Type 0} (R : Region) (inode : Inode) (g : Gathered) (are : AreGath
 -- ---- one row
 
 -- its log is told
-pub shown_told : {E : Type 0} (t : Tree) (R : Region) (s : Super) (rows : List Row) (inode : Inode) (row : Row) → IsAsked t rows inode row → (result : Result Look E) → IfOk result (λ look. IsLogText R s row (string_bytes look.text))
+pub shown_told : {E : Type 0} (t : Tree) (R : Region) (s : Super) (rows : List Row) (inode : Inode) (row : Row) → IsAsked t rows inode row → (result : Result Look E) → IfOk result (λ look. IsLogText R (layout_of s R) row (string_bytes look.text))
     → IfOk result (λ look. look.answered.status ≡ 0) → IfOk result (λ look. TellsLog t R s rows inode (string_bytes look.text) look.answered.status)
 shown_told t R s rows inode row asked (Ok look) text status = inl (row, asked, text, status)
 shown_told t R s rows inode row asked (Err e) text status = tt

@@ -1,5 +1,5 @@
 -- The log of a row in a region that was recovered, and in what was gathered of it.
-use Rattle.std.proofs.Common.{◌≡◌, ◌∙◌, ℕ, ◌+◌, ◌%◌, ◌<◌, inl, Bool, true, false, List, length, Option, refl, sym, true≢false, arith}
+use Rattle.std.proofs.Common.{◌≡◌, ◌∙◌, ℕ, ◌+◌, ◌%◌, ◌<◌, inl, Bool, true, false, List, length, Option, refl, sym, ap, subst, true≢false, arith}
 use Rattle.std.specs.Prelude.{MatchBool, codes}
 use Rattle.std.proofs.lemmas.List.FromFn.{length-map-range_with_len}
 use Rattle.nv_region.specs.Region.{Region, HasBlocks, size, word}
@@ -19,7 +19,9 @@ use Rattle.nv_journal.specs.Undo.{undone}
 use Rattle.nv_outcome.proofs.SuperOf.{blocks_of_super, is_equal}
 use Rattle.nv_outcome.proofs.SameInodes.{SameInodes}
 use Rattle.nv_text.specs.Answers.{line}
-use Rattle.nv_inspect.specs.Log.{IsLogText, read_text}
+use Rattle.nv_inspect.specs.declared.fate.Fate.{Fate}
+use Rattle.nv_inspect.specs.Dead.{AreFates}
+use Rattle.nv_inspect.specs.Log.{IsLogText, created_at, created_by, read_text}
 
 -- a region of whole words with a superblock has as many blocks as that says
 pub blocks_of : (R : Region) (s : Super) → IsSuper R s → length R.rest < 8 → HasBlocks R s.blocks
@@ -54,10 +56,15 @@ module _ (l : Layout) (U V : Region) (same : SameInodes l U V) (a : ℕ) (log : 
       rw (head_is, tail_is) mine
 
   -- the log has the same text in both
-  pub same_text : (text : List ℕ) → IsLogText V l.sup row text → IsLogText U l.sup row text
+  created_is : created_at V l row.inode ≡ created_at U l row.inode
+  created_is = ap (created_by V) (slot_in_use is.inode) ∙ (same.slots row.inode a (slot_in_use is.inode)).created ∙ sym (ap (created_by U) (slot_in_use is.inode))
+
+  pub same_text : (text : List ℕ) → IsLogText V l row text → IsLogText U l row text
   same_text text told = (told.0, by (is_right_log l.sup row.head row.tail) refl told.1, told.2) where
     by : (b : Bool) → is_right_log l.sup row.head row.tail ≡ b
-        → MatchBool b ((es : List Placed) × (pages : List ℕ) × (end : Option LogEnd) × Reads V l.sup row.head row.tail es pages end × (told.0 ≡ read_text l.sup row es pages end)) (told.0 ≡ line (codes "  no log, by I3"))
-        → MatchBool b ((es : List Placed) × (pages : List ℕ) × (end : Option LogEnd) × Reads U l.sup row.head row.tail es pages end × (told.0 ≡ read_text l.sup row es pages end)) (told.0 ≡ line (codes "  no log, by I3"))
-    by true good w = (w.0, w.1, w.2, reads_there w.0 w.1 w.2 good w.3, w.4)
+        → MatchBool b ((es : List Placed) × (pages : List ℕ) × (end : Option LogEnd) × (fates : List Fate) × Reads V l.sup row.head row.tail es pages end
+        × AreFates l.sup row.kind (created_at V l row.inode) es fates × (told.0 ≡ read_text l.sup row es fates pages end)) (told.0 ≡ line (codes "  no log, by I3"))
+        → MatchBool b ((es : List Placed) × (pages : List ℕ) × (end : Option LogEnd) × (fates : List Fate) × Reads U l.sup row.head row.tail es pages end
+        × AreFates l.sup row.kind (created_at U l row.inode) es fates × (told.0 ≡ read_text l.sup row es fates pages end)) (told.0 ≡ line (codes "  no log, by I3"))
+    by true good w = (w.0, w.1, w.2, w.3, reads_there w.0 w.1 w.2 good w.4, subst (λ (created : ℕ). AreFates l.sup row.kind created w.0 w.3) created_is w.5, w.6)
     by false bad none = none

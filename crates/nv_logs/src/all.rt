@@ -2,7 +2,8 @@
 
 ghost use Rattle.std.specs.Prelude.{◌≡◌, ◌≢◌, IfOk, IfErr, OnOk, length, string_bytes};
 ghost use Rattle.nv_region.specs.Region.{Region, HasBlocks, region_of};
-ghost use Rattle.nv_super.specs.Layout.{HasAreas};
+ghost use Rattle.nv_super.specs.Layout.{IsLayout};
+ghost use Rattle.nv_inode.specs.Chains.{layout_of};
 ghost use Rattle.nv_report.specs.Texts.{AddsText};
 ghost use Rattle.nv_metadata.specs.Gathered.{AreGathered, IsOpen};
 ghost use Rattle.nv_logs.specs.All.{AreLogTexts, IsLogsLook};
@@ -11,13 +12,13 @@ ghost use Rattle.nv_logs.specs.Writing.{WritesTold, FailsTold};
 use crate::looking::{Look, unaccepted_look};
 use crate::writing::write_look;
 use nv_image_check::{Answered, GatheredImage, Image, recover_gathered, recover_image};
+use nv_inode::{Tables, read_tables};
 use nv_inspect::push_log;
 use nv_metadata::Gathered;
 use nv_region::Pmem;
 use nv_report::{Last, Recovered};
 use nv_rows::Rows;
 use nv_stream::ScriptError;
-use nv_super::Super;
 use std::alloc::{AllocError, Global};
 use std::io::Write;
 
@@ -80,15 +81,16 @@ fn look_at_gathered(alloc: Global, gathered: Gathered) -> Result<Look, AllocErro
 
 // All logs in a memory where this was found.
 fn look_in<P: Pmem>(alloc: Global, memory: &P, found: &Recovered) -> Result<Look, AllocError>
-    requires areas { HasAreas found.now.sup }
+    requires layout { IsLayout found.now.sup }
     requires blocks { HasBlocks (P.region memory.now) found.now.sup.blocks }
-    ensures text { IfOk result (λ look. AreLogTexts (P.region memory.now) found.now.sup found.now.rows.items (string_bytes look.text)) }
+    ensures text { IfOk result (λ look. AreLogTexts (P.region memory.now) (layout_of found.now.sup (P.region memory.now)) found.now.rows.items (string_bytes look.text)) }
     ensures status { IfOk result (λ look. look.answered.status ≡ 0) }
     ensures faults { IfOk result (λ look. look.answered.faults ≡ length found.now.faults.items) }
 {
     let faults = found.faults.len();
+    let tables = read_tables(alloc, memory, &found.sup)?;
     let mut text = String::new(alloc);
-    push_logs(&mut text, alloc, memory, &found.sup, &found.rows)?;
+    push_logs(&mut text, alloc, memory, &tables, &found.rows)?;
     Ok(Look {
         text,
         answered: Answered {
@@ -103,15 +105,14 @@ fn push_logs<P: Pmem>(
     out: &mut String,
     alloc: Global,
     memory: &P,
-    sup: &Super,
+    tables: &Tables,
     rows: &Rows,
 ) -> Result<(), AllocError>
-    requires areas { HasAreas sup.now }
-    requires blocks { HasBlocks (P.region memory.now) sup.now.blocks }
-    ensures { OnOk result (AddsText (AreLogTexts (P.region memory.now) sup.now rows.now.items) (string_bytes out.old) (string_bytes out.new)) }
+    requires blocks { HasBlocks (P.region memory.now) tables.now.layout.sup.blocks }
+    ensures { OnOk result (AddsText (AreLogTexts (P.region memory.now) tables.now.layout rows.now.items) (string_bytes out.old) (string_bytes out.new)) }
 {
     for (_, row) in rows.iter() {
-        push_log(out, alloc, memory, sup, row)?;
+        push_log(out, alloc, memory, tables, row)?;
     }
     Ok(())
 }

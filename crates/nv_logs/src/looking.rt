@@ -4,7 +4,8 @@
 
 ghost use Rattle.std.specs.Prelude.{◌≡◌, IfOk, length, string_bytes};
 ghost use Rattle.nv_region.specs.Region.{Region, HasBlocks, region_of};
-ghost use Rattle.nv_super.specs.Layout.{HasAreas};
+ghost use Rattle.nv_super.specs.Layout.{IsLayout};
+ghost use Rattle.nv_inode.specs.Chains.{layout_of};
 ghost use Rattle.nv_text.specs.Refusals.{refusal_name};
 ghost use Rattle.nv_paths.specs.Seen.{tree_of};
 ghost use Rattle.nv_tree.specs.Refusals.{refusal_word};
@@ -16,6 +17,7 @@ ghost use Rattle.nv_logs.specs.Looking.{IsLogLook, TellsLog};
 use crate::asking::row_asked;
 use crate::inode::Inode;
 use nv_image_check::{Answered, GatheredImage, Image, recover_gathered, recover_image};
+use nv_inode::read_tables;
 use nv_inspect::push_log;
 use nv_metadata::Gathered;
 use nv_region::Pmem;
@@ -66,7 +68,7 @@ fn look_in<P: Pmem>(
     found: &Recovered,
     inode: &Inode,
 ) -> Result<Look, AllocError>
-    requires areas { HasAreas found.now.sup }
+    requires layout { IsLayout found.now.sup }
     requires blocks { HasBlocks (P.region memory.now) found.now.sup.blocks }
     ensures told { (R : Region)
         → IfOk result (λ look. TellsLog (tree_of R found.now.rows.items) (P.region memory.now) found.now.sup found.now.rows.items inode.now (string_bytes look.text) look.answered.status) }
@@ -86,14 +88,15 @@ fn shown_look<P: Pmem>(
     row: &Row,
     faults: usize,
 ) -> Result<Look, AllocError>
-    requires areas { HasAreas sup.now }
+    requires layout { IsLayout sup.now }
     requires blocks { HasBlocks (P.region memory.now) sup.now.blocks }
-    ensures text { IfOk result (λ look. IsLogText (P.region memory.now) sup.now row.now (string_bytes look.text)) }
+    ensures text { IfOk result (λ look. IsLogText (P.region memory.now) (layout_of sup.now (P.region memory.now)) row.now (string_bytes look.text)) }
     ensures status { IfOk result (λ look. look.answered.status ≡ 0) }
     ensures faults { IfOk result (λ look. look.answered.faults ≡ faults) }
 {
+    let tables = read_tables(alloc, memory, sup)?;
     let mut text = String::new(alloc);
-    push_log(&mut text, alloc, memory, sup, row)?;
+    push_log(&mut text, alloc, memory, &tables, row)?;
     Ok(Look {
         text,
         answered: Answered {

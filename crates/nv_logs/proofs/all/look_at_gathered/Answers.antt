@@ -1,14 +1,14 @@
 use Rattle.std.proofs.Common.{string_bytes, subst}
 use Rattle.std.proofs.lemmas.Result.{IfOk-weaker}
 use Rattle.nv_image_check.specs.GatheredImage.{IsFoundIn}
-use Rattle.nv_logs.proofs.Looks.{found_areas, found_blocks}
+use Rattle.nv_logs.proofs.Looks.{found_layout, found_blocks}
 use Rattle.nv_logs.proofs.AllLooks.{found_answer, unfound_look}
 use Rattle.nv_logs.proofs.all.look_at_gathered.Goals as goal
 
 pub look_in-requires : goal.look_in-requires
 look_in-requires c =
     let is = subst (IsFoundIn c.args.gathered) c.in-Recovered.is c.in_ok-image.ensures in
-    record { areas = found_areas c.args.gathered c.in-Recovered.memory c.in-Recovered.found is; blocks = found_blocks c.args.gathered c.in-Recovered.memory c.in-Recovered.found c.requires is }
+    record { layout = found_layout c.args.gathered c.in-Recovered.memory c.in-Recovered.found is; blocks = found_blocks c.args.gathered c.in-Recovered.memory c.in-Recovered.found c.requires is }
 
 pub returns-in-Recovered : goal.returns-in-Recovered
 returns-in-Recovered c R are =

@@ -2,14 +2,14 @@ use Rattle.std.proofs.Common.{string_bytes}
 use Rattle.std.proofs.lemmas.Result.{IfOk-weaker}
 use Rattle.nv_region.specs.Region.{region_of}
 use Rattle.nv_image_check.proofs.Found.{as_found}
-use Rattle.nv_logs.proofs.Looks.{image_areas, image_blocks}
+use Rattle.nv_logs.proofs.Looks.{image_layout, image_blocks}
 use Rattle.nv_logs.proofs.AllLooks.{image_answer, refused_look}
 use Rattle.nv_logs.proofs.all.look_at_image.Goals as goal
 
 pub look_in-requires : goal.look_in-requires
 look_in-requires c =
     let is = as_found (region_of c.args.bytes.now) c.in_ok-image.image c.in-Recovered.memory c.in-Recovered.found c.in-Recovered.is c.in_ok-image.ensures in
-    record { areas = image_areas c.args.bytes.now c.in-Recovered.memory c.in-Recovered.found is; blocks = image_blocks c.args.bytes.now c.in-Recovered.memory c.in-Recovered.found is }
+    record { layout = image_layout c.args.bytes.now c.in-Recovered.memory c.in-Recovered.found is; blocks = image_blocks c.args.bytes.now c.in-Recovered.memory c.in-Recovered.found is }
 
 pub returns-in-Recovered : goal.returns-in-Recovered
 returns-in-Recovered c =

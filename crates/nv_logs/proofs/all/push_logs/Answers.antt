@@ -14,11 +14,11 @@ loop-row-preserved g c =
     let row = c.in-Some.row.now in (
       done ++ row ∷ [],
       append_assoc done (row ∷ []) (map (λ entry. entry.1) c.next.new.self) ∙ ap (λ rest. done ++ map (λ entry. entry.1) rest) (sym c.in-Some.ensures.steps) ∙ left,
-      adds_log (g.P.Pmem.region c.args.memory.now) c.args.sup.now done row _ _ _ added c.in_ok-push_log.ensures,
+      adds_log (g.P.Pmem.region c.args.memory.now) c.args.tables.now.layout done row _ _ _ added c.in_ok-push_log.ensures,
     )
 
 pub returns : goal.returns
 returns g c =
     let (done, left, added) = c.loop-row.invariant in
     let all = sym (append-nil done) ∙ ap (λ rest. done ++ map (λ entry. entry.1) rest) (sym c.in-None.ensures.steps.0) ∙ left in
-    subst (λ rows. AddsText (AreLogTexts (g.P.Pmem.region c.args.memory.now) c.args.sup.now rows) (string_bytes c.args.out.now) (string_bytes c.loop-row.out)) all added
+    subst (λ rows. AddsText (AreLogTexts (g.P.Pmem.region c.args.memory.now) c.args.tables.now.layout rows) (string_bytes c.args.out.now) (string_bytes c.loop-row.out)) all added

@@ -7,4 +7,4 @@ use Rattle.nv_logs.proofs.all.push_logs.Given as goal
 -- the logs of some rows were added, and the others are left
 abbrev pub invariant-loop-row : goal.invariant-loop-row
 invariant-loop-row g l = (done : List Row) × (done ++ map (λ entry. entry.1) l.row-iterator ≡ l.rows.items)
-    × AddsText (AreLogTexts (g.P.Pmem.region l.memory) l.sup done) (string_bytes l.fn.out) (string_bytes l.out)
+    × AddsText (AreLogTexts (g.P.Pmem.region l.memory) l.tables.layout done) (string_bytes l.fn.out) (string_bytes l.out)

@@ -1,0 +1,135 @@
+//! The names of a directory as its log is read: what each stands for, and the entry that holds it, which is the one without which it
+//! would stand for something else.
+
+ghost use Rattle.std.specs.Prelude.{◌≡◌, ℕ, List, if◌then◌else◌, nat_eq, None, Some, OnOk};
+ghost use Rattle.std.specs.Cmp.Lexicographic.{pointwise};
+ghost use Rattle.std.specs.Option.{option_map};
+ghost use Rattle.nv_names.specs.Names.{inode_and_place, name_at, IsName};
+ghost use Rattle.nv_scan.specs.State.{name_in, named_by};
+ghost use Rattle.nv_inspect.specs.Held.{first_of, name_holder, IsTaken, Loses, Marks, Says};
+
+use crate::word::mark;
+use nv_entry::{Entry, NameEntry, Operation};
+use nv_names::{NameIndex, Target};
+use std::alloc::{AllocError, Global};
+
+/// The names, and who holds each of them, as the place of the entry for an inode.
+#[derive(Drop)]
+pub(crate) struct HeldNames {
+    pub targets: NameIndex,
+    pub holders: NameIndex,
+}
+
+impl HeldNames {
+    /// The names of which no entry said anything.
+    pub fn new(alloc: Global) -> HeldNames
+        ensures names { (q : List ℕ) → name_at result.targets q ≡ None }
+        ensures holders { (q : List ℕ) → name_holder result q ≡ None }
+    {
+        HeldNames {
+            targets: NameIndex::new(alloc),
+            holders: NameIndex::new(alloc),
+        }
+    }
+
+    /// The place of the entry that holds a name.
+    pub fn holder(&self, name: &[u8]) -> Option<u64>
+        ensures { result ≡ name_holder self.now name.now }
+    {
+        match self.holders.get(name) {
+            Some(target) => Some(target.inode),
+            None => None,
+        }
+    }
+
+    /// Marks the entries that hold a name.
+    ///
+    /// Errors: `AllocError` where a growth was refused.
+    pub fn mark_holders(&self, by: u64, marks: &mut [Option<u64>]) -> Result<(), AllocError>
+        ensures { OnOk result (Marks by (λ (k : ℕ). (q : List ℕ) × (name_holder self.now q ≡ Some k)) marks.old marks.new) }
+    {
+        let listed = self.holders.walk()?;
+        for k in 0..listed.len() {
+            let line = listed[k];
+            mark(marks, Some(line.inode), by);
+        }
+        Ok(())
+    }
+
+    /// Takes what the entry at place `by` among the entries, which stands at this address, says of its name, and marks the entry
+    /// that held the name.
+    ///
+    /// Errors: `AllocError` where a growth was refused; of the names nothing is said then.
+    pub fn say_name(
+        &mut self,
+        e: &NameEntry,
+        at: u64,
+        by: u64,
+        takers: &mut [Option<u64>],
+    ) -> Result<(), AllocError>
+        requires { IsName e.now.name }
+        ensures names { OnOk result ((q : List ℕ) → Says by (name_in q at (Entry.Name e.now)) (name_at self.old.targets q) (name_holder self.old q) (name_at self.new.targets q) (name_holder self.new q)) }
+        ensures marks { OnOk result (Marks by (λ (k : ℕ). (q : List ℕ) × Loses (name_in q at (Entry.Name e.now)) (name_holder self.old q) k) takers.old takers.new) }
+    {
+        let name = e.name.as_slice();
+        mark(takers, self.holder(name), by);
+        let said = said_of(e, at);
+        let holder = taken(self.targets.get(name), said, by);
+        hold(&mut self.holders, name, holder)?;
+        set(&mut self.targets, name, said)?;
+        Ok(())
+    }
+}
+
+/// What an entry at an address says of its name: what it stands for, or that it isn't there.
+fn said_of(e: &NameEntry, at: u64) -> Option<Target>
+    ensures { option_map inode_and_place result ≡ named_by at e.now.inode e.now.operation }
+{
+    match e.operation {
+        Operation::Add => Some(Target {
+            inode: e.inode,
+            place: at,
+        }),
+        Operation::Remove => None,
+    }
+}
+
+/// Lets a name stand for this, or takes it out.
+fn set(targets: &mut NameIndex, name: &[u8], said: Option<Target>) -> Result<(), AllocError>
+    requires { IsName name.now }
+    ensures { OnOk result ((q : List ℕ) → name_at targets.new q ≡ (if pointwise nat_eq q name.now then option_map inode_and_place said else name_at targets.old q)) }
+{
+    match said {
+        Some(Target { inode, place }) => targets.insert(name, inode, place),
+        None => {
+            targets.remove(name);
+            Ok(())
+        }
+    }
+}
+
+/// Lets this entry hold a name, or none.
+fn hold(holders: &mut NameIndex, name: &[u8], by: Option<u64>) -> Result<(), AllocError>
+    requires { IsName name.now }
+    ensures { OnOk result ((q : List ℕ) → option_map first_of (name_at holders.new q) ≡ (if pointwise nat_eq q name.now then by else option_map first_of (name_at holders.old q))) }
+{
+    match by {
+        Some(place) => holders.insert(name, place, 0),
+        None => {
+            holders.remove(name);
+            Ok(())
+        }
+    }
+}
+
+/// Who holds a name that stood for the first and stands for the second by this entry.
+fn taken(before: Option<Target>, said: Option<Target>, by: u64) -> Option<u64>
+    ensures { IsTaken by (option_map inode_and_place before) (option_map inode_and_place said) result }
+{
+    let is_same = match (before, said) {
+        (Some(before), Some(said)) => before.inode == said.inode && before.place == said.place,
+        (None, None) => true,
+        _ => false,
+    };
+    if is_same { None } else { Some(by) }
+}
