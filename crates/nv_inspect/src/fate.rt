@@ -2,7 +2,7 @@
 
 /// What became of an entry: whether the inode's state would be another without it.
 #[derive(Clone, Copy, PartialEq, Eq)]
-pub(crate) enum Fate {
+pub enum Fate {
     /// It would.
     Stands,
     /// It wouldn't, nor was the state another when the log ended with it.

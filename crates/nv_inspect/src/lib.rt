@@ -18,5 +18,6 @@ mod pages;
 mod pieces;
 mod word;
 
+pub use fate::Fate;
 pub use laws::one_log_text;
 pub use logs::push_log;
