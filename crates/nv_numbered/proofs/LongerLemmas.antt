@@ -48,9 +48,9 @@ bare_read : (leaves : List (List ℕ)) (words : List ℕ) (q : ℕ) → words �
 bare_read leaves words q none = elim (cases_lt q (length leaves)) [
   | inl low ↦ get_or_append_left leaves (words ∷ []) [] q low
   | inr past ↦ elim (cases_eq q (length leaves)) [
-      | inl same ↦ get_or_push leaves words [] q (sym same) ∙ none ∙ sym (get_or_past leaves q [] past)
-      | inr differs ↦ get_or_past (leaves ++ words ∷ []) q [] (let long = length_push leaves words in omega (arith, long, past, differs)) ∙ sym (get_or_past leaves q [] past)
-    ]
+    | inl same ↦ get_or_push leaves words [] q (sym same) ∙ none ∙ sym (get_or_past leaves q [] past)
+    | inr differs ↦ get_or_past (leaves ++ words ∷ []) q [] (let long = length_push leaves words in omega (arith, long, past, differs)) ∙ sym (get_or_past leaves q [] past)
+  ]
 ]
 
 module _ {A B : Type 0} (leaves : List (Vec ℕ A)) (used : List ℕ) (spares : Vec (Vec ℕ A) B) (total count len : ℕ) (is : IsLeaved leaves used spares total count len) (longer : ℕ) (more : len ≤ longer) where
@@ -104,11 +104,11 @@ module _ {A B : Type 0} (leaves : List (Vec ℕ A)) (used : List ℕ) (spares : 
         let spared : leaves_of left.items ≡ leaves_of spares.items ++ spare.items ∷ [] = ap leaves_of all ∙ map-append vec_items spares.items (spare ∷ []) in
         record {
           words = rw lists (record {
-              as_many = omega (arith, long, counts, is.words.as_many);
-              each = λ k inside. each_leaf k (omega (arith, inside, long));
-              reach = omega (arith, within, long, lists_long);
-              few = omega (arith, past, small, long, lists_long);
-            });
+            as_many = omega (arith, long, counts, is.words.as_many);
+            each = λ k inside. each_leaf k (omega (arith, inside, long));
+            reach = omega (arith, within, long, lists_long);
+            few = omega (arith, past, small, long, lists_long);
+          });
           zeros = rw spared (AreSpares-leaf used (leaves_of spares.items) total count is.zeros spare.items zeros);
           roomy = roomy;
           behind = λ k far. word_same k ∙ is.behind k (omega (arith, far, more));
@@ -137,8 +137,8 @@ module _ {T : Type 0} (places numbers : List ℕ) (values : List T) (n : ℕ) wh
     as_many = sound.as_many;
     counted = ap (count_by is_some) longer_slots
         ∙ (let both : count_by is_some (slots_of places values ++ replicate n None) ≡ count_by is_some (slots_of places values) + count_by is_some (replicate {A = Option T} n None) = sum_by-append (λ (slot : Option T). cond (is_some slot) 1 0) (slots_of places values) (replicate n None) in
-            let none = none_counted T n in
-            omega (arith, both, none, sound.counted));
+        let none = none_counted T n in
+        omega (arith, both, none, sound.counted));
     few = (let both = length-append places (replicate n 0) in let zeros = length-replicate {A = ℕ} n 0 in omega (arith, both, zeros, few));
   }
 

@@ -200,8 +200,7 @@ impl Leaves {
         let more = self.total + 1 - self.spares.len();
         self.spares.reserve(more)?;
         let alloc = *self.spares.allocator();
-        self.spares
-            .push_reserved(vec![in alloc; 0; LEAF as usize]?);
+        self.spares.push_reserved(vec![in alloc; 0; LEAF as usize]?);
         self.leaves.push_reserved(Vec::new(alloc));
         self.used.push_reserved(0);
         self.total += 1;
