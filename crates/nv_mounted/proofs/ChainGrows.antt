@@ -1,6 +1,5 @@
 -- A chain that grows by a free block, which is blank: the region is sound by the layout with that block, and shows what it showed.
-use Rattle.std.proofs.Common.{◌≡◌, ◌≢◌, ◌↔◌, ◌⊎◌, inl, inr, ℕ, zero, suc, ◌+◌, ◌*◌, ◌/◌, ◌%◌, ◌<◌, ◌≤◌, ◌==◌, ◌&&◌, nat_lt, if◌then◌else◌, Bool, true, false, eqb, List, [], ◌∷◌, ◌++◌, length, set, slice_get, Option, Some, None, refl, ap, sym, ◌∙◌, subst, arith}
-use Rattle.std.specs.Prelude.{unwrap_or}
+use Rattle.std.proofs.Common.{◌≡◌, ◌≢◌, ◌↔◌, ◌⊎◌, inl, inr, ℕ, zero, suc, ◌+◌, ◌*◌, ◌/◌, ◌%◌, ◌<◌, ◌≤◌, ◌==◌, ◌&&◌, nat_lt, if◌then◌else◌, Bool, true, false, eqb, List, [], ◌∷◌, ◌++◌, length, slice_get, Option, Some, None, refl, ap, sym, ◌∙◌, subst, arith}
 use Rattle.std.specs.List.{Contains, cons_option, filter_map, list_any, range_with_len}
 use Rattle.std.proofs.lemmas.Bool.{cases_eq, cases_lt}
 use Rattle.nv_region.specs.Region.{Region, size, word}
@@ -11,41 +10,37 @@ use Rattle.nv_region.proofs.Wordwise.{mixed_more}
 use Rattle.nv_super.specs.declared.faults.Fault.{Fault}
 use Rattle.nv_super.specs.declared.owners.Owner.{Owner}
 use Rattle.nv_super.specs.declared.owners.Owner.TheVariants as owners
+use Rattle.nv_super.specs.declared.owners.Run.{Run}
 use Rattle.nv_super.specs.Layout.{Layout, chain_of, slot_of, system_blocks}
 use Rattle.nv_super.specs.Super.{IsSuper}
 use Rattle.nv_super.proofs.Accepted.{super_stays}
 use Rattle.nv_super.proofs.Options.{some_is}
 use Rattle.nv_inode.specs.Chains.{chain_faults, chain_in, end_fault, fault_behind, first_link, layout_of, link_behind, link_fault}
-use Rattle.nv_inode.specs.Growing.{CanLink, IsLinked, with_block}
+use Rattle.nv_inode.specs.Growing.{CanLink, IsLinked, LinksOrNot, with_block}
 use Rattle.nv_inode.proofs.GrownSlots.{slots_stay, slots_unused}
+use Rattle.nv_inode.proofs.GrownTables.{other_chain, own_chain}
 use Rattle.nv_inode.proofs.LayoutWords.{found_at}
 use Rattle.nv_inode.proofs.LinkedChains.{linked_layout}
 use Rattle.nv_inode.proofs.ReadChains.{link_last}
 use Rattle.nv_journal.specs.Undo.{dequeue, enqueue, is_sound, journal}
 use Rattle.nv_logpage.proofs.Local.{ReadsOn-same}
-use Rattle.nv_mounted.specs.Held.{Held, Store, HoldsInode, Shows, ShowsSlot}
-use Rattle.nv_mounted.specs.Blocks.{OwnsIn, by_table, by_log, by_page, IsUnowned, NoneDoubled}
+use Rattle.nv_scan.specs.State.{block_of}
+use Rattle.nv_scan.specs.declared.piece.Row.{Row}
+use Rattle.nv_scan.proofs.Blocks.{data_pages}
+use Rattle.nv_mounted.specs.Held.{Held, Store, HoldsInode, Shows, ShowsSlot, good_in}
+use Rattle.nv_mounted.specs.Blocks.{ArePoolRuns, KeepsFree, OwnsIn, by_table, by_log, by_page, IsUnowned, NoneDoubled}
+use Rattle.nv_mounted.specs.Bytes.{byte_of}
 use Rattle.nv_mounted.specs.Loose.{Loose}
 use Rattle.nv_mounted.specs.Slots.{SlotsClear}
-use Rattle.nv_mounted.specs.Mounted.{AreIdle, IsFaultless, ShowsSound}
+use Rattle.nv_mounted.specs.Mounted.{AreIdle, IsFaultless, IsMounted, KeepsRow, ShowsSound}
+use Rattle.nv_mounted.proofs.BytesKept.{same_byte}
+use Rattle.nv_mounted.proofs.ListsKept.{pools_same}
 use Rattle.nv_mounted.proofs.Shown.{holds_at, stands_at}
 use Rattle.nv_mounted.proofs.Kept.{head_whole, page_owner, pages_data}
 use Rattle.nv_mounted.proofs.Fronts.{loose_sound, sound_clear, tables_laid}
 use Rattle.nv_outcome.proofs.SameChains.{chain_is}
 
 -- ---- rows of chains, and lists with one block more
-
-set_other : (chains : List (List ℕ)) (c q : ℕ) (x : List ℕ) → q ≢ c → slice_get (set chains c x) q ≡ slice_get chains q
-set_other [] c q x differs = refl
-set_other (y ∷ ys) zero zero x differs = absurd (differs refl)
-set_other (y ∷ ys) zero (suc q) x differs = refl
-set_other (y ∷ ys) (suc c) zero x differs = refl
-set_other (y ∷ ys) (suc c) (suc q) x differs = set_other ys c q x (λ e. differs (ap suc e))
-
-set_here : (chains : List (List ℕ)) (c : ℕ) (x : List ℕ) → c < length chains → slice_get (set chains c x) c ≡ Some x
-set_here [] c x below = absurd (omega (arith, below))
-set_here (y ∷ ys) zero x below = refl
-set_here (y ∷ ys) (suc c) x below = set_here ys c x (omega (arith, below))
 
 pushed_at : (xs : List ℕ) (k b c : ℕ) → slice_get (xs ++ b ∷ []) k ≡ Some c → (slice_get xs k ≡ Some c) ⊎ ((k ≡ length xs) × (c ≡ b))
 pushed_at [] zero b c e = let same : b ≡ c = cc in inr (refl, sym same)
@@ -95,23 +90,17 @@ module _ (l : Layout) (held : Store) (cpu block : ℕ) (below : cpu < length l.c
   abbrev grown : Layout
   grown = with_block l cpu block
 
-  own_chain : chain_of grown cpu ≡ chain_of l cpu ++ block ∷ []
-  own_chain = ap (λ (o : Option (List ℕ)). unwrap_or o []) (set_here l.chains cpu (chain_of l cpu ++ block ∷ []) below)
-
-  other_chain : (c : ℕ) → c ≢ cpu → chain_of grown c ≡ chain_of l c
-  other_chain c differs = ap (λ (o : Option (List ℕ)). unwrap_or o []) (set_other l.chains cpu c (chain_of l cpu ++ block ∷ []) differs)
-
   at_of : (c d n b : ℕ) → c ≡ d → slice_get (chain_of grown c) n ≡ Some b → slice_get (chain_of grown d) n ≡ Some b
   at_of c d n b same has = subst (λ (q : ℕ). slice_get (chain_of grown q) n ≡ Some b) same has
 
   -- an owner is one of before, or the table with its new block
   pub owned_was : (b : ℕ) (o : Owner) → OwnsIn grown held b o → OwnsIn l held b o ⊎ ((b ≡ block) × (o ≡ owners.Table cpu (length (chain_of l cpu))))
   owned_was b _ (by_table {c = c} {k = n} has) = elim (cases_eq c cpu) [
-    | inl same ↦ elim (pushed_at (chain_of l cpu) n block b (ap (λ (blocks : List ℕ). slice_get blocks n) (sym own_chain) ∙ at_of c cpu n b same has)) [
+    | inl same ↦ elim (pushed_at (chain_of l cpu) n block b (ap (λ (blocks : List ℕ). slice_get blocks n) (sym (own_chain l cpu block below)) ∙ at_of c cpu n b same has)) [
       | inl old ↦ inl (subst (λ (q : ℕ). OwnsIn l held b (owners.Table q n)) (sym same) (by_table old))
       | inr new ↦ inr (new.1, λ i. owners.Table (same i) (new.0 i))
     ]
-    | inr differs ↦ inl (by_table (ap (λ (blocks : List ℕ). slice_get blocks n) (sym (other_chain c differs)) ∙ has))
+    | inr differs ↦ inl (by_table (ap (λ (blocks : List ℕ). slice_get blocks n) (sym (other_chain l cpu block below c differs)) ∙ has))
   ]
   owned_was b _ (by_log is page) = inl (by_log is page)
   owned_was b _ (by_page is maps) = inl (by_page is maps)
@@ -120,15 +109,15 @@ module _ (l : Layout) (held : Store) (cpu block : ℕ) (below : cpu < length l.c
   owned_still b _ (by_table {c = c} {k = n} has) = elim (cases_eq c cpu) [
     | inl same ↦ (
         let there : slice_get (chain_of l cpu) n ≡ Some b = subst (λ (q : ℕ). slice_get (chain_of l q) n ≡ Some b) same has in
-        let now : slice_get (chain_of grown cpu) n ≡ Some b = ap (λ (blocks : List ℕ). slice_get blocks n) own_chain ∙ pushed_keeps (chain_of l cpu) n block b there in
+        let now : slice_get (chain_of grown cpu) n ≡ Some b = ap (λ (blocks : List ℕ). slice_get blocks n) (own_chain l cpu block below) ∙ pushed_keeps (chain_of l cpu) n block b there in
         subst (λ (q : ℕ). OwnsIn grown held b (owners.Table q n)) (sym same) (by_table now))
-    | inr differs ↦ by_table (ap (λ (blocks : List ℕ). slice_get blocks n) (other_chain c differs) ∙ has)
+    | inr differs ↦ by_table (ap (λ (blocks : List ℕ). slice_get blocks n) (other_chain l cpu block below c differs) ∙ has)
   ]
   owned_still b _ (by_log is page) = by_log is page
   owned_still b _ (by_page is maps) = by_page is maps
 
   owned_new : OwnsIn grown held block (owners.Table cpu (length (chain_of l cpu)))
-  owned_new = by_table (ap (λ (blocks : List ℕ). slice_get blocks (length (chain_of l cpu))) own_chain ∙ pushed_last (chain_of l cpu) block)
+  owned_new = by_table (ap (λ (blocks : List ℕ). slice_get blocks (length (chain_of l cpu))) (own_chain l cpu block below) ∙ pushed_last (chain_of l cpu) block)
 
   -- The free blocks are those of before but for it.
   pub grown_free : (b : ℕ) → IsUnowned grown held b ↔ (IsUnowned l held b × (b ≢ block))
@@ -258,7 +247,7 @@ module _ {R : Region} {l : Layout} {held : Store} (m : ShowsSound R l held) (cpu
     ended_at : (c : ℕ) → c < l.sup.cpus → end_fault l.sup Q c ≡ None
     ended_at c less = elim (cases_eq c cpu) [
       | inl same ↦ (
-          let now : chain_in l.sup Q cpu ≡ chain_of l cpu ++ block ∷ [] = chain_now cpu below ∙ own_chain l held cpu block within in
+          let now : chain_in l.sup Q cpu ≡ chain_of l cpu ++ block ∷ [] = chain_now cpu below ∙ own_chain l cpu block within in
           let last : link_behind (first_link cpu) (chain_in l.sup Q cpu) ≡ 4096 * block = ap (link_behind (first_link cpu)) now ∙ link_last (first_link cpu) (chain_of l cpu) block in
           let start : 4096 * block ≡ 4096 * block + 128 * 0 = omega arith in
           let none : word Q (link_behind (first_link cpu) (chain_in l.sup Q cpu)) ≡ 0 = ap (word Q) (last ∙ start) ∙ is.blank 0 (omega arith) in
@@ -266,7 +255,7 @@ module _ {R : Region} {l : Layout} {held : Store} (m : ShowsSound R l held) (cpu
           ∙ ap (λ (w : ℕ). if l.sup.version == 2 then link_fault l.sup cpu (link_behind (first_link cpu) (chain_in l.sup Q cpu)) w else None) none
           ∙ neither (l.sup.version == 2) (link_fault l.sup cpu (link_behind (first_link cpu) (chain_in l.sup Q cpu)) 0) refl)
       | inr differs ↦ (
-          let now : chain_in l.sup Q c ≡ chain_in l.sup R c = chain_now c less ∙ other_chain l held cpu block within c differs ∙ chain_is R l m.laid c less in
+          let now : chain_in l.sup Q c ≡ chain_in l.sup R c = chain_now c less ∙ other_chain l cpu block within c differs ∙ chain_is R l m.laid c less in
           ap (λ (blocks : List ℕ). if l.sup.version == 2 then fault_behind l.sup Q c blocks else None) now
           ∙ ap (λ (w : ℕ). if l.sup.version == 2 then link_fault l.sup c (link_behind (first_link c) (chain_in l.sup R c)) w else None) (other_last c less differs)
           ∙ each_none (end_fault l.sup R) 0 l.sup.cpus m.ended c (omega arith) (omega (arith, less)))
@@ -290,31 +279,43 @@ module _ {R : Region} {l : Layout} {held : Store} (m : ShowsSound R l held) (cpu
       outside : (a + n < 4096 * block) ⊎ (4096 * block + 4096 ≤ a + n)
       outside = elim (cases_lt (a + n) (4096 * block)) [ inl low ↦ inl low | inr high ↦ inr (let other = clear.unfree block free i a at in omega (arith, high, other, few, whole, clear.whole i a at)) ]
 
-    page_word : (i : ℕ) (h : Held) → held i ≡ Some h → (b : ℕ) → Contains h.pages b → (x : ℕ) → x % 8 ≡ 0 → x / 4096 ≡ b → word Q x ≡ word R x
-    page_word i h here b c x whole page = is.others x whole differs outside where
-      mine : (n : ℕ) × OwnsIn l held b (owners.Log i n)
-      mine = page_owner l held i b h here c
+    no_log : (d k j n : ℕ) → owners.Table d k ≡ owners.Log j n → ⊥
+    no_log d k j n e = cc
 
-      from : system_blocks l.sup ≤ b
-      from = let v = stands_at m.shows i h here in pages_data v.is.right v.is.reads b c
+    no_data : (d k j p : ℕ) → owners.Table d k ≡ owners.Data j p → ⊥
+    no_data d k j p e = cc
 
-      no_log : (d k j n : ℕ) → owners.Table d k ≡ owners.Log j n → ⊥
-      no_log d k j n e = cc
-
+    -- a word of a block that an inode owns
+    owned_word : (b : ℕ) (o : Owner) → OwnsIn l held b o → ((d n : ℕ) → owners.Table d n ≡ o → ⊥) → system_blocks l.sup ≤ b → (x : ℕ) → x % 8 ≡ 0 → x / 4096 ≡ b → word Q x ≡ word R x
+    owned_word b o owns no_table from x whole page = is.others x whole differs outside where
       differs : x ≢ link
       differs same = elim link_there [
         | inl first ↦ omega (arith, same, first, page, from, below)
         | inr w ↦ (
             let there = w.3 in
             let block_is : w.1 ≡ b = omega (arith, there, same, page) in
-            no_log cpu w.0 i mine.0 (m.faultless.undoubled b (owners.Table cpu w.0) (owners.Log i mine.0) (owner_there cpu w.0 b below (w.2 ∙ ap Some block_is)) mine.1))
+            no_table cpu w.0 (m.faultless.undoubled b (owners.Table cpu w.0) o (owner_there cpu w.0 b below (w.2 ∙ ap Some block_is)) owns))
       ]
 
       other : b ≢ block
-      other same = free.unowned (owners.Log i mine.0) (subst (λ (q : ℕ). OwnsIn l held q (owners.Log i mine.0)) same mine.1)
+      other same = free.unowned o (subst (λ (q : ℕ). OwnsIn l held q o) same owns)
 
       outside : (x < 4096 * block) ⊎ (4096 * block + 4096 ≤ x)
       outside = elim (cases_lt b block) [ inl low ↦ inl (omega (arith, low, page)) | inr high ↦ inr (omega (arith, high, other, page)) ]
+
+    page_word : (i : ℕ) (h : Held) → held i ≡ Some h → (b : ℕ) → Contains h.pages b → (x : ℕ) → x % 8 ≡ 0 → x / 4096 ≡ b → word Q x ≡ word R x
+    page_word i h here b c =
+        let mine = page_owner l held i b h here c in
+        let v = stands_at m.shows i h here in
+        owned_word b (owners.Log i mine.0) mine.1 (λ d n. no_log d n i mine.0) (pages_data v.is.right v.is.reads b c)
+
+    -- each byte of a file is where it was
+    pub grown_bytes : (i : ℕ) (h : Held) → held i ≡ Some h → (x : ℕ) → byte_of Q new h x ≡ byte_of R l h x
+    grown_bytes i h here x = same_byte R Q (block_of (good_in l h) (x / 4096)) x of_block where
+      of_block : (b : ℕ) → block_of (good_in l h) (x / 4096) ≡ Some b → word Q (b * 4096 + x % 4096 / 8 * 8) ≡ word R (b * 4096 + x % 4096 / 8 * 8)
+      of_block b maps =
+          owned_word b (owners.Data i (x / 4096)) (by_page here maps) (λ d n. no_data d n i (x / 4096)) (data_pages l.sup h.kind h.entries (x / 4096) b maps).1
+          (b * 4096 + x % 4096 / 8 * 8) (omega arith) (omega arith)
 
     holds_there : (i a : ℕ) (h : Held) → slot_of l i ≡ Some a → held i ≡ Some h → HoldsInode Q new a h
     holds_there i a h at here =
@@ -357,16 +358,59 @@ module _ {R : Region} {l : Layout} {held : Store} (m : ShowsSound R l held) (cpu
     pub grown_sound : ShowsSound Q new held
     grown_sound = record { tables = record { sup = sup; laid = laid; ended = ended }; idle = idle; shows = shows; faultless = faultless }
 
--- While words of the block alone have changed.
-pub clearing_sound : (R left : Region) (l : Layout) (held : Store) (block : ℕ) → ShowsSound R l held → IsUnowned l held block → IsMixed R (Within (4096 * block) 4096) left → ShowsSound left l held
-clearing_sound R left l held block m free mixed =
-    loose_sound R left l held m (mixed_more (Loose l held) (Within (4096 * block) 4096) R R left (λ i x w. (
+-- Words of a free block are loose.
+pub block_loose : (R left : Region) (l : Layout) (held : Store) (block : ℕ) → IsUnowned l held block → IsMixed R (Within (4096 * block) 4096) left → IsMixed R (Loose l held) left
+block_loose R left l held block free mixed =
+    mixed_more (Loose l held) (Within (4096 * block) 4096) R R left (λ i x w. (
     let from = w.0 in let to = w.1 in
     let here : block ≡ 8 * i / 4096 = omega (arith, from, to) in
-    inl (subst (IsUnowned l held) here free))) (mixed_same R (Loose l held)) mixed)
+    inl (subst (IsUnowned l held) here free))) (mixed_same R (Loose l held)) mixed
+
+-- While words of the block alone have changed.
+pub clearing_sound : (R left : Region) (l : Layout) (held : Store) (block : ℕ) → ShowsSound R l held → IsUnowned l held block → IsMixed R (Within (4096 * block) 4096) left → ShowsSound left l held
+clearing_sound R left l held block m free mixed = loose_sound R left l held m (block_loose R left l held block free mixed)
 
 -- Once it is linked.
 pub linked_sound : (R Q : Region) (l : Layout) (held : Store) (cpu block : ℕ) → ShowsSound R l held → l.sup.version ≡ 2 → cpu < l.sup.cpus → IsUnowned l held block → size Q ≡ size R
     → IsLinked R (link_behind (first_link cpu) (chain_of l cpu)) block Q → ShowsSound Q (with_block l cpu block) held
 linked_sound R Q l held cpu block m version below free len is =
     grown_sound m cpu block below free version Q len (subst (λ (blocks : List ℕ). IsLinked R (link_behind (first_link cpu) blocks) block Q) (chain_is R l m.laid cpu below) is)
+
+pub linked_bytes : (R Q : Region) (l : Layout) (held : Store) (cpu block : ℕ) → ShowsSound R l held → l.sup.version ≡ 2 → cpu < l.sup.cpus → IsUnowned l held block → size Q ≡ size R
+    → IsLinked R (link_behind (first_link cpu) (chain_of l cpu)) block Q → (i : ℕ) (h : Held) → held i ≡ Some h → (x : ℕ) → byte_of Q (with_block l cpu block) h x ≡ byte_of R l h x
+linked_bytes R Q l held cpu block m version below free len is =
+    grown_bytes m cpu block below free version Q len (subst (λ (blocks : List ℕ). IsLinked R (link_behind (first_link cpu) blocks) block Q) (chain_is R l m.laid cpu below) is)
+
+-- What a stop leaves.
+pub stopped_sound : (R left : Region) (l : Layout) (held : Store) (cpu block : ℕ) → ShowsSound R l held → l.sup.version ≡ 2 → cpu < l.sup.cpus → IsUnowned l held block → size left ≡ size R
+    → LinksOrNot R (link_behind (first_link cpu) (chain_of l cpu)) block left → ShowsSound left l held ⊎ ShowsSound left (with_block l cpu block) held
+stopped_sound R left l held cpu block m version below free len (inl mixed) = inl (clearing_sound R left l held block m free mixed)
+stopped_sound R left l held cpu block m version below free len (inr is) = inr (linked_sound R left l held cpu block m version below free len is)
+
+-- ---- rows and free lists
+
+-- What a row says doesn't go by the chains.
+pub row_stays : (l : Layout) (cpu block : ℕ) (h : Held) (row : Row) → KeepsRow l h row → KeepsRow (with_block l cpu block) h row
+row_stays l cpu block h row told = record { kind = told.kind; numbers = told.numbers; head = told.head; tail = told.tail; pages = told.pages; index = told.index; names = told.names }
+
+pub lists_without : (l : Layout) (held : Store) (cpu block : ℕ) (free : List (List Run)) → cpu < length l.chains → ArePoolRuns l (λ b. IsUnowned l held b × (b ≢ block)) free → KeepsFree (with_block l cpu block) held free
+lists_without l held cpu block free below kept =
+    let there : ArePoolRuns l (IsUnowned (with_block l cpu block) held) free = pools_same l (λ b. IsUnowned l held b × (b ≢ block)) (IsUnowned (with_block l cpu block) held) free (λ b. (let w = grown_free l held cpu block below b in (w.1, w.0))) kept in
+    record { pools = there.pools; each = there.each }
+
+pub grown_mounted : (R Q : Region) (l : Layout) (held : Store) (rows : List Row) (free without : List (List Run)) (cpu block : ℕ) → IsMounted R l held rows free → l.sup.version ≡ 2 → cpu < l.sup.cpus → IsUnowned l held block → size Q ≡ size R
+    → IsLinked R (link_behind (first_link cpu) (chain_of l cpu)) block Q → ArePoolRuns l (λ b. IsUnowned l held b × (b ≢ block)) without → IsMounted Q (with_block l cpu block) held rows without
+grown_mounted R Q l held rows free without cpu block m version below unowned len is lists =
+    let sound = m.sound in
+    let in_rows = m.keeps.in_rows in
+    record {
+      sound = linked_sound R Q l held cpu block sound version below unowned len is;
+      keeps = record {
+        in_rows = record {
+          rising = in_rows.rising;
+          each = λ row c. (let w = in_rows.each row c in (w.0, w.1, row_stays l cpu block w.0 row w.2));
+          all = in_rows.all;
+        };
+        in_lists = lists_without l held cpu block without (let each = (tables_laid sound.tables).each in omega (arith, each, below)) lists;
+      };
+    }

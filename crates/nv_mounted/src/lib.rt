@@ -35,5 +35,5 @@ pub use stores::{
     inode_comes, inode_goes, loose_words_are_not_shown, loose_words_leave_it_sound,
     one_slot_changes, shown_behind, slots_are_clear, slots_lie_behind, sound_moves, tail_moves,
 };
-pub use tables::{chain_grows, tables_stay, version_1_has_no_chains};
+pub use tables::{chain_grows, mounted_tables_grow, tables_stay, version_1_has_no_chains};
 pub use upgrading::{cleared_links_are_not_shown, upgraded_regions_show_the_same};

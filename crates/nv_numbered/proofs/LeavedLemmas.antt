@@ -7,7 +7,7 @@ use Rattle.std.proofs.lemmas.List.{length-map, get_or-map, map-append, map-set, 
 use Rattle.std.proofs.lemmas.List.Elements.{All-get_or}
 use Rattle.std.proofs.lemmas.Grind.{get_or-set_at}
 use Rattle.nv_numbered.specs.Leaved.{word_at, words_of, room_of, leaves_of, IsLeaf, AreLeaves, AreSpares, IsLeaved}
-use Rattle.nv_numbered.proofs.WordLemmas.{word_read, word_past, words-set}
+use Rattle.nv_numbered.proofs.WordLemmas.{at_other, word_read, word_past, words-set}
 use Rattle.nv_numbered.proofs.LeafLemmas.{leaf_some, no_words, zeros_left, IsLeaf-bare, IsLeaf-first, IsLeaf-more, IsLeaf-replace, IsLeaf-less, AreLeaves-set, AreLeaves-write}
 use Rattle.nv_numbered.proofs.SpareLemmas.{used_low, count_low, count_some, some_made, room_more, room_less, spare_there, AreSpares-more, AreSpares-first, AreSpares-less, AreSpares-last, AreSpares-grown, room_little, room_grown}
 
@@ -36,6 +36,7 @@ module _ {A B : Type 0} (leaves : List (Vec ℕ A)) (used : List ℕ) (spares : 
         words = is.words;
         zeros = rw lists (AreSpares-grown used (leaves_of spares.items) total count is.zeros words.items zeros);
         roomy = roomy;
+        behind = is.behind;
       }
 
   pub room_spare : room_of (length leaves) total count < 2 ^ 64 → room_of (length leaves) total count + 1 ≤ room_of (length leaves) (total + 1) count
@@ -118,6 +119,13 @@ module _ {A B : Type 0} (leaves : List (Vec ℕ A)) (used : List ℕ) (spares : 
           ap (λ (lists : List (List ℕ)). words_of lists len) (map-set vec_items leaves (place / 4096) new)
           ∙ words-set (leaves_of leaves) len place w new.items within is.words.reach here (λ j differs. others j differs ∙ ap (λ (words : List ℕ). get_or words j 0) (sym leaf_read))
 
+      -- the words behind the last are still 0
+      behind_written : (new : Vec ℕ A) → ((j : ℕ) → j ≢ place % 4096 → get_or new.items j 0 ≡ get_or leaf.items j 0) → (k : ℕ) → len ≤ k → word_at (leaves_of (set leaves (place / 4096) new)) k ≡ 0
+      behind_written new others k past =
+          ap (λ (lists : List (List ℕ)). word_at lists k) (map-set vec_items leaves (place / 4096) new)
+          ∙ at_other (leaves_of leaves) len place (get_or new.items (place % 4096) 0) new.items within is.words.reach refl (λ j differs. others j differs ∙ ap (λ (words : List ℕ). get_or words j 0) (sym leaf_read)) k (λ same. absurd (omega (arith, same, past, within)))
+          ∙ is.behind k past
+
       module _ (told : get_or (words_of (leaves_of leaves) len) place 0 ≢ 0) where
         taken : get_or leaf.items (place % 4096) 0 ≢ 0
         taken none = told (word_is ∙ none)
@@ -158,7 +166,15 @@ module _ {A B : Type 0} (leaves : List (Vec ℕ A)) (used : List ℕ) (spares : 
               words = rw map-set (AreLeaves-write (leaves_of leaves) used len is.words (place / 4096) new.items list_inside (rw (sym e) at written));
               zeros = is.zeros;
               roomy = is.roomy;
+              behind = behind_written new (λ j differs. ap (λ (words : List ℕ). get_or words j 0) e ∙ get_or-set_other leaf.items (place % 4096) j w 0 differs);
             }
+
+        -- where a word was the only one of its leaf, the others were 0
+        bare_others : (bare : Vec ℕ A) → bare.items ≡ [] → get_or used (place / 4096) 0 ≡ 1 → (j : ℕ) → j ≢ place % 4096 → get_or bare.items j 0 ≡ get_or leaf.items j 0
+        bare_others bare none one j differs =
+            let zeros : set leaf.items (place % 4096) 0 ≡ replicate 4096 0 = zeros_left leaf.items (get_or used (place / 4096) 0) (place % 4096) 0 leaf_is leaf_made (omega arith) taken refl one in
+            ap (λ (words : List ℕ). get_or words j 0) none
+            ∙ sym (sym (get_or-set_other leaf.items (place % 4096) j 0 0 differs) ∙ ap (λ (words : List ℕ). get_or words j 0) zeros ∙ zero_at j)
 
         -- a word goes that is the last of its leaf: the words of the leaf become a spare one's
         pub IsLeaved-last : (new bare : Vec ℕ A) (left : Vec (Vec ℕ A) B) (n : ℕ) → new.items ≡ set leaf.items (place % 4096) 0 → bare.items ≡ [] → left.items ≡ spares.items ++ new ∷ [] → vec_capacity left ≡ vec_capacity spares → n ≡ get_or used (place / 4096) 0 - 1 → n ≡ 0
@@ -173,14 +189,13 @@ module _ {A B : Type 0} (leaves : List (Vec ℕ A)) (used : List ℕ) (spares : 
               words = rw map-set (AreLeaves-set (leaves_of leaves) used len is.words (place / 4096) bare.items n list_inside empty);
               zeros = rw lists spare;
               roomy = omega (arith, roomy, is.roomy);
+              behind = behind_written bare (bare_others bare none one);
             }
 
         pub bare_words : (new bare : Vec ℕ A) (n : ℕ) → new.items ≡ set leaf.items (place % 4096) 0 → bare.items ≡ [] → n ≡ get_or used (place / 4096) 0 - 1 → n ≡ 0 → words_of (leaves_of (set leaves (place / 4096) bare)) len ≡ set (words_of (leaves_of leaves) len) place 0
         bare_words new bare n e none is_less is_none =
             let one : get_or used (place / 4096) 0 ≡ 1 = omega (arith, leaf_made, is_less, is_none) in
-            let zeros : set leaf.items (place % 4096) 0 ≡ replicate 4096 0 = zeros_left leaf.items (get_or used (place / 4096) 0) (place % 4096) 0 leaf_is leaf_made (omega arith) taken refl one in
-            let nothing : (j : ℕ) → ◌≡◌ {A = ℕ} (get_or bare.items j 0) 0 = λ j. ap (λ (words : List ℕ). get_or words j 0) none in
-            words_written bare 0 (nothing (place % 4096)) (λ j differs. nothing j ∙ sym (sym (get_or-set_other leaf.items (place % 4096) j 0 0 differs) ∙ ap (λ (words : List ℕ). get_or words j 0) zeros ∙ zero_at j))
+            words_written bare 0 (ap (λ (words : List ℕ). get_or words (place % 4096) 0) none) (bare_others bare none one)
 
         -- a word goes, and its leaf has others
         pub IsLeaved-less : (new : Vec ℕ A) (n : ℕ) → new.items ≡ set leaf.items (place % 4096) 0 → n ≡ get_or used (place / 4096) 0 - 1 → n ≢ 0 → IsLeaved (set leaves (place / 4096) new) (set used (place / 4096) n) spares total (count - 1) len
@@ -191,6 +206,7 @@ module _ {A B : Type 0} (leaves : List (Vec ℕ A)) (used : List ℕ) (spares : 
               words = rw map-set (AreLeaves-set (leaves_of leaves) used len is.words (place / 4096) new.items n list_inside (rw (e, is_less) written));
               zeros = AreSpares-less used (leaves_of spares.items) total count is.zeros (place / 4096) used_inside n more is_less;
               roomy = is.roomy;
+              behind = behind_written new (λ j differs. ap (λ (words : List ℕ). get_or words j 0) e ∙ get_or-set_other leaf.items (place % 4096) j 0 0 differs);
             }
 
       module _ (vacant : get_or (words_of (leaves_of leaves) len) place 0 ≡ 0) (room : 0 < room_of (length leaves) total count) where
@@ -258,6 +274,7 @@ module _ {A B : Type 0} (leaves : List (Vec ℕ A)) (used : List ℕ) (spares : 
                   words = rw map-set (AreLeaves-set (leaves_of leaves) used len is.words (place / 4096) new.items n list_inside first);
                   zeros = AreSpares-first used (leaves_of spares.items) total count is.zeros (place / 4096) used_inside zero room_used (leaves_of left.items) made.items n (bare_lists none) one;
                   roomy = omega (arith, roomy, is.roomy);
+                  behind = behind_written new (λ j differs. ap (λ (words : List ℕ). get_or words j 0) e ∙ get_or-set_other made.items (place % 4096) j w 0 differs ∙ made_same j);
                 }
             | inr there ↦
                 let positive = used_some there in
@@ -269,6 +286,7 @@ module _ {A B : Type 0} (leaves : List (Vec ℕ A)) (used : List ℕ) (spares : 
                   words = rw map-set (AreLeaves-set (leaves_of leaves) used len is.words (place / 4096) new.items n list_inside more);
                   zeros = rw (lists, is_more) (AreSpares-more used (leaves_of spares.items) total count is.zeros (place / 4096) used_inside positive room_used);
                   roomy = omega (arith, roomy, is.roomy);
+                  behind = behind_written new (λ j differs. ap (λ (words : List ℕ). get_or words j 0) e ∙ get_or-set_other made.items (place % 4096) j w 0 differs ∙ made_same j);
                 }
           ]
             where

@@ -12,3 +12,4 @@ pub mod WordLemmas
 pub mod LeafLemmas
 pub mod SpareLemmas
 pub mod LeavedLemmas
+pub mod LongerLemmas

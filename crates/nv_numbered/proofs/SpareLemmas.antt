@@ -6,7 +6,7 @@ use Rattle.std.proofs.lemmas.Bool.{cases_eq, cases_lt, le-leb}
 use Rattle.std.proofs.lemmas.Bool.Decides.{nat_tests}
 use Rattle.std.proofs.lemmas.List.{length_push, get_or_append_left}
 use Rattle.std.proofs.lemmas.List.Elements.{All-push, All-get_or, All-from_get_or}
-use Rattle.std.proofs.lemmas.List.Sums.{sum_by-set, sum_by-le, sum_by-le-sum_by, count_by-le-length}
+use Rattle.std.proofs.lemmas.List.Sums.{sum_by-append, sum_by-set, sum_by-le, sum_by-le-sum_by, count_by-le-length}
 use Rattle.nv_numbered.specs.Leaved.{is_some_word, room_of, IsLeaf, AreLeaves, AreSpares}
 
 abbrev one_of : ℕ → ℕ
@@ -71,6 +71,13 @@ room_grown all total count few held low little =
       | inl still ↦ (let q = room_few all (total + 1) count still in omega (arith, held, r, q))
       | inr most ↦ (let q = room_all all (total + 1) count most in omega (arith, low, little, r, q))
     ]
+
+-- a leaf more of all, and one with memory
+pub room_leaf : (all total count : ℕ) → room_of all total count ≤ room_of (all + 1) (total + 1) count
+room_leaf all total count = elim (cases_lt total all) [
+  | inl few ↦ (let r = room_few all total count few in let q = room_few (all + 1) (total + 1) count (omega (arith, few)) in omega (arith, r, q))
+  | inr most ↦ (let r = room_all all total count most in let q = room_all (all + 1) (total + 1) count (omega (arith, most)) in omega (arith, r, q))
+]
 
 -- ---- spare leaves
 
@@ -195,4 +202,17 @@ module _ (used : List ℕ) (spares : List (List ℕ)) (total count : ℕ) (are :
         together = (let p = length_push spares words in omega (arith, p, are.together));
         counted = are.counted;
         enough = elim are.enough [ inl most ↦ inl (omega (arith, most)) | inr held ↦ inr (omega (arith, held)) ];
+      }
+
+  -- one more leaf without words, and a spare one
+  pub AreSpares-leaf : (words : List ℕ) → words ≡ replicate 4096 0 → AreSpares (used ++ 0 ∷ []) (spares ++ words ∷ []) (total + 1) count
+  AreSpares-leaf words zeros =
+      let made : count_by is_some_word (used ++ 0 ∷ []) ≡ count_by is_some_word used + 0 = sum_by-append one_of used (0 ∷ []) in
+      let summed : sum_by (λ (n : ℕ). n) (used ++ 0 ∷ []) ≡ sum_by (λ (n : ℕ). n) used + 0 = sum_by-append (λ (n : ℕ). n) used (0 ∷ []) in
+      let longer = length_push used 0 in
+      record {
+        zeros = All-push (λ words. words ≡ replicate 4096 0) spares words are.zeros zeros;
+        together = (let p = length_push spares words in omega (arith, p, made, are.together));
+        counted = omega (arith, summed, are.counted);
+        enough = elim are.enough [ inl most ↦ inl (omega (arith, longer, most)) | inr held ↦ inr (omega (arith, held)) ];
       }

@@ -17,17 +17,20 @@ word_read leaves len place within = get_or-map-range_with_len (word_at leaves) 0
 pub word_past : (leaves : List (List ℕ)) (len place : ℕ) → len ≤ place → get_or (words_of leaves len) place 0 ≡ 0
 word_past leaves len place past = get_or_past (words_of leaves len) place 0 (omega (arith, past, length-words_of leaves len))
 
--- where no leaf has words, all are 0
+-- where no leaf has words, each is 0
+pub word_none : (count k : ℕ) → word_at (replicate count []) k ≡ 0
+word_none count k = ap (λ (words : List ℕ). get_or words (k % 4096) 0) (bare (k / 4096)) where
+  bare : (q : ℕ) → get_or {A = List ℕ} (replicate count []) q [] ≡ []
+  bare q = elim (cases_lt q count) [
+    | inl low ↦ get_or-replicate {A = List ℕ} count q [] [] low
+    | inr past ↦ get_or_past {X = List ℕ} (replicate count []) q [] (omega (arith, past, length-replicate {A = List ℕ} count []))
+  ]
+
+-- and so all are
 pub words_none : (count len : ℕ) → words_of (replicate count []) len ≡ replicate len 0
 words_none count len = ext_get_or 0 (words_of (replicate count []) len) (replicate len 0) (length-words_of (replicate count []) len ∙ sym (length-replicate {A = ℕ} len 0)) (λ k inside.
     let within : k < len = omega (arith, inside, length-words_of (replicate count []) len) in
-    word_read (replicate count []) len k within ∙ ap (λ (words : List ℕ). get_or words (k % 4096) 0) (bare (k / 4096)) ∙ sym (get_or-replicate len k 0 0 within))
-  where
-    bare : (q : ℕ) → get_or {A = List ℕ} (replicate count []) q [] ≡ []
-    bare q = elim (cases_lt q count) [
-      | inl low ↦ get_or-replicate {A = List ℕ} count q [] [] low
-      | inr past ↦ get_or_past {X = List ℕ} (replicate count []) q [] (omega (arith, past, length-replicate {A = List ℕ} count []))
-    ]
+    word_read (replicate count []) len k within ∙ word_none count k ∙ sym (get_or-replicate len k 0 0 within))
 
 module _ (leaves : List (List ℕ)) (len place w : ℕ) (words : List ℕ) (within : place < len) (reach : len ≤ 4096 * length leaves) (here : get_or words (place % 4096) 0 ≡ w)
     (others : (j : ℕ) → j ≢ place % 4096 → get_or words j 0 ≡ get_or (get_or leaves (place / 4096) []) j 0) where
@@ -40,7 +43,7 @@ module _ (leaves : List (List ℕ)) (len place w : ℕ) (words : List ℕ) (with
       ∙ ap (λ (xs : List ℕ). get_or xs (place % 4096) 0) (get_or-set_at leaves (place / 4096) (place / 4096) words [] refl inside)
       ∙ here
 
-  at_other : (k : ℕ) → k ≢ place → word_at (set leaves (place / 4096) words) k ≡ word_at leaves k
+  pub at_other : (k : ℕ) → k ≢ place → word_at (set leaves (place / 4096) words) k ≡ word_at leaves k
   at_other k differs = elim (cases_eq (k / 4096) (place / 4096)) [
     | inl same ↦
         let apart : k % 4096 ≢ place % 4096 = λ e. differs (omega (arith, same, e)) in

@@ -55,11 +55,12 @@ pub record AreSpares (used : List ℕ) (spares : List (List ℕ)) (total count :
 abbrev pub leaves_of : {A : Type 0} → List (Vec ℕ A) → List (List ℕ)
 leaves_of leaves = map vec_items leaves
 
--- the leaves, and the spare ones
+-- the leaves, and the spare ones; behind the last place the words are 0
 pub record IsLeaved {A B : Type 0} (leaves : List (Vec ℕ A)) (used : List ℕ) (spares : Vec (Vec ℕ A) B) (total count len : ℕ) : Type 0 where
   pub words : AreLeaves (leaves_of leaves) used len
   pub zeros : AreSpares used (leaves_of spares.items) total count
   pub roomy : total ≤ vec_capacity spares
+  pub behind : (k : ℕ) → len ≤ k → word_at (leaves_of leaves) k ≡ 0
 
 -- what a contract sees of them
 abbrev pub leaved_as : {A : Type 0} → List (Vec ℕ A) → ℕ → ℕ → ℕ → Words

@@ -1,7 +1,7 @@
-//! Words by number, in leaves of 4,096 words, of which only those are made that have a word that isn't 0. Only `new`
-//! and `reserve` take memory.
+//! Words by number, in leaves of 4,096 words, of which only those are made that have a word that isn't 0. Only `new`,
+//! `reserve` and `lengthen` take memory.
 
-ghost use Rattle.std.specs.Prelude.{◌≡◌, ◌≢◌, ◌+◌, ◌<◌, ◌≤◌, ◌^◌, ◌++◌, [], ◌∷◌, ℕ, length, replicate, vec_len, vec_capacity, IsOk, IfOk, IfSome, OnOk, OnErr, unwrap_or, slice_index, slice_index_or};
+ghost use Rattle.std.specs.Prelude.{◌≡◌, ◌≢◌, ◌+◌, ◌-◌, ◌<◌, ◌≤◌, ◌^◌, ◌++◌, [], ◌∷◌, ℕ, length, replicate, vec_len, vec_capacity, IsOk, IfOk, IfSome, OnOk, OnErr, unwrap_or, slice_index, slice_index_or};
 ghost use Rattle.std.specs.Prelude.{slice_set};
 ghost use Rattle.nv_numbered.specs.Leaved.{leaves_of};
 
@@ -174,6 +174,37 @@ impl Leaves {
         let alloc = *self.spares.allocator();
         self.spares.push_reserved(vec![in alloc; 0; LEAF as usize]?);
         self.total += 1;
+        Ok(())
+    }
+
+    /// Makes so many words of these where there are fewer, at most 4,096 more: those behind the others are 0. The words
+    /// stay, whatever it answers.
+    ///
+    /// Errors: `AllocError` where a growth was refused.
+    pub fn lengthen(&mut self, len: u64) -> Result<(), AllocError>
+        requires few { len ≤ length self.old.items + 4096 }
+        requires small { len < 2 ^ 32 }
+        ensures ok { OnOk result (self.new.items ≡ self.old.items ++ replicate (len - length self.old.items) 0) }
+        ensures err { OnErr result (self.new.items ≡ self.old.items) }
+        ensures room { self.old.room ≤ self.new.room }
+    {
+        if len <= self.len {
+            return Ok(());
+        }
+        if len <= LEAF * self.leaves.len() as u64 {
+            self.len = len;
+            return Ok(());
+        }
+        self.leaves.reserve(1)?;
+        self.used.reserve(1)?;
+        let more = self.total + 1 - self.spares.len();
+        self.spares.reserve(more)?;
+        let alloc = *self.spares.allocator();
+        self.spares.push_reserved(vec![in alloc; 0; LEAF as usize]?);
+        self.leaves.push_reserved(Vec::new(alloc));
+        self.used.push_reserved(0);
+        self.total += 1;
+        self.len = len;
         Ok(())
     }
 

@@ -1,8 +1,8 @@
 //! Values by number: a place for each number that may have one, and the values side by side, each with its number.
-//! Only `new`, `from_values`, `reserve` and `push` take memory.
+//! Only `new`, `from_values`, `reserve`, `lengthen` and `push` take memory.
 
-ghost use Rattle.std.specs.Prelude.{◌≡◌, ◌+◌, ◌<◌, ◌≤◌, ◌^◌, ◌↔◌, [], ℕ, length, IsTrue, IsOk, IsSome, IfOk, IfErr, OnOk, OnErr, OnSome, Some, None, Contains, option_copied, slice_get, slice_index};
-ghost use Rattle.std.specs.Prelude.{slice_set};
+ghost use Rattle.std.specs.Prelude.{◌≡◌, ◌+◌, ◌-◌, ◌++◌, ◌<◌, ◌≤◌, ◌^◌, ◌↔◌, [], ℕ, length, IsTrue, IsOk, IsSome, IfOk, IfErr, OnOk, OnErr, OnSome, Some, None, Contains, option_copied, slice_get, slice_index};
+ghost use Rattle.std.specs.Prelude.{replicate, slice_set};
 ghost use Rattle.std.specs.Option.{option_copied_mut};
 ghost use Rattle.std.specs.Ordering.{nat_cmp};
 ghost use Rattle.std.specs.List.Sorted.{IsStrictlySortedBy};
@@ -170,6 +170,21 @@ impl<T> Numbered<T> {
         self.numbers.reserve(more)?;
         self.values.reserve(more)?;
         self.places.reserve(more)
+    }
+
+    /// Lets the numbers below a limit have a value, which is at most 4,096 above the old one. The values stay, whatever it
+    /// answers.
+    ///
+    /// Errors: `AllocError` where a growth was refused.
+    pub fn lengthen(&mut self, limit: u64) -> Result<(), AllocError>
+        requires few { limit ≤ limit_of self.old + 4096 }
+        requires small { limit < 2 ^ 32 }
+        ensures ok { OnOk result (self.new.slots ≡ self.old.slots ++ replicate (limit - limit_of self.old) None) }
+        ensures err { OnErr result (self.new.slots ≡ self.old.slots) }
+        ensures room { self.old.room ≤ self.new.room }
+    {
+        self.places.lengthen(limit)?;
+        Ok(())
     }
 
     /// Gives a value to a number that has none. It takes no memory.

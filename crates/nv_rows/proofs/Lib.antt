@@ -9,3 +9,5 @@ pub mod TableNumbers
 pub mod LowestPlace
 pub mod Places
 pub mod Early
+pub mod MoreNumbers
+pub mod MoreRoom

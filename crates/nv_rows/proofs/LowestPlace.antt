@@ -2,12 +2,11 @@
 use Rattle.std.proofs.Common.{◌≡◌, ◌≢◌, ℕ, ◌+◌, ◌-◌, ◌*◌, ◌/◌, ◌%◌, ◌<◌, ◌≤◌, ◌==◌, cond, true, false, is_none, is_some, List, [], length, get_or, Option, Some, None, refl, sym, ap, ◌∙◌, subst, inl, inr, arith}
 use Rattle.std.proofs.Math.Nat.{mul-le-mul_right}
 use Rattle.std.proofs.lemmas.Bool.{cases_eq}
-use Rattle.std.proofs.lemmas.Nat.{div-mul-add, mod-mul-add}
 use Rattle.nv_super.specs.declared.superblock.Super.{Super}
 use Rattle.nv_scan.specs.declared.piece.Row.{Row}
 use Rattle.nv_rows.specs.InUse.{has_number, used_at, AreRows, UsedSets}
 use Rattle.nv_rows.specs.Slots.{rows_in}
-use Rattle.nv_rows.specs.Unused.{is_unused, lowest_of, IsTableNumber}
+use Rattle.nv_rows.specs.Unused.{is_unused, lowest_of}
 use Rattle.nv_rows.proofs.Numbers.{found_here, from_behind, none_left, free_number, used_number}
 use Rattle.nv_rows.proofs.SlotRows.{row_at_slot}
 
@@ -48,23 +47,14 @@ module _ (s : Super) (slots : List (Option Row)) (used : UsedSets) (all : AreRow
   size = get_or used.sizes cpu 0
 
   -- what the sets say of a place of the CPU's table
-  told_at : (k : ℕ) → k < size → has_number used.sets (k * length used.sizes + cpu) ≡ used_at slots (k * s.cpus + cpu)
-  told_at k inside = ap (λ (m : ℕ). has_number used.sets (k * m + cpu)) all.cpus ∙ all.tells.told (k * s.cpus + cpu) number
-    where
-      its_cpu : (k * s.cpus + cpu) % s.cpus ≡ cpu
-      its_cpu = mod-mul-add k s.cpus cpu cpu_below
-
-      its_place : (k * s.cpus + cpu) / s.cpus ≡ k
-      its_place = div-mul-add k s.cpus cpu cpu_below
-
-      number : IsTableNumber s.cpus used.sizes (k * s.cpus + cpu)
-      number = let e = ap (λ (c : ℕ). get_or used.sizes c 0) its_cpu in let f = its_place in omega (arith, e, f, inside)
+  told_at : (k : ℕ) → has_number used.sets (k * length used.sizes + cpu) ≡ used_at slots (k * s.cpus + cpu)
+  told_at k = ap (λ (m : ℕ). has_number used.sets (k * m + cpu)) all.cpus ∙ all.tells.told (k * s.cpus + cpu)
 
   module _ (from : ℕ) (begins : Begins cpu from) (place : ℕ) (low : from ≤ place) (high : place ≤ size) (set : (b : ℕ) → from ≤ b → b < place → has_number used.sets (b * length used.sizes + cpu) ≡ 1) where
     places_used : (k : ℕ) → k < place → is_unused (rows_in slots) (k * s.cpus + cpu) ≡ false
     places_used k early =
         used_number (rows_in slots) (k * s.cpus + cpu) (λ some.
-        let one = sym (told_at k (omega (arith, early, high))) ∙ set k (begins_before cpu from k s.cpus begins some) early in
+        let one = sym (told_at k) ∙ set k (begins_before cpu from k s.cpus begins some) early in
         ap is_none (row_at_slot slots (k * s.cpus + cpu) all.stand) ∙ used_one (get_or slots (k * s.cpus + cpu) None) one)
 
     -- all are used where the search came to the end
@@ -75,7 +65,7 @@ module _ (s : Super) (slots : List (Option Row)) (used : UsedSets) (all : AreRow
     pub lowest : place ≢ size → (place < size → has_number used.sets (place * length used.sizes + cpu) ≡ 0) → Some (place * s.cpus + cpu) ≡ lowest_of s.cpus size (rows_in slots) cpu
     lowest early clear =
         let inside : place < size = omega (arith, early, high) in
-        let none = sym (told_at place inside) ∙ clear inside in
+        let none = sym (told_at place) ∙ clear inside in
         let some = number_some cpu from place s.cpus begins (omega (arith, cpu_below)) low in
         let free = free_number (rows_in slots) (place * s.cpus + cpu) some (ap is_none (row_at_slot slots (place * s.cpus + cpu) all.stand) ∙ used_none (get_or slots (place * s.cpus + cpu) None) none) in
         sym (from_behind (is_unused (rows_in slots)) (λ k. k * s.cpus + cpu) size place places_used

@@ -60,7 +60,7 @@ module _ (l : Layout) (laid : IsLaid l) where
       record {
         reach = λ i number. (let below = number_before_end i number in omega (arith, below, long));
         within = λ i some. inside i (get_or slots i None) refl some;
-        told = λ i number. by i (get_or slots i None) refl;
+        told = λ i. by i (get_or slots i None) refl;
       }
     where
       within_rows : (k : ℕ) (row : Row) → slice_get rows k ≡ Some row → k < length (inodes_of rows)
@@ -107,7 +107,7 @@ module _ (cpus : ℕ) (sizes : List ℕ) (slots : List (Option Row)) (sets : Lis
   TellsUsed-exchanged was row at inside = record {
     reach = reach_set (Some row);
     within = within_set (Some row) (tells.within n (ap is_some at));
-    told = λ i number. tells.told i number ∙ elim (cases_eq i n) [
+    told = λ i. tells.told i ∙ elim (cases_eq i n) [
       | inl same ↦ ap (used_at slots) same ∙ ap (λ (o : Option Row). cond (is_some o) 1 0) at ∙ sym (set_here (Some row) i same inside)
       | inr differs ↦ sym (set_there (Some row) i differs)
     ];
@@ -118,9 +118,9 @@ module _ (cpus : ℕ) (sizes : List ℕ) (slots : List (Option Row)) (sets : Lis
     TellsUsed-filled row there = record {
       reach = reach_set (Some row);
       within = within_set (Some row) number;
-      told = λ i of_table. elim (cases_eq i n) [
+      told = λ i. elim (cases_eq i n) [
         | inl same ↦ ap (has_number new) same ∙ there ∙ sym (set_here (Some row) i same (tells.reach n number))
-        | inr differs ↦ others i differs ∙ tells.told i of_table ∙ sym (set_there (Some row) i differs)
+        | inr differs ↦ others i differs ∙ tells.told i ∙ sym (set_there (Some row) i differs)
       ];
     }
 
@@ -128,8 +128,8 @@ module _ (cpus : ℕ) (sizes : List ℕ) (slots : List (Option Row)) (sets : Lis
     TellsUsed-emptied gone = record {
       reach = reach_set None;
       within = within_set None number;
-      told = λ i of_table. elim (cases_eq i n) [
+      told = λ i. elim (cases_eq i n) [
         | inl same ↦ ap (has_number new) same ∙ gone ∙ sym (set_here None i same (tells.reach n number))
-        | inr differs ↦ others i differs ∙ tells.told i of_table ∙ sym (set_there None i differs)
+        | inr differs ↦ others i differs ∙ tells.told i ∙ sym (set_there None i differs)
       ];
     }

@@ -1,5 +1,5 @@
 -- The numbers in use as sets of words, one for each CPU. No public clause cites this module.
-use Rattle.std.specs.Prelude.{◌≡◌, ◌≢◌, ℕ, ◌*◌, ◌/◌, ◌%◌, ◌<◌, ◌≤◌, ◌^◌, cond, is_some, List, [], length, Option, None, slice_index, slice_index_or, slice_set, true}
+use Rattle.std.specs.Prelude.{◌≡◌, ◌≢◌, ℕ, min, map, ◌*◌, ◌/◌, ◌%◌, ◌<◌, ◌≤◌, ◌^◌, cond, is_some, List, [], length, Option, None, slice_index, slice_index_or, slice_set, true}
 use Rattle.nv_blockset.specs.BlockSet.{has, with_block}
 use Rattle.nv_blockset.specs.WordRuns.{without_block}
 use Rattle.nv_super.specs.declared.superblock.Super.{Super}
@@ -46,11 +46,15 @@ pub record HasUsed (numbers : List ℕ) (sets : List (List ℕ)) : Type 0 where
 abbrev pub used_at : List (Option Row) → ℕ → ℕ
 used_at slots i = cond (is_some (slice_index_or slots i None)) 1 0
 
+-- how many numbers the table of each CPU can have by its set, and by the slots
+abbrev pub space_in : List (Option Row) → List (List ℕ) → ℕ → List ℕ
+space_in slots sets cpus = map (λ (set : List ℕ). min (64 * length set) (length slots / cpus)) sets
+
 -- Each number of the tables has a slot, each row has such a number, and the sets have just those that have a row.
 pub record TellsUsed (cpus : ℕ) (sizes : List ℕ) (slots : List (Option Row)) (sets : List (List ℕ)) : Type 0 where
   pub reach : (i : ℕ) → IsTableNumber cpus sizes i → i < length slots
   pub within : (i : ℕ) → is_some (slice_index_or slots i None) ≡ true → IsTableNumber cpus sizes i
-  pub told : (i : ℕ) → IsTableNumber cpus sizes i → has_number sets i ≡ used_at slots i
+  pub told : (i : ℕ) → has_number sets i ≡ used_at slots i
 
 -- Each row stands in the slot of its number, and the sets tell which numbers have one.
 pub record AreRows (s : Super) (slots : List (Option Row)) (used : UsedSets) : Type 0 where

@@ -1,15 +1,16 @@
-//! Rows by the numbers of their inodes, over `Numbered`. Only `from_rows` and `reserve` take memory.
+//! Rows by the numbers of their inodes, over `Numbered`. Only `from_rows`, `reserve` and `reserve_numbers` take memory.
 
-ghost use Rattle.std.specs.Prelude.{◌≡◌, ◌+◌, ◌<◌, ◌≤◌, ◌^◌, ℕ, None, Some, map, IfOk, IfSome, length, IsOk, OnOk, OnSome, option_copied, set, slice_index};
+ghost use Rattle.std.specs.Prelude.{◌≡◌, ◌+◌, ◌*◌, ◌<◌, ◌≤◌, ◌^◌, ℕ, None, Some, map, IfOk, IfSome, length, IsOk, OnOk, OnSome, option_copied, set, slice_index, slice_set};
 ghost use Rattle.std.specs.List.{All, remove};
 ghost use Rattle.nv_super.specs.Order.{Rises, SortedOf};
 ghost use Rattle.nv_inode.specs.Numbers.{sizes_of};
 ghost use Rattle.nv_rows.specs.InUse.{HasUsed};
 ghost use Rattle.nv_scan.specs.declared.piece.Row.{Row as RowValue};
+ghost use Rattle.nv_rows.specs.RowList.{HasSpace};
 ghost use Rattle.nv_rows.specs.Rows.{row_key, inodes_of, row_of, place_in, IsInUse, IsLent, IsPlaceOf, HasInserted};
 ghost use Rattle.nv_rows.specs.Unused.{HaveSlots, IsTableNumber, lowest_of};
 
-use crate::used::UsedNumbers;
+use crate::used::{BLOCK_NUMBERS, UsedNumbers};
 use nv_inode::Tables;
 use nv_names::NameIndex;
 use nv_numbered::{Iter, Numbered};
@@ -34,13 +35,14 @@ impl Model for Rows {
     ghost Value = { RowList };
 
     ghost use Rattle.nv_rows.specs.Slots.{rows_in};
-    ghost use Rattle.nv_rows.specs.InUse.{AreRows};
+    ghost use Rattle.nv_rows.specs.InUse.{AreRows, space_in};
 
     ghost view = { λ t. record {
       items = rows_in t.rows.slots;
       room = t.rows.room;
       sup = t.sup;
       sizes = t.used.sizes;
+      space = space_in t.rows.slots t.used.sets t.sup.cpus;
     } };
 
     ghost invariant = { λ t. AreRows t.sup t.rows.slots t.used };
@@ -155,6 +157,35 @@ impl Rows {
         self.rows.reserve(more)
     }
 
+    /// Makes room for the numbers of a block more in the table of a CPU. The rows stay, whatever it answers.
+    ///
+    /// Errors: `AllocError` where a growth was refused.
+    pub fn reserve_numbers(&mut self, cpu: u64) -> Result<(), AllocError>
+        requires cpu { cpu < self.old.sup.cpus }
+        requires small { (slice_index self.old.sizes cpu + 31) * self.old.sup.cpus < 2 ^ 32 }
+        ensures rows { self.new.items ≡ self.old.items }
+        ensures sup { self.new.sup ≡ self.old.sup }
+        ensures sizes { self.new.sizes ≡ self.old.sizes }
+        ensures ready { OnOk result (HasSpace self.new cpu) }
+        ensures room { self.old.room ≤ self.new.room }
+    {
+        self.used.reserve(cpu)?;
+        let end = (self.used.size(cpu) + BLOCK_NUMBERS) * self.sup.cpus;
+        self.rows.lengthen(end)?;
+        Ok(())
+    }
+
+    /// Lets the table of a CPU have the numbers of a block more, where there is room for them. No row has them. It takes no
+    /// memory.
+    pub fn grow(&mut self, cpu: u64)
+        requires cpu { cpu < self.old.sup.cpus }
+        requires space { HasSpace self.old cpu }
+        requires small { slice_index self.old.sizes cpu + 31 < 2 ^ 32 }
+        ensures { self.new ≡ record self.old { sizes = slice_set self.old.sizes cpu (slice_index self.old.sizes cpu + 31) } }
+    {
+        self.used.grow(cpu);
+    }
+
     /// Puts in the row of an inode that has none, where there is room for it.
     pub fn insert(&mut self, row: Row)
         requires within { IsTableNumber self.old.sup.cpus self.old.sizes row.inode }
@@ -220,6 +251,7 @@ impl Rows {
         ensures rising { Rises row_key self.old.items }
         ensures sup { self.new.sup ≡ self.old.sup }
         ensures sizes { self.new.sizes ≡ self.old.sizes }
+        ensures space { self.new.space ≡ self.old.space }
         ensures room { self.new.room ≡ self.old.room }
     {
         let mut row = blank_row(alloc, inode);
@@ -234,6 +266,7 @@ impl Rows {
         ensures rows { self.new.items ≡ set self.old.items (place_in self.old.items row.inode) row }
         ensures sup { self.new.sup ≡ self.old.sup }
         ensures sizes { self.new.sizes ≡ self.old.sizes }
+        ensures space { self.new.space ≡ self.old.space }
         ensures room { self.new.room ≡ self.old.room }
     {
         self.exchange(&mut row);
@@ -248,6 +281,7 @@ impl Rows {
         ensures rising { Rises row_key self.old.items }
         ensures sup { self.new.sup ≡ self.old.sup }
         ensures sizes { self.new.sizes ≡ self.old.sizes }
+        ensures space { self.new.space ≡ self.old.space }
         ensures room { self.new.room ≡ self.old.room }
     {
         // Rows say of themselves that they rise.
@@ -263,6 +297,14 @@ impl Rows {
         ensures { self.new ≡ record self.old { sup = record self.old.sup { version = 2 } } }
     {
         self.sup.version = WITH_CHAINS;
+    }
+
+    /// How many numbers the table of a CPU has.
+    pub fn table_size(&self, cpu: u64) -> u64
+        requires { cpu < self.now.sup.cpus }
+        ensures { result ≡ slice_index self.now.sizes cpu }
+    {
+        self.used.size(cpu)
     }
 
     /// The lowest number of a CPU's table that no inode in use has, 0 left out. It looks at one word for 64 numbers.

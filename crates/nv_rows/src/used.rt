@@ -1,14 +1,18 @@
 //! The numbers in use: for each CPU a set of the places that they have in its table.
 
-ghost use Rattle.std.specs.Prelude.{◌≡◌, ◌≢◌, ◌+◌, ◌*◌, ◌<◌, ◌≤◌, ◌^◌, ℕ, IfOk, length, slice_index};
+ghost use Rattle.std.specs.Prelude.{◌≡◌, ◌≢◌, ◌+◌, ◌*◌, ◌<◌, ◌≤◌, ◌^◌, ℕ, IfOk, OnOk, length, slice_index, slice_set};
+ghost use Rattle.nv_blockset.specs.BlockSet.{has};
 ghost use Rattle.nv_inode.specs.Numbers.{sizes_of};
 ghost use Rattle.nv_rows.specs.Unused.{IsTableNumber};
-ghost use Rattle.nv_rows.specs.InUse.{has_number};
+ghost use Rattle.nv_rows.specs.InUse.{has_number, set_of};
 
 use nv_blockset::{first_clear, words_for};
 use nv_inode::Tables;
 use std::alloc::{AllocError, Global};
 use std::marker::Model;
+
+/// How many numbers a block gives the table of a CPU.
+pub(crate) const BLOCK_NUMBERS: u64 = 31;
 
 /// The numbers in use. Those of a CPU rise by the number of CPUs, so that each has a place in the CPU's table.
 #[derive(Drop)]
@@ -30,6 +34,19 @@ impl Model for UsedNumbers {
     ghost view = { λ t. record { sizes = t.sizes.items; sets = lists_of t.sets.items } };
 
     ghost invariant = { λ t. HaveRoom t.sizes.items (lists_of t.sets.items) };
+}
+
+// Gives a set so many words, if it has fewer. It has the same places then, whatever this answers.
+fn lengthen(set: &mut Vec<u64>, words: usize) -> Result<(), AllocError>
+    ensures long { OnOk result (words ≤ length set.new.items) }
+    ensures same { (b : ℕ) → has set.new.items b ≡ has set.old.items b }
+    ensures more { length set.old.items ≤ length set.new.items }
+{
+    if set.len() < words {
+        set.resize(words, 0)
+    } else {
+        Ok(())
+    }
 }
 
 impl UsedNumbers {
@@ -70,6 +87,28 @@ impl UsedNumbers {
     {
         let cpus = self.sets.len() as u64;
         nv_blockset::remove(&mut self.sets[(number % cpus) as usize], number / cpus);
+    }
+
+    /// Makes room for the numbers of a block more in the table of a CPU. The numbers stay, whatever it answers.
+    pub(crate) fn reserve(&mut self, cpu: u64) -> Result<(), AllocError>
+        requires { cpu < length self.old.sizes }
+        ensures sizes { self.new.sizes ≡ self.old.sizes }
+        ensures same { (i : ℕ) → has_number self.new.sets i ≡ has_number self.old.sets i }
+        ensures ready { OnOk result (slice_index self.old.sizes cpu + 31 ≤ 64 * length (set_of self.new.sets cpu)) }
+    {
+        let words = words_for(self.sizes[cpu as usize] + BLOCK_NUMBERS);
+        lengthen(&mut self.sets[cpu as usize], words)
+    }
+
+    /// Lets the table of a CPU have the numbers of a block more, for which there is room. None of them is in.
+    pub(crate) fn grow(&mut self, cpu: u64)
+        requires cpu { cpu < length self.old.sizes }
+        requires room { slice_index self.old.sizes cpu + 31 ≤ 64 * length (set_of self.old.sets cpu) }
+        requires small { slice_index self.old.sizes cpu + 31 < 2 ^ 32 }
+        ensures sizes { self.new.sizes ≡ slice_set self.old.sizes cpu (slice_index self.old.sizes cpu + 31) }
+        ensures sets { self.new.sets ≡ self.old.sets }
+    {
+        self.sizes[cpu as usize] += BLOCK_NUMBERS;
     }
 
     /// How many numbers the table of a CPU has.

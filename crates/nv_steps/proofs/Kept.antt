@@ -28,3 +28,8 @@ nothing_stored settled stopped lists =
 pub kept_behind : {M A : Type 0} {region : M → Region} {may_hold : M → Choices} {fuse : M → FuseState} {old new : M} {first before after : FreeLists} {r : Result A Refusal} → before.sup ≡ first.sup
     → SettlesStep region may_hold fuse old new before after r → SettlesStep region may_hold fuse old new first after r
 kept_behind same kept = record { keeps = record { stopped = kept.stopped; lists = kept.lists ∙ same; length = kept.length; keeps_fuse = kept.keeps_fuse }; settled = kept.settled }
+
+-- what holds anyhow holds where a step is done
+pub on_ok_always : {A Q : Type 0} (r : Result A Refusal) → Q → OnOk r Q
+on_ok_always (Ok a) q = q
+on_ok_always (Err e) q = tt

@@ -69,3 +69,5 @@ pub mod TookAcross
 pub mod LogsThree
 pub mod LessenedAcross
 pub mod Lessened
+pub mod GrownTable
+pub mod GrownNames

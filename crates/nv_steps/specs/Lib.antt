@@ -23,3 +23,4 @@ pub mod Cleans
 pub mod Takes
 pub mod Across
 pub mod Lessens
+pub mod GrownTables

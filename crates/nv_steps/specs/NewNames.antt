@@ -1,5 +1,5 @@
 -- A new inode and its name, by the rows that stand for them.
-use Rattle.std.specs.Prelude.{◌≡◌, ℕ, ◌*◌, ◌/◌, ◌%◌, ◌<◌, ◌≤◌, nat_eq, if◌then◌else◌, List, [], ◌∷◌, ◌++◌, length, Some, None, IsTrue}
+use Rattle.std.specs.Prelude.{◌≡◌, ℕ, ◌+◌, ◌*◌, ◌/◌, ◌%◌, ◌<◌, ◌≤◌, nat_eq, if◌then◌else◌, List, [], ◌∷◌, ◌++◌, length, Some, None, IsTrue}
 use Rattle.std.specs.Cmp.Lexicographic.{pointwise}
 use Rattle.nv_region.specs.Region.{Region}
 use Rattle.nv_super.specs.declared.kind.Kind.{Kind}
@@ -16,6 +16,9 @@ use Rattle.nv_scan.specs.declared.piece.Row.{Row}
 use Rattle.nv_mounted.specs.Bytes.{byte_of}
 use Rattle.nv_mounted.specs.Held.{Held, Store}
 use Rattle.nv_commit.specs.Together.{ShowsIdle}
+use Rattle.nv_outcome.specs.Same.{SameRow}
+use Rattle.nv_steps.specs.Grown.{StandsRight}
+use Rattle.nv_steps.specs.Slots.{slot_in}
 use Rattle.nv_steps.specs.NameEntries.{first_entries, name_entries, with_named}
 use Rattle.nv_steps.specs.Steps.{ShowsRow}
 use Rattle.nv_steps.specs.Taken.{TakesEach}
@@ -30,6 +33,18 @@ pub record CanName (R : Region) (l : Layout) (cpu j : ℕ) (row : Row) : Type 0 
   pub journal_empty : IsEmpty R cpu
   pub number : IsTrue (has_slot l j)
   pub in_data : system_blocks l.sup ≤ row.tail / 4096
+
+-- What is known where both are committed over blocks that the CPU took for them, by the addresses of both slots: the
+-- directory's row was made ready.
+pub record CanCommitName (R : Region) (l : Layout) (free after : FreeLists) (cpu slot parent : ℕ) (old ready : Row) (j : ℕ) (name : List ℕ) (time : ℕ) (blocks : List ℕ) : Type 0 where
+  pub stands : StandsRight R l free old
+  pub can : CanName R l cpu j old
+  pub slot_is : slot ≡ slot_in l j
+  pub parent_is : parent ≡ slot_in l ready.inode
+  pub taken : TakesEach free cpu blocks after
+  pub count : length blocks ≡ 1 + needed (old.tail % 4096) (name_entries Add j name time)
+  pub same : SameRow old ready
+  pub once : EachOnce old.names
 
 -- ---- rows
 

@@ -1,6 +1,4 @@
-use Rattle.std.proofs.Common.{◌∙◌, ◌+◌, ◌≤◌, ◌<◌, ℕ, ap, inl, inr, refl, subst, sym}
-use Rattle.smallvec.specs.SmallVec.{HasRoomFor}
-use Rattle.nv_alloc.specs.Taking.{all_blocks}
+use Rattle.std.proofs.Common.{inl, inr, refl}
 use Rattle.nv_steps.proofs.Refusals.{memory_goes_on, no_space, no_space_goes_on, not_refused}
 use Rattle.nv_steps.proofs.making.prepare_name.Goals as goal
 
@@ -11,10 +9,10 @@ pub returns-in-Ok-clause-taken : goal.returns-in-Ok-clause-taken
 returns-in-Ok-clause-taken c = c.in-Ok.ensures.taken
 
 pub returns-in-Ok-clause-count : goal.returns-in-Ok-clause-count
-returns-in-Ok-clause-count c = c.in-Ok.ensures.count ∙ ap (λ (m : ℕ). 1 + m) c.pages_needed-count.ensures
+returns-in-Ok-clause-count c = c.in-Ok.ensures.count
 
 pub returns-in-Ok-clause-room : goal.returns-in-Ok-clause-room
-returns-in-Ok-clause-room c = subst (λ (m : ℕ). HasRoomFor c.make_room.new.row.pages m) (sym c.in-Ok.ensures.count) (not_refused c.make_room.result c.is_err.result c.is_err.ensures.value c.if-is_err.false c.make_room.ensures.pages)
+returns-in-Ok-clause-room c = (not_refused c.make_room.result c.is_err.result c.is_err.ensures.value c.if-is_err.false c.make_room.ensures.pages)
 
 pub returns-in-Ok-clause-names_room : goal.returns-in-Ok-clause-names_room
 returns-in-Ok-clause-names_room c = not_refused c.make_room.result c.is_err.result c.is_err.ensures.value c.if-is_err.false c.make_room.ensures.names
@@ -22,7 +20,7 @@ returns-in-Ok-clause-names_room c = not_refused c.make_room.result c.is_err.resu
 pub returns-in-Ok-clause-needs : goal.returns-in-Ok-clause-needs
 returns-in-Ok-clause-needs c =
     record {
-      enough = subst (λ (m : ℕ). 1 + m ≤ all_blocks c.args.free.now.pools) c.pages_needed-count.ensures c.in-Ok.ensures.enough;
+      enough = c.in-Ok.ensures.enough;
       refused = tt;
     }
 
@@ -54,7 +52,7 @@ pub returns-in-Err-NoSpace-clause-needs : goal.returns-in-Err-NoSpace-clause-nee
 returns-in-Err-NoSpace-clause-needs c =
     record {
       enough = tt;
-      refused = inr (inr (refl, subst (λ (m : ℕ). all_blocks c.args.free.now.pools < 1 + m) c.pages_needed-count.ensures (no_space _ _ _ c.in-Err-NoSpace.ensures.err c.in-Err-NoSpace.field-0-is)));
+      refused = inr (inr (refl, no_space _ _ _ c.in-Err-NoSpace.ensures.err c.in-Err-NoSpace.field-0-is));
     }
 
 pub returns-in-Err-NoSpace-clause-once : goal.returns-in-Err-NoSpace-clause-once

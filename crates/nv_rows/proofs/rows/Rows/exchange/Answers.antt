@@ -1,9 +1,10 @@
-use Rattle.std.proofs.Common.{◌≡◌, Some, None, get_or, set, is_some, sym, subst, ◌∙◌, ap, zero-add}
+use Rattle.std.proofs.Common.{◌≡◌, length-set, Some, None, get_or, set, is_some, sym, subst, ◌∙◌, ap, zero-add}
 use Rattle.nv_scan.specs.declared.piece.Row.{Row}
 use Rattle.nv_rows.specs.Rows.{place_in, row_of}
 use Rattle.nv_rows.specs.Slots.{rows_in}
 use Rattle.nv_rows.proofs.SlotRows.{row_at_slot, slot_exchanged, slot_within, stand-set}
 use Rattle.nv_rows.proofs.UsedRows.{TellsUsed-exchanged}
+use Rattle.nv_rows.proofs.MoreRoom.{space_same}
 use Rattle.nv_rows.proofs.rows.Rows.exchange.Goals as goal
 
 pub unreachable-requires : goal.unreachable-requires
@@ -37,3 +38,9 @@ returns-clause-rows c =
     let n = c.args.row.now.inode in
     rw (← c.self.view_is, c.swap.ensures.x_after)
     (subst (λ k. rows_in (set slots n (Some c.args.row.now)) ≡ set (rows_in slots) (place_in (rows_in slots) k) c.args.row.now) (zero-add n) (slot_exchanged 0 slots n c.in-Some.held.now c.args.row.now c.self.invariant.stand (sym c.in-Some.ensures.value)))
+
+pub returns-clause-space : goal.returns-clause-space
+returns-clause-space c =
+    let slots = c.self.inside.rows.slots in
+    let n = c.args.row.now.inode in
+    rw (← c.self.view_is, c.swap.ensures.x_after) (space_same slots (set slots n (Some c.args.row.now)) c.self.inside.used.sets c.self.inside.sup.cpus (length-set slots n (Some c.args.row.now)))

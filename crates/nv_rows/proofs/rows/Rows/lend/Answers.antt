@@ -20,4 +20,5 @@ returns c =
       sup = c.exchange.ensures.sup;
       sizes = c.exchange.ensures.sizes;
       room = c.exchange.ensures.room;
+      space = c.exchange.ensures.space;
     }
