@@ -5,6 +5,7 @@ use Rattle.std.specs.Ordering.{nat_cmp}
 use Rattle.std.specs.List.{remove}
 use Rattle.std.specs.Map.{lookup}
 use Rattle.std.specs.BTreeMap.{is_at}
+use Rattle.nv_super.specs.Layout.{most_pages}
 use Rattle.nv_super.specs.declared.superblock.Super.{Super}
 use Rattle.nv_super.specs.declared.kind.Kind.{Kind}
 use Rattle.nv_entry.specs.declared.entry.Entry.{Entry}
@@ -79,7 +80,7 @@ piece_at pieces p = value_at no_piece (key_at pieces) p
 
 -- the block of a page, by how far the blocks of its piece are shifted
 abbrev pub block_by_shift : ℕ → Option ℕ → Option ℕ
-block_by_shift p shift = option_map (λ (d : ℕ). p + d - 262144) shift
+block_by_shift p shift = option_map (λ (d : ℕ). p + d - most_pages) shift
 
 -- the block of a page
 abbrev pub block_held : List (ℕ × Piece) → ℕ → Option ℕ
