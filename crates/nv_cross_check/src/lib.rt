@@ -7,7 +7,6 @@
 mod counts;
 mod cross;
 mod listing;
-mod names;
 mod owners;
 mod places;
 mod tables;

@@ -6,6 +6,7 @@ use Rattle.nv_super.specs.Layout.{Layout, chain_of, slot_of, system_blocks}
 use Rattle.nv_inode.specs.Chains.{first_link, link_behind}
 use Rattle.nv_inode.specs.Growing.{IsLinked, with_block}
 use Rattle.nv_inode.specs.Numbers.{next_number}
+use Rattle.nv_inode.specs.Tables.{TableChains}
 use Rattle.nv_journal.specs.Pending.{IsEmpty}
 use Rattle.nv_alloc.specs.FreeValue.{FreeLists}
 use Rattle.nv_alloc.specs.FreeLists.{IsFreeIn}
@@ -80,6 +81,11 @@ pub record CanNameNext (R : Region) (l : Layout) (free : FreeLists) (cpu : ℕ) 
 -- The tables are as before, or a CPU's has one block more.
 abbrev pub MayGrow : Layout → ℕ → Layout → Type 0
 MayGrow l cpu now = (now ≡ l) ⊎ ((block : ℕ) × (now ≡ with_block l cpu block))
+
+-- At most a CPU's table has grown, by one block. What is wrong with the ends of chains is as before.
+pub record GrowsAtMost (cpu : ℕ) (old new : TableChains) : Type 0 where
+  pub layout : MayGrow old.layout cpu new.layout
+  pub faults : new.faults ≡ old.faults
 
 -- A step that was refused has changed nothing, also of the tables.
 pub record LeavesTables {P : Type 0} (old new : P) (before after : FreeLists) (had has' : Row) (was now : Layout) : Type 0 where

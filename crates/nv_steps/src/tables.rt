@@ -17,7 +17,7 @@ ghost use Rattle.nv_mounted.specs.Held.{Held, Store};
 ghost use Rattle.nv_commit.specs.Stopped.{LeavesEither};
 ghost use Rattle.nv_tree.specs.declared.refusal.Refusal.{Refusal as RefusalValue};
 ghost use Rattle.nv_steps.specs.Grown.{StandsRight};
-ghost use Rattle.nv_steps.specs.GrownTables.{CanGrow, CanNameNext, GrowsAndNames, GrowsTable, LeavesGrown, LeavesTables, MayGrow, ShowsFree, TableGrown, grown_more, one_link};
+ghost use Rattle.nv_steps.specs.GrownTables.{CanGrow, CanNameNext, GrowsAndNames, GrowsAtMost, GrowsTable, LeavesGrown, LeavesTables, ShowsFree, TableGrown, grown_more, one_link};
 ghost use Rattle.nv_steps.specs.InOrder.{tail_address};
 ghost use Rattle.nv_steps.specs.Keeping.{NeedsFree, SettlesStep};
 ghost use Rattle.nv_steps.specs.NameEntries.{name_entries};
@@ -64,8 +64,7 @@ pub fn make_grown<P: Pmem>(
     ensures kept { SettlesStep P.region P.may_hold P.fuse memory.old memory.new free.old free.new result }
     ensures unchanged { IfErr result (λ e. (e ≡ RefusalValue.Stopped → ⊥)
         → LeavesTables memory.old memory.new free.old free.new directory.old directory.new tables.old.layout tables.new.layout) }
-    ensures tables { MayGrow tables.old.layout cpu tables.new.layout }
-    ensures faults { tables.new.faults ≡ tables.old.faults }
+    ensures tables { GrowsAtMost cpu tables.old tables.new }
     ensures inode { directory.new.inode ≡ directory.old.inode }
     // Every word outside these places is as it was.
     ensures wrote { (held : Store) (h : Held) → ShowsRow (P.region memory.old) tables.old.layout held h directory.old free.old

@@ -115,10 +115,7 @@ returns-in_err-blocks-clause-unchanged g c =
     (λ _. record { step = record { memory = refl; free = c.in_err-blocks.ensures.unchanged; row = c.in_err-blocks.ensures.row }; layout = refl })
 
 pub returns-in_err-blocks-clause-tables : goal.returns-in_err-blocks-clause-tables
-returns-in_err-blocks-clause-tables g c = inl refl
-
-pub returns-in_err-blocks-clause-faults : goal.returns-in_err-blocks-clause-faults
-returns-in_err-blocks-clause-faults g c = refl
+returns-in_err-blocks-clause-tables g c = record { layout = inl refl; faults = refl }
 
 pub returns-in_err-blocks-clause-inode : goal.returns-in_err-blocks-clause-inode
 returns-in_err-blocks-clause-inode g c = c.in_err-blocks.ensures.row.inode
@@ -157,10 +154,7 @@ returns-in_err-link_table-clause-unchanged g c =
     (λ off. absurd (off c.in_err-link_table.ensures.stopped))
 
 pub returns-in_err-link_table-clause-tables : goal.returns-in_err-link_table-clause-tables
-returns-in_err-link_table-clause-tables g c = inl c.in_err-link_table.ensures.tables
-
-pub returns-in_err-link_table-clause-faults : goal.returns-in_err-link_table-clause-faults
-returns-in_err-link_table-clause-faults g c = c.link_table.ensures.faults
+returns-in_err-link_table-clause-tables g c = record { layout = inl c.in_err-link_table.ensures.tables; faults = c.link_table.ensures.faults }
 
 pub returns-in_err-link_table-clause-inode : goal.returns-in_err-link_table-clause-inode
 returns-in_err-link_table-clause-inode g c = c.in_ok-blocks.ensures.row.inode
@@ -228,10 +222,7 @@ returns-clause-tables g c =
     let w = split_taken c.in_ok-blocks.blocks.items (1 + needed (c.args.directory.now.tail % 4096) (name_entries Add c.args.new.now.inode c.args.new.now.name.now c.args.new.now.time)) c.index.result.now c.in_ok-blocks.ensures.taken (omega (arith, c.in_ok-blocks.ensures.count, pages)) c.index.ensures in
     let grows = c.in_ok-link_table.ensures.grown c.args.free.now w.0 c.requires.can.grow w.1 in
     let linked = c.in_ok-link_table.ensures.kept c.args.free.now w.0 (taken_sup w.1) in
-    inr (grows.block, grows.layout)
-
-pub returns-clause-faults : goal.returns-clause-faults
-returns-clause-faults g c = c.link_table.ensures.faults
+    record { layout = inr (grows.block, grows.layout); faults = c.link_table.ensures.faults }
 
 pub returns-clause-inode : goal.returns-clause-inode
 returns-clause-inode g c = c.commit_name.ensures.inode ∙ c.in_ok-blocks.ensures.row.inode
