@@ -7,7 +7,7 @@ use Rattle.nv_super.specs.declared.kind.Kind.{Kind}
 use Rattle.nv_super.specs.declared.kind.Kind.TheVariants.{File, Directory}
 use Rattle.nv_super.specs.declared.faults.Fault.{Fault}
 use Rattle.nv_super.specs.declared.owners.Owner.{Owner}
-use Rattle.nv_super.specs.Layout.{Layout}
+use Rattle.nv_super.specs.Layout.{Layout, most_links}
 use Rattle.nv_super.proofs.Options.{some_is}
 use Rattle.nv_entry.specs.Content.{content_fault, is_attr_out_of_range}
 use Rattle.nv_entry.specs.declared.content.ContentFault.TheVariants.{OutOfRange}
@@ -96,7 +96,7 @@ module _ (l : Layout) (held : Store) (d : ℕ) (h : Held) (is : held d ≡ Some 
         ∙ ap (clash Remove d at) some.1
 
   -- a link count in range
-  pub links_fit : h.kind ≡ File → (at count time : ℕ) → 0 < count → count ≤ 1000 → FitsBehind l.sup h.kind d h.entries (links_entry at count time)
+  pub links_fit : h.kind ≡ File → (at count time : ℕ) → 0 < count → count ≤ most_links → FitsBehind l.sup h.kind d h.entries (links_entry at count time)
   links_fit file at count time some few =
       sound_entry l.sup h.kind d (told_in l h) (links_entry at count time)
       (subst (λ (k : Kind). content_fault l.sup k (links_entry at count time).entry ≡ None) (sym file)
@@ -217,7 +217,7 @@ module _ (l : Layout) (held : Store) (was : IsFaultless l held) (d : ℕ) (h : H
     abbrev more_links : Held
     more_links = grown f file_tail (links_entry file_at (links + 1) time ∷ []) file_fresh
 
-    pub linked_faultless : links < 1000 → g.name d name ≡ None → OwnsNew l held i (Some more_links) → OwnsNew l (with_inode held i (Some more_links)) d (Some (grown h tail (name_entry at Add i name time ∷ []) fresh))
+    pub linked_faultless : links < most_links → g.name d name ≡ None → OwnsNew l held i (Some more_links) → OwnsNew l (with_inode held i (Some more_links)) d (Some (grown h tail (name_entry at Add i name time ∷ []) fresh))
         → IsFaultless l (with_inode (with_inode held i (Some more_links)) d (Some (grown h tail (name_entry at Add i name time ∷ []) fresh)))
     linked_faultless few absent first then = record {
       clean = grown_clean l mid d h dir_there (grown_clean l held i f there was.clean file_tail (links_entry file_at (links + 1) time) file_fresh (links_fit l held i f there file file_at (links + 1) time (omega arith) (omega (arith, few))))
@@ -239,7 +239,7 @@ module _ (l : Layout) (held : Store) (was : IsFaultless l held) (d : ℕ) (h : H
     abbrev less_links : Held
     less_links = grown f file_tail (links_entry file_at (links - 1) time ∷ []) file_fresh
 
-    pub unlinked_faultless : 1 < links → links ≤ 1000 → g.name d name ≡ Some i → OwnsNew l held d (Some (grown h tail (name_entry at Remove i name time ∷ []) fresh))
+    pub unlinked_faultless : 1 < links → links ≤ most_links → g.name d name ≡ Some i → OwnsNew l held d (Some (grown h tail (name_entry at Remove i name time ∷ []) fresh))
         → OwnsNew l (with_inode held d (Some (grown h tail (name_entry at Remove i name time ∷ []) fresh))) i (Some less_links)
         → IsFaultless l (with_inode (with_inode held d (Some (grown h tail (name_entry at Remove i name time ∷ []) fresh))) i (Some less_links))
     unlinked_faultless some few named_there first then = record {

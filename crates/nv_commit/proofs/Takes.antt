@@ -2,7 +2,7 @@
 use Rattle.std.proofs.Common.{◌≡◌, ◌≢◌, ℕ, ◌<◌, ◌≤◌, ◌-◌, ◌==◌, Bool, true, false, cond, inl, inr, List, [], ◌∷◌, ◌++◌, append_assoc, append-nil, refl, ap, sym, ◌∙◌, subst, Option, Some, None, arith}
 use Rattle.std.specs.Option.{option_map}
 use Rattle.nv_super.specs.declared.kind.Kind.TheVariants.{File, Directory}
-use Rattle.nv_super.specs.Layout.{Layout}
+use Rattle.nv_super.specs.Layout.{Layout, most_links}
 use Rattle.nv_super.proofs.Options.{some_is}
 use Rattle.nv_entry.specs.declared.entry.Operation.TheVariants.{Add, Remove}
 use Rattle.nv_logpage.specs.declared.found.Placed.{Placed}
@@ -47,7 +47,7 @@ module _ (l : Layout) (held : Store) (g : Graph) (so : Follows l held g) (d : �
     graph = name_follows g (graph_in l held) _ d name (Some i) so.graph (one_name l held d h is directory tail fresh at Add i name time good);
   }
 
-  counts : h.kind ≡ File → (tail : ℕ) (fresh : List ℕ) (at links time : ℕ) → 0 < links → links ≤ 1000
+  counts : h.kind ≡ File → (tail : ℕ) (fresh : List ℕ) (at links time : ℕ) → 0 < links → links ≤ most_links
       → Follows l (with_inode held d (Some (grown h tail (links_entry at links time ∷ []) fresh))) (with_node g d (Some (record { kind = h.kind; links = links })))
   counts file tail fresh at links time some few = record {
     clean = grown_clean l held d h is so.clean tail (links_entry at links time) fresh (links_fit l held d h is file at links time some few);
@@ -225,7 +225,7 @@ module _ (l : Layout) (held : Store) (d : ℕ) (h : Held) (name : List ℕ) (pat
         faultless_then (empty_bare empty.1) None (with_inode mid j None) (empty_goes l mid given so j f is (still_empty (not_to (empty_bare empty.1)) empty.1)) (still_undoubled l mid j None (none_owns l mid j) undoubled)
         (directory_removed_sound g e other j (sound g can.was.named) can.taken (node_in l f, node_there, empty.0) empty.1)
 
-    counts_less : mid j ≡ Some f → (file : f.kind ≡ File) → 1 < (node_in l f).links → (node_in l f).links ≤ 1000 → (file_at file_tail time : ℕ) (file_fresh : List ℕ)
+    counts_less : mid j ≡ Some f → (file : f.kind ≡ File) → 1 < (node_in l f).links → (node_in l f).links ≤ most_links → (file_at file_tail time : ℕ) (file_fresh : List ℕ)
         → OwnsNew l mid j (Some (grown f file_tail (links_entry file_at ((node_in l f).links - 1) time ∷ []) file_fresh))
         → IsFaultless l (with_inode mid j (Some (grown f file_tail (links_entry file_at ((node_in l f).links - 1) time ∷ []) file_fresh)))
     counts_less is file some few file_at file_tail time file_fresh own =
@@ -255,7 +255,7 @@ module _ (l : Layout) (held : Store) (d : ℕ) (h : Held) (name : List ℕ) (pat
       pub gone_across : CanGo l held j f → IsFaultless l (with_inode grew j None)
       gone_across go = goes grew (after_both at time tail fresh next last end pages apart) grew_undoubled (grew_there (go_bare go)) go
 
-      pub less_across : (file : f.kind ≡ File) → 1 < (node_in l f).links → (node_in l f).links ≤ 1000 → (file_at file_tail : ℕ) (file_fresh : List ℕ)
+      pub less_across : (file : f.kind ≡ File) → 1 < (node_in l f).links → (node_in l f).links ≤ most_links → (file_at file_tail : ℕ) (file_fresh : List ℕ)
           → OwnsNew l grew j (Some (grown f file_tail (links_entry file_at ((node_in l f).links - 1) time ∷ []) file_fresh))
           → IsFaultless l (with_inode grew j (Some (grown f file_tail (links_entry file_at ((node_in l f).links - 1) time ∷ []) file_fresh)))
       less_across file some few file_at file_tail file_fresh own =
@@ -274,7 +274,7 @@ module _ (l : Layout) (held : Store) (d : ℕ) (h : Held) (name : List ℕ) (pat
       pub gone_within : CanGo l held j f → IsFaultless l (with_inode stayed j None)
       gone_within go = goes stayed (after_here at time tail fresh next last same) stayed_undoubled (stayed_there (go_bare go)) go
 
-      pub less_within : (file : f.kind ≡ File) → 1 < (node_in l f).links → (node_in l f).links ≤ 1000 → (file_at file_tail : ℕ) (file_fresh : List ℕ)
+      pub less_within : (file : f.kind ≡ File) → 1 < (node_in l f).links → (node_in l f).links ≤ most_links → (file_at file_tail : ℕ) (file_fresh : List ℕ)
           → OwnsNew l stayed j (Some (grown f file_tail (links_entry file_at ((node_in l f).links - 1) time ∷ []) file_fresh))
           → IsFaultless l (with_inode stayed j (Some (grown f file_tail (links_entry file_at ((node_in l f).links - 1) time ∷ []) file_fresh)))
       less_within file some few file_at file_tail file_fresh own =

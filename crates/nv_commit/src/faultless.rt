@@ -3,7 +3,7 @@
 ghost use Rattle.std.specs.Prelude.{◌≡◌, ◌≢◌, ◌<◌, ◌≤◌, ◌+◌, ◌-◌, ℕ, false, List, [], ◌∷◌, Some, None};
 ghost use Rattle.std.specs.List.{Contains};
 ghost use Rattle.nv_super.specs.declared.kind.Kind.TheVariants.{File, Directory};
-ghost use Rattle.nv_super.specs.Layout.{Layout};
+ghost use Rattle.nv_super.specs.Layout.{Layout, most_links};
 ghost use Rattle.nv_entry.specs.Content.{is_attr_out_of_range};
 ghost use Rattle.nv_entry.specs.declared.entry.AttrEntry.{AttrEntry};
 ghost use Rattle.nv_entry.specs.declared.entry.Operation.TheVariants.{Add, Remove};
@@ -43,7 +43,7 @@ pub fn removed_is_faultless()
 pub fn linked_is_faultless()
     ensures { (l : Layout) (held : Store) (d : ℕ) (h : Held) (i : ℕ) (f : Held) (name : List ℕ) (at time tail : ℕ) (fresh : List ℕ) (file_at file_tail : ℕ) (file_fresh : List ℕ)
         → IsFaultless l held → held d ≡ Some h → h.kind ≡ Directory → IsGoodName l.sup i name
-        → held i ≡ Some f → f.kind ≡ File → (node_in l f).links < 1000 → (graph_in l held).name d name ≡ None
+        → held i ≡ Some f → f.kind ≡ File → (node_in l f).links < most_links → (graph_in l held).name d name ≡ None
         → OwnsNew l held i (Some (grown f file_tail (links_entry file_at ((node_in l f).links + 1) time ∷ []) file_fresh))
         → OwnsNew l (with_inode held i (Some (grown f file_tail (links_entry file_at ((node_in l f).links + 1) time ∷ []) file_fresh))) d
         (Some (grown h tail (name_entry at Add i name time ∷ []) fresh))
@@ -55,7 +55,7 @@ pub fn linked_is_faultless()
 pub fn unlinked_is_faultless()
     ensures { (l : Layout) (held : Store) (d : ℕ) (h : Held) (i : ℕ) (f : Held) (name : List ℕ) (at time tail : ℕ) (fresh : List ℕ) (file_at file_tail : ℕ) (file_fresh : List ℕ)
         → IsFaultless l held → held d ≡ Some h → h.kind ≡ Directory → IsGoodName l.sup i name
-        → held i ≡ Some f → f.kind ≡ File → 1 < (node_in l f).links → (node_in l f).links ≤ 1000 → (graph_in l held).name d name ≡ Some i
+        → held i ≡ Some f → f.kind ≡ File → 1 < (node_in l f).links → (node_in l f).links ≤ most_links → (graph_in l held).name d name ≡ Some i
         → OwnsNew l held d (Some (grown h tail (name_entry at Remove i name time ∷ []) fresh))
         → OwnsNew l (with_inode held d (Some (grown h tail (name_entry at Remove i name time ∷ []) fresh))) i
         (Some (grown f file_tail (links_entry file_at ((node_in l f).links - 1) time ∷ []) file_fresh))

@@ -2,7 +2,7 @@
 use Rattle.std.specs.Prelude.{ℕ, ◌+◌, ◌-◌, ◌*◌, Bool, true, false, not, nat_le, nat_lt, ◌&&◌, ◌||◌, ◌==◌, if◌then◌else◌, Option, Some, None, List, [], ◌∷◌}
 use Rattle.std.specs.List.{list_any}
 use Rattle.nv_super.specs.declared.superblock.Super.{Super}
-use Rattle.nv_super.specs.Layout.{system_blocks, is_name_number, most_pages, most_size}
+use Rattle.nv_super.specs.Layout.{system_blocks, is_name_number, most_pages, most_size, most_links}
 use Rattle.nv_super.specs.declared.kind.Kind.{Kind}
 use Rattle.nv_super.specs.declared.kind.Kind.TheVariants.{File, Directory}
 use Rattle.nv_entry.specs.declared.content.ContentFault.{ContentFault}
@@ -43,7 +43,7 @@ is_name_out_of_range s e = has_bad_byte e.name || is_dots e.name || not (is_name
 
 -- no link, or more than a file can have
 abbrev pub is_links_out_of_range : LinksEntry → Bool
-is_links_out_of_range e = (e.count == 0) || nat_lt 1000 e.count
+is_links_out_of_range e = (e.count == 0) || nat_lt most_links e.count
 
 -- what the entry says is out of range for an inode of this kind
 abbrev pub is_out_of_range : Super → Kind → Entry → Bool

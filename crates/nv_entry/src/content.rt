@@ -12,11 +12,9 @@ ghost use Rattle.nv_entry.specs.Content.{content_fault, is_good};
 
 use crate::entry::{AttrEntry, Entry, LinksEntry, WriteEntry};
 use crate::light::{LightEntry, LightName};
-use nv_super::{BLOCK_SIZE, Kind, MOST_FILE_BYTES, MOST_FILE_PAGES, Super};
+use nv_super::{BLOCK_SIZE, Kind, MOST_FILE_BYTES, MOST_FILE_PAGES, MOST_LINKS, Super};
 
 const MOST_MODE: u32 = 4095;
-
-const MOST_LINKS: u32 = 1000;
 
 /// What is wrong with what an entry says.
 #[derive(Clone, Copy, PartialEq, Eq)]

@@ -7,7 +7,7 @@ use Rattle.std.proofs.lemmas.Option.{none-some}
 use Rattle.nv_region.specs.Region.{Region}
 use Rattle.nv_super.specs.declared.kind.Kind.{Kind}
 use Rattle.nv_super.specs.declared.kind.Kind.TheVariants.{File, Directory}
-use Rattle.nv_super.specs.Layout.{Layout}
+use Rattle.nv_super.specs.Layout.{Layout, most_links}
 use Rattle.nv_super.proofs.Options.{some_is}
 use Rattle.nv_entry.specs.declared.entry.Operation.{Operation}
 use Rattle.nv_entry.specs.declared.entry.Operation.TheVariants.{Add, Remove}
@@ -60,11 +60,11 @@ module _ {R : Region} {l : Layout} {g : Graph} (is : IsGraphOf R l g) where
     test (Some k) h = absurd (other_kind g i n e file (directory i q k h))
 
   -- a link count is small
-  small : (i : ℕ) (n : Node) → g.node i ≡ Some n → n.links ≤ 1000
+  small : (i : ℕ) (n : Node) → g.node i ≡ Some n → n.links ≤ most_links
   small i n e =
       let u = is.in_use i n e in
       let same = some_is _ n (g.node i) (is.node i u.0 u.1 u.2) e in
-      subst (λ (m : Node). m.links ≤ 1000) same (links_small l.sup u.1.kind u.1.entries)
+      subst (λ (m : Node). m.links ≤ most_links) same (links_small l.sup u.1.kind u.1.entries)
 
 module _ {R S : Region} {l : Layout} {g : Graph} (is : IsGraphOf R l g) where
   pub same_graph : ((j : ℕ) → SameInode R S l j) → IsGraphOf S l g
@@ -102,7 +102,7 @@ module _ {R S : Region} {l : Layout} {g : Graph} (is : IsGraphOf R l g) where
       → ShowsAt S l d (g.node d) (λ q. cond (pointwise nat_eq q name) (target operation i) (g.name d q))
   said d operation i name dir good w = name_shows (graph_at is d) w.0 operation i name w.1 good (kind_of g d Directory dir) w.2
 
-  counted : (i : ℕ) (n : Node) (count : ℕ) → g.node i ≡ Some n → n.kind ≡ File → 0 < count → count ≤ 1000 → SaysLinks R S l i count
+  counted : (i : ℕ) (n : Node) (count : ℕ) → g.node i ≡ Some n → n.kind ≡ File → 0 < count → count ≤ most_links → SaysLinks R S l i count
       → ShowsAt S l i (Some (record { kind = n.kind; links = count })) (g.name i)
   counted i n count e file some few w = links_shows (shows_by (graph_at is i) e (λ q. refl)) file w.0 count w.1 some few w.2
 

@@ -8,7 +8,7 @@ use Rattle.nv_region.specs.Region.{Region}
 use Rattle.nv_super.specs.declared.superblock.Super.{Super}
 use Rattle.nv_super.specs.declared.kind.Kind.{Kind}
 use Rattle.nv_super.specs.declared.kind.Kind.TheVariants.{File, Directory}
-use Rattle.nv_super.specs.Layout.{Layout}
+use Rattle.nv_super.specs.Layout.{Layout, most_links}
 use Rattle.nv_entry.specs.Content.{is_good}
 use Rattle.nv_entry.specs.declared.entry.Entry.{Entry}
 use Rattle.nv_entry.specs.declared.entry.Entry.TheVariants as entries
@@ -24,22 +24,22 @@ use Rattle.nv_graph.specs.Step.{name_entry, links_entry, IsGoodName}
 
 -- ---- links
 
-few_links : (s : Super) (k : Kind) (e : Entry) (v : ℕ) → is_good s k e ≡ true → links_in e ≡ Some v → v ≤ 1000
+few_links : (s : Super) (k : Kind) (e : Entry) (v : ℕ) → is_good s k e ≡ true → links_in e ≡ Some v → v ≤ most_links
 few_links s k (entries.Links e) v good h =
-    let small = ltb-false 1000 e.count (or_parts (e.count == 0) (nat_lt 1000 e.count) (in_range s k (entries.Links e) good)).1 in
-    subst (λ (m : ℕ). m ≤ 1000) (same_Some e.count v h) small
+    let small = ltb-false most_links e.count (or_parts (e.count == 0) (nat_lt most_links e.count) (in_range s k (entries.Links e) good)).1 in
+    subst (λ (m : ℕ). m ≤ most_links) (same_Some e.count v h) small
 few_links s k entries.NextPage v good h = absurd (none-some v h)
 few_links s k (entries.Write e) v good h = absurd (none-some v h)
 few_links s k (entries.Attr e) v good h = absurd (none-some v h)
 few_links s k (entries.Name e) v good h = absurd (none-some v h)
 
 -- a link count is small
-pub links_small : (s : Super) (k : Kind) (es : List Placed) → links_of (good_entries s k es) ≤ 1000
-links_small s k es = last_word-all says_links (λ (v : ℕ). v ≤ 1000) 1 (good_entries s k es) (omega arith) (λ x v c h. few_links s k x.entry v (good_is_good s k es x c) h)
+pub links_small : (s : Super) (k : Kind) (es : List Placed) → links_of (good_entries s k es) ≤ most_links
+links_small s k es = last_word-all says_links (λ (v : ℕ). v ≤ most_links) 1 (good_entries s k es) (omega arith) (λ x v c h. few_links s k x.entry v (good_is_good s k es x c) h)
 
-pub good_links : (s : Super) (at count time : ℕ) → 0 < count → count ≤ 1000 → is_good s File (links_entry at count time).entry ≡ true
+pub good_links : (s : Super) (at count time : ℕ) → 0 < count → count ≤ most_links → is_good s File (links_entry at count time).entry ≡ true
 good_links s at count time some few =
-    not_from_false (count == 0 || nat_lt 1000 count) (or_from (count == 0) (nat_lt 1000 count) (ne_eqb count 0 (λ e. omega (arith, some, e))) (le-ltb 1000 count few))
+    not_from_false (count == 0 || nat_lt most_links count) (or_from (count == 0) (nat_lt most_links count) (ne_eqb count 0 (λ e. omega (arith, some, e))) (le-ltb most_links count few))
 
 -- ---- names
 

@@ -8,7 +8,7 @@ use Rattle.nv_region.specs.Region.{Region}
 use Rattle.nv_super.specs.declared.superblock.Super.{Super}
 use Rattle.nv_super.specs.declared.kind.Kind.{Kind}
 use Rattle.nv_super.specs.declared.kind.Kind.TheVariants.{File, Directory}
-use Rattle.nv_super.specs.Layout.{Layout}
+use Rattle.nv_super.specs.Layout.{Layout, most_links}
 use Rattle.nv_super.proofs.Options.{some_is}
 use Rattle.nv_super.proofs.Rising.{Contains-head, Contains-tail}
 use Rattle.nv_entry.specs.Content.{is_good}
@@ -126,7 +126,7 @@ module _ {R S : Region} {l : Layout} {d : ℕ} {o : Option Node} {names : List �
 
 -- ---- a links entry
 
-pub links_shows : {R S : Region} {l : Layout} {i : ℕ} {n : Node} {names : List ℕ → Option ℕ} → ShowsAt R l i (Some n) names → n.kind ≡ File → (at count time : ℕ) → 0 < count → count ≤ 1000
+pub links_shows : {R S : Region} {l : Layout} {i : ℕ} {n : Node} {names : List ℕ → Option ℕ} → ShowsAt R l i (Some n) names → n.kind ≡ File → (at count time : ℕ) → 0 < count → count ≤ most_links
     → Grows R S l i (links_entry at count time ∷ []) → ShowsAt S l i (Some (record { kind = n.kind; links = count })) names
 links_shows {R} {S} {l} {i} {n} {names} s file at count time some few w = shows_by (log_shows w.is) node after where
   same : n ≡ node_of l w.old

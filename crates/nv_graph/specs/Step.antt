@@ -4,7 +4,7 @@ use Rattle.std.specs.List.{All, Contains}
 use Rattle.nv_region.specs.Region.{Region}
 use Rattle.nv_super.specs.declared.superblock.Super.{Super}
 use Rattle.nv_super.specs.declared.kind.Kind.{Kind}
-use Rattle.nv_super.specs.Layout.{Layout, is_name_number, slot_of}
+use Rattle.nv_super.specs.Layout.{Layout, is_name_number, slot_of, most_links}
 use Rattle.nv_entry.specs.Content.{has_bad_byte, is_dots}
 use Rattle.nv_entry.specs.declared.entry.Operation.{Operation}
 use Rattle.nv_entry.specs.declared.entry.Operation.TheVariants.{Add, Remove}
@@ -67,7 +67,7 @@ pub record CreateStep (R S : Region) (l : Layout) (kind : Kind) (d : ℕ) (name 
 pub record LinkStep (R S : Region) (l : Layout) (d : ℕ) (name : List ℕ) (i : ℕ) (n : Node) : Type 0 where
   pub others : (j : ℕ) → j ≢ i → j ≢ d → SameInode R S l j
   pub file : SaysLinks R S l i (n.links + 1)
-  pub limit : n.links < 1000
+  pub limit : n.links < most_links
   pub parent : SaysName R S l d Add name i
   pub good : IsGoodName l.sup i name
 

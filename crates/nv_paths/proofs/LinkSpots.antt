@@ -5,6 +5,7 @@ use Rattle.std.proofs.lemmas.Bool.Decides.{nat_tests}
 use Rattle.nv_region.specs.Region.{Region}
 use Rattle.nv_super.specs.declared.kind.Kind.{Kind}
 use Rattle.nv_super.specs.declared.kind.Kind.TheVariants.{File, Directory}
+use Rattle.nv_super.specs.Layout.{most_links}
 use Rattle.nv_names.specs.Names.{name_at}
 use Rattle.nv_scan.specs.declared.piece.Row.{Row}
 use Rattle.nv_rows.specs.Rows.{IsInUse}
@@ -54,8 +55,8 @@ module _ (R : Region) (rows : List Row) (names : List (List ℕ)) (other : List 
       kind_is : (b : Bool) → is_directory row.kind ≡ b → (is_dir t (Some names)).0 ≡ b
       kind_is b is = ap (λ (o : Option ℕ). option_map_or (is_directory_at t) o false) led.leads ∙ ap (λ (o : Option Node). option_map_or (λ (node : Node). is_directory node.kind) o false) led.shows ∙ is
 
-      links_are : (b : Bool) → nat_le 1000 row.numbers.links ≡ b → (has_most_links t (Some names)).0 ≡ b
-      links_are b is = ap (λ (o : Option ℕ). option_map_or (λ i. nat_le 1000 (links_at t i)) o false) led.leads ∙ ap (λ (o : Option Node). nat_le 1000 (option_map_or (λ (node : Node). node.links) o 0)) led.shows ∙ is
+      links_are : (b : Bool) → nat_le most_links row.numbers.links ≡ b → (has_most_links t (Some names)).0 ≡ b
+      links_are b is = ap (λ (o : Option ℕ). option_map_or (λ i. nat_le most_links (links_at t i)) o false) led.leads ∙ ap (λ (o : Option Node). nat_le most_links (option_map_or (λ (node : Node). node.links) o 0)) led.shows ∙ is
 
       pub file_is_directory : is_directory row.kind ≡ true → told ≡ Some IsDirectory
       file_is_directory is = link_by walked ended here (kind_is true is) refl refl
@@ -63,10 +64,10 @@ module _ (R : Region) (rows : List Row) (names : List (List ℕ)) (other : List 
       pub name_there : is_directory row.kind ≡ false → is_some (found t (other ∷ others)) ≡ true → told ≡ Some Exists
       name_there is there = link_by walked ended here (kind_is false is) there refl
 
-      pub links_full : is_directory row.kind ≡ false → is_some (found t (other ∷ others)) ≡ false → nat_le 1000 row.numbers.links ≡ true → told ≡ Some LinkLimit
+      pub links_full : is_directory row.kind ≡ false → is_some (found t (other ∷ others)) ≡ false → nat_le most_links row.numbers.links ≡ true → told ≡ Some LinkLimit
       links_full is there full = link_by walked ended here (kind_is false is) there (links_are true full)
 
-      pub link_passes : is_directory row.kind ≡ false → is_some (found t (other ∷ others)) ≡ false → nat_le 1000 row.numbers.links ≡ false → told ≡ None
+      pub link_passes : is_directory row.kind ≡ false → is_some (found t (other ∷ others)) ≡ false → nat_le most_links row.numbers.links ≡ false → told ≡ None
       link_passes is there few = link_by walked ended here (kind_is false is) there (links_are false few)
 
 -- no test answers `Stopped`
@@ -105,5 +106,5 @@ pub is_file : (kind : Kind) → is_directory kind ≡ false → kind ≡ File
 is_file File no_directory = refl
 is_file Directory no_directory = absurd (cc)
 
-pub few_links : (links : ℕ) → nat_le 1000 links ≡ false → links < 1000
+pub few_links : (links : ℕ) → nat_le most_links links ≡ false → links < most_links
 few_links links few = grind (arith, nat_tests)

@@ -1,6 +1,7 @@
 -- What `link` is about: the file that gets a link, and the directory that gets its name.
 use Rattle.std.specs.Prelude.{◌≡◌, ℕ, ◌<◌, List, [], ◌∷◌, ◌++◌, slice_get, Some, Ok}
 use Rattle.nv_super.specs.declared.kind.Kind.TheVariants.{File, Directory}
+use Rattle.nv_super.specs.Layout.{most_links}
 use Rattle.nv_scan.specs.declared.piece.Row.{Row}
 use Rattle.nv_tree.specs.Path.{last_name}
 use Rattle.nv_tree.specs.Tree.{Tree, found, walk}
@@ -25,4 +26,4 @@ pub record IsFreeName (t : Tree) (rows : List Row) (names : List (List ℕ)) (pl
 pub record IsLinkSpot (t : Tree) (rows : List Row) (names others : List (List ℕ)) (place : ℕ) (name : List ℕ) (target : ℕ) : Type 0 where
   pub spot : IsFreeName t rows others place name
   pub leads : (row : Row) → slice_get rows target ≡ Some row → found t names ≡ Some row.inode
-  pub file : (row : Row) → slice_get rows target ≡ Some row → (row.kind ≡ File) × (row.numbers.links < 1000)
+  pub file : (row : Row) → slice_get rows target ≡ Some row → (row.kind ≡ File) × (row.numbers.links < most_links)

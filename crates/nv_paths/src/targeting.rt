@@ -1,6 +1,7 @@
 //! What `link` is about: the file that gets a link, and the directory that gets its name.
 
 ghost use Rattle.std.specs.Prelude.{◌≡◌, ℕ, nat_le, List, IfOk, IfErr, OnOk, Option};
+ghost use Rattle.nv_super.specs.Layout.{most_links};
 ghost use Rattle.nv_region.specs.Region.{Region};
 ghost use Rattle.nv_rows.specs.Rows.{IsInUse, place_in};
 ghost use Rattle.nv_tree.specs.Path.{IsPath, IsPathName, Says};
@@ -14,11 +15,8 @@ use crate::naming::{has_name, target_at};
 use crate::walking::{found, walk};
 use nv_rows::Rows;
 use nv_scan::Row;
-use nv_super::Kind;
+use nv_super::{Kind, MOST_LINKS};
 use nv_tree::{Refusal, is_path};
-
-/// The most links that a file can have.
-const MOST_LINKS: u32 = 1000;
 
 /// The file to which a path leads, and the directory and the name of its new link.
 ///
@@ -73,7 +71,7 @@ pub(crate) fn is_directory(row: &Row) -> bool
 
 /// Whether a file has as many links as it can have.
 fn has_most_links(row: &Row) -> bool
-    ensures { result ≡ nat_le 1000 row.now.numbers.links }
+    ensures { result ≡ nat_le most_links row.now.numbers.links }
 {
     row.numbers.links >= MOST_LINKS
 }

@@ -3,7 +3,7 @@ use Rattle.std.proofs.Common.{◌≡◌, ℕ, ◌<◌, ◌≤◌, true, List, []
 use Rattle.std.proofs.lemmas.List.Elements.{All-cons, All-nil}
 use Rattle.nv_super.specs.declared.kind.Kind.{Kind}
 use Rattle.nv_super.specs.declared.kind.Kind.TheVariants.{File}
-use Rattle.nv_super.specs.Layout.{Layout}
+use Rattle.nv_super.specs.Layout.{Layout, most_links}
 use Rattle.nv_entry.specs.Content.{is_good}
 use Rattle.nv_logpage.specs.declared.found.Placed.{Placed}
 use Rattle.nv_scan.specs.State.{named, says_group, says_links, says_mode, says_name, says_owner, says_size, says_time}
@@ -17,7 +17,7 @@ use Rattle.nv_graph.proofs.GoodEntries.{good_links}
 use Rattle.nv_commit.specs.Pages.{SaysNoPage}
 use Rattle.nv_commit.proofs.BlocksOf.{same_file}
 
-module _ (l : Layout) (h : Held) (file : h.kind ≡ File) (at count time tail : ℕ) (fresh : List ℕ) (some : 0 < count) (few : count ≤ 1000) where
+module _ (l : Layout) (h : Held) (file : h.kind ≡ File) (at count time tail : ℕ) (fresh : List ℕ) (some : 0 < count) (few : count ≤ most_links) where
   abbrev x : Placed
   x = links_entry at count time
 

@@ -1,6 +1,7 @@
 //! One more name of a file, by the rows of the file and of the directory.
 
 ghost use Rattle.std.specs.Prelude.{◌≡◌, ◌≢◌, ◌+◌, ◌%◌, ◌<◌, [], ◌∷◌, Option, Result, IfErr, OnOk};
+ghost use Rattle.nv_super.specs.Layout.{most_links};
 ghost use Rattle.nv_region.specs.Stops.{LeavesOnly, NothingPending};
 ghost use Rattle.nv_entry.specs.declared.entry.Operation.TheVariants.{Add};
 ghost use Rattle.nv_logpage.specs.Append.{needed};
@@ -48,7 +49,7 @@ pub fn link_both<P: Pmem>(
     requires apart { file.old.inode ≢ directory.old.inode }
     requires stands { StandsRight (P.region memory.old) tables.now.layout free.old file.old × CanName (P.region memory.old) tables.now.layout cpu file.old.inode file.old }
     requires directory_stands { StandsRight (P.region memory.old) tables.now.layout free.old directory.old × CanName (P.region memory.old) tables.now.layout cpu directory.old.inode directory.old }
-    requires few { file.old.numbers.links < 1000 }
+    requires few { file.old.numbers.links < most_links }
     requires name { IsName name.now }
     ensures linked { OnOk result (LinksAt (P.region memory.old) (P.region memory.new) tables.now.layout free.old free.new cpu (file.old ∷ directory.old ∷ []) (file.new ∷ directory.new ∷ []) 0 1 name.now time) }
     ensures needs { NeedsFree (needed (file.old.tail % 4096) (links_entries (file.old.numbers.links + 1) time)

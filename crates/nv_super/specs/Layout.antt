@@ -51,6 +51,10 @@ most_pages = 262144
 abbrev pub most_size : ℕ
 most_size = 1073741824
 
+-- the most links that a file can have
+abbrev pub most_links : ℕ
+most_links = 1000
+
 -- numbers by which each address of the areas is small
 pub record HasAreas (s : Super) : Type 0 where
   pub cpus_to : s.cpus ≤ 64

@@ -20,5 +20,6 @@ pub use owners::{Owner, Run};
 pub use sorting::{sort_claims, sort_faults};
 pub use superblock::{
     BLOCK_SIZE, EXTRA_SLOTS, LEAST_BLOCKS, MAGIC, MOST_CPUS, MOST_FILE_BYTES, MOST_FILE_PAGES,
-    MOST_TABLE_BLOCKS, SLOT_SIZE, Super, SuperFault, WITH_CHAINS, read_super, write_super,
+    MOST_LINKS, MOST_TABLE_BLOCKS, SLOT_SIZE, Super, SuperFault, WITH_CHAINS, read_super,
+    write_super,
 };

@@ -44,6 +44,9 @@ pub const MOST_FILE_PAGES: u64 = 262_144;
 /// The most bytes of a file.
 pub const MOST_FILE_BYTES: u64 = MOST_FILE_PAGES * BLOCK_SIZE;
 
+/// The most links of a file.
+pub const MOST_LINKS: u32 = 1000;
+
 /// The numbers of a superblock: the layout's version, CPUs, blocks of the region, table blocks for each CPU, and the
 /// state, which is shown and never used.
 #[derive(Clone, Copy, Debug, PartialEq, Eq)]

@@ -1,6 +1,7 @@
 -- Trees that nobody can tell apart: the same tests hold, call by call.
 use Rattle.std.proofs.Common.{◌≡◌, ℕ, Bool, false, not, nat_lt, nat_le, ◌&&◌, eqb, is_some, is_none, [], ◌∷◌, ◌++◌, Option, Some, None, refl, ◌∙◌, ap}
 use Rattle.std.specs.List.{list_any}
+use Rattle.nv_super.specs.Layout.{most_links}
 use Rattle.nv_tree.specs.declared.refusal.Refusal.{Refusal}
 use Rattle.nv_tree.specs.declared.refusal.Refusal.TheVariants.{NotFound, Exists, NotDirectory, IsDirectory, NotEmpty, LinkLimit, IntoItself}
 use Rattle.nv_tree.specs.Tree.{Tree, SameTree}
@@ -42,7 +43,7 @@ names_alike : (t u : Tree) → SameTree t u → (p : Path) → has_names t p ≡
 names_alike t u same p = ap (test NotEmpty) (mapped (λ i. nat_lt 0 (count_at t i)) (λ i. nat_lt 0 (count_at u i)) false (λ i. ap (nat_lt 0) (count_alike t u same i)) (target t p) (target u p) (target_alike t u same p))
 
 most_links_alike : (t u : Tree) → SameTree t u → (p : Path) → has_most_links t p ≡ has_most_links u p
-most_links_alike t u same p = ap (test LinkLimit) (mapped (λ i. nat_le 1000 (links_at t i)) (λ i. nat_le 1000 (links_at u i)) false (λ i. ap (nat_le 1000) (links_alike t u same i)) (target t p) (target u p) (target_alike t u same p))
+most_links_alike t u same p = ap (test LinkLimit) (mapped (λ i. nat_le most_links (links_at t i)) (λ i. nat_le most_links (links_at u i)) false (λ i. ap (nat_le most_links) (links_alike t u same i)) (target t p) (target u p) (target_alike t u same p))
 
 pub into_itself_alike : (t u : Tree) → SameTree t u → (p q : Path) → is_into_itself t p q ≡ is_into_itself u p q
 into_itself_alike t u same p q = ap (test IntoItself) (mapped (λ i. is_directory_at t i && passes t q i) (λ i. is_directory_at u i && passes u q i) false

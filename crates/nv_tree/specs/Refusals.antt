@@ -2,7 +2,7 @@
 use Rattle.std.specs.Prelude.{◌≡◌, ◌⊎◌, ℕ, Bool, true, false, not, nat_lt, nat_le, ◌&&◌, if◌then◌else◌, is_some, is_none, List, [], ◌∷◌, ◌++◌, Option, Some, None, Result, Ok, Err, codes, eqb}
 use Rattle.std.specs.List.{list_any}
 use Rattle.std.specs.Option.{option_map_or}
-use Rattle.nv_super.specs.Layout.{most_size}
+use Rattle.nv_super.specs.Layout.{most_size, most_links}
 use Rattle.nv_tree.specs.declared.refusal.Refusal.{Refusal}
 use Rattle.nv_tree.specs.declared.refusal.Refusal.TheVariants.{NotFound, Exists, NotDirectory, IsDirectory, NotEmpty, BadName, NoSpace, NoInodes, TooLarge, ReadOnly, LinkLimit, IntoItself, BadCpu}
 use Rattle.nv_tree.specs.declared.refusal.Refusal.TheVariants.{Memory, Stopped, IsVersion2}
@@ -119,7 +119,7 @@ has_names t p = (option_map_or (λ i. nat_lt 0 (count_at t i)) (target t p) fals
 
 -- it has as many links as a file can have
 abbrev pub has_most_links : Tree → Path → Bool × Refusal
-has_most_links t p = (option_map_or (λ i. nat_le 1000 (links_at t i)) (target t p) false, LinkLimit)
+has_most_links t p = (option_map_or (λ i. nat_le most_links (links_at t i)) (target t p) false, LinkLimit)
 
 -- more bytes than a file can have
 abbrev pub is_too_large : ℕ → Bool × Refusal

@@ -2,6 +2,7 @@ use Rattle.std.proofs.Common.{◌≡◌, ◌∙◌, ◌∷◌, ◌<◌, Some, No
 use Rattle.std.proofs.lemmas.Result.{err_from_is_err_and}
 use Rattle.std.proofs.lemmas.Option.{same_Some}
 use Rattle.nv_super.specs.declared.kind.Kind.TheVariants.{File}
+use Rattle.nv_super.specs.Layout.{most_links}
 use Rattle.nv_scan.specs.declared.piece.Row.{Row}
 use Rattle.nv_tree.specs.declared.refusal.Refusal.TheVariants.{Exists, IsDirectory, LinkLimit, NotFound}
 use Rattle.nv_tree.specs.Path.{IsPathName}
@@ -77,7 +78,7 @@ pub returns-clause-spot : goal.returns-clause-spot
 returns-clause-spot c region names others path other_path =
     let long = long_text c.args.new.now (c.has_name.ensures.good c.if-not-has_name.false) in
     let spells = (longer c.args.new.now others other_path long).3 in
-    let few : c.in-Some.target.now.numbers.links < 1000 = few_links c.in-Some.target.now.numbers.links (sym c.has_most_links.ensures ∙ c.if-has_most_links.false) in
+    let few : c.in-Some.target.now.numbers.links < most_links = few_links c.in-Some.target.now.numbers.links (sym c.has_most_links.ensures ∙ c.if-has_most_links.false) in
     let file = is_file c.in-Some.target.now.kind (sym c.is_directory.ensures ∙ c.if-is_directory.false) in
     let rows = c.args.rows.now.items in
     let d = c.in_ok-directory.directory in
@@ -93,7 +94,7 @@ returns-clause-spot c region names others path other_path =
         absent = λ row at. sym (c.target_at.ensures.row row (sym (at_place rows d) ∙ at)) ∙ ap option_copied (none_of c.target_at.result (sym c.is_some.ensures ∙ c.if-is_some.false));
       };
       leads = λ row at. (let led = leads_to region rows names target (sym (c.in_ok-file.ensures.row region names path) ∙ ap option_copied c.in-Some.is) in led.leads ∙ ap (λ (r : Row). Some r.inode) (one row at));
-      file = λ row at. (subst (λ (r : Row). r.kind ≡ File) (one row at) file, subst (λ (r : Row). r.numbers.links < 1000) (one row at) few);
+      file = λ row at. (subst (λ (r : Row). r.kind ≡ File) (one row at) file, subst (λ (r : Row). r.numbers.links < most_links) (one row at) few);
     }
 
 pub returns-clause-allowed : goal.returns-clause-allowed
