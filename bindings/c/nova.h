@@ -156,16 +156,16 @@ uint32_t nova_report(nova_fs *fs, uint8_t *text, size_t text_length, size_t *use
 /* Makes a file of this mode, of which the low 12 bits are kept, with one name.
  * Statuses, the first that applies: 16 where the handle is closed, 13 where there is no CPU of that number,
  * 10 where the mount has faults, 6 where the text is no path or /, 1 or 3 for an inode on the way, 2 where
- * the path leads to an inode, 8 where the CPU's table has no unused slot, 7 where too few blocks are free.
- * Besides these 14 where memory was refused. All leave everything as it was. */
+ * the path leads to an inode, 8 where the CPU's table has no unused slot, in version 1, 7 where too few
+ * blocks are free. Besides these 14 where memory was refused. All leave everything as it was. */
 uint32_t nova_create(nova_fs *fs, uint64_t cpu, const uint8_t *path, size_t path_length, uint32_t mode,
                      uint64_t time);
 
 /* Makes a directory of this mode, of which the low 12 bits are kept, with one name.
  * Statuses, the first that applies: 16 where the handle is closed, 13 where there is no CPU of that number,
  * 10 where the mount has faults, 6 where the text is no path or /, 1 or 3 for an inode on the way, 2 where
- * the path leads to an inode, 8 where the CPU's table has no unused slot, 7 where too few blocks are free.
- * Besides these 14 where memory was refused. All leave everything as it was. */
+ * the path leads to an inode, 8 where the CPU's table has no unused slot, in version 1, 7 where too few
+ * blocks are free. Besides these 14 where memory was refused. All leave everything as it was. */
 uint32_t nova_mkdir(nova_fs *fs, uint64_t cpu, const uint8_t *path, size_t path_length, uint32_t mode,
                     uint64_t time);
 

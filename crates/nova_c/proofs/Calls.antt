@@ -11,7 +11,7 @@ use Rattle.nv_tree.specs.declared.refusal.Refusal.TheVariants.{Stopped}
 use Rattle.nv_calls.specs.Effects.{Logs, Makes}
 use Rattle.nv_calls.specs.Mount.{Mount}
 use Rattle.nv_calls.specs.Same.{SameMount}
-use Rattle.nv_calls.specs.Stopped.{LeavesCall}
+use Rattle.nv_calls.specs.Stopped.{LeavesCall, LeavesGrowing}
 use Rattle.nv_calls.proofs.RowChange.{same_mount}
 use Rattle.nv_lent.specs.WordsState.{as_it_reads}
 use Rattle.nova_c.specs.Codes.{TellsRefusal, status_of}
@@ -40,12 +40,23 @@ module _ (a b m n : Mount Region) (before : a ≡ b) (after : n ≡ m) where
       let same : SameMount a m = as_before a m e (λ s. (stays s).1) (never_stopped result e a.stopped m.stopped is stopped) leaves in
       subst (λ (k : Mount Region). SameMount k n) before (subst (λ (k : Mount Region). SameMount a k) (sym after) same)
 
+  pub any_stop_by : (Leaves : Region → Mount Region → Region → Type 0)
+      → (a.stopped ≡ false → a.read_only ≡ false → LeavesOnly m.memory (as_it_reads m.memory) (Leaves a.memory a))
+      → b.stopped ≡ false → b.read_only ≡ false → LeavesOnly n.memory (as_it_reads n.memory) (Leaves b.memory b)
+  any_stop_by Leaves leaves =
+      subst (λ (k : Mount Region). k.stopped ≡ false → k.read_only ≡ false → LeavesOnly n.memory (as_it_reads n.memory) (Leaves k.memory k)) before
+      (subst (λ (k : Mount Region). a.stopped ≡ false → a.read_only ≡ false → LeavesOnly k.memory (as_it_reads k.memory) (Leaves a.memory a)) (sym after) leaves)
+
   pub any_stop_of : (makes : Makes Region) (logs : Logs Region) (names : List (List ℕ))
       → (a.stopped ≡ false → a.read_only ≡ false → LeavesOnly m.memory (as_it_reads m.memory) (LeavesCall makes logs a.memory a names))
       → b.stopped ≡ false → b.read_only ≡ false → LeavesOnly n.memory (as_it_reads n.memory) (LeavesCall makes logs b.memory b names)
-  any_stop_of makes logs names leaves =
-      subst (λ (k : Mount Region). k.stopped ≡ false → k.read_only ≡ false → LeavesOnly n.memory (as_it_reads n.memory) (LeavesCall makes logs k.memory k names)) before
-      (subst (λ (k : Mount Region). a.stopped ≡ false → a.read_only ≡ false → LeavesOnly k.memory (as_it_reads k.memory) (LeavesCall makes logs a.memory a names)) (sym after) leaves)
+  any_stop_of makes logs names = any_stop_by (λ R k. LeavesCall makes logs R k names)
+
+  -- the same of a call by which a table may grow
+  pub growing_stop_of : (cpu : ℕ) (makes : Makes Region) (logs : Logs Region) (names : List (List ℕ))
+      → (a.stopped ≡ false → a.read_only ≡ false → LeavesOnly m.memory (as_it_reads m.memory) (LeavesGrowing cpu makes logs a.memory a names))
+      → b.stopped ≡ false → b.read_only ≡ false → LeavesOnly n.memory (as_it_reads n.memory) (LeavesGrowing cpu makes logs b.memory b names)
+  growing_stop_of cpu makes logs names = any_stop_by (λ R k. LeavesGrowing cpu makes logs R k names)
 
   pub logs_of : (logs : Logs Region) (names : List (List ℕ)) → logs a.memory a names m.memory → logs b.memory b names n.memory
   logs_of logs names is =

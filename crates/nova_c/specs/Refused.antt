@@ -18,7 +18,7 @@ use Rattle.nova_c.specs.Handles.{shown}
 
 -- of `create` and `mkdir`
 abbrev pub create_refusal : Mount Region → ℕ → Path → Option Refusal
-create_refusal m cpu p = first_refusal (create_tests (world_of m) (shown m) cpu p (create_blocks m.rows (shown m) p))
+create_refusal m cpu p = first_refusal (create_tests (world_of m) (shown m) cpu p (create_blocks m.layout m.rows cpu (shown m) p))
 
 -- of `write` up to this end, which takes so many blocks
 abbrev pub write_refusal : Mount Region → ℕ → Path → ℕ → ℕ → Option Refusal

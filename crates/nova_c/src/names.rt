@@ -6,8 +6,8 @@ ghost use Rattle.nv_region.specs.Stops.{LeavesOnly};
 ghost use Rattle.nv_tree.specs.Path.{IsPath, Says};
 ghost use Rattle.nv_tree.specs.Refusals.{Path, IsRefusedBy};
 ghost use Rattle.nv_tree.specs.Tree.{SameTree};
-ghost use Rattle.nv_calls.specs.Same.{KeepsMount, SameMount};
-ghost use Rattle.nv_calls.specs.Stopped.{LeavesCall};
+ghost use Rattle.nv_calls.specs.Same.{GrowsMount, KeepsMount, SameMount};
+ghost use Rattle.nv_calls.specs.Stopped.{LeavesCall, LeavesGrowing};
 ghost use Rattle.nv_lent.specs.WordsState.{as_it_reads};
 ghost use Rattle.nova_c.specs.Codes.{TellsRefusal};
 ghost use Rattle.nova_c.specs.Handles.{IsClosed, IsOpen, IsRunning, TellsClosed, shown};
@@ -23,7 +23,7 @@ use std::alloc::Global;
 ///
 /// Statuses, the first that applies: 16 where the handle is closed, 13 where there is no CPU of that number, 10 where the mount
 /// has faults, 6 where the text is no path or `/`, 1 or 3 for an inode on the way, 2 where the path leads to an inode, 8 where
-/// the CPU's table has no unused slot, 7 where too few blocks are free. Besides these 14 where memory was refused. All leave
+/// the CPU's table has no unused slot, in version 1, 7 where too few blocks are free. Besides these 14 where memory was refused. All leave
 /// everything as it was.
 #[unsafe(no_mangle)]
 pub extern "C" fn nova_create(
@@ -41,9 +41,9 @@ pub extern "C" fn nova_create(
     ensures logs { IsOpen fs.old → result ≡ 0 → (names : List (List ℕ)) → IsPath path.now names → logs_inode File cpu mode time fs.old.mount.memory fs.old.mount names fs.new.mount.memory }
     ensures unchanged { IsOpen fs.old → result ≢ 0 → SameMount fs.old.mount fs.new.mount }
     ensures runs { IsRunning fs.old → IsRunning fs.new × (result ≢ 15) }
-    ensures keeps { IsOpen fs.old → IsOpen fs.new × KeepsMount fs.old.mount fs.new.mount }
+    ensures keeps { IsOpen fs.old → IsOpen fs.new × GrowsMount cpu fs.old.mount fs.new.mount }
     ensures any_stop { IsRunning fs.old → fs.old.mount.read_only ≡ false → (names : List (List ℕ)) → IsPath path.now names
-        → LeavesOnly fs.new.mount.memory (as_it_reads fs.new.mount.memory) (LeavesCall (makes_inode File cpu mode time) (logs_inode File cpu mode time) fs.old.mount.memory fs.old.mount names) }
+        → LeavesOnly fs.new.mount.memory (as_it_reads fs.new.mount.memory) (LeavesGrowing cpu (makes_inode File cpu mode time) (logs_inode File cpu mode time) fs.old.mount.memory fs.old.mount names) }
     ensures closed { IsClosed fs.old → TellsClosed fs.new result }
 {
     match fs.take(alloc) {
@@ -64,7 +64,7 @@ pub extern "C" fn nova_create(
 ///
 /// Statuses, the first that applies: 16 where the handle is closed, 13 where there is no CPU of that number, 10 where the mount
 /// has faults, 6 where the text is no path or `/`, 1 or 3 for an inode on the way, 2 where the path leads to an inode, 8 where
-/// the CPU's table has no unused slot, 7 where too few blocks are free. Besides these 14 where memory was refused. All leave
+/// the CPU's table has no unused slot, in version 1, 7 where too few blocks are free. Besides these 14 where memory was refused. All leave
 /// everything as it was.
 #[unsafe(no_mangle)]
 pub extern "C" fn nova_mkdir(
@@ -82,9 +82,9 @@ pub extern "C" fn nova_mkdir(
     ensures logs { IsOpen fs.old → result ≡ 0 → (names : List (List ℕ)) → IsPath path.now names → logs_inode Directory cpu mode time fs.old.mount.memory fs.old.mount names fs.new.mount.memory }
     ensures unchanged { IsOpen fs.old → result ≢ 0 → SameMount fs.old.mount fs.new.mount }
     ensures runs { IsRunning fs.old → IsRunning fs.new × (result ≢ 15) }
-    ensures keeps { IsOpen fs.old → IsOpen fs.new × KeepsMount fs.old.mount fs.new.mount }
+    ensures keeps { IsOpen fs.old → IsOpen fs.new × GrowsMount cpu fs.old.mount fs.new.mount }
     ensures any_stop { IsRunning fs.old → fs.old.mount.read_only ≡ false → (names : List (List ℕ)) → IsPath path.now names
-        → LeavesOnly fs.new.mount.memory (as_it_reads fs.new.mount.memory) (LeavesCall (makes_inode Directory cpu mode time)
+        → LeavesOnly fs.new.mount.memory (as_it_reads fs.new.mount.memory) (LeavesGrowing cpu (makes_inode Directory cpu mode time)
         (logs_inode Directory cpu mode time) fs.old.mount.memory fs.old.mount names) }
     ensures closed { IsClosed fs.old → TellsClosed fs.new result }
 {

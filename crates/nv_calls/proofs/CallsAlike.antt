@@ -12,7 +12,6 @@ use Rattle.nv_alloc.specs.Taking.{Takes}
 use Rattle.nv_entry.specs.declared.entry.Operation.TheVariants.{Add, Remove}
 use Rattle.nv_scan.specs.State.{block_of, size_of}
 use Rattle.nv_scan.specs.declared.piece.Row.{Row}
-use Rattle.nv_rows.specs.Unused.{unused_number}
 use Rattle.nv_rows.proofs.Places.{numbered}
 use Rattle.nv_outcome.specs.Outcome.{IsOutcome}
 use Rattle.nv_outcome.specs.Same.{SameOutcome}
@@ -26,6 +25,7 @@ use Rattle.nv_tree.specs.Tree.{Node, SameNodes, SameTree, Tree, found, walk}
 use Rattle.nv_tree.specs.Calls.{links_at}
 use Rattle.nv_tree.specs.Refusals.{Path, first_refusal, has_no_slot, has_no_space, is_bad, is_bad_name, is_dir, is_into_itself, is_missing, is_no_dir, is_there, is_too_large, has_most_links, has_names, walk_tests, create_tests, link_tests, rename_tests, rmdir_tests, set_attr_tests, set_size_tests, unlink_tests, write_tests}
 use Rattle.nv_paths.specs.Seen.{LeadsTo, node_of, tree_of}
+use Rattle.nv_paths.specs.Spots.{new_number}
 use Rattle.nv_steps.specs.Attributes.{attributes}
 use Rattle.nv_steps.specs.Moves.{move_entries}
 use Rattle.nv_steps.specs.NameEntries.{links_entries, name_entries}
@@ -50,7 +50,7 @@ use Rattle.nv_calls.proofs.Decided.{both_decided, created_decided, grown_decided
 use Rattle.nv_calls.proofs.OneOutcome.{as_faultless, files_alike, one_outcome, same_layout, trees_alike}
 use Rattle.nv_calls.proofs.RowChange.{row_there}
 use Rattle.nv_calls.proofs.SameContents.{SameFiles, attributed_same, between, created_same, linked_same, removed_same, renamed_same, resized_same, unlinked_same, written_same}
-use Rattle.nv_calls.proofs.SeenAlike.{Alike, found_alike, unused_same, walk_alike}
+use Rattle.nv_calls.proofs.SeenAlike.{Alike, found_alike, new_same, walk_alike}
 
 -- ---- rows of what is held
 
@@ -89,11 +89,18 @@ module _ {R : Region} {l : Layout} {held : Store} {rows : List Row} {free : List
 -- ---- what two calls have left
 
 -- two regions that show the same, and trees of them whose files have the same bytes
-alike_after : (l : Layout) (T U : Region) (rows others : List Row) (free more : List (List Run)) (t u : Tree) → ShowSame l T U → IsOutcome T (faultless_outcome l rows free) → IsOutcome U (faultless_outcome l others more)
+alike_after : (l a b : Layout) (T U : Region) (rows others : List Row) (free more : List (List Run)) (t u : Tree) → ShowSame l T U → IsOutcome T (faultless_outcome a rows free) → IsOutcome U (faultless_outcome b others more)
     → SameTree (tree_of T rows) t → SameTree (tree_of U others) u → SameFiles t u → AreAlike T U
-alike_after l T U rows others free more t u shows is other seen seen_other files = ∥∥₁_map shows (λ v. (l, v.0, record { first = v.1; second = v.2; bytes = bytes v.0 v.1 v.2 })) where
+alike_after l a b T U rows others free more t u shows known known_other seen seen_other files = ∥∥₁_map shows (λ v. (l, v.0, record { first = v.1; second = v.2; bytes = bytes v.0 v.1 v.2 })) where
+  -- an outcome is by the layout that is shown
+  shown_so : (V : Region) (held : Store) (k : Layout) (some : List Row) (lists : List (List Run)) → ShowsSound V l held → IsOutcome V (faultless_outcome k some lists) → IsOutcome V (faultless_outcome l some lists)
+  shown_so V held k some lists sound is =
+      subst (λ (x : Layout). IsOutcome V (faultless_outcome x some lists)) (same_layout l k some some lists lists (as_faultless sound (faultless_outcome k some lists) is)) is
+
   bytes : (held : Store) → ShowsSound T l held → ShowsSound U l held → (i x : ℕ) (h : Held) → held i ≡ Some h → x < size_of (good_in l h) → byte_of U l h x ≡ byte_of T l h x
   bytes held first second i x h at below =
+      let is = shown_so T held a rows free first known in
+      let other = shown_so U held b others more second known_other in
       let a = has_row (record { sound = first; keeps = closes.outcome_kept first (faultless_outcome l rows free) is }) i h at in
       let b = has_row (record { sound = second; keeps = closes.outcome_kept second (faultless_outcome l others more) other }) i h at in
       let mine : tree_of T rows i ≡ Some (node_of T a.row) = ap (λ (o : Option Row). option_map (node_of T) o) a.is in
@@ -178,11 +185,14 @@ module _ (held : Store) (R S T U : Region) (m k : Mount ⊤) (names : List (List
   links : (i : ℕ) → links_at t i ≡ links_at u i
   links i = sym (alike.links i)
 
-  pub finish : {makes : Makes ⊤} {logs others : Logs ⊤} → WasDone makes logs R m names T → WasDone makes others S k names U → SameFiles (makes R m names) (makes S k names) → ShowSame m.layout T U → AreAlike T U
-  finish {makes} a b contents shows = alike_after m.layout T U a.rows b.rows a.free b.free (makes R m names) (makes S k names) shows a.shown (subst (λ (l : Layout). IsOutcome U (faultless_outcome l b.rows b.free)) laid b.shown) a.tree b.tree contents
+  finish_by : (l : Layout) {makes : Makes ⊤} {logs others : Logs ⊤} → WasDone makes logs R m names T → WasDone makes others S k names U → SameFiles (makes R m names) (makes S k names) → ShowSame l T U → AreAlike T U
+  finish_by l {makes} a b contents shows = alike_after l a.layout b.layout T U a.rows b.rows a.free b.free (makes R m names) (makes S k names) shows a.shown b.shown a.tree b.tree contents
 
-  number : (cpu j : ℕ) → unused_number m.layout m.rows cpu ≡ Some j → unused_number k.layout k.rows cpu ≡ Some j
-  number cpu j at = unused_same m.layout k.layout m.rows k.rows laid same.rows cpu ∙ at
+  pub finish : {makes : Makes ⊤} {logs others : Logs ⊤} → WasDone makes logs R m names T → WasDone makes others S k names U → SameFiles (makes R m names) (makes S k names) → ShowSame m.layout T U → AreAlike T U
+  finish a b contents shows = finish_by m.layout a b contents shows
+
+  number : (cpu j : ℕ) → new_number m.layout m.rows cpu ≡ Some j → new_number k.layout k.rows cpu ≡ Some j
+  number cpu j at = new_same m.layout k.layout m.rows k.rows laid same.rows cpu ∙ at
 
   -- ---- names that come
 
@@ -193,13 +203,13 @@ module _ (held : Store) (R S T U : Region) (m k : Mount ⊤) (names : List (List
       let one = named_passes names (walk_tests t (Some names) ++ behind) (writing_passes (world_of m) cpu (is_bad_name (Some names) ∷ walk_tests t (Some names) ++ behind) allowed.1) in
       let way = walk_passes t names behind one.3 in
       let free = first_passes (is_there t (Some names)) (has_no_slot (world_of m) cpu ∷ last) way.2 in
-      let unused = some_passes (unused_number m.layout m.rows cpu) (first_passes (has_no_slot (world_of m) cpu) last free.1).0 in
+      let unused = some_passes (new_number m.layout m.rows cpu) (first_passes (has_no_slot (world_of m) cpu) last free.1).0 in
       let used = directory_used t names one.0 one.1 way.0 one.2 way.1 in
       let h = held_there mounted way.0 used.0 used.1 in
       let first : ShowsCreated T m.layout m.free.pools cpu held kind mode time unused.0 way.0 h.0 (last_name names) = a.left way.0 unused.0 held h.0 way.1 unused.1 w.first h.1 in
       let second : ShowsCreated U k.layout k.free.pools cpu held kind mode time unused.0 way.0 h.0 (last_name names) = b.left way.0 unused.0 held h.0 (sym (walks names) ∙ way.1) (number cpu unused.0 unused.1) there h.1 in
-      finish a b (created_same t u files walks finds links kind (unused_number m.layout m.rows cpu) (unused_number k.layout k.rows cpu) (unused.1 ∙ sym (number cpu unused.0 unused.1)) names mode time)
-      (created_decided m.layout m.free.pools cpu held kind mode time unused.0 way.0 h.0 (last_name names) T U first (by_first (λ l pools. ShowsCreated U l pools cpu held kind mode time unused.0 way.0 h.0 (last_name names)) second))
+      ∥∥₁_elim (created_decided m.layout m.free.pools cpu held kind mode time unused.0 way.0 h.0 (last_name names) T U first (by_first (λ l pools. ShowsCreated U l pools cpu held kind mode time unused.0 way.0 h.0 (last_name names)) second)) ∥∥₁_prop (λ v.
+      finish_by v.0 a b (created_same t u files walks finds links kind (new_number m.layout m.rows cpu) (new_number k.layout k.rows cpu) (unused.1 ∙ sym (number cpu unused.0 unused.1)) names mode time) v.2)
 
   link_alike : (cpu time : ℕ) (q : Path) → IsAllowed (λ R m p n. link_tests (world_of m) (tree_of R m.rows) cpu p q n) R m names → WasDone (makes_link time q) (logs_link cpu time q) R m names T → WasDone (makes_link time q) (logs_link cpu time q) S k names U → AreAlike T U
   link_alike cpu time None allowed a b = absurd a.left

@@ -32,7 +32,7 @@ use Rattle.nv_mounted.proofs.Owning.{other_held}
 use Rattle.nv_mounted.proofs.RowsKept.{rows_follow, rows_more}
 use Rattle.nv_commit.specs.Extends.{extended}
 use Rattle.nv_calls.specs.Mount.{IsKept}
-use Rattle.nv_calls.specs.NameCalls.{ShowsCreated, WasCreated}
+use Rattle.nv_calls.specs.NameCalls.{WasCreated}
 use Rattle.nv_steps.specs.NameEntries.{name_entries, new_held, with_named}
 use Rattle.nv_steps.specs.NewNames.{HasNamed, place_named}
 use Rattle.nv_calls.specs.AtPlaces.{CreatesAt}
@@ -41,7 +41,7 @@ use Rattle.nv_steps.specs.Steps.{ShowsRow}
 use Rattle.nv_calls.proofs.CreatedHeld.{all_free, made_lists, made_sound, new_told}
 use Rattle.nv_super.proofs.Rising.{Contains-head, Contains-tail}
 use Rattle.nv_steps.proofs.Inserted.{from_inserted, stays_inserted}
-use Rattle.nv_calls.proofs.Mounts.{bytes_stay, kept_of_mounted, mounted_of_kept, mounted_with}
+use Rattle.nv_calls.proofs.Mounts.{bytes_stay, kept_of_mounted, mounted_of_kept}
 use Rattle.nv_steps.proofs.NamedLogs.{named_told}
 use Rattle.nv_calls.proofs.OneRow.{shows_row}
 use Rattle.nv_super.proofs.Members.{stands}
@@ -218,9 +218,9 @@ module _ {R S : Region} {s : Super} {l : Layout} {rows news : List Row} {free af
   pub bytes_kept : (r : Row) → Contains rows r → (x : ℕ) → byte_in S (block_at r.index (x / 4096)) x ≡ byte_in R (block_at r.index (x / 4096)) x
   bytes_kept = bytes_stay kept runs writes S bytes_then
 
-  -- The new inode and its name, for whatever is held of the region.
-  pub was_created : (held : Store) (g : Held) → ShowsSound R l held → held row.inode ≡ Some g → ShowsCreated S l free.pools cpu held kind mode time j row.inode g name
-  was_created held g sound is = ∥∥₁_map (mounted_with kept runs held sound) (λ m.
+  -- The new inode and its name, by what is mounted.
+  pub was_created : (held : Store) (m : IsMounted R l held rows free.pools) (g : Held) → held row.inode ≡ Some g → WasCreated S l free.pools cpu held kind mode time j row.inode g name
+  was_created held m g is =
       let shown = shows held m in
       let both : Some (h held m) ≡ Some g = sym shown.holds ∙ is in
       let same : h held m ≡ g = cc in
@@ -233,4 +233,4 @@ module _ {R S : Region} {s : Super} {l : Layout} {rows news : List Row} {free af
         apart = apart;
         count = count held m;
         sound = sound_then held m;
-      }))
+      })

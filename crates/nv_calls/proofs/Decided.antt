@@ -1,5 +1,5 @@
 -- What a call leaves is decided: the blocks that it takes are.
-use Rattle.std.proofs.Common.{◌≡◌, ℕ, suc, List, ◌∷◌, ◌++◌, length, get_or, remove, ap, sym, ◌∙◌, subst, arith, refl, Option, Some, None, is_some}
+use Rattle.std.proofs.Common.{◌≡◌, inl, inr, ℕ, suc, true, false, List, [], ◌∷◌, ◌++◌, length, get_or, remove, ap, sym, ◌∙◌, subst, arith, refl, Option, Some, None, is_some}
 use Rattle.std.specs.Prelude.{⊤}
 use Rattle.std.proofs.Math.Logic.{∥∥₁_elim, ∥∥₁_map, ∥∥₁_prop}
 use Rattle.nv_region.specs.Region.{Region}
@@ -18,7 +18,9 @@ use Rattle.nv_steps.specs.declared.planning.Plan.{Plan}
 use Rattle.nv_steps.specs.NameEntries.{with_gone, with_named}
 use Rattle.nv_steps.specs.Sizes.{copied_to, resizing, sized}
 use Rattle.nv_steps.specs.Writes.{data_blocks, data_entries}
-use Rattle.nv_calls.specs.Decided.{IsDecided, ShowSame}
+use Rattle.nv_inode.specs.Growing.{with_block}
+use Rattle.nv_calls.specs.Decided.{IsDecided, IsDecidedBy, ShowSame}
+use Rattle.nv_calls.specs.Growing.{GivesSlot}
 use Rattle.nv_calls.specs.GrownLogs.{LogGrew, ShowsGrownLog}
 use Rattle.nv_calls.specs.LinkCalls.{BothGrew, ShowsBothGrew}
 use Rattle.nv_calls.specs.Mount.{Mount}
@@ -70,8 +72,27 @@ created_same {S} {T} {l} {pools} {cpu} {held} {kind} {mode} {time} {j} {d} {h} {
     let one = single_takes_are_one pools cpu (a.page ∷ a.fresh) (b.page ∷ b.fresh) a.rest b.rest (ap suc count) a.taken b.taken in
     (with_named held kind mode time j d h name a.page a.fresh, a.sound, subst (λ (blocks : List ℕ). ShowsSound T l (with_named held kind mode time j d h name (get_or blocks 0 0) (remove blocks 0))) (sym one.0) b.sound)
 
-pub created_decided : (l : Layout) (pools : List (List Run)) (cpu : ℕ) (held : Store) (kind : Kind) (mode time j d : ℕ) (h : Held) (name : List ℕ) → IsDecided l (λ S. ShowsCreated S l pools cpu held kind mode time j d h name)
-created_decided l pools cpu held kind mode time j d h name S T first second = by_both l S T first second (λ a b. created_same a b)
+-- the tables and pools are decided too
+abbrev AreGiven : Layout → List (List Run) → ℕ → ℕ → Layout × List (List Run) → Type 0
+AreGiven l pools cpu j x = GivesSlot l pools cpu j x.0 x.1
+
+given_once : (l : Layout) (pools : List (List Run)) (cpu j : ℕ) (x y : Layout × List (List Run)) → AreGiven l pools cpu j x → AreGiven l pools cpu j y → y ≡ x
+given_once l pools cpu j x y (inl a) (inl b) = λ i. ((b.1 ∙ sym a.1) i, (b.2 ∙ sym a.2) i)
+given_once l pools cpu j x y (inl a) (inr b) = absurd (let clash : false ≡ true = sym (ap (λ (o : Option ℕ). is_some o) b.0) ∙ a.0 in cc)
+given_once l pools cpu j x y (inr a) (inl b) = absurd (let clash : false ≡ true = sym (ap (λ (o : Option ℕ). is_some o) a.0) ∙ b.0 in cc)
+given_once l pools cpu j x y (inr a) (inr b) =
+    let v = a.1 in
+    let w = b.1 in
+    let one = single_takes_are_one pools cpu (w.0 ∷ []) (v.0 ∷ []) y.1 x.1 refl w.2 v.2 in
+    let block : w.0 ≡ v.0 = ap (λ (xs : List ℕ). get_or xs 0 0) one.0 in
+    λ i. ((w.1 ∙ ap (with_block l cpu) block ∙ sym v.1) i, one.1 i)
+
+pub created_decided : (l : Layout) (pools : List (List Run)) (cpu : ℕ) (held : Store) (kind : Kind) (mode time j d : ℕ) (h : Held) (name : List ℕ)
+    → IsDecidedBy (λ grown. (rest : List (List Run)) × GivesSlot l pools cpu j grown rest) (λ S. ShowsCreated S l pools cpu held kind mode time j d h name)
+created_decided l pools cpu held kind mode time j d h name S T first second = ∥∥₁_elim first ∥∥₁_prop (λ a. ∥∥₁_map second (λ b.
+    let same = given_once l pools cpu j (a.0, a.1) (b.0, b.1) a.2 b.2 in
+    let there = subst (λ (x : Layout × List (List Run)). WasCreated T x.0 x.1 cpu held kind mode time j d h name) same b.3 in
+    (a.0, (a.1, a.2), ∣ created_same a.3 there ∣₁)))
 
 -- ---- an inode less
 

@@ -1,9 +1,9 @@
 -- What the calls that change two words together leave of the superblock and the journals.
-use Rattle.std.proofs.Common.{◌≡◌, ℕ, Bool, false, inl, inr, List, None, refl, arith}
+use Rattle.std.proofs.Common.{◌≡◌, ℕ, ◌+◌, ◌*◌, ◌<◌, ◌∙◌, subst, sym, Bool, false, inl, inr, List, None, refl, arith}
 use Rattle.std.proofs.Math.Logic.{∥∥₁_elim}
 use Rattle.std.proofs.Math.Nat.{ℕ_set}
 use Rattle.std.proofs.Props.{props}
-use Rattle.nv_region.specs.Region.{Region}
+use Rattle.nv_region.specs.Region.{Region, size}
 use Rattle.nv_super.specs.declared.superblock.Super.{Super}
 use Rattle.nv_super.specs.declared.faults.Fault.{Fault}
 use Rattle.nv_super.specs.declared.kind.Kind.{Kind}
@@ -21,10 +21,12 @@ use Rattle.nv_steps.specs.Moves.{move_entries}
 use Rattle.nv_steps.proofs.LogGrows.{can_extend}
 use Rattle.nv_steps.proofs.OtherJournals.{extended_front}
 use Rattle.nv_calls.specs.AtPlaces.{CreatesAt, CutsAt, Releases, cut_of}
+use Rattle.nv_calls.specs.Growing.{CreatesGrown}
 use Rattle.nv_calls.specs.Mount.{IsKept}
 use Rattle.nv_calls.specs.MoveCalls.{MovesAt, MovesHere}
 use Rattle.nv_calls.specs.ReplaceCalls.{ReplacesHere, ReplacesOver}
 use Rattle.nv_calls.proofs.CreatedRows.{not_held}
+use Rattle.nv_calls.proofs.GrownMount.{got_kept, got_sup, got_words}
 use Rattle.nv_calls.proofs.Mounts.{mounted_of_kept}
 use Rattle.nv_calls.proofs.OneRow.{shows_row}
 
@@ -37,8 +39,8 @@ by_held kept runs writes front = record {
 }
 
 module _ {R S : Region} {s : Super} {l : Layout} {rows news : List Row} {free after : FreeLists} {faults : List Fault} {read_only stopped : Bool} (kept : IsKept R s l rows free faults read_only stopped) (runs : stopped ≡ false) (writes : read_only ≡ false) {cpu : ℕ} where
-  pub created_front : {place : ℕ} {kind : Kind} {mode time j : ℕ} {name : List ℕ} → CreatesAt R S l free after cpu rows news place kind mode time j name → row_of rows j ≡ None → SameFrontBut l.sup.cpus cpu R S
-  created_front {place} {kind} {mode} {time} {j} step unused = by_held kept runs writes (λ held m.
+  pub step_front : {place : ℕ} {kind : Kind} {mode time j : ℕ} {name : List ℕ} → CreatesAt R S l free after cpu rows news place kind mode time j name → row_of rows j ≡ None → SameFrontBut l.sup.cpus cpu R S
+  step_front {place} {kind} {mode} {time} {j} step unused = by_held kept runs writes (λ held m.
       let made = step.step in
       let row = shows_row {free = free} m kept.lists step.row (stands rows place step.row step.at) in
       let seen = made.shows held row.0 row.1 (not_held m j unused) in
@@ -103,3 +105,13 @@ pub released_front : {R S : Region} {s : Super} {l : Layout} {rows news : List R
     → {cpu place target : ℕ} {name : List ℕ} {time : ℕ} → Releases R S l free after cpu rows news place target name time → SameFrontBut l.sup.cpus cpu R S
 released_front kept runs writes (inl w) = let unlinks = w.1 in both_front kept runs writes unlinks.step
 released_front kept runs writes (inr w) = cut_front kept runs writes (cut_of w.1)
+
+-- A number got a slot first.
+pub created_front : {R S : Region} {s : Super} {l grown : Layout} {rows news : List Row} {free after : FreeLists} {faults : List Fault} {read_only stopped : Bool} (kept : IsKept R s l rows free faults read_only stopped) (runs : stopped ≡ false) (writes : read_only ≡ false) {cpu place : ℕ} {kind : Kind} {mode time j : ℕ} {name : List ℕ}
+    (step : CreatesGrown R S l grown free after cpu rows news place kind mode time j name) → cpu < l.sup.cpus → row_of rows j ≡ None → size S ≡ size R → SameFrontBut l.sup.cpus cpu R S
+created_front {R} {S} {s} {l} {grown} {stopped = stopped} kept runs writes {cpu} step low unused len = record {
+  len = len;
+  words = λ at whole below other. later.words at whole (subst (λ (x : Super). at < (1 + x.cpus) * 4096) (sym (got_sup step.got)) below) other ∙ got_words kept runs writes step.got low at whole below other;
+} where
+  later : SameFrontBut grown.sup.cpus cpu step.mid S
+  later = step_front (got_kept kept runs writes step.got stopped) runs writes step.step unused

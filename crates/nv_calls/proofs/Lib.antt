@@ -56,7 +56,10 @@ pub mod LinkedHeld
 pub mod LinkedTree
 pub mod LinkCall
 pub mod NewNumbers
+pub mod GrowingPlaces
+pub mod GrownMount
 pub mod CreateCall
+pub mod GrownCall
 pub mod StoppedNames
 pub mod StoppedLinks
 pub mod PutRow

@@ -95,8 +95,8 @@ module _ (held : Store) (R S T U : Region) (m k : Mount ⊤) (names : List (List
   -- where the new name is free, it is `rename`
   as_moved : found t others ≡ None → IsAllowed (λ R m p n. rename_tests (world_of m) (tree_of R m.rows) cpu p (Some others) n) R m names → AreAlike T U
   as_moved none allowed = rename_alike held R S T U m k names is other w cpu time (Some others) allowed
-      (record { rows = a.rows; free = a.free; shown = a.shown; tree = subst (λ (v : Tree). SameTree (tree_of T a.rows) v) (replaced_unused t names others time none) a.tree; left = let logs = a.left in logs.unused none })
-      (record { rows = b.rows; free = b.free; shown = b.shown; tree = subst (λ (v : Tree). SameTree (tree_of U b.rows) v) (replaced_unused u names others time none_there) b.tree; left = let logs = b.left in logs.unused none_there })
+      (record { layout = a.layout; rows = a.rows; free = a.free; shown = a.shown; tree = subst (λ (v : Tree). SameTree (tree_of T a.rows) v) (replaced_unused t names others time none) a.tree; left = let logs = a.left in logs.unused none })
+      (record { layout = b.layout; rows = b.rows; free = b.free; shown = b.shown; tree = subst (λ (v : Tree). SameTree (tree_of U b.rows) v) (replaced_unused u names others time none_there) b.tree; left = let logs = b.left in logs.unused none_there })
     where
       none_there : found u others ≡ None
       none_there = sym (finds held R S T U m k names is other w others) ∙ none

@@ -22,6 +22,7 @@ use Rattle.nv_tree.specs.declared.refusal.Refusal.{Refusal}
 use Rattle.nv_tree.specs.declared.refusal.Refusal.TheVariants.{NotDirectory}
 use Rattle.nv_tree.specs.Calls.{bytes_read, links_at}
 use Rattle.nv_tree.proofs.Alike.{read_alike}
+use Rattle.nv_paths.specs.Spots.{new_number, or_next}
 use Rattle.nv_paths.specs.Seen.{node_of, tree_of}
 use Rattle.nv_calls.specs.Stat.{stat_of, IsStat}
 use Rattle.nv_calls.specs.Listing.{ListsNamesIn}
@@ -195,6 +196,9 @@ unused_at xs ys same i = by (row_of xs i) (row_of ys i) (rows_at xs ys same i) w
 
 pub unused_same : (l k : Layout) (xs ys : List Row) → k ≡ l → SameRows xs ys → (cpu : ℕ) → unused_number k ys cpu ≡ unused_number l xs cpu
 unused_same l k xs ys laid same cpu = ap (λ (x : Layout). unused_number x ys cpu) laid ∙ (λ i. find (λ x. not (nat_eq x 0) && unused_at xs ys same x i) (numbers_in_table l cpu))
+
+pub new_same : (l k : Layout) (xs ys : List Row) → k ≡ l → SameRows xs ys → (cpu : ℕ) → new_number k ys cpu ≡ new_number l xs cpu
+new_same l k xs ys laid same cpu = λ i. or_next (laid i) cpu (unused_same l k xs ys laid same cpu i)
 
 -- ---- paths
 

@@ -24,22 +24,26 @@ use Rattle.nv_commit.specs.Stopped.{LeavesEither}
 use Rattle.nv_tree.specs.Path.{IsPathName}
 use Rattle.nv_tree.specs.Calls.{created}
 use Rattle.nv_paths.specs.Seen.{tree_of}
-use Rattle.nv_paths.specs.Spots.{IsSpot}
-use Rattle.nv_rows.specs.Unused.{unused_number}
+use Rattle.nv_paths.specs.Spots.{IsSpot, new_number}
+use Rattle.nv_super.specs.declared.owners.Run.{Run}
+use Rattle.nv_tree.proofs.Same.{same_transitive}
+use Rattle.nv_steps.proofs.OneByOne.{by_rule}
 use Rattle.nv_steps.specs.NewNames.{MakesNamed}
 use Rattle.nv_steps.specs.Steps.{ShowsRow}
 use Rattle.nv_steps.specs.Stopped.{Named}
 use Rattle.nv_steps.proofs.Inserted.{from_inserted}
 use Rattle.nv_steps.proofs.RowOf.{row_at}
 use Rattle.nv_calls.specs.AtPlaces.{CreatesAt}
+use Rattle.nv_calls.specs.Growing.{CreatesGrown, GotSlot, LeavesCreated}
 use Rattle.nv_calls.specs.Mount.{IsKept, Mount}
-use Rattle.nv_calls.specs.Effects.{logs_inode, makes_inode}
-use Rattle.nv_calls.specs.Stopped.{IsAsMade, IsAsMounted, LeavesCall}
+use Rattle.nv_calls.specs.Effects.{Logs, Makes, logs_inode, makes_inode}
+use Rattle.nv_calls.specs.Stopped.{IsAsMade, IsAsMounted, LeavesCall, LeavesGrowing, MayHaveGrown}
 use Rattle.nv_calls.proofs.CreateCall.{created_log, created_mounted, created_tree}
 use Rattle.nv_calls.proofs.CreatedRows.{not_held, not_named}
 use Rattle.nv_calls.proofs.Kept.{rows_rise}
 use Rattle.nv_calls.proofs.Mounts.{mounted_of_kept}
-use Rattle.nv_calls.proofs.NewNumbers.{unused_is}
+use Rattle.nv_calls.proofs.GrownMount.{got_mounted, got_tree}
+use Rattle.nv_calls.proofs.NewNumbers.{grows_for, new_unused}
 use Rattle.nv_calls.proofs.OneRow.{shows_row}
 use Rattle.nv_calls.proofs.Stopped.{recovers_to, still_mounted}
 
@@ -86,11 +90,11 @@ module _ {P : Type 0} (region : P → Region) {n m : Mount P} (same : n ≡ m) (
   free = n.free
 
   unused : row_of rows j ≡ None
-  unused = (unused_is l rows cpu j low spot.unused).0
+  unused = new_unused kept runs writes cpu j low spot.unused
 
   -- the rows with the new one
-  puts : (S : Region) (after : FreeLists) (now new : Row) → MakesNamed R S l free after cpu row now kind mode time j name new → (news : List Row) × CreatesAt R S l free after cpu rows news place kind mode time j name
-  puts S after now new makes =
+  puts : (M S : Region) (k : Layout) (between after : FreeLists) (now new : Row) → MakesNamed M S k between after cpu row now kind mode time j name new → (news : List Row) × CreatesAt M S k between after cpu rows news place kind mode time j name
+  puts M S k between after now new makes =
       let dir = makes.directory in
       let own = makes.row in
       let up = rows_rise R n.sup l rows free n.faults n.read_only n.stopped kept runs in
@@ -102,27 +106,46 @@ module _ {P : Type 0} (region : P → Region) {n m : Mount P} (same : n ≡ m) (
       row_there : Rises row_key rows → row_of rows row.inode ≡ Some row
       row_there up = row_at rows place row up at
 
-  create_by : (left : Region) (held : Store) (mounted : IsMounted R l held rows free.pools) → LeavesEither R l held (Named R l free cpu row kind mode time j name) left
-      → IsAsMounted R l rows free.pools left ⊎ IsAsMade l (created kind (unused_number l rows cpu) names mode time (tree_of R rows)) (logs_inode kind cpu mode time R n names) left
-  create_by left held mounted (inl as_before) = inl (still_mounted mounted as_before)
-  create_by left held mounted (inr w) =
+  -- tables and free lists
+  grew : (M : Region) (grown : Layout) (between : FreeLists) → GotSlot R M l grown free between cpu j → MayHaveGrown n cpu grown between.pools
+  grew M grown between (inl w) = inl (w.2, ap (λ (f : FreeLists). f.pools) w.3)
+  grew M grown between (inr g) = (let from = grows_for l rows cpu j low spot.unused g.none_before in inr (from.0, from.1, (g.block, g.layout, by_rule g.taken)))
+
+  made_by : (left : Region) (held : Store) (mounted : IsMounted R l held rows free.pools) (M : Region) (grown : Layout) (between : FreeLists) (got : GotSlot R M l grown free between cpu j)
+      → LeavesEither M grown held (Named M grown between cpu row kind mode time j name) left
+      → IsAsMounted R grown rows between.pools left ⊎ IsAsMade grown (created kind (new_number l rows cpu) names mode time (tree_of R rows)) (logs_inode kind cpu mode time R n names) left
+  made_by left held mounted M grown between got (inl as_before) =
+      let there : IsAsMounted M grown rows between.pools left = still_mounted (got_mounted mounted got) as_before in
+      inl (there.0, same_transitive (tree_of (undone grown.sup left) rows) (tree_of M rows) (tree_of R rows) there.1 (got_tree kept runs writes got))
+  made_by left held mounted M grown between got (inr w) =
       let step = w.1 in
-      let put = puts (undone l.sup left) step.0 step.1 (step.2) step.3 in
+      let put = puts M (undone grown.sup left) grown between step.0 step.1 step.2 step.3 in
+      let whole : CreatesGrown R (undone grown.sup left) l grown free step.0 cpu rows put.0 place kind mode time j name = record { mid = M; between = between; got = got; step = put.1 } in
       inr (record {
         rows = put.0;
         free = (step.0).pools;
-        recovers = recovers_to w.0 (created_mounted kept runs writes put.1 low spelled names spot held mounted).1;
-        tree = created_tree kept runs writes put.1 low spelled names spot;
-        logs = λ d i st h ended number sound is. created_log kept runs writes put.1 low spelled names spot d i st h ended number sound is;
+        recovers = recovers_to w.0 (created_mounted kept runs writes whole low spelled names spot held mounted).1;
+        tree = created_tree kept runs writes whole low spelled names spot;
+        logs = λ d i st h ended number sound is. created_log kept runs writes whole low spelled names spot d i st h ended number sound is;
       })
+
+  create_by : (left : Region) (held : Store) (mounted : IsMounted R l held rows free.pools) → LeavesCreated R l free cpu held row kind mode time j name left
+      → (k : Layout) × (pools : List (List Run)) × MayHaveGrown n cpu k pools
+      × (IsAsMounted R k rows pools left ⊎ IsAsMade k (created kind (new_number l rows cpu) names mode time (tree_of R rows)) (logs_inode kind cpu mode time R n names) left)
+  create_by left held mounted (inl as_before) = (l, free.pools, inl (refl, refl), inl (still_mounted mounted as_before))
+  create_by left held mounted (inr w) = (w.1, (w.2).pools, grew w.0 w.1 w.2 w.3, made_by left held mounted w.0 w.1 w.2 w.3 w.4)
 
   -- What a stop within the call leaves.
   pub create_left : (S : Region) (old last : Choices)
-      → ((held : Store) (h : Held) → ShowsRow R l held h row free → held j ≡ None → name_at row.names name ≡ None → NothingPending R old → LeavesOnly S last (LeavesEither R l held (Named R l free cpu row kind mode time j name)))
-      → NothingPending R old → LeavesOnly S last (LeavesCall (makes_inode kind cpu mode time) (logs_inode kind cpu mode time) (region m.memory) m names)
+      → ((held : Store) (h : Held) → ShowsRow R l held h row free → held j ≡ None → name_at row.names name ≡ None → NothingPending R old → LeavesOnly S last (LeavesCreated R l free cpu held row kind mode time j name))
+      → NothingPending R old → LeavesOnly S last (LeavesGrowing cpu (makes_inode kind cpu mode time) (logs_inode kind cpu mode time) (region m.memory) m names)
   create_left S old last step settled =
-      subst (λ (k : Mount P). LeavesOnly S last (LeavesCall (makes_inode kind cpu mode time) (logs_inode kind cpu mode time) (region k.memory) k names)) same
+      subst (λ (k : Mount P). LeavesOnly S last (LeavesGrowing cpu (makes_inode kind cpu mode time) (logs_inode kind cpu mode time) (region k.memory) k names)) same
       (λ left may. ∥∥₁_map (mounted_of_kept kept runs writes) (λ w.
       let here = stands rows place row at in
       let v = shows_row w.1 kept.lists row here in
       create_by left w.0 w.1 (step w.0 v.0 v.1 (not_held w.1 j unused) (not_named w.1 row here name (spot.absent row at)) settled left may)))
+
+-- A call that has stored nothing leaves what was mounted.
+pub still_grows : {P : Type 0} {cpu : ℕ} (makes : Makes P) (logs : Logs P) (m : Mount P) {R : Region} {names : List (List ℕ)} {left : Region} → LeavesCall makes logs R m names left → LeavesGrowing cpu makes logs R m names left
+still_grows makes logs m leaves = ∥∥₁_map leaves (λ w. (m.layout, m.free.pools, inl (refl, refl), w))

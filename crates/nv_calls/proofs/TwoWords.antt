@@ -15,7 +15,6 @@ use Rattle.nv_entry.specs.declared.entry.Entry.{Entry}
 use Rattle.nv_entry.specs.declared.entry.Operation.TheVariants.{Remove}
 use Rattle.nv_scan.specs.declared.piece.Row.{Row}
 use Rattle.nv_rows.specs.Rows.{IsInUse, place_in, row_of}
-use Rattle.nv_rows.specs.Unused.{unused_number}
 use Rattle.nv_rows.proofs.Places.{at_place, numbered, own_row, row_in_use}
 use Rattle.nv_mounted.specs.Held.{Held, Store}
 use Rattle.nv_mounted.specs.Mounted.{ShowsSound}
@@ -26,18 +25,19 @@ use Rattle.nv_paths.specs.MoveSpots.{IsMoveSpot}
 use Rattle.nv_paths.specs.NamedAt.{IsNamedAt}
 use Rattle.nv_paths.specs.Places.{IsLinkSpot}
 use Rattle.nv_paths.specs.Seen.{LeadsTo, tree_of}
-use Rattle.nv_paths.specs.Spots.{IsSpot}
+use Rattle.nv_paths.specs.Spots.{IsSpot, new_number}
 use Rattle.nv_steps.specs.InOrder.{TailIsFirst, tail_address}
 use Rattle.nv_steps.specs.NameEntries.{links_entries, name_entries}
 use Rattle.nv_steps.specs.Steps.{ShowsRow}
-use Rattle.nv_steps.specs.Stores.{Places, StoresIn, one_log, one_more, two_logs}
+use Rattle.nv_steps.specs.Stores.{Places, StoresIn, one_log, two_logs}
+use Rattle.nv_calls.specs.Growing.{create_places}
 use Rattle.nv_calls.specs.InOrder.{ShowsTailFirst, ShowsValidFirst}
 use Rattle.nv_calls.specs.Mount.{IsKept, Mount}
 use Rattle.nv_calls.proofs.CreatedRows.{not_held}
 use Rattle.nv_calls.proofs.InOrder.{first_as, rows_first, valid_as}
 use Rattle.nv_calls.proofs.LinkedTree.{links_told}
 use Rattle.nv_calls.proofs.Mounts.{mounted_of_kept}
-use Rattle.nv_calls.proofs.NewNumbers.{unused_is}
+use Rattle.nv_calls.proofs.NewNumbers.{new_unused}
 use Rattle.nv_calls.proofs.OneRow.{shows_row}
 use Rattle.nv_calls.proofs.Stores.{row_stores, rows_store}
 
@@ -230,33 +230,36 @@ module _ {P : Type 0} (region : P → Region) {n m : Mount P} (same : n ≡ m) (
     directory_at : row_of rows i ≡ Some directory
     directory_at = (row_in_use rows i used).1
 
+    writes : n.read_only ≡ false
+    writes = ap (λ (q : Mount P). q.read_only) same ∙ now_writes
+
     unused : row_of rows j ≡ None
-    unused = (unused_is l rows cpu j (subst (λ (s : Super). cpu < s.cpus) (sym kept.tables) (subst (λ (q : Mount P). cpu < q.sup.cpus) (sym same) now_low)) spot.unused).0
+    unused = new_unused kept runs writes cpu j (subst (λ (s : Super). cpu < s.cpus) (sym kept.tables) (subst (λ (q : Mount P). cpu < q.sup.cpus) (sym same) now_low)) spot.unused
 
     named_is : (d : ℕ) → walk (tree_of R rows) 1 names ≡ Ok d → directory.inode ≡ d
     named_is d ended =
         let walked : Ok directory.inode ≡ Ok d = sym (spot.directory directory (at_place rows i ∙ directory_at)).0 ∙ ended in
         cc
 
-    number_is : (k : ℕ) → unused_number l rows cpu ≡ Some k → j ≡ k
+    number_is : (k : ℕ) → new_number l rows cpu ≡ Some k → j ≡ k
     number_is k number = same_Some _ _ (sym spot.unused ∙ number)
 
-    pub create_stored : ((row : Row) (held : Store) (h : Held) → row_of rows i ≡ Some row → ShowsRow R l held h row free → held j ≡ None → StoresIn l held (one_more l cpu j row.inode) R S)
-        → (d k : ℕ) (held : Store) → walk (tree_of (region m.memory) m.rows) 1 names ≡ Ok d → unused_number m.layout m.rows cpu ≡ Some k → ShowsSound (region m.memory) m.layout held → StoresIn m.layout held (one_more m.layout cpu k d) (region m.memory) S
+    pub create_stored : ((row : Row) (held : Store) (h : Held) → row_of rows i ≡ Some row → ShowsRow R l held h row free → held j ≡ None → StoresIn l held (create_places l cpu j row.inode) R S)
+        → (d k : ℕ) (held : Store) → walk (tree_of (region m.memory) m.rows) 1 names ≡ Ok d → new_number m.layout m.rows cpu ≡ Some k → ShowsSound (region m.memory) m.layout held → StoresIn m.layout held (create_places m.layout cpu k d) (region m.memory) S
     create_stored step d k held =
-        subst (λ (q : Mount P). walk (tree_of (region q.memory) q.rows) 1 names ≡ Ok d → unused_number q.layout q.rows cpu ≡ Some k → ShowsSound (region q.memory) q.layout held → StoresIn q.layout held (one_more q.layout cpu k d) (region q.memory) S) same
+        subst (λ (q : Mount P). walk (tree_of (region q.memory) q.rows) 1 names ≡ Ok d → new_number q.layout q.rows cpu ≡ Some k → ShowsSound (region q.memory) q.layout held → StoresIn q.layout held (create_places q.layout cpu k d) (region q.memory) S) same
         (λ ended number sound.
         let parent = named_is d ended in
         let inode = number_is k number in
-        let places : one_more l cpu j directory.inode ≡ one_more l cpu k d = λ p. one_more l cpu (inode p) (parent p) in
+        let places : create_places l cpu j directory.inode ≡ create_places l cpu k d = λ p. create_places l cpu (inode p) (parent p) in
         subst (λ (p : Places). StoresIn l held p R S) places
-        (row_stores kept runs S directory (there i directory directory_at) (one_more l cpu j directory.inode) held sound (λ mounted h seen. step directory held h directory_at seen (not_held mounted j unused))))
+        (row_stores kept runs S directory (there i directory directory_at) (create_places l cpu j directory.inode) held sound (λ mounted h seen. step directory held h directory_at seen (not_held mounted j unused))))
 
-    -- The new inode's valid word is stored first.
-    pub create_ordered : ((row : Row) (held : Store) (h : Held) → row_of rows i ≡ Some row → ShowsRow R l held h row free → held j ≡ None → FirstIsFirst R (slot_in l j) 1 (tail_address l row.inode) S)
-        → (d k : ℕ) → walk (tree_of (region m.memory) m.rows) 1 names ≡ Ok d → unused_number m.layout m.rows cpu ≡ Some k → ShowsValidFirst (region m.memory) S m.layout k d
-    create_ordered step d k =
-        subst (λ (q : Mount P). walk (tree_of (region q.memory) q.rows) 1 names ≡ Ok d → unused_number q.layout q.rows cpu ≡ Some k → ShowsValidFirst (region q.memory) S q.layout k d) same
-        (λ ended number. valid_as R S l (number_is k number) (named_is d ended) (∥∥₁_map (mounted_of_kept kept runs (ap (λ (q : Mount P). q.read_only) same ∙ now_writes)) (λ w.
+    -- The new inode's valid word is stored first, in the slot that it has then.
+    pub create_ordered : (grown : Layout) → ((row : Row) (held : Store) (h : Held) → row_of rows i ≡ Some row → ShowsRow R l held h row free → held j ≡ None → FirstIsFirst R (slot_in grown j) 1 (tail_address grown row.inode) S)
+        → (d k : ℕ) → walk (tree_of (region m.memory) m.rows) 1 names ≡ Ok d → new_number m.layout m.rows cpu ≡ Some k → ShowsValidFirst (region m.memory) S grown k d
+    create_ordered grown step d k =
+        subst (λ (q : Mount P). walk (tree_of (region q.memory) q.rows) 1 names ≡ Ok d → new_number q.layout q.rows cpu ≡ Some k → ShowsValidFirst (region q.memory) S grown k d) same
+        (λ ended number. valid_as R S grown (number_is k number) (named_is d ended) (∥∥₁_map (mounted_of_kept kept runs writes) (λ w.
         let v = shows_row w.1 kept.lists directory (there i directory directory_at) in
         step directory w.0 v.0 directory_at v.1 (not_held w.1 j unused))))

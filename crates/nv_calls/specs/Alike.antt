@@ -41,12 +41,13 @@ AreAlike R S = ∥ ((l : Layout) × (held : Store) × ShowAlike l held R S) ∥�
 abbrev pub IsFaultlessMount : Region → Mount ⊤ → Type 0
 IsFaultlessMount R m = IsOutcome R (faultless_outcome m.layout m.rows m.free.pools)
 
--- A call was done, by the names of a path: the region that it leaves has an outcome without faults, which shows the tree that the
--- call makes, and its logs are those that the call leaves.
+-- A call was done, by the names of a path: the region that it leaves has an outcome without faults, by whatever tables, which shows
+-- the tree that the call makes, and its logs are those that the call leaves.
 pub record WasDone (makes : Makes ⊤) (logs : Logs ⊤) (R : Region) (m : Mount ⊤) (names : List (List ℕ)) (T : Region) : Type 0 where
+  pub layout : Layout
   pub rows : List Row
   pub free : List (List Run)
-  pub shown : IsOutcome T (faultless_outcome m.layout rows free)
+  pub shown : IsOutcome T (faultless_outcome layout rows free)
   pub tree : SameTree (tree_of T rows) (makes R m names)
   pub left : logs R m names T
 

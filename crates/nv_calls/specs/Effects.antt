@@ -6,13 +6,13 @@ use Rattle.nv_entry.specs.declared.entry.Operation.TheVariants.{Add, Remove}
 use Rattle.nv_scan.specs.State.{block_of}
 use Rattle.nv_mounted.specs.Held.{Held, Store, good_in}
 use Rattle.nv_mounted.specs.Mounted.{ShowsSound}
-use Rattle.nv_rows.specs.Unused.{unused_number}
 use Rattle.nv_tree.specs.Path.{last_name}
 use Rattle.nv_tree.specs.Tree.{Node, Tree, found, walk}
 use Rattle.nv_tree.specs.Calls.{attributed, created, linked, removed, renamed, resized, unlinked, written}
 use Rattle.nv_tree.specs.Refusals.{Path}
 use Rattle.nv_tree.specs.Replace.{replaced}
 use Rattle.nv_paths.specs.Seen.{LeadsTo, tree_of}
+use Rattle.nv_paths.specs.Spots.{new_number}
 use Rattle.nv_steps.specs.Attributes.{attributes}
 use Rattle.nv_steps.specs.Moves.{move_entries}
 use Rattle.nv_steps.specs.NameEntries.{links_entries, name_entries}
@@ -39,7 +39,7 @@ Logs P = Region → Mount P → List (List ℕ) → Region → Type 0
 
 -- `create` and `mkdir`: a new inode of a kind, and its name
 abbrev pub makes_inode : {P : Type 0} → Kind → ℕ → ℕ → ℕ → Makes P
-makes_inode kind cpu mode time S m names = created kind (unused_number m.layout m.rows cpu) names mode time (tree_of S m.rows)
+makes_inode kind cpu mode time S m names = created kind (new_number m.layout m.rows cpu) names mode time (tree_of S m.rows)
 
 -- `write`: the file has new bytes
 abbrev pub makes_bytes : {P : Type 0} → ℕ → List ℕ → ℕ → Makes P
@@ -84,7 +84,7 @@ makes_no_change S m names = tree_of S m.rows
 
 -- `create` and `mkdir`: the directory's log has one entry more, the new inode's log is one entry, and no other log has changed.
 abbrev pub logs_inode : {P : Type 0} → Kind → ℕ → ℕ → ℕ → Logs P
-logs_inode kind cpu mode time S m names T = (d j : ℕ) (held : Store) (h : Held) → walk (tree_of S m.rows) 1 names ≡ Ok d → unused_number m.layout m.rows cpu ≡ Some j
+logs_inode kind cpu mode time S m names T = (d j : ℕ) (held : Store) (h : Held) → walk (tree_of S m.rows) 1 names ≡ Ok d → new_number m.layout m.rows cpu ≡ Some j
     → ShowsSound S m.layout held → held d ≡ Some h
     → ShowsCreated T m.layout m.free.pools cpu held kind mode time j d h (last_name names)
 

@@ -32,3 +32,4 @@ pub mod Mounting
 pub mod InOrder
 pub mod ByNumber
 pub mod Upgrading
+pub mod Growing

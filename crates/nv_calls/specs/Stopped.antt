@@ -1,5 +1,5 @@
 -- What recovery finds in a region that a stop within a call has left.
-use Rattle.std.specs.Prelude.{◌≡◌, ◌≢◌, ◌⊎◌, ℕ, ◌<◌, ◌≤◌, List}
+use Rattle.std.specs.Prelude.{◌≡◌, ◌≢◌, ◌⊎◌, ℕ, ◌<◌, ◌≤◌, List, None}
 use Rattle.nv_region.specs.Region.{Region}
 use Rattle.nv_super.specs.declared.superblock.Super.{Super}
 use Rattle.nv_super.specs.declared.superblock.SuperFault.TheVariants.{Magic}
@@ -16,7 +16,9 @@ use Rattle.nv_tree.specs.Tree.{SameTree, Tree}
 use Rattle.nv_paths.specs.Seen.{tree_of}
 use Rattle.nv_alloc.specs.FreeValue.{FreeLists}
 use Rattle.nv_steps.specs.Stopped.{Cut, MovedHere, MovedOver, Unlinked}
+use Rattle.nv_rows.specs.Unused.{unused_number}
 use Rattle.nv_calls.specs.Effects.{Logs, Makes}
+use Rattle.nv_calls.specs.Growing.{TableGrew}
 use Rattle.nv_calls.specs.Mount.{Mount}
 
 -- The region has this superblock, and its outcome has no faults, and these rows and these free lists.
@@ -43,6 +45,16 @@ StopLeaves R l rows free made Logged left = ∥ (IsAsMounted R l rows free left 
 -- the same of a call on a mounted file system, by the names of a path
 abbrev pub LeavesCall : {P : Type 0} → Makes P → Logs P → Region → Mount P → List (List ℕ) → Region → Type 0
 LeavesCall makes logs R m names left = StopLeaves R m.layout m.rows m.free.pools (makes R m names) (logs R m names) left
+
+-- Tables and free lists are those that are mounted. Or no number of the CPU's table was unused, in version 2, and it grew.
+abbrev pub MayHaveGrown : {P : Type 0} → Mount P → ℕ → Layout → List (List Run) → Type 0
+MayHaveGrown m cpu l free = ((l ≡ m.layout) × (free ≡ m.free.pools)) ⊎ ((m.layout.sup.version ≡ 2) × (unused_number m.layout m.rows cpu ≡ None) × TableGrew m.layout m.free.pools cpu l free)
+
+-- The same of a call by which the table of a CPU may grow: by such tables and free lists recovery finds what was mounted, or what the
+-- call makes of it.
+abbrev pub LeavesGrowing : {P : Type 0} → ℕ → Makes P → Logs P → Region → Mount P → List (List ℕ) → Region → Type 0
+LeavesGrowing cpu makes logs R m names left =
+    ∥ ((l : Layout) × (free : List (List Run)) × MayHaveGrown m cpu l free × (IsAsMounted R l m.rows free left ⊎ IsAsMade l (makes R m names) (logs R m names) left)) ∥₁
 
 -- Recovery finds what is mounted.
 abbrev pub LeavesMounted : {P : Type 0} → Region → Mount P → Region → Type 0

@@ -1,19 +1,20 @@
 -- Where each call that changes names stores, and in which order, by the region as it reads behind the call, also where it was stopped.
-use Rattle.std.specs.Prelude.{◌≡◌, ◌≢◌, ℕ, ◌+◌, ◌<◌, ◌≤◌, List, Option, Some, None, Result, Ok, OnOk}
+use Rattle.std.specs.Prelude.{◌≡◌, ◌≢◌, ℕ, ◌+◌, ◌<◌, ◌≤◌, List, Some, None, Result, Ok, OnOk}
 use Rattle.nv_region.specs.Region.{Region}
 use Rattle.nv_entry.specs.declared.entry.Operation.TheVariants.{Remove}
 use Rattle.nv_mounted.specs.Held.{Held, Store}
 use Rattle.nv_mounted.specs.Mounted.{ShowsSound}
-use Rattle.nv_rows.specs.Unused.{unused_number}
 use Rattle.nv_tree.specs.Path.{IsPath, last_name}
 use Rattle.nv_tree.specs.Tree.{Node, found, walk}
 use Rattle.nv_tree.specs.declared.refusal.Refusal.{Refusal}
 use Rattle.nv_paths.specs.Seen.{LeadsTo}
+use Rattle.nv_paths.specs.Spots.{new_number}
 use Rattle.nv_steps.specs.Fronts.{SameFrontBut}
 use Rattle.nv_steps.specs.InOrder.{tail_address}
 use Rattle.nv_steps.specs.NameEntries.{links_entries, name_entries}
-use Rattle.nv_steps.specs.Stores.{StoresIn, one_less, one_log, one_more, two_logs}
+use Rattle.nv_steps.specs.Stores.{StoresIn, one_less, one_log, two_logs}
 use Rattle.nv_steps.specs.Takes.{take_entries}
+use Rattle.nv_calls.specs.Growing.{create_places}
 use Rattle.nv_calls.specs.InOrder.{ShowsTailFirst, ShowsValidFirst}
 use Rattle.nv_calls.specs.Mount.{Mount, shown}
 use Rattle.nv_calls.specs.ReplaceBlocks.{is_named_twice}
@@ -23,13 +24,13 @@ use Rattle.nv_steps.specs.Slots.{slot_in}
 
 -- In each of these the superblock and all journals but that of the CPU are as they were, and every word outside some places is as it was.
 
--- `create` and `mkdir` store the new inode's valid word first.
+-- `create` and `mkdir` store the new inode's valid word first. Where its number has no slot, the table grows before that.
 pub record CreateStores {P T : Type 0} (region : P → Region) (old new : Mount P) (cpu : ℕ) (text : List ℕ) (result : Result T Refusal) : Type 0 where
   pub journals : OnOk result (SameFrontBut old.sup.cpus cpu (region old.memory) (region new.memory))
-  pub wrote : (names : List (List ℕ)) (d j : ℕ) (held : Store) → IsPath text names → walk (shown region old) 1 names ≡ Ok d → unused_number old.layout old.rows cpu ≡ Some j
-      → ShowsSound (region old.memory) old.layout held → StoresIn old.layout held (one_more old.layout cpu j d) (region old.memory) (region new.memory)
-  pub in_order : (names : List (List ℕ)) (d j : ℕ) → IsPath text names → walk (shown region old) 1 names ≡ Ok d → unused_number old.layout old.rows cpu ≡ Some j
-      → ShowsValidFirst (region old.memory) (region new.memory) old.layout j d
+  pub wrote : (names : List (List ℕ)) (d j : ℕ) (held : Store) → IsPath text names → walk (shown region old) 1 names ≡ Ok d → new_number old.layout old.rows cpu ≡ Some j
+      → ShowsSound (region old.memory) old.layout held → StoresIn old.layout held (create_places old.layout cpu j d) (region old.memory) (region new.memory)
+  pub in_order : (names : List (List ℕ)) (d j : ℕ) → IsPath text names → walk (shown region old) 1 names ≡ Ok d → new_number old.layout old.rows cpu ≡ Some j
+      → ShowsValidFirst (region old.memory) (region new.memory) new.layout j d
 
 -- `link` stores the file's tail first.
 pub record LinkStores {P T : Type 0} (region : P → Region) (old new : Mount P) (cpu : ℕ) (text other : List ℕ) (time : ℕ) (result : Result T Refusal) : Type 0 where

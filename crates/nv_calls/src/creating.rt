@@ -1,4 +1,4 @@
-//! `create` and `mkdir`: a new inode and its name.
+//! `create` and `mkdir`: a new inode and its name. In version 2 the table of the CPU grows where no slot of it is unused.
 
 ghost use Rattle.std.specs.Prelude.{◌≡◌, ◌+◌, ◌<◌, ◌≤◌, ◌%◌, ℕ, List, Option, Result, IfErr, OnOk, false};
 ghost use Rattle.nv_region.specs.Stops.{LeavesOnly, NothingPending};
@@ -12,7 +12,6 @@ ghost use Rattle.nv_scan.specs.declared.piece.Row.{Row as RowValue};
 ghost use Rattle.nv_rows.specs.Rows.{IsInUse, place_in, row_of};
 ghost use Rattle.nv_mounted.specs.Held.{Held, Store};
 ghost use Rattle.nv_mounted.specs.Mounted.{ShowsSound};
-ghost use Rattle.nv_commit.specs.Stopped.{LeavesEither};
 ghost use Rattle.nv_names.specs.Names.{IsName, name_at};
 ghost use Rattle.nv_tree.specs.Path.{IsPath, Says, last_name};
 ghost use Rattle.nv_tree.specs.Tree.{SameTree, walk};
@@ -21,22 +20,29 @@ ghost use Rattle.nv_tree.specs.Refusals.{Path, create_tests, first_refusal, IsRe
 ghost use Rattle.nv_steps.specs.Grown.{StandsRight};
 ghost use Rattle.nv_calls.specs.NameCalls.{ShowsCreated, create_blocks};
 ghost use Rattle.nv_steps.specs.NameEntries.{name_entries};
+ghost use Rattle.nv_commit.specs.Stopped.{LeavesEither};
+ghost use Rattle.nv_rows.specs.Unused.{IsTableNumber};
+ghost use Rattle.nv_steps.specs.GrownTables.{CanGrow};
 ghost use Rattle.nv_steps.specs.NewNames.{CanName};
-ghost use Rattle.nv_calls.specs.AtPlaces.{CreatesAt, KeepsRows};
-ghost use Rattle.nv_calls.specs.Effects.{logs_inode, makes_inode};
-ghost use Rattle.nv_calls.specs.Stopped.{LeavesCall};
 ghost use Rattle.nv_steps.specs.Stopped.{Named};
+ghost use Rattle.nv_calls.specs.AtPlaces.{CreatesAt, KeepsRows};
+ghost use Rattle.nv_calls.specs.Growing.{CanGetSlot, CanNameIn, CreatesGrown, KeepsTables, LeavesCreated, create_places, grown_blocks};
+ghost use Rattle.nv_calls.specs.Effects.{logs_inode, makes_inode};
+ghost use Rattle.nv_calls.specs.Stopped.{LeavesGrowing};
 ghost use Rattle.nv_steps.specs.Steps.{RefusesStep, ShowsRow};
 ghost use Rattle.nv_steps.specs.InOrder.{tail_address};
-ghost use Rattle.nv_rows.specs.Unused.{unused_number, IsTableNumber};
+ghost use Rattle.nv_rows.specs.RowList.{HasNumbersOf};
+ghost use Rattle.nv_paths.specs.Spots.{new_number};
 ghost use Rattle.nv_calls.specs.World.{world_of};
 ghost use Rattle.nv_steps.specs.Stores.{StoresIn, one_more};
 ghost use Rattle.nv_calls.specs.Mount.{shown};
-ghost use Rattle.nv_calls.specs.Keeping.{IsNoPath, SettlesCall};
+ghost use Rattle.nv_calls.specs.Keeping.{IsNoPath, SettlesCallBy};
+ghost use Rattle.nv_calls.specs.Same.{GrowsMount, IsLaidFor};
 ghost use Rattle.nv_calls.specs.Storing.{CreateStores};
 
 use crate::Fs;
 use crate::arguments::{Cpu, Time};
+use crate::growing::create_grown;
 use crate::writing::is_stop;
 use nv_alloc::Allocators;
 use nv_entry::{Operation, name_entry};
@@ -50,11 +56,63 @@ use nv_super::Kind;
 use nv_tree::Refusal;
 use std::alloc::Global;
 
-/// Makes a new inode with its name in a directory, and puts the new row in.
+/// Makes a new inode with its name in a directory, and puts the new row in. Where its number has no slot, the table of the CPU
+/// grows by a block before, which is taken before the others.
 ///
 /// `NoSpace` where all pools together have too few blocks, `Memory` where a growth was refused; both change nothing.
 /// `Stopped` where the fuse has burnt.
 fn create_at<P: Pmem>(
+    alloc: Global,
+    memory: &mut P,
+    tables: &mut Tables,
+    free: &mut Allocators,
+    cpu: u64,
+    rows: &mut Rows,
+    directory: u64,
+    new: &NewName<'_>,
+) -> Result<(), Refusal>
+    requires in_use { IsInUse rows.old.items directory }
+    requires numbers { HasNumbersOf tables.old.layout rows.old }
+    requires number { CanGetSlot tables.old.layout cpu new.now.inode }
+    requires unused { row_of rows.old.items new.now.inode ≡ Option.None }
+    requires grows { tables.old.layout.sup.version ≡ 2 → CanGrow (P.region memory.old) tables.old.layout free.old cpu }
+    requires stands { (row : RowValue) → row_of rows.old.items directory ≡ Option.Some row → StandsRight (P.region memory.old) tables.old.layout free.old row }
+    requires can { (row : RowValue) → row_of rows.old.items directory ≡ Option.Some row → CanNameIn (P.region memory.old) tables.old.layout cpu row }
+    requires name { IsName new.now.name.now }
+    ensures created { OnOk result (CreatesGrown (P.region memory.old) (P.region memory.new) tables.old.layout tables.new.layout free.old free.new cpu rows.old.items rows.new.items
+        (place_in rows.old.items directory) new.now.kind new.now.mode new.now.time new.now.inode new.now.name.now) }
+    ensures enough { (row : RowValue) → row_of rows.old.items directory ≡ Option.Some row
+        → OnOk result (grown_blocks tables.old.layout new.now.inode + (1 + needed (row.tail % 4096) (name_entries OperationValue.Add new.now.inode new.now.name.now new.now.time)) ≤ all_blocks free.old.pools) }
+    ensures kept { KeepsTables P.region P.may_hold P.fuse memory.old memory.new free.old free.new rows.old rows.new tables.old tables.new cpu new.now.inode result }
+    ensures refused { (row : RowValue) → row_of rows.old.items directory ≡ Option.Some row
+        → IfErr result (λ e. RefusesStep e (grown_blocks tables.old.layout new.now.inode + (1 + needed (row.tail % 4096) (name_entries OperationValue.Add new.now.inode new.now.name.now new.now.time))) free.old) }
+    // Every word outside these places is as it was.
+    ensures wrote { (row : RowValue) (held : Store) (h : Held) → row_of rows.old.items directory ≡ Option.Some row → ShowsRow (P.region memory.old) tables.old.layout held h row free.old
+        → held new.now.inode ≡ Option.None
+        → StoresIn tables.old.layout held (create_places tables.old.layout cpu new.now.inode row.inode) (P.region memory.old) (P.region memory.new) }
+    // The new inode's valid word is stored first.
+    ensures in_order { (row : RowValue) (held : Store) (h : Held) → row_of rows.old.items directory ≡ Option.Some row → ShowsRow (P.region memory.old) tables.old.layout held h row free.old
+        → held new.now.inode ≡ Option.None
+        → FirstIsFirst (P.region memory.old) (slot_in tables.new.layout new.now.inode) 1 (tail_address tables.new.layout row.inode) (P.region memory.new) }
+    // Whatever a stop leaves: recovery finds what is held, by the tables of before or those that have grown, or it with the new
+    // inode and its name, without faults.
+    ensures any_stop { (row : RowValue) (held : Store) (h : Held) → row_of rows.old.items directory ≡ Option.Some row → ShowsRow (P.region memory.old) tables.old.layout held h row free.old
+        → held new.now.inode ≡ Option.None → name_at row.names new.now.name.now ≡ Option.None → NothingPending (P.region memory.old) (P.may_hold memory.old)
+        → LeavesOnly (P.region memory.new) (P.may_hold memory.new) (LeavesCreated (P.region memory.old) tables.old.layout free.old cpu held row new.now.kind new.now.mode new.now.time
+        new.now.inode new.now.name.now) }
+{
+    tables.are_laid();
+    if tables.slot_address(new.inode).is_some() {
+        return create_in_table(alloc, memory, tables, free, cpu, rows, directory, new);
+    }
+    create_grown(alloc, memory, tables, free, cpu, rows, directory, new)
+}
+
+/// Makes a new inode, whose number has a slot, with its name in a directory, and puts the new row in.
+///
+/// `NoSpace` where all pools together have too few blocks, `Memory` where a growth was refused; both change nothing.
+/// `Stopped` where the fuse has burnt.
+fn create_in_table<P: Pmem>(
     alloc: Global,
     memory: &mut P,
     tables: &Tables,
@@ -115,30 +173,33 @@ impl<P: Pmem + Drop> Fs<P> {
     /// - `BadName` where the text is no path or `/`
     /// - `NotFound` or `NotDirectory` for an inode on the way
     /// - `Exists` where the path leads to an inode
-    /// - `NoInodes` where the CPU's table has no unused slot
-    /// - `NoSpace` where fewer blocks are free than both logs need
+    /// - `NoInodes` where the CPU's table has no unused slot, in version 1
+    /// - `NoSpace` where fewer blocks are free than both logs need, with one more where the table has to grow
     ///
     /// Besides these `Memory` where a growth was refused, and `Stopped` where the fuse burns. All but `Stopped` leave
     /// everything as it was.
     pub fn create(&mut self, cpu: Cpu, path: &[u8], mode: u32, time: Time) -> Result<(), Refusal>
         ensures allowed { (p : Path) → Says path.now p
-            → OnOk result (first_refusal (create_tests (world_of self.old) (shown P.region self.old) cpu p (create_blocks self.old.rows (shown P.region self.old) p)) ≡ Option.None) }
+            → OnOk result (first_refusal (create_tests (world_of self.old) (shown P.region self.old) cpu p (create_blocks self.old.layout self.old.rows cpu (shown P.region self.old) p)) ≡ Option.None) }
         ensures refused { self.old.stopped ≡ false → (p : Path) → Says path.now p
-            → IfErr result (IsRefusedBy (first_refusal (create_tests (world_of self.old) (shown P.region self.old) cpu p (create_blocks self.old.rows (shown P.region self.old) p)))) }
+            → IfErr result (IsRefusedBy (first_refusal (create_tests (world_of self.old) (shown P.region self.old) cpu p (create_blocks self.old.layout self.old.rows cpu (shown P.region self.old) p)))) }
         ensures changed { (names : List (List ℕ)) → IsPath path.now names
-            → OnOk result (SameTree (shown P.region self.new) (created File (unused_number self.old.layout self.old.rows cpu) names mode time (shown P.region self.old))) }
+            → OnOk result (SameTree (shown P.region self.new) (created File (new_number self.old.layout self.old.rows cpu) names mode time (shown P.region self.old))) }
+        // The table of the CPU has grown just where the number of the new inode had no slot.
+        ensures tables { OnOk result (IsLaidFor self.old.layout cpu (new_number self.old.layout self.old.rows cpu) self.new.layout) }
         // The log of the directory has one entry more, the new inode's log is one entry, and no other log has changed.
         ensures log { (names : List (List ℕ)) (d j : ℕ) (held : Store) (h : Held) → IsPath path.now names → walk (shown P.region self.old) 1 names ≡ Result.Ok d
-            → unused_number self.old.layout self.old.rows cpu ≡ Option.Some j
+            → new_number self.old.layout self.old.rows cpu ≡ Option.Some j
             → ShowsSound (P.region self.old.memory) self.old.layout held → held d ≡ Option.Some h
             → OnOk result (ShowsCreated (P.region self.new.memory) self.old.layout self.old.free.pools cpu held File mode time j d h (last_name names)) }
-        // What every call that writes keeps.
-        ensures call { SettlesCall P.region P.may_hold P.fuse (IsNoPath path.now) self.old self.new result }
+        // What every call that writes keeps, but that the table of the CPU may grow.
+        ensures call { SettlesCallBy (GrowsMount cpu) P.region P.may_hold P.fuse (IsNoPath path.now) self.old self.new result }
         // Where it stores, and in which order.
         ensures stores { CreateStores P.region self.old self.new cpu path.now result }
-        // Whatever a stop leaves, at any exit: recovery finds what was mounted, or what the call makes, without faults.
+        // Whatever a stop leaves, at any exit: recovery finds what was mounted, or what the call makes, without faults. The table
+        // of the CPU may have grown.
         ensures any_stop { (names : List (List ℕ)) → IsPath path.now names → self.old.stopped ≡ false → self.old.read_only ≡ false
-            → LeavesOnly (P.region self.new.memory) (P.may_hold self.new.memory) (LeavesCall (makes_inode File cpu mode time) (logs_inode File cpu mode time)
+            → LeavesOnly (P.region self.new.memory) (P.may_hold self.new.memory) (LeavesGrowing cpu (makes_inode File cpu mode time) (logs_inode File cpu mode time)
             (P.region self.old.memory) self.old names) }
     {
         self.make(cpu, path, Kind::File, mode, time)
@@ -147,23 +208,26 @@ impl<P: Pmem + Drop> Fs<P> {
     /// Makes a directory of this mode, of which the low 12 bits are kept, with one name. Errors as `create` has them.
     pub fn mkdir(&mut self, cpu: Cpu, path: &[u8], mode: u32, time: Time) -> Result<(), Refusal>
         ensures allowed { (p : Path) → Says path.now p
-            → OnOk result (first_refusal (create_tests (world_of self.old) (shown P.region self.old) cpu p (create_blocks self.old.rows (shown P.region self.old) p)) ≡ Option.None) }
+            → OnOk result (first_refusal (create_tests (world_of self.old) (shown P.region self.old) cpu p (create_blocks self.old.layout self.old.rows cpu (shown P.region self.old) p)) ≡ Option.None) }
         ensures refused { self.old.stopped ≡ false → (p : Path) → Says path.now p
-            → IfErr result (IsRefusedBy (first_refusal (create_tests (world_of self.old) (shown P.region self.old) cpu p (create_blocks self.old.rows (shown P.region self.old) p)))) }
+            → IfErr result (IsRefusedBy (first_refusal (create_tests (world_of self.old) (shown P.region self.old) cpu p (create_blocks self.old.layout self.old.rows cpu (shown P.region self.old) p)))) }
         ensures changed { (names : List (List ℕ)) → IsPath path.now names
-            → OnOk result (SameTree (shown P.region self.new) (created Directory (unused_number self.old.layout self.old.rows cpu) names mode time (shown P.region self.old))) }
+            → OnOk result (SameTree (shown P.region self.new) (created Directory (new_number self.old.layout self.old.rows cpu) names mode time (shown P.region self.old))) }
+        // The table of the CPU has grown just where the number of the new inode had no slot.
+        ensures tables { OnOk result (IsLaidFor self.old.layout cpu (new_number self.old.layout self.old.rows cpu) self.new.layout) }
         // The log of the directory has one entry more, the new inode's log is one entry, and no other log has changed.
         ensures log { (names : List (List ℕ)) (d j : ℕ) (held : Store) (h : Held) → IsPath path.now names → walk (shown P.region self.old) 1 names ≡ Result.Ok d
-            → unused_number self.old.layout self.old.rows cpu ≡ Option.Some j
+            → new_number self.old.layout self.old.rows cpu ≡ Option.Some j
             → ShowsSound (P.region self.old.memory) self.old.layout held → held d ≡ Option.Some h
             → OnOk result (ShowsCreated (P.region self.new.memory) self.old.layout self.old.free.pools cpu held Directory mode time j d h (last_name names)) }
-        // What every call that writes keeps.
-        ensures call { SettlesCall P.region P.may_hold P.fuse (IsNoPath path.now) self.old self.new result }
+        // What every call that writes keeps, but that the table of the CPU may grow.
+        ensures call { SettlesCallBy (GrowsMount cpu) P.region P.may_hold P.fuse (IsNoPath path.now) self.old self.new result }
         // Where it stores, and in which order.
         ensures stores { CreateStores P.region self.old self.new cpu path.now result }
-        // Whatever a stop leaves, at any exit: recovery finds what was mounted, or what the call makes, without faults.
+        // Whatever a stop leaves, at any exit: recovery finds what was mounted, or what the call makes, without faults. The table
+        // of the CPU may have grown.
         ensures any_stop { (names : List (List ℕ)) → IsPath path.now names → self.old.stopped ≡ false → self.old.read_only ≡ false
-            → LeavesOnly (P.region self.new.memory) (P.may_hold self.new.memory) (LeavesCall (makes_inode Directory cpu mode time) (logs_inode Directory cpu mode time)
+            → LeavesOnly (P.region self.new.memory) (P.may_hold self.new.memory) (LeavesGrowing cpu (makes_inode Directory cpu mode time) (logs_inode Directory cpu mode time)
             (P.region self.old.memory) self.old names) }
     {
         self.make(cpu, path, Kind::Directory, mode, time)
@@ -179,27 +243,30 @@ impl<P: Pmem + Drop> Fs<P> {
         time: Time,
     ) -> Result<(), Refusal>
         ensures allowed { (p : Path) → Says path.now p
-            → OnOk result (first_refusal (create_tests (world_of self.old) (shown P.region self.old) cpu p (create_blocks self.old.rows (shown P.region self.old) p)) ≡ Option.None) }
+            → OnOk result (first_refusal (create_tests (world_of self.old) (shown P.region self.old) cpu p (create_blocks self.old.layout self.old.rows cpu (shown P.region self.old) p)) ≡ Option.None) }
         ensures refused { self.old.stopped ≡ false → (p : Path) → Says path.now p
-            → IfErr result (IsRefusedBy (first_refusal (create_tests (world_of self.old) (shown P.region self.old) cpu p (create_blocks self.old.rows (shown P.region self.old) p)))) }
+            → IfErr result (IsRefusedBy (first_refusal (create_tests (world_of self.old) (shown P.region self.old) cpu p (create_blocks self.old.layout self.old.rows cpu (shown P.region self.old) p)))) }
         ensures changed { (names : List (List ℕ)) → IsPath path.now names
-            → OnOk result (SameTree (shown P.region self.new) (created kind (unused_number self.old.layout self.old.rows cpu) names mode time (shown P.region self.old))) }
+            → OnOk result (SameTree (shown P.region self.new) (created kind (new_number self.old.layout self.old.rows cpu) names mode time (shown P.region self.old))) }
+        // The table of the CPU has grown just where the number of the new inode had no slot.
+        ensures tables { OnOk result (IsLaidFor self.old.layout cpu (new_number self.old.layout self.old.rows cpu) self.new.layout) }
         // The log of the directory has one entry more, the new inode's log is one entry, and no other log has changed.
         ensures log { (names : List (List ℕ)) (d j : ℕ) (held : Store) (h : Held) → IsPath path.now names → walk (shown P.region self.old) 1 names ≡ Result.Ok d
-            → unused_number self.old.layout self.old.rows cpu ≡ Option.Some j
+            → new_number self.old.layout self.old.rows cpu ≡ Option.Some j
             → ShowsSound (P.region self.old.memory) self.old.layout held → held d ≡ Option.Some h
             → OnOk result (ShowsCreated (P.region self.new.memory) self.old.layout self.old.free.pools cpu held kind mode time j d h (last_name names)) }
-        // What every call that writes keeps.
-        ensures call { SettlesCall P.region P.may_hold P.fuse (IsNoPath path.now) self.old self.new result }
+        // What every call that writes keeps, but that the table of the CPU may grow.
+        ensures call { SettlesCallBy (GrowsMount cpu) P.region P.may_hold P.fuse (IsNoPath path.now) self.old self.new result }
         // Where it stores, and in which order.
         ensures stores { CreateStores P.region self.old self.new cpu path.now result }
-        // Whatever a stop leaves, at any exit: recovery finds what was mounted, or what the call makes, without faults.
+        // Whatever a stop leaves, at any exit: recovery finds what was mounted, or what the call makes, without faults. The table
+        // of the CPU may have grown.
         ensures any_stop { (names : List (List ℕ)) → IsPath path.now names → self.old.stopped ≡ false → self.old.read_only ≡ false
-            → LeavesOnly (P.region self.new.memory) (P.may_hold self.new.memory) (LeavesCall (makes_inode kind cpu mode time) (logs_inode kind cpu mode time)
+            → LeavesOnly (P.region self.new.memory) (P.may_hold self.new.memory) (LeavesGrowing cpu (makes_inode kind cpu mode time) (logs_inode kind cpu mode time)
             (P.region self.old.memory) self.old names) }
     {
         self.writable(cpu.0)?;
-        let spot = spot_for(&self.rows, cpu.0, path)?;
+        let spot = spot_for(&self.rows, &self.tables, cpu.0, path)?;
         let new = NewName {
             inode: spot.inode,
             kind,
@@ -210,7 +277,7 @@ impl<P: Pmem + Drop> Fs<P> {
         match create_at(
             self.alloc,
             &mut self.memory,
-            &self.tables,
+            &mut self.tables,
             &mut self.free,
             cpu.0,
             &mut self.rows,

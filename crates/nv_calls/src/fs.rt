@@ -15,6 +15,7 @@ ghost use Rattle.nv_tree.specs.Path.{IsPath, Says};
 ghost use Rattle.nv_tree.specs.Refusals.{Path, first_refusal, stat_tests};
 ghost use Rattle.nv_tree.specs.declared.refusal.Refusal.{Refusal as RefusalValue};
 ghost use Rattle.nv_paths.specs.Seen.{node_of, LeadsTo};
+ghost use Rattle.nv_paths.specs.Spots.{new_number};
 ghost use Rattle.nv_calls.specs.Mount.{IsKept, has_faults, shown};
 ghost use Rattle.nv_calls.specs.Stopped.{LeavesMounted};
 
@@ -22,7 +23,7 @@ use crate::arguments::Cpu;
 use nv_alloc::{Allocators, FreeRuns};
 use nv_inode::Tables;
 use nv_mounted::Recovered;
-use nv_paths::row_at;
+use nv_paths::{new_number, row_at};
 use nv_region::{Fuse, MemRegion, Pmem};
 use nv_rows::Rows;
 use nv_scan::Row;
@@ -137,13 +138,21 @@ impl<P: Pmem + Drop> Fs<P> {
         &self.rows
     }
 
-    /// The number that an inode gets in the name of a CPU: the lowest of the CPU's table that no inode in use has. It looks at one
-    /// word for 64 numbers.
+    /// The lowest number of a CPU's table that no inode in use has. It looks at one word for 64 numbers.
     pub fn unused_number(&self, cpu: Cpu) -> Option<u64>
         requires { cpu < self.now.sup.cpus }
         ensures { result ≡ unused_number self.now.layout self.now.rows cpu }
     {
         self.rows.lowest_unused(cpu.0)
+    }
+
+    /// The number that a new inode gets in the name of a CPU: the lowest of the CPU's table that no inode in use has. Where there
+    /// is none it is, in version 2, the first number behind the table, which grows for it.
+    pub fn new_number(&self, cpu: Cpu) -> Option<u64>
+        requires { cpu < self.now.sup.cpus }
+        ensures { result ≡ new_number self.now.layout self.now.rows cpu }
+    {
+        new_number(&self.rows, &self.tables, cpu.0)
     }
 
     /// The free blocks of each CPU's pool.

@@ -18,9 +18,10 @@ ghost use Rattle.nv_steps.specs.declared.planning.Plan.{Plan};
 ghost use Rattle.nv_tree.specs.Tree.{Node};
 ghost use Rattle.nv_tree.specs.Refusals.{clean_tests};
 ghost use Rattle.nv_calls.specs.Alike.{AreAlike, InodeCallsKeepAlike, IsAllowed, IsFaultlessMount, KeepsAlike, NameCallsKeepAlike, WasDone};
-ghost use Rattle.nv_calls.specs.Decided.{IsDecided};
+ghost use Rattle.nv_calls.specs.Decided.{IsDecided, IsDecidedBy};
 ghost use Rattle.nv_calls.specs.Effects.{logs_clean};
 ghost use Rattle.nv_calls.specs.Effects.{makes_no_change};
+ghost use Rattle.nv_calls.specs.Growing.{GivesSlot};
 ghost use Rattle.nv_calls.specs.GrownLogs.{ShowsGrownLog};
 ghost use Rattle.nv_calls.specs.LinkCalls.{ShowsBothGrew};
 ghost use Rattle.nv_calls.specs.Mount.{Mount};
@@ -43,7 +44,7 @@ pub fn calls_are_decided()
     ensures both { (l : Layout) (pools : List (List Run)) (cpu : ℕ) (held : Store) (i : ℕ) (h : Held) (entries : List Entry) (j : ℕ) (g : Held) (others : List Entry)
         → IsDecided l (λ S. ShowsBothGrew S l pools cpu held i h entries j g others) }
     ensures created { (l : Layout) (pools : List (List Run)) (cpu : ℕ) (held : Store) (kind : Kind) (mode time j d : ℕ) (h : Held) (name : List ℕ)
-        → IsDecided l (λ S. ShowsCreated S l pools cpu held kind mode time j d h name) }
+        → IsDecidedBy (λ grown. (rest : List (List Run)) × GivesSlot l pools cpu j grown rest) (λ S. ShowsCreated S l pools cpu held kind mode time j d h name) }
     ensures less { (l : Layout) (pools : List (List Run)) (cpu : ℕ) (held : Store) (i : ℕ) (h : Held) (entries : List Entry) (e : ℕ) (g : Held) (others : List Entry) (j : ℕ)
         → IsDecided l (λ S. ShowsBothLess S l pools cpu held i h entries e g others j) }
     ensures three { (l : Layout) (pools : List (List Run)) (cpu : ℕ) (held : Store) (i : ℕ) (h : Held) (entries : List Entry) (e : ℕ) (g : Held) (others : List Entry) (j : ℕ) (f : Held)

@@ -7,6 +7,7 @@ mod by_number;
 mod cleaning;
 mod creating;
 mod fs;
+mod growing;
 mod laws;
 mod linking;
 mod listing;

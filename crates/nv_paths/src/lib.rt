@@ -14,6 +14,6 @@ mod walking;
 pub use moving::{Move, rename_for};
 pub use named::{Named, rmdir_for, unlink_for};
 pub use replacing::{Replacement, replace_for};
-pub use spotting::{Spot, spot_for};
+pub use spotting::{Spot, new_number, spot_for};
 pub use targeting::link_for;
 pub use walking::row_at;

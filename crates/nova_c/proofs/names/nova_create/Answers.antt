@@ -4,12 +4,12 @@ use Rattle.nv_calls.specs.Mount.{Mount}
 use Rattle.nv_super.specs.declared.kind.Kind.TheVariants.{File}
 use Rattle.nv_calls.specs.Effects.{logs_inode, makes_inode}
 use Rattle.nova_c.specs.Refused.{create_refusal}
-use Rattle.nova_c.proofs.Calls.{any_stop_of, refused_by, unchanged_by}
+use Rattle.nova_c.proofs.Calls.{growing_stop_of, refused_by, unchanged_by}
 use Rattle.nova_c.proofs.names.nova_create.Goals as goal
 
 pub returns-in-Ok-clause-any_stop : goal.returns-in-Ok-clause-any_stop
 returns-in-Ok-clause-any_stop c running writes names is =
-    any_stop_of _ _ _ _ (c.deref_mut.ensures.value ∙ c.in-Some.ensures.mount.1) c.put.ensures.mount (makes_inode File c.args.cpu c.args.mode c.args.time) (logs_inode File c.args.cpu c.args.mode c.args.time) names
+    growing_stop_of _ _ _ _ (c.deref_mut.ensures.value ∙ c.in-Some.ensures.mount.1) c.put.ensures.mount c.args.cpu (makes_inode File c.args.cpu c.args.mode c.args.time) (logs_inode File c.args.cpu c.args.mode c.args.time) names
     (λ runs writes. c.create-done.ensures.any_stop names is runs writes) running.runs writes
 
 pub returns-in-Err-clause-refused : goal.returns-in-Err-clause-refused
@@ -24,5 +24,5 @@ returns-in-Err-clause-unchanged c owns some =
 
 pub returns-in-Err-clause-any_stop : goal.returns-in-Err-clause-any_stop
 returns-in-Err-clause-any_stop c running writes names is =
-    any_stop_of _ _ _ _ (c.deref_mut.ensures.value ∙ c.in-Some.ensures.mount.1) c.put.ensures.mount (makes_inode File c.args.cpu c.args.mode c.args.time) (logs_inode File c.args.cpu c.args.mode c.args.time) names
+    growing_stop_of _ _ _ _ (c.deref_mut.ensures.value ∙ c.in-Some.ensures.mount.1) c.put.ensures.mount c.args.cpu (makes_inode File c.args.cpu c.args.mode c.args.time) (logs_inode File c.args.cpu c.args.mode c.args.time) names
     (λ runs writes. c.create-done.ensures.any_stop names is runs writes) running.runs writes

@@ -1,10 +1,8 @@
-use Rattle.std.proofs.Common.{◌≡◌, ◌∙◌, ◌<◌, ◌++◌, ◌∷◌, [], List, ℕ, Some, None, Ok, false, inr, ap, refl, subst, sym, slice_get, inl, arith}
+use Rattle.std.proofs.Common.{◌≡◌, ◌∙◌, ◌<◌, ◌++◌, ◌∷◌, [], List, ℕ, Some, None, Ok, false, inr, ap, refl, subst, sym, slice_get, inl}
 use Rattle.std.proofs.lemmas.Result.{err_from_is_err_and, IfOk-from_err}
 use Rattle.nv_tree.specs.declared.refusal.Refusal.{Refusal}
-use Rattle.nv_super.specs.declared.superblock.Super.{Super}
 use Rattle.nv_rows.specs.Rows.{place_in}
 use Rattle.nv_rows.proofs.Places.{at_place, own_row, row_in_use}
-use Rattle.nv_rows.proofs.TableNumbers.{numbers_kept}
 use Rattle.nv_mounted.specs.Mounted.{ShowsSound}
 use Rattle.nv_tree.specs.Path.{IsPath, last_name}
 use Rattle.nv_tree.specs.Tree.{SameTree, walk}
@@ -15,16 +13,17 @@ use Rattle.nv_steps.specs.Fronts.{SameFrontBut}
 use Rattle.nv_calls.specs.Effects.{logs_inode, makes_inode}
 use Rattle.nv_calls.specs.Mount.{Mount}
 use Rattle.nv_calls.specs.NameCalls.{ShowsCreated, create_blocks}
-use Rattle.nv_paths.specs.Spots.{IsSpot, spot_tests}
+use Rattle.nv_calls.specs.Same.{IsLaidFor}
+use Rattle.nv_paths.specs.Spots.{IsSpot, new_number, spot_tests}
 use Rattle.nv_paths.specs.Seen.{tree_of}
-use Rattle.nv_rows.specs.Unused.{unused_number}
 use Rattle.nv_calls.specs.World.{world_of}
 use Rattle.nv_calls.proofs.Stopped.{call_stays, settled_or_stopped}
-use Rattle.nv_calls.proofs.StoppedNames.{create_left}
-use Rattle.nv_calls.proofs.CreateCall.{create_allowed, create_refused, created_kept, created_log, created_tree, kept_or_stopped, unchanged_rows}
+use Rattle.nv_calls.proofs.StoppedNames.{create_left, still_grows}
+use Rattle.nv_calls.proofs.CreateCall.{create_allowed, create_refused, created_kept, created_log, created_tree}
+use Rattle.nv_calls.proofs.GrownCall.{grew_for, grown_done, grown_refused, grown_sup, laid_for, may_grow, own_sup, tables_or_stopped, unchanged_tables}
 use Rattle.nv_paths.proofs.CreateTests.{spot_goes_on, spot_refuses}
 use Rattle.nv_tree.proofs.Replies.{refused_by}
-use Rattle.nv_calls.proofs.NewNumbers.{can_name, number_fits, unused_is}
+use Rattle.nv_calls.proofs.NewNumbers.{can_get, can_grow, can_name_in, growth_is, new_unused}
 use Rattle.nv_calls.proofs.OneRow.{stands_right}
 use Rattle.nv_super.proofs.Members.{stands}
 use Rattle.nv_calls.proofs.RowChange.{same_mount}
@@ -33,13 +32,13 @@ use Rattle.nv_calls.proofs.Tests.{writing_goes_on}
 use Rattle.nv_calls.proofs.TwoWords.{create_ordered, create_stored}
 use Rattle.nv_calls.proofs.fs.Fs.make.Goals as goal
 use Rattle.nv_calls.proofs.FrontsKept.{created_front}
-use Rattle.nv_calls.proofs.CallKept.{call_done, refused_first, refused_late, refused_later}
+use Rattle.nv_calls.proofs.CallKept.{refused_first, refused_later}
 
 pub returns-in_err-writable-clause-refused : goal.returns-in_err-writable-clause-refused
 returns-in_err-writable-clause-refused g c =
     rw (← c.cpu.view_is) (λ runs p says.
     let tree = tree_of (g.P.Pmem.region c.args.self.now.memory) c.args.self.now.rows in
-    let count = create_blocks c.args.self.now.rows tree p in
+    let count = create_blocks c.args.self.now.layout c.args.self.now.rows c.cpu.inside.0 tree p in
     let w = err_from_is_err_and c.from_residual.result c.from_residual.ensures.1 in
     refused_by c.from_residual.result c.in_err-writable.field-0.0 w.0 (IsRefusedBy (first_refusal (create_tests (world_of c.args.self.now) tree c.cpu.inside.0 p count))) w.1 w.2
     (inr (inr (c.in_err-writable.ensures.refused runs (is_bad_name p ∷ walk_tests tree p ++ is_there tree p ∷ has_no_slot (world_of c.args.self.now) c.cpu.inside.0 ∷ has_no_space (world_of c.args.self.now) count ∷ []))))
@@ -50,8 +49,8 @@ returns-in_err-writable-clause-call g c =
     let w = err_from_is_err_and c.from_residual.result c.from_residual.ensures.1 in
     record {
       of_path = record {
-        call = refused_first g.P.Pmem.region g.P.Pmem.fuse c.args.self.now c.from_residual.result c.in_err-writable.field-0.0 w.0 w.1 w.2 c.in_err-writable.ensures.stopped
-            (λ runs is. writing_goes_on (world_of c.args.self.now) c.cpu.inside.0 (c.in_err-writable.ensures.refused runs [] ∙ ap (λ (e : Refusal). Some e) is));
+        call = may_grow c.args.cpu (refused_first g.P.Pmem.region g.P.Pmem.fuse c.args.self.now c.from_residual.result c.in_err-writable.field-0.0 w.0 w.1 w.2 c.in_err-writable.ensures.stopped
+            (λ runs is. writing_goes_on (world_of c.args.self.now) c.cpu.inside.0 (c.in_err-writable.ensures.refused runs [] ∙ ap (λ (e : Refusal). Some e) is)));
         bad_text = λ bad. same_mount c.args.self.now;
       };
       settled = IfOk-from_err c.from_residual.result _ c.from_residual.ensures.0;
@@ -65,19 +64,20 @@ returns-in_err-writable-clause-stores g c =
       in_order = λ names d j path ended number. ∣ inl refl ∣₁;
     }
 
-pub spot_for-requires : goal.spot_for-requires
-spot_for-requires g c =
-    let low : c.cpu.inside.0 < c.self.inside.tables.layout.sup.cpus = subst (λ (m : Mount g.row.P.Denot). c.cpu.inside.0 < m.sup.cpus) (sym c.self.view_is) c.in_ok-writable.ensures.cpu in
-    record { cpu = subst (λ (s : Super). c.cpu.inside.0 < s.cpus) (sym c.self.invariant.1.sup) low }
+pub spot_for-requires-clause-cpu : goal.spot_for-requires-clause-cpu
+spot_for-requires-clause-cpu g c = subst (λ (m : Mount g.row.P.Denot). c.cpu.inside.0 < m.sup.cpus) (sym c.self.view_is) c.in_ok-writable.ensures.cpu
+
+pub spot_for-requires-clause-numbers : goal.spot_for-requires-clause-numbers
+spot_for-requires-clause-numbers g c = c.self.invariant.1
 
 pub returns-in_err-spot-clause-refused : goal.returns-in_err-spot-clause-refused
 returns-in_err-spot-clause-refused g c =
     rw (← c.cpu.view_is) (λ still p says.
-    let told : first_refusal (spot_tests (tree_of (g.P.Pmem.region c.args.self.now.memory) c.args.self.now.rows) (unused_number c.args.self.now.layout c.args.self.now.rows c.cpu.inside.0) p) ≡ Some c.in_err-spot.field-0.0 =
-    subst (λ (m : Mount g.row.P.Denot). first_refusal (spot_tests (tree_of (g.P.Pmem.region m.memory) m.rows) (unused_number m.layout m.rows c.cpu.inside.0) p) ≡ Some c.in_err-spot.field-0.0) c.self.view_is
-    (c.in_err-spot.ensures.refused c.self.inside.tables.layout c.self.invariant.1 (g.P.Pmem.region c.self.inside.memory) p says) in
+    let told : first_refusal (spot_tests (tree_of (g.P.Pmem.region c.args.self.now.memory) c.args.self.now.rows) (new_number c.args.self.now.layout c.args.self.now.rows c.cpu.inside.0) p) ≡ Some c.in_err-spot.field-0.0 =
+    subst (λ (m : Mount g.row.P.Denot). first_refusal (spot_tests (tree_of (g.P.Pmem.region m.memory) m.rows) (new_number m.layout m.rows c.cpu.inside.0) p) ≡ Some c.in_err-spot.field-0.0) c.self.view_is
+    (c.in_err-spot.ensures.refused (g.P.Pmem.region c.self.inside.memory) p says) in
     let tree = tree_of (g.P.Pmem.region c.args.self.now.memory) c.args.self.now.rows in
-    let count = create_blocks c.args.self.now.rows tree p in
+    let count = create_blocks c.args.self.now.layout c.args.self.now.rows c.cpu.inside.0 tree p in
     let w = err_from_is_err_and c.from_residual-in_err-spot.result c.from_residual-in_err-spot.ensures.1 in
     refused_by c.from_residual-in_err-spot.result c.in_err-spot.field-0.0 w.0 (IsRefusedBy (first_refusal (create_tests (world_of c.args.self.now) tree c.cpu.inside.0 p count))) w.1 w.2
     (inr (inr (spot_refuses (world_of c.args.self.now) tree c.cpu.inside.0 c.in_ok-writable.ensures.passed p count c.in_err-spot.field-0.0 told)))
@@ -87,12 +87,12 @@ pub returns-in_err-spot-clause-call : goal.returns-in_err-spot-clause-call
 returns-in_err-spot-clause-call g c =
     let w = err_from_is_err_and c.from_residual-in_err-spot.result c.from_residual-in_err-spot.ensures.1 in
     let said = text_says c.args.path.now in
-    let told = c.in_err-spot.ensures.refused c.self.inside.tables.layout c.self.invariant.1 (g.P.Pmem.region c.self.inside.memory) said.0 said.1 in
+    let told = c.in_err-spot.ensures.refused (g.P.Pmem.region c.self.inside.memory) said.0 said.1 in
     record {
       of_path = record {
-        call = refused_later g.P.Pmem.region g.P.Pmem.fuse c.args.self.now c.from_residual-in_err-spot.result c.in_err-spot.field-0.0 w.0 w.1 w.2 c.in_ok-writable.ensures.runs
-            (λ is. spot_goes_on (tree_of (g.P.Pmem.region c.self.inside.memory) c.self.inside.rows.items) (unused_number c.self.inside.tables.layout c.self.inside.rows.items c.cpu.inside.0) said.0
-            (subst (λ (e : Refusal). first_refusal (spot_tests (tree_of (g.P.Pmem.region c.self.inside.memory) c.self.inside.rows.items) (unused_number c.self.inside.tables.layout c.self.inside.rows.items c.cpu.inside.0) said.0) ≡ Some e) is told));
+        call = may_grow c.args.cpu (refused_later g.P.Pmem.region g.P.Pmem.fuse c.args.self.now c.from_residual-in_err-spot.result c.in_err-spot.field-0.0 w.0 w.1 w.2 c.in_ok-writable.ensures.runs
+            (λ is. spot_goes_on (tree_of (g.P.Pmem.region c.self.inside.memory) c.self.inside.rows.items) (new_number c.self.inside.tables.layout c.self.inside.rows.items c.cpu.inside.0) said.0
+            (subst (λ (e : Refusal). first_refusal (spot_tests (tree_of (g.P.Pmem.region c.self.inside.memory) c.self.inside.rows.items) (new_number c.self.inside.tables.layout c.self.inside.rows.items c.cpu.inside.0) said.0) ≡ Some e) is told)));
         bad_text = λ bad. same_mount c.args.self.now;
       };
       settled = IfOk-from_err c.from_residual-in_err-spot.result _ c.from_residual-in_err-spot.ensures.0;
@@ -106,21 +106,33 @@ returns-in_err-spot-clause-stores g c =
       in_order = λ names d j path ended number. ∣ inl refl ∣₁;
     }
 
-pub create_at-requires-clause-limit : goal.create_at-requires-clause-limit
-create_at-requires-clause-limit g c =
+pub create_at-requires-clause-numbers : goal.create_at-requires-clause-numbers
+create_at-requires-clause-numbers g c = c.self.invariant.1
+
+pub create_at-requires-clause-number : goal.create_at-requires-clause-number
+create_at-requires-clause-number g c =
     let low : c.cpu.inside.0 < c.self.inside.tables.layout.sup.cpus = subst (λ (m : Mount g.row.P.Denot). c.cpu.inside.0 < m.sup.cpus) (sym c.self.view_is) c.in_ok-writable.ensures.cpu in
     let spot : (names : List (List ℕ)) → IsPath c.args.path.now names → IsSpot (tree_of (g.P.Pmem.region c.self.inside.memory) c.self.inside.rows.items) c.self.inside.rows.items c.self.inside.tables.layout c.cpu.inside.0 names (place_in c.self.inside.rows.items c.in_ok-spot.spot.directory) c.in_ok-spot.spot.name.now c.in_ok-spot.spot.inode =
-    c.in_ok-spot.ensures.spot c.self.inside.tables.layout c.self.invariant.1 (g.P.Pmem.region c.self.inside.memory) in
+    c.in_ok-spot.ensures.spot (g.P.Pmem.region c.self.inside.memory) in
     let path = c.in_ok-spot.ensures.path in
-    number_fits c.self.inside.tables.layout (omega (arith, low)) c.self.invariant.1 c.in_ok-spot.spot.inode (unused_is c.self.inside.tables.layout c.self.inside.rows.items c.cpu.inside.0 c.in_ok-spot.spot.inode low (spot path.0 path.1).unused).1
+    can_get c.self.inside.tables.layout c.self.inside.rows.items c.cpu.inside.0 c.in_ok-spot.spot.inode low (spot path.0 path.1).unused
 
 pub create_at-requires-clause-unused : goal.create_at-requires-clause-unused
 create_at-requires-clause-unused g c =
+    let runs : c.self.inside.stopped ≡ false = ap (λ (m : Mount g.row.P.Denot). m.stopped) c.self.view_is ∙ c.in_ok-writable.ensures.runs in
+    let writes : c.self.inside.read_only ≡ false = ap (λ (m : Mount g.row.P.Denot). m.read_only) c.self.view_is ∙ c.in_ok-writable.ensures.writes in
     let low : c.cpu.inside.0 < c.self.inside.tables.layout.sup.cpus = subst (λ (m : Mount g.row.P.Denot). c.cpu.inside.0 < m.sup.cpus) (sym c.self.view_is) c.in_ok-writable.ensures.cpu in
     let spot : (names : List (List ℕ)) → IsPath c.args.path.now names → IsSpot (tree_of (g.P.Pmem.region c.self.inside.memory) c.self.inside.rows.items) c.self.inside.rows.items c.self.inside.tables.layout c.cpu.inside.0 names (place_in c.self.inside.rows.items c.in_ok-spot.spot.directory) c.in_ok-spot.spot.name.now c.in_ok-spot.spot.inode =
-    c.in_ok-spot.ensures.spot c.self.inside.tables.layout c.self.invariant.1 (g.P.Pmem.region c.self.inside.memory) in
+    c.in_ok-spot.ensures.spot (g.P.Pmem.region c.self.inside.memory) in
     let path = c.in_ok-spot.ensures.path in
-    (unused_is c.self.inside.tables.layout c.self.inside.rows.items c.cpu.inside.0 c.in_ok-spot.spot.inode low (spot path.0 path.1).unused).0
+    new_unused c.self.invariant.0 runs writes c.cpu.inside.0 c.in_ok-spot.spot.inode low (spot path.0 path.1).unused
+
+pub create_at-requires-clause-grows : goal.create_at-requires-clause-grows
+create_at-requires-clause-grows g c two =
+    let runs : c.self.inside.stopped ≡ false = ap (λ (m : Mount g.row.P.Denot). m.stopped) c.self.view_is ∙ c.in_ok-writable.ensures.runs in
+    let writes : c.self.inside.read_only ≡ false = ap (λ (m : Mount g.row.P.Denot). m.read_only) c.self.view_is ∙ c.in_ok-writable.ensures.writes in
+    let low : c.cpu.inside.0 < c.self.inside.tables.layout.sup.cpus = subst (λ (m : Mount g.row.P.Denot). c.cpu.inside.0 < m.sup.cpus) (sym c.self.view_is) c.in_ok-writable.ensures.cpu in
+    can_grow c.self.invariant.0 runs writes c.cpu.inside.0 low two
 
 pub create_at-requires-clause-stands : goal.create_at-requires-clause-stands
 create_at-requires-clause-stands g c row at =
@@ -133,10 +145,7 @@ create_at-requires-clause-can g c row at =
     let runs : c.self.inside.stopped ≡ false = ap (λ (m : Mount g.row.P.Denot). m.stopped) c.self.view_is ∙ c.in_ok-writable.ensures.runs in
     let writes : c.self.inside.read_only ≡ false = ap (λ (m : Mount g.row.P.Denot). m.read_only) c.self.view_is ∙ c.in_ok-writable.ensures.writes in
     let low : c.cpu.inside.0 < c.self.inside.tables.layout.sup.cpus = subst (λ (m : Mount g.row.P.Denot). c.cpu.inside.0 < m.sup.cpus) (sym c.self.view_is) c.in_ok-writable.ensures.cpu in
-    let spot : (names : List (List ℕ)) → IsPath c.args.path.now names → IsSpot (tree_of (g.P.Pmem.region c.self.inside.memory) c.self.inside.rows.items) c.self.inside.rows.items c.self.inside.tables.layout c.cpu.inside.0 names (place_in c.self.inside.rows.items c.in_ok-spot.spot.directory) c.in_ok-spot.spot.name.now c.in_ok-spot.spot.inode =
-    c.in_ok-spot.ensures.spot c.self.inside.tables.layout c.self.invariant.1 (g.P.Pmem.region c.self.inside.memory) in
-    let path = c.in_ok-spot.ensures.path in
-    can_name c.self.invariant.0 runs writes c.cpu.inside.0 c.in_ok-spot.spot.inode low (unused_is c.self.inside.tables.layout c.self.inside.rows.items c.cpu.inside.0 c.in_ok-spot.spot.inode low (spot path.0 path.1).unused).1 row
+    can_name_in c.self.invariant.0 runs writes c.cpu.inside.0 low row
     (stands c.self.inside.rows.items (place_in c.self.inside.rows.items c.in_ok-spot.spot.directory) row (at_place c.self.inside.rows.items c.in_ok-spot.spot.directory ∙ at))
 
 pub invariant_of-self : goal.invariant_of-self
@@ -145,31 +154,39 @@ invariant_of-self g c =
     let writes : c.self.inside.read_only ≡ false = ap (λ (m : Mount g.row.P.Denot). m.read_only) c.self.view_is ∙ c.in_ok-writable.ensures.writes in
     let low : c.cpu.inside.0 < c.self.inside.tables.layout.sup.cpus = subst (λ (m : Mount g.row.P.Denot). c.cpu.inside.0 < m.sup.cpus) (sym c.self.view_is) c.in_ok-writable.ensures.cpu in
     let spot : (names : List (List ℕ)) → IsPath c.args.path.now names → IsSpot (tree_of (g.P.Pmem.region c.self.inside.memory) c.self.inside.rows.items) c.self.inside.rows.items c.self.inside.tables.layout c.cpu.inside.0 names (place_in c.self.inside.rows.items c.in_ok-spot.spot.directory) c.in_ok-spot.spot.name.now c.in_ok-spot.spot.inode =
-    c.in_ok-spot.ensures.spot c.self.inside.tables.layout c.self.invariant.1 (g.P.Pmem.region c.self.inside.memory) in
+    c.in_ok-spot.ensures.spot (g.P.Pmem.region c.self.inside.memory) in
     let path = c.in_ok-spot.ensures.path in
-    (created_kept c.self.invariant.0 runs writes c.in-Ok.ensures.created low c.in_ok-spot.ensures.name path.0 (spot path.0 path.1) c.self.inside.stopped, numbers_kept c.create_at.ensures.kept.tables.0 c.create_at.ensures.kept.tables.1 c.self.invariant.1, λ on. c.in-Ok.ensures.kept.settled)
+    (own_sup (created_kept c.self.invariant.0 runs writes c.in-Ok.ensures.created low c.in_ok-spot.ensures.name path.0 (spot path.0 path.1) c.self.inside.stopped), c.create_at.ensures.kept.numbers, λ on. c.in-Ok.ensures.kept.settled)
 
 pub invariant_of-self-in-Err : goal.invariant_of-self-in-Err
 invariant_of-self-in-Err g c =
     let runs : c.self.inside.stopped ≡ false = ap (λ (m : Mount g.row.P.Denot). m.stopped) c.self.view_is ∙ c.in_ok-writable.ensures.runs in
-    let writes : c.self.inside.read_only ≡ false = ap (λ (m : Mount g.row.P.Denot). m.read_only) c.self.view_is ∙ c.in_ok-writable.ensures.writes in (
-      kept_or_stopped g.P.Pmem.region c.self.invariant.0 runs writes c.in-Err.refusal c.is_stop-self-inside.result c.is_stop-self-inside.ensures.yes c.is_stop-self-inside.ensures.no c.create_at.ensures.kept.lists c.in-Err.ensures.kept.unchanged,
-      numbers_kept c.create_at.ensures.kept.tables.0 c.create_at.ensures.kept.tables.1 c.self.invariant.1,
-      settled_or_stopped g.P.Pmem.region g.P.Pmem.may_hold c.in-Err.refusal c.is_stop-self-inside.result c.is_stop-self-inside.ensures.no (λ off. (c.in-Err.ensures.kept.unchanged off).memory) (c.self.invariant.2 runs),
+    let writes : c.self.inside.read_only ≡ false = ap (λ (m : Mount g.row.P.Denot). m.read_only) c.self.view_is ∙ c.in_ok-writable.ensures.writes in
+    let low : c.cpu.inside.0 < c.self.inside.tables.layout.sup.cpus = subst (λ (m : Mount g.row.P.Denot). c.cpu.inside.0 < m.sup.cpus) (sym c.self.view_is) c.in_ok-writable.ensures.cpu in
+    let spot : (names : List (List ℕ)) → IsPath c.args.path.now names → IsSpot (tree_of (g.P.Pmem.region c.self.inside.memory) c.self.inside.rows.items) c.self.inside.rows.items c.self.inside.tables.layout c.cpu.inside.0 names (place_in c.self.inside.rows.items c.in_ok-spot.spot.directory) c.in_ok-spot.spot.name.now c.in_ok-spot.spot.inode =
+    c.in_ok-spot.ensures.spot (g.P.Pmem.region c.self.inside.memory) in
+    let path = c.in_ok-spot.ensures.path in
+    let grew = grew_for (record { memory = c.self.inside.memory; sup = c.self.inside.tables.layout.sup; layout = c.self.inside.tables.layout; rows = c.self.inside.rows.items; free = c.self.inside.free; faults = c.self.inside.faults.items; read_only = c.self.inside.read_only; stopped = c.self.inside.stopped }) c.cpu.inside.0 c.in_ok-spot.spot.inode c.create_at.new.tables.layout low (spot path.0 path.1).unused c.create_at.ensures.kept.grown in (
+      tables_or_stopped g.P.Pmem.region c.self.invariant.0 runs writes c.in-Err.refusal c.is_stop-self-inside.result c.is_stop-self-inside.ensures.yes c.is_stop-self-inside.ensures.no
+          (grown_sup (record { memory = c.self.inside.memory; sup = c.self.inside.tables.layout.sup; layout = c.self.inside.tables.layout; rows = c.self.inside.rows.items; free = c.self.inside.free; faults = c.self.inside.faults.items; read_only = c.self.inside.read_only; stopped = c.self.inside.stopped }) c.cpu.inside.0 c.create_at.new.tables.layout grew) c.create_at.ensures.kept.lists c.in-Err.ensures.kept.unchanged,
+      c.create_at.ensures.kept.numbers,
+      settled_or_stopped g.P.Pmem.region g.P.Pmem.may_hold c.in-Err.refusal c.is_stop-self-inside.result c.is_stop-self-inside.ensures.no (λ off. (let left = c.in-Err.ensures.kept.unchanged off in left.0.memory)) (c.self.invariant.2 runs),
     )
 
 pub returns-in-Ok-clause-allowed : goal.returns-in-Ok-clause-allowed
 returns-in-Ok-clause-allowed g c =
     rw (← c.cpu.view_is) (λ p says.
     let runs : c.self.inside.stopped ≡ false = ap (λ (m : Mount g.row.P.Denot). m.stopped) c.self.view_is ∙ c.in_ok-writable.ensures.runs in
+    let writes : c.self.inside.read_only ≡ false = ap (λ (m : Mount g.row.P.Denot). m.read_only) c.self.view_is ∙ c.in_ok-writable.ensures.writes in
+    let low : c.cpu.inside.0 < c.self.inside.tables.layout.sup.cpus = subst (λ (m : Mount g.row.P.Denot). c.cpu.inside.0 < m.sup.cpus) (sym c.self.view_is) c.in_ok-writable.ensures.cpu in
     let spot : (names : List (List ℕ)) → IsPath c.args.path.now names → IsSpot (tree_of (g.P.Pmem.region c.self.inside.memory) c.self.inside.rows.items) c.self.inside.rows.items c.self.inside.tables.layout c.cpu.inside.0 names (place_in c.self.inside.rows.items c.in_ok-spot.spot.directory) c.in_ok-spot.spot.name.now c.in_ok-spot.spot.inode =
-    c.in_ok-spot.ensures.spot c.self.inside.tables.layout c.self.invariant.1 (g.P.Pmem.region c.self.inside.memory) in
+    c.in_ok-spot.ensures.spot (g.P.Pmem.region c.self.inside.memory) in
     let r = row_in_use c.self.inside.rows.items c.in_ok-spot.spot.directory c.in_ok-spot.ensures.in_use in
     let at : slice_get c.self.inside.rows.items (place_in c.self.inside.rows.items c.in_ok-spot.spot.directory) ≡ Some r.0 = at_place c.self.inside.rows.items c.in_ok-spot.spot.directory ∙ r.1 in
     let numbered = own_row c.self.inside.rows.items c.in_ok-spot.spot.directory r.0 r.1 in
-    let none : first_refusal (spot_tests (tree_of (g.P.Pmem.region c.self.inside.memory) c.self.inside.rows.items) (unused_number c.self.inside.tables.layout c.self.inside.rows.items c.cpu.inside.0) p) ≡ None =
-    c.in_ok-spot.ensures.allowed c.self.inside.tables.layout c.self.invariant.1 (g.P.Pmem.region c.self.inside.memory) p says in
-    create_allowed g.P.Pmem.region c.self.view_is c.cpu.inside.0 c.in_ok-writable.ensures.passed (place_in c.self.inside.rows.items c.in_ok-spot.spot.directory) r.0 at numbered c.in_ok-spot.spot.name.now c.in_ok-spot.spot.inode c.time.inside.0 c.args.path.now spot p says none (c.in-Ok.ensures.enough r.0 r.1)
+    let none : first_refusal (spot_tests (tree_of (g.P.Pmem.region c.self.inside.memory) c.self.inside.rows.items) (new_number c.self.inside.tables.layout c.self.inside.rows.items c.cpu.inside.0) p) ≡ None =
+    c.in_ok-spot.ensures.allowed (g.P.Pmem.region c.self.inside.memory) p says in
+    create_allowed g.P.Pmem.region c.self.view_is c.cpu.inside.0 c.in_ok-writable.ensures.passed (place_in c.self.inside.rows.items c.in_ok-spot.spot.directory) r.0 at numbered c.in_ok-spot.spot.name.now c.in_ok-spot.spot.inode c.time.inside.0 c.args.path.now spot p says none (let path = c.in_ok-spot.ensures.path in growth_is c.self.invariant.0 runs writes c.cpu.inside.0 c.in_ok-spot.spot.inode low (spot path.0 path.1).unused) (c.in-Ok.ensures.enough r.0 r.1)
     )
 
 pub returns-in-Ok-clause-changed : goal.returns-in-Ok-clause-changed
@@ -179,10 +196,27 @@ returns-in-Ok-clause-changed g c =
     let writes : c.self.inside.read_only ≡ false = ap (λ (m : Mount g.row.P.Denot). m.read_only) c.self.view_is ∙ c.in_ok-writable.ensures.writes in
     let low : c.cpu.inside.0 < c.self.inside.tables.layout.sup.cpus = subst (λ (m : Mount g.row.P.Denot). c.cpu.inside.0 < m.sup.cpus) (sym c.self.view_is) c.in_ok-writable.ensures.cpu in
     let spot : (names : List (List ℕ)) → IsPath c.args.path.now names → IsSpot (tree_of (g.P.Pmem.region c.self.inside.memory) c.self.inside.rows.items) c.self.inside.rows.items c.self.inside.tables.layout c.cpu.inside.0 names (place_in c.self.inside.rows.items c.in_ok-spot.spot.directory) c.in_ok-spot.spot.name.now c.in_ok-spot.spot.inode =
-    c.in_ok-spot.ensures.spot c.self.inside.tables.layout c.self.invariant.1 (g.P.Pmem.region c.self.inside.memory) in
-    subst (λ (m : Mount g.row.P.Denot). SameTree (tree_of (g.P.Pmem.region c.create_at.new.memory) c.create_at.new.rows.items) (created c.args.kind (unused_number m.layout m.rows c.cpu.inside.0) names c.args.mode c.time.inside.0 (tree_of (g.P.Pmem.region m.memory) m.rows))) c.self.view_is
+    c.in_ok-spot.ensures.spot (g.P.Pmem.region c.self.inside.memory) in
+    subst (λ (m : Mount g.row.P.Denot). SameTree (tree_of (g.P.Pmem.region c.create_at.new.memory) c.create_at.new.rows.items) (created c.args.kind (new_number m.layout m.rows c.cpu.inside.0) names c.args.mode c.time.inside.0 (tree_of (g.P.Pmem.region m.memory) m.rows))) c.self.view_is
     (created_tree c.self.invariant.0 runs writes c.in-Ok.ensures.created low c.in_ok-spot.ensures.name names (spot names path))
     )
+
+pub returns-in-Ok-clause-tables : goal.returns-in-Ok-clause-tables
+returns-in-Ok-clause-tables g c =
+    rw (← c.cpu.view_is) (
+    let spot : (names : List (List ℕ)) → IsPath c.args.path.now names → IsSpot (tree_of (g.P.Pmem.region c.self.inside.memory) c.self.inside.rows.items) c.self.inside.rows.items c.self.inside.tables.layout c.cpu.inside.0 names (place_in c.self.inside.rows.items c.in_ok-spot.spot.directory) c.in_ok-spot.spot.name.now c.in_ok-spot.spot.inode =
+    c.in_ok-spot.ensures.spot (g.P.Pmem.region c.self.inside.memory) in
+    let path = c.in_ok-spot.ensures.path in
+    let grown = c.in-Ok.ensures.created in
+    subst (λ (m : Mount g.row.P.Denot). IsLaidFor m.layout c.cpu.inside.0 (new_number m.layout m.rows c.cpu.inside.0) c.create_at.new.tables.layout) c.self.view_is
+    (laid_for c.self.inside.rows.items (spot path.0 path.1).unused grown.got)
+    )
+
+pub returns-in_err-writable-clause-tables : goal.returns-in_err-writable-clause-tables
+returns-in_err-writable-clause-tables g c = IfOk-from_err c.from_residual.result _ c.from_residual.ensures.0
+
+pub returns-in_err-spot-clause-tables : goal.returns-in_err-spot-clause-tables
+returns-in_err-spot-clause-tables g c = IfOk-from_err c.from_residual-in_err-spot.result _ c.from_residual-in_err-spot.ensures.0
 
 pub returns-in-Ok-clause-log : goal.returns-in-Ok-clause-log
 returns-in-Ok-clause-log g c =
@@ -191,8 +225,8 @@ returns-in-Ok-clause-log g c =
     let writes : c.self.inside.read_only ≡ false = ap (λ (m : Mount g.row.P.Denot). m.read_only) c.self.view_is ∙ c.in_ok-writable.ensures.writes in
     let low : c.cpu.inside.0 < c.self.inside.tables.layout.sup.cpus = subst (λ (m : Mount g.row.P.Denot). c.cpu.inside.0 < m.sup.cpus) (sym c.self.view_is) c.in_ok-writable.ensures.cpu in
     let spot : (names : List (List ℕ)) → IsPath c.args.path.now names → IsSpot (tree_of (g.P.Pmem.region c.self.inside.memory) c.self.inside.rows.items) c.self.inside.rows.items c.self.inside.tables.layout c.cpu.inside.0 names (place_in c.self.inside.rows.items c.in_ok-spot.spot.directory) c.in_ok-spot.spot.name.now c.in_ok-spot.spot.inode =
-    c.in_ok-spot.ensures.spot c.self.inside.tables.layout c.self.invariant.1 (g.P.Pmem.region c.self.inside.memory) in
-    subst (λ (m : Mount g.row.P.Denot). walk (tree_of (g.P.Pmem.region m.memory) m.rows) 1 names ≡ Ok d → unused_number m.layout m.rows c.cpu.inside.0 ≡ Some j → ShowsSound (g.P.Pmem.region m.memory) m.layout held → ShowsCreated (g.P.Pmem.region c.create_at.new.memory) m.layout m.free.pools c.cpu.inside.0 held c.args.kind c.args.mode c.time.inside.0 j d h (last_name names)) c.self.view_is
+    c.in_ok-spot.ensures.spot (g.P.Pmem.region c.self.inside.memory) in
+    subst (λ (m : Mount g.row.P.Denot). walk (tree_of (g.P.Pmem.region m.memory) m.rows) 1 names ≡ Ok d → new_number m.layout m.rows c.cpu.inside.0 ≡ Some j → ShowsSound (g.P.Pmem.region m.memory) m.layout held → ShowsCreated (g.P.Pmem.region c.create_at.new.memory) m.layout m.free.pools c.cpu.inside.0 held c.args.kind c.args.mode c.time.inside.0 j d h (last_name names)) c.self.view_is
     (λ walked free_number shown. created_log c.self.invariant.0 runs writes c.in-Ok.ensures.created low c.in_ok-spot.ensures.name names (spot names path) d j held h walked free_number shown is) led number sound
     )
 
@@ -200,24 +234,31 @@ pub returns-in-Err-clause-refused : goal.returns-in-Err-clause-refused
 returns-in-Err-clause-refused g c =
     rw (← c.cpu.view_is) (λ still p says.
     let runs : c.self.inside.stopped ≡ false = ap (λ (m : Mount g.row.P.Denot). m.stopped) c.self.view_is ∙ c.in_ok-writable.ensures.runs in
+    let writes : c.self.inside.read_only ≡ false = ap (λ (m : Mount g.row.P.Denot). m.read_only) c.self.view_is ∙ c.in_ok-writable.ensures.writes in
+    let low : c.cpu.inside.0 < c.self.inside.tables.layout.sup.cpus = subst (λ (m : Mount g.row.P.Denot). c.cpu.inside.0 < m.sup.cpus) (sym c.self.view_is) c.in_ok-writable.ensures.cpu in
     let spot : (names : List (List ℕ)) → IsPath c.args.path.now names → IsSpot (tree_of (g.P.Pmem.region c.self.inside.memory) c.self.inside.rows.items) c.self.inside.rows.items c.self.inside.tables.layout c.cpu.inside.0 names (place_in c.self.inside.rows.items c.in_ok-spot.spot.directory) c.in_ok-spot.spot.name.now c.in_ok-spot.spot.inode =
-    c.in_ok-spot.ensures.spot c.self.inside.tables.layout c.self.invariant.1 (g.P.Pmem.region c.self.inside.memory) in
+    c.in_ok-spot.ensures.spot (g.P.Pmem.region c.self.inside.memory) in
     let r = row_in_use c.self.inside.rows.items c.in_ok-spot.spot.directory c.in_ok-spot.ensures.in_use in
     let at : slice_get c.self.inside.rows.items (place_in c.self.inside.rows.items c.in_ok-spot.spot.directory) ≡ Some r.0 = at_place c.self.inside.rows.items c.in_ok-spot.spot.directory ∙ r.1 in
     let numbered = own_row c.self.inside.rows.items c.in_ok-spot.spot.directory r.0 r.1 in
-    let none : first_refusal (spot_tests (tree_of (g.P.Pmem.region c.self.inside.memory) c.self.inside.rows.items) (unused_number c.self.inside.tables.layout c.self.inside.rows.items c.cpu.inside.0) p) ≡ None =
-    c.in_ok-spot.ensures.allowed c.self.inside.tables.layout c.self.invariant.1 (g.P.Pmem.region c.self.inside.memory) p says in
-    create_refused g.P.Pmem.region c.self.view_is c.cpu.inside.0 c.in_ok-writable.ensures.passed (place_in c.self.inside.rows.items c.in_ok-spot.spot.directory) r.0 at numbered c.in_ok-spot.spot.name.now c.in_ok-spot.spot.inode c.time.inside.0 c.args.path.now spot p says none c.in-Err.refusal (c.in-Err.ensures.refused r.0 r.1)
+    let none : first_refusal (spot_tests (tree_of (g.P.Pmem.region c.self.inside.memory) c.self.inside.rows.items) (new_number c.self.inside.tables.layout c.self.inside.rows.items c.cpu.inside.0) p) ≡ None =
+    c.in_ok-spot.ensures.allowed (g.P.Pmem.region c.self.inside.memory) p says in
+    create_refused g.P.Pmem.region c.self.view_is c.cpu.inside.0 c.in_ok-writable.ensures.passed (place_in c.self.inside.rows.items c.in_ok-spot.spot.directory) r.0 at numbered c.in_ok-spot.spot.name.now c.in_ok-spot.spot.inode c.time.inside.0 c.args.path.now spot p says none (let path = c.in_ok-spot.ensures.path in growth_is c.self.invariant.0 runs writes c.cpu.inside.0 c.in_ok-spot.spot.inode low (spot path.0 path.1).unused) c.in-Err.refusal (c.in-Err.ensures.refused r.0 r.1)
     )
 
 pub returns-in-Err-clause-call : goal.returns-in-Err-clause-call
 returns-in-Err-clause-call g c =
     let runs : c.self.inside.stopped ≡ false = ap (λ (m : Mount g.row.P.Denot). m.stopped) c.self.view_is ∙ c.in_ok-writable.ensures.runs in
     let writes : c.self.inside.read_only ≡ false = ap (λ (m : Mount g.row.P.Denot). m.read_only) c.self.view_is ∙ c.in_ok-writable.ensures.writes in
+    let low : c.cpu.inside.0 < c.self.inside.tables.layout.sup.cpus = subst (λ (m : Mount g.row.P.Denot). c.cpu.inside.0 < m.sup.cpus) (sym c.self.view_is) c.in_ok-writable.ensures.cpu in
+    let spot : (names : List (List ℕ)) → IsPath c.args.path.now names → IsSpot (tree_of (g.P.Pmem.region c.self.inside.memory) c.self.inside.rows.items) c.self.inside.rows.items c.self.inside.tables.layout c.cpu.inside.0 names (place_in c.self.inside.rows.items c.in_ok-spot.spot.directory) c.in_ok-spot.spot.name.now c.in_ok-spot.spot.inode =
+    c.in_ok-spot.ensures.spot (g.P.Pmem.region c.self.inside.memory) in
+    let path = c.in_ok-spot.ensures.path in
+    let grew = grew_for (record { memory = c.self.inside.memory; sup = c.self.inside.tables.layout.sup; layout = c.self.inside.tables.layout; rows = c.self.inside.rows.items; free = c.self.inside.free; faults = c.self.inside.faults.items; read_only = c.self.inside.read_only; stopped = c.self.inside.stopped }) c.cpu.inside.0 c.in_ok-spot.spot.inode c.create_at.new.tables.layout low (spot path.0 path.1).unused c.create_at.ensures.kept.grown in
     record {
       of_path = record {
-        call = refused_late g.P.Pmem.region g.P.Pmem.fuse c.self.view_is c.create_at.new.memory c.create_at.new.rows.items c.create_at.new.free runs writes c.in-Err.refusal c.is_stop-self-inside.result c.is_stop-self-inside.ensures.yes c.is_stop-self-inside.ensures.no c.in-Err.ensures.kept.keeps
-            (λ off. unchanged_rows c.self.view_is c.create_at.new.memory c.create_at.new.rows.items c.create_at.new.free c.is_stop-self-inside.result runs (not_stop c.in-Err.refusal c.is_stop-self-inside.result c.is_stop-self-inside.ensures.yes off) (c.in-Err.ensures.kept.unchanged off));
+        call = rw (← c.cpu.view_is) (grown_refused g.P.Pmem.region g.P.Pmem.fuse c.cpu.inside.0 c.self.view_is c.create_at.new.memory c.create_at.new.tables.layout c.create_at.new.rows.items c.create_at.new.free runs writes refl grew c.in-Err.refusal c.is_stop-self-inside.result c.is_stop-self-inside.ensures.yes c.is_stop-self-inside.ensures.no c.in-Err.ensures.kept.keeps
+            (λ off. unchanged_tables c.self.view_is refl c.create_at.new.memory c.create_at.new.tables.layout c.create_at.new.rows.items c.create_at.new.free c.is_stop-self-inside.result runs (not_stop c.in-Err.refusal c.is_stop-self-inside.result c.is_stop-self-inside.ensures.yes off) (c.in-Err.ensures.kept.unchanged off)));
         bad_text = λ bad. absurd (let path = c.in_ok-spot.ensures.path in bad path.0 path.1);
       };
       settled = tt;
@@ -229,11 +270,11 @@ returns-in-Err-clause-stores g c =
       journals = tt;
       wrote = rw (← c.cpu.view_is) (λ names d j held path ended number sound.
           create_stored g.P.Pmem.region c.self.view_is c.self.invariant.0 c.in_ok-writable.ensures.runs (g.P.Pmem.region c.create_at.new.memory) c.cpu.inside.0 c.in_ok-writable.ensures.writes c.in_ok-spot.spot.directory c.in_ok-spot.spot.inode c.in_ok-spot.ensures.in_use c.in_ok-writable.ensures.cpu
-          c.in_ok-spot.spot.name.now names (c.in_ok-spot.ensures.spot c.self.inside.tables.layout c.self.invariant.1 (g.P.Pmem.region c.self.inside.memory) names path) c.create_at.ensures.wrote d j held ended number sound
+          c.in_ok-spot.spot.name.now names (c.in_ok-spot.ensures.spot (g.P.Pmem.region c.self.inside.memory) names path) c.create_at.ensures.wrote d j held ended number sound
           );
       in_order = rw (← c.cpu.view_is) (λ names d j path ended number.
           create_ordered g.P.Pmem.region c.self.view_is c.self.invariant.0 c.in_ok-writable.ensures.runs (g.P.Pmem.region c.create_at.new.memory) c.cpu.inside.0 c.in_ok-writable.ensures.writes c.in_ok-spot.spot.directory c.in_ok-spot.spot.inode c.in_ok-spot.ensures.in_use c.in_ok-writable.ensures.cpu
-          c.in_ok-spot.spot.name.now names (c.in_ok-spot.ensures.spot c.self.inside.tables.layout c.self.invariant.1 (g.P.Pmem.region c.self.inside.memory) names path) c.create_at.ensures.in_order d j ended number
+          c.in_ok-spot.spot.name.now names (c.in_ok-spot.ensures.spot (g.P.Pmem.region c.self.inside.memory) names path) c.create_at.new.tables.layout c.create_at.ensures.in_order d j ended number
           );
     }
 
@@ -259,9 +300,14 @@ pub returns-in-Ok-clause-call : goal.returns-in-Ok-clause-call
 returns-in-Ok-clause-call g c =
     let runs : c.self.inside.stopped ≡ false = ap (λ (m : Mount g.row.P.Denot). m.stopped) c.self.view_is ∙ c.in_ok-writable.ensures.runs in
     let writes : c.self.inside.read_only ≡ false = ap (λ (m : Mount g.row.P.Denot). m.read_only) c.self.view_is ∙ c.in_ok-writable.ensures.writes in
+    let low : c.cpu.inside.0 < c.self.inside.tables.layout.sup.cpus = subst (λ (m : Mount g.row.P.Denot). c.cpu.inside.0 < m.sup.cpus) (sym c.self.view_is) c.in_ok-writable.ensures.cpu in
+    let spot : (names : List (List ℕ)) → IsPath c.args.path.now names → IsSpot (tree_of (g.P.Pmem.region c.self.inside.memory) c.self.inside.rows.items) c.self.inside.rows.items c.self.inside.tables.layout c.cpu.inside.0 names (place_in c.self.inside.rows.items c.in_ok-spot.spot.directory) c.in_ok-spot.spot.name.now c.in_ok-spot.spot.inode =
+    c.in_ok-spot.ensures.spot (g.P.Pmem.region c.self.inside.memory) in
+    let path = c.in_ok-spot.ensures.path in
+    let grew = grew_for (record { memory = c.self.inside.memory; sup = c.self.inside.tables.layout.sup; layout = c.self.inside.tables.layout; rows = c.self.inside.rows.items; free = c.self.inside.free; faults = c.self.inside.faults.items; read_only = c.self.inside.read_only; stopped = c.self.inside.stopped }) c.cpu.inside.0 c.in_ok-spot.spot.inode c.create_at.new.tables.layout low (spot path.0 path.1).unused c.create_at.ensures.kept.grown in
     record {
       of_path = record {
-        call = call_done g.P.Pmem.region g.P.Pmem.fuse c.self.view_is c.create_at.new.memory c.create_at.new.rows.items c.create_at.new.free runs writes _ _ c.in-Ok.ensures.kept.keeps;
+        call = rw (← c.cpu.view_is) (grown_done g.P.Pmem.region g.P.Pmem.fuse c.cpu.inside.0 c.self.view_is c.create_at.new.memory c.create_at.new.tables.layout c.create_at.new.rows.items c.create_at.new.free runs writes refl grew _ _ c.in-Ok.ensures.kept.keeps);
         bad_text = λ bad. absurd (let path = c.in_ok-spot.ensures.path in bad path.0 path.1);
       };
       settled = c.in-Ok.ensures.kept.settled;
@@ -275,18 +321,18 @@ returns-in-Ok-clause-stores g c =
           let writes : c.self.inside.read_only ≡ false = ap (λ (m : Mount g.row.P.Denot). m.read_only) c.self.view_is ∙ c.in_ok-writable.ensures.writes in
           let low : c.cpu.inside.0 < c.self.inside.tables.layout.sup.cpus = subst (λ (m : Mount g.row.P.Denot). c.cpu.inside.0 < m.sup.cpus) (sym c.self.view_is) c.in_ok-writable.ensures.cpu in
           let spot : (names : List (List ℕ)) → IsPath c.args.path.now names → IsSpot (tree_of (g.P.Pmem.region c.self.inside.memory) c.self.inside.rows.items) c.self.inside.rows.items c.self.inside.tables.layout c.cpu.inside.0 names (place_in c.self.inside.rows.items c.in_ok-spot.spot.directory) c.in_ok-spot.spot.name.now c.in_ok-spot.spot.inode =
-          c.in_ok-spot.ensures.spot c.self.inside.tables.layout c.self.invariant.1 (g.P.Pmem.region c.self.inside.memory) in
+          c.in_ok-spot.ensures.spot (g.P.Pmem.region c.self.inside.memory) in
           let path = c.in_ok-spot.ensures.path in
           subst (λ (m : Mount g.row.P.Denot). SameFrontBut m.sup.cpus c.cpu.inside.0 (g.P.Pmem.region m.memory) (g.P.Pmem.region c.create_at.new.memory)) c.self.view_is
-          (created_front c.self.invariant.0 runs writes c.in-Ok.ensures.created (unused_is c.self.inside.tables.layout c.self.inside.rows.items c.cpu.inside.0 c.in_ok-spot.spot.inode low (spot path.0 path.1).unused).0)
+          (created_front c.self.invariant.0 runs writes c.in-Ok.ensures.created low (new_unused c.self.invariant.0 runs writes c.cpu.inside.0 c.in_ok-spot.spot.inode low (spot path.0 path.1).unused) c.create_at.ensures.kept.length)
           );
       wrote = rw (← c.cpu.view_is) (λ names d j held path ended number sound.
           create_stored g.P.Pmem.region c.self.view_is c.self.invariant.0 c.in_ok-writable.ensures.runs (g.P.Pmem.region c.create_at.new.memory) c.cpu.inside.0 c.in_ok-writable.ensures.writes c.in_ok-spot.spot.directory c.in_ok-spot.spot.inode c.in_ok-spot.ensures.in_use c.in_ok-writable.ensures.cpu
-          c.in_ok-spot.spot.name.now names (c.in_ok-spot.ensures.spot c.self.inside.tables.layout c.self.invariant.1 (g.P.Pmem.region c.self.inside.memory) names path) c.create_at.ensures.wrote d j held ended number sound
+          c.in_ok-spot.spot.name.now names (c.in_ok-spot.ensures.spot (g.P.Pmem.region c.self.inside.memory) names path) c.create_at.ensures.wrote d j held ended number sound
           );
       in_order = rw (← c.cpu.view_is) (λ names d j path ended number.
           create_ordered g.P.Pmem.region c.self.view_is c.self.invariant.0 c.in_ok-writable.ensures.runs (g.P.Pmem.region c.create_at.new.memory) c.cpu.inside.0 c.in_ok-writable.ensures.writes c.in_ok-spot.spot.directory c.in_ok-spot.spot.inode c.in_ok-spot.ensures.in_use c.in_ok-writable.ensures.cpu
-          c.in_ok-spot.spot.name.now names (c.in_ok-spot.ensures.spot c.self.inside.tables.layout c.self.invariant.1 (g.P.Pmem.region c.self.inside.memory) names path) c.create_at.ensures.in_order d j ended number
+          c.in_ok-spot.spot.name.now names (c.in_ok-spot.ensures.spot (g.P.Pmem.region c.self.inside.memory) names path) c.create_at.new.tables.layout c.create_at.ensures.in_order d j ended number
           );
     }
 
@@ -306,10 +352,10 @@ pub returns-in-Err-clause-log : goal.returns-in-Err-clause-log
 returns-in-Err-clause-log g c names d j held h path led number sound is = tt
 
 pub returns-in_err-writable-clause-any_stop : goal.returns-in_err-writable-clause-any_stop
-returns-in_err-writable-clause-any_stop g c names path on able = call_stays g.P.Pmem.region c.args.self.now (makes_inode c.args.kind c.args.cpu c.args.mode c.args.time) (logs_inode c.args.kind c.args.cpu c.args.mode c.args.time) names c.in_err-writable.ensures.kept on able _ (c.in_err-writable.ensures.settled on)
+returns-in_err-writable-clause-any_stop g c names path on able left may = still_grows (makes_inode c.args.kind c.args.cpu c.args.mode c.args.time) (logs_inode c.args.kind c.args.cpu c.args.mode c.args.time) c.args.self.now (call_stays g.P.Pmem.region c.args.self.now (makes_inode c.args.kind c.args.cpu c.args.mode c.args.time) (logs_inode c.args.kind c.args.cpu c.args.mode c.args.time) names c.in_err-writable.ensures.kept on able _ (c.in_err-writable.ensures.settled on) left may)
 
 pub returns-in_err-spot-clause-any_stop : goal.returns-in_err-spot-clause-any_stop
-returns-in_err-spot-clause-any_stop g c names path on able = call_stays g.P.Pmem.region c.args.self.now (makes_inode c.args.kind c.args.cpu c.args.mode c.args.time) (logs_inode c.args.kind c.args.cpu c.args.mode c.args.time) names c.in_ok-writable.ensures.kept on able _ (c.in_ok-writable.ensures.settled on)
+returns-in_err-spot-clause-any_stop g c names path on able left may = still_grows (makes_inode c.args.kind c.args.cpu c.args.mode c.args.time) (logs_inode c.args.kind c.args.cpu c.args.mode c.args.time) c.args.self.now (call_stays g.P.Pmem.region c.args.self.now (makes_inode c.args.kind c.args.cpu c.args.mode c.args.time) (logs_inode c.args.kind c.args.cpu c.args.mode c.args.time) names c.in_ok-writable.ensures.kept on able _ (c.in_ok-writable.ensures.settled on) left may)
 
 pub returns-in-Ok-clause-any_stop : goal.returns-in-Ok-clause-any_stop
 returns-in-Ok-clause-any_stop g c =
@@ -318,7 +364,7 @@ returns-in-Ok-clause-any_stop g c =
     let writes : c.self.inside.read_only ≡ false = ap (λ (m : Mount g.row.P.Denot). m.read_only) c.self.view_is ∙ c.in_ok-writable.ensures.writes in
     let low : c.cpu.inside.0 < c.self.inside.tables.layout.sup.cpus = subst (λ (m : Mount g.row.P.Denot). c.cpu.inside.0 < m.sup.cpus) (sym c.self.view_is) c.in_ok-writable.ensures.cpu in
     let spot : IsSpot (tree_of (g.P.Pmem.region c.self.inside.memory) c.self.inside.rows.items) c.self.inside.rows.items c.self.inside.tables.layout c.cpu.inside.0 names (place_in c.self.inside.rows.items c.in_ok-spot.spot.directory) c.in_ok-spot.spot.name.now c.in_ok-spot.spot.inode =
-    c.in_ok-spot.ensures.spot c.self.inside.tables.layout c.self.invariant.1 (g.P.Pmem.region c.self.inside.memory) names path in
+    c.in_ok-spot.ensures.spot (g.P.Pmem.region c.self.inside.memory) names path in
     let r = row_in_use c.self.inside.rows.items c.in_ok-spot.spot.directory c.in_ok-spot.ensures.in_use in
     let at : slice_get c.self.inside.rows.items (place_in c.self.inside.rows.items c.in_ok-spot.spot.directory) ≡ Some r.0 = at_place c.self.inside.rows.items c.in_ok-spot.spot.directory ∙ r.1 in
     create_left g.P.Pmem.region c.self.view_is c.self.invariant.0 runs writes (place_in c.self.inside.rows.items c.in_ok-spot.spot.directory) r.0 at c.args.kind c.args.mode c.time.inside.0 c.in_ok-spot.spot.inode c.in_ok-spot.spot.name.now c.cpu.inside.0 low c.in_ok-spot.ensures.name names spot _ _ _
@@ -332,7 +378,7 @@ returns-in-Err-clause-any_stop g c =
     let writes : c.self.inside.read_only ≡ false = ap (λ (m : Mount g.row.P.Denot). m.read_only) c.self.view_is ∙ c.in_ok-writable.ensures.writes in
     let low : c.cpu.inside.0 < c.self.inside.tables.layout.sup.cpus = subst (λ (m : Mount g.row.P.Denot). c.cpu.inside.0 < m.sup.cpus) (sym c.self.view_is) c.in_ok-writable.ensures.cpu in
     let spot : IsSpot (tree_of (g.P.Pmem.region c.self.inside.memory) c.self.inside.rows.items) c.self.inside.rows.items c.self.inside.tables.layout c.cpu.inside.0 names (place_in c.self.inside.rows.items c.in_ok-spot.spot.directory) c.in_ok-spot.spot.name.now c.in_ok-spot.spot.inode =
-    c.in_ok-spot.ensures.spot c.self.inside.tables.layout c.self.invariant.1 (g.P.Pmem.region c.self.inside.memory) names path in
+    c.in_ok-spot.ensures.spot (g.P.Pmem.region c.self.inside.memory) names path in
     let r = row_in_use c.self.inside.rows.items c.in_ok-spot.spot.directory c.in_ok-spot.ensures.in_use in
     let at : slice_get c.self.inside.rows.items (place_in c.self.inside.rows.items c.in_ok-spot.spot.directory) ≡ Some r.0 = at_place c.self.inside.rows.items c.in_ok-spot.spot.directory ∙ r.1 in
     create_left g.P.Pmem.region c.self.view_is c.self.invariant.0 runs writes (place_in c.self.inside.rows.items c.in_ok-spot.spot.directory) r.0 at c.args.kind c.args.mode c.time.inside.0 c.in_ok-spot.spot.inode c.in_ok-spot.spot.name.now c.cpu.inside.0 low c.in_ok-spot.ensures.name names spot _ _ _

@@ -21,3 +21,6 @@ returns-clause-log g c = c.make.ensures.log
 
 pub returns-clause-any_stop : goal.returns-clause-any_stop
 returns-clause-any_stop g c = c.make.ensures.any_stop
+
+pub returns-clause-tables : goal.returns-clause-tables
+returns-clause-tables g c = c.make.ensures.tables
