@@ -2,6 +2,8 @@
 -- keep as a table grows.
 use Rattle.std.proofs.Common.{◌≡◌, ◌⊎◌, inl, inr, ℕ, ◌+◌, ◌*◌, ◌<◌, ◌≤◌, ◌^◌, Bool, true, false, cond, List, set, get_or, Option, Some, None, is_some, refl, ap, sym, ◌∙◌, subst, arith, IsTrue}
 use Rattle.nv_region.specs.Region.{Region}
+use Rattle.nv_region.specs.Stops.{Choices, LeavesOnly, NothingPending}
+use Rattle.nv_region.proofs.Stops.{fenced_leaves}
 use Rattle.nv_super.specs.declared.superblock.Super.{Super}
 use Rattle.nv_super.specs.declared.kind.Kind.{Kind}
 use Rattle.nv_super.specs.Layout.{Layout, slot_of}
@@ -13,13 +15,17 @@ use Rattle.nv_inode.proofs.NumberEnds.{size_small}
 use Rattle.nv_alloc.specs.FreeValue.{FreeLists}
 use Rattle.nv_scan.specs.declared.piece.Row.{Row}
 use Rattle.nv_rows.specs.RowList.{HasNumbersOf, HasSpace, RowList}
+use Rattle.nv_rows.specs.Unused.{IsTableNumber}
 use Rattle.nv_rows.proofs.NewSets.{size_of}
+use Rattle.nv_rows.proofs.UsedRows.{number_by}
 use Rattle.nv_mounted.specs.Held.{Store}
+use Rattle.nv_mounted.specs.Mounted.{ShowsSound}
 use Rattle.nv_commit.specs.Stopped.{LeavesEither}
+use Rattle.nv_commit.proofs.Left.{itself_recovers}
 use Rattle.nv_steps.specs.GrownTables.{LeavesGrown, MayGrow, grown_more}
 use Rattle.nv_steps.specs.Stopped.{Named}
 use Rattle.nv_steps.specs.Stores.{one_more}
-use Rattle.nv_calls.specs.Growing.{CanGetSlot, LeavesCreated, create_places, grown_blocks}
+use Rattle.nv_calls.specs.Growing.{CanGetSlot, GetsNext, LeavesCreated, create_places, grown_blocks}
 
 -- ---- by the slot
 
@@ -31,12 +37,12 @@ none_of : {A : Type 0} (o : Option A) → is_some o ≡ false → o ≡ None
 none_of None off = refl
 none_of (Some a) off = absurd (let clash : true ≡ false = off in cc)
 
-pub no_slot : {l : Layout} {cpu j : ℕ} {o : Option ℕ} {is : Bool} → CanGetSlot l cpu j → slot_of l j ≡ o → is ≡ is_some o → is ≡ false → (l.sup.version ≡ 2) × (j ≡ next_number l cpu) × (slot_of l j ≡ None)
-no_slot {l} {cpu} {j} {o} {is} can address told off =
+pub no_slot : {R : Region} {l : Layout} {free : FreeLists} {cpu j : ℕ} {o : Option ℕ} {is : Bool} → CanGetSlot R l free cpu j → slot_of l j ≡ o → is ≡ is_some o → is ≡ false → GetsNext R l free cpu j × (slot_of l j ≡ None)
+no_slot {l = l} {j = j} can address told off =
     let none : slot_of l j ≡ None = none_of (slot_of l j) (ap is_some address ∙ sym told ∙ off) in
     elim can [
       | inl has ↦ absurd (let clash : true ≡ false = sym has ∙ ap is_some none in cc)
-      | inr w ↦ (w.0, w.1, none)
+      | inr next ↦ (next, none)
     ]
 
 pub blocks_none : (l : Layout) (j n : ℕ) → IsTrue (has_slot l j) → grown_blocks l j + n ≡ n
@@ -61,6 +67,12 @@ pub left_after_growth : {R : Region} {l : Layout} {free : FreeLists} {cpu : ℕ}
 left_after_growth row kind mode time j name left (inl w) = inl w
 left_after_growth row kind mode time j name left (inr w) = inr (w.0, w.1, w.2, inr w.3, w.4)
 
+-- a stop where nothing was stored and nothing was pending
+pub left_as_was : {R : Region} {l : Layout} {free : FreeLists} {cpu : ℕ} {held : Store} {choices : Choices} (row : Row) (kind : Kind) (mode time j : ℕ) (name : List ℕ) → ShowsSound R l held → NothingPending R choices
+    → LeavesOnly R choices (LeavesCreated R l free cpu held row kind mode time j name)
+left_as_was {R} {l} {free} {cpu} {held} {choices} row kind mode time j name sound settled =
+    fenced_leaves R choices (LeavesCreated R l free cpu held row kind mode time j name) settled (inl (itself_recovers R l held sound))
+
 -- ---- the rows
 
 pub space_kept : {old new : RowList} (cpu : ℕ) → new.sizes ≡ old.sizes → new.space ≡ old.space → HasSpace old cpu → HasSpace new cpu
@@ -68,6 +80,11 @@ space_kept {old} {new} cpu sizes space has =
     let one = ap (λ (all : List ℕ). get_or all cpu 0) sizes in
     let two = ap (λ (all : List ℕ). get_or all cpu 0) space in
     omega (arith, one, two, has)
+
+-- a number that has a slot is one of the rows' tables
+pub fits_table : {l : Layout} {rows : RowList} {j : ℕ} → IsLaid l → HasNumbersOf l rows → IsTrue (has_slot l j) → IsTableNumber rows.sup.cpus rows.sizes j
+fits_table {l} {rows} {j} laid numbers has =
+    subst (λ (s : Super). IsTableNumber s.cpus rows.sizes j) (sym numbers.sup) (subst (λ (sizes : List ℕ). IsTableNumber l.sup.cpus sizes j) (sym numbers.sizes) (number_by l laid j has))
 
 -- the size of a table among the rows
 size_told : {l : Layout} {rows : RowList} (cpu : ℕ) → cpu < l.sup.cpus → HasNumbersOf l rows → get_or rows.sizes cpu 0 ≡ table_size l cpu

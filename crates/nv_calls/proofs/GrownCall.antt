@@ -16,7 +16,7 @@ use Rattle.nv_calls.specs.AtPlaces.{LeavesRows}
 use Rattle.nv_calls.specs.Keeping.{KeepsCall, KeepsCallBy}
 use Rattle.nv_calls.specs.Mount.{IsKept, Mount}
 use Rattle.nv_calls.specs.Growing.{GotSlot}
-use Rattle.nv_calls.specs.Same.{GrowsMount, IsLaidFor, MayGrow, SameMount}
+use Rattle.nv_calls.specs.Same.{GrowsMount, IsLaidFor, GrowsWhereFull, SameMount}
 use Rattle.nv_calls.proofs.CreateCall.{kept_or_stopped, unchanged_rows}
 use Rattle.nv_calls.proofs.Early.{good_reply}
 use Rattle.nv_calls.proofs.Mounts.{kept_when_stopped}
@@ -37,11 +37,11 @@ may_grow cpu kept = record {
 
 -- how the tables of a mount have grown for a new number
 pub grew_for : {P : Type 0} (n : Mount P) (cpu j : ℕ) (laid : Layout) → cpu < n.layout.sup.cpus → new_number n.layout n.rows cpu ≡ Some j
-    → (laid ≡ n.layout) ⊎ ((slot_of n.layout j ≡ None) × ((b : ℕ) × (laid ≡ with_block n.layout cpu b))) → MayGrow n cpu laid
+    → (laid ≡ n.layout) ⊎ ((slot_of n.layout j ≡ None) × ((b : ℕ) × (laid ≡ with_block n.layout cpu b))) → GrowsWhereFull n cpu laid
 grew_for n cpu j laid low number (inl same) = inl same
 grew_for n cpu j laid low number (inr w) = (let from = grows_for n.layout n.rows cpu j low number w.0 in inr (from.0, from.1, w.1.0, w.1.1))
 
-pub grown_sup : {P : Type 0} (n : Mount P) (cpu : ℕ) (laid : Layout) → MayGrow n cpu laid → laid.sup ≡ n.layout.sup
+pub grown_sup : {P : Type 0} (n : Mount P) (cpu : ℕ) (laid : Layout) → GrowsWhereFull n cpu laid → laid.sup ≡ n.layout.sup
 grown_sup n cpu laid (inl same) = ap (λ (l : Layout). l.sup) same
 grown_sup n cpu laid (inr w) = ap (λ (l : Layout). l.sup) w.3
 
@@ -54,7 +54,7 @@ laid_for {l = l} {grown = grown} {cpu = cpu} rows number (inr g) = subst (λ (o 
 abbrev pub by_tables : {P : Type 0} → Mount P → P → Layout → List Row → FreeLists → Bool → Mount P
 by_tables n now laid news after stops = record { memory = now; sup = laid.sup; layout = laid; rows = news; free = after; faults = n.faults; read_only = n.read_only; stopped = stops }
 
-module _ {P : Type 0} (region : P → Region) (fuse : P → FuseState) (cpu : ℕ) {n m : Mount P} (same : n ≡ m) (now : P) (laid : Layout) (news : List Row) (after : FreeLists) (runs : n.stopped ≡ false) (writes : n.read_only ≡ false) (tables : n.layout.sup ≡ n.sup) (grew : MayGrow n cpu laid) where
+module _ {P : Type 0} (region : P → Region) (fuse : P → FuseState) (cpu : ℕ) {n m : Mount P} (same : n ≡ m) (now : P) (laid : Layout) (news : List Row) (after : FreeLists) (runs : n.stopped ≡ false) (writes : n.read_only ≡ false) (tables : n.layout.sup ≡ n.sup) (grew : GrowsWhereFull n cpu laid) where
   kept_so : (stops : Bool) → GrowsMount cpu n (by_tables n now laid news after stops)
   kept_so stops = record { sup = grown_sup n cpu laid grew ∙ tables; tables = grew; faults = refl; read_only = refl }
 

@@ -29,14 +29,17 @@ use Rattle.nv_calls.specs.Mount.{IsKept}
 use Rattle.nv_steps.specs.GrownTables.{CanGrow}
 use Rattle.nv_steps.specs.NewNames.{CanName}
 use Rattle.nv_steps.proofs.GrownTable.{shown_can}
+use Rattle.nv_tree.specs.Path.{IsPathName}
 use Rattle.nv_paths.specs.Spots.{new_number, or_next}
-use Rattle.nv_calls.specs.Growing.{CanGetSlot, CanNameIn, grown_blocks}
+use Rattle.nv_calls.specs.Growing.{CanCreate, CanGetSlot, CanNameIn, grown_blocks}
 use Rattle.nv_calls.specs.NameCalls.{table_growth}
 use Rattle.nv_steps.specs.Slots.{slot_in}
 use Rattle.nv_steps.proofs.SlotPlaces.{slot_there_is}
+use Rattle.nv_rows.specs.RowList.{HasNumbersOf, RowList}
+use Rattle.nv_rows.specs.Rows.{IsInUse}
 use Rattle.nv_rows.specs.Unused.{is_unused, unused_number}
 use Rattle.nv_calls.proofs.Mounts.{mounted_of_kept}
-use Rattle.nv_calls.proofs.OneRow.{shows_row}
+use Rattle.nv_calls.proofs.OneRow.{shows_row, stands_right}
 use Rattle.nv_calls.proofs.RowChange.{row_there}
 use Rattle.nv_rows.proofs.Places.{numbered}
 
@@ -99,13 +102,6 @@ new_from l rows cpu j e = by (unused_number l rows cpu) refl e where
   by (Some i) is e = inl (is ∙ e)
   by None none e = grows (l.sup.version == 2) (nat_lt cpu l.sup.cpus) refl none e
 
--- So it has a slot, or the table can grow for it.
-pub can_get : (l : Layout) (rows : List Row) (cpu j : ℕ) → cpu < l.sup.cpus → new_number l rows cpu ≡ Some j → CanGetSlot l cpu j
-can_get l rows cpu j low e = elim (new_from l rows cpu j e) [
-  | inl lowest ↦ inl (unused_is l rows cpu j low lowest).1
-  | inr w ↦ inr (w.0, w.2)
-]
-
 -- Where it has none, the table grows.
 pub grows_for : (l : Layout) (rows : List Row) (cpu j : ℕ) → cpu < l.sup.cpus → new_number l rows cpu ≡ Some j → slot_of l j ≡ None → (l.sup.version ≡ 2) × (unused_number l rows cpu ≡ None)
 grows_for l rows cpu j low e none = elim (new_from l rows cpu j e) [
@@ -165,6 +161,13 @@ module _ {R : Region} {s : Super} {l : Layout} {rows : List Row} {free : FreeLis
     by : (held : Store) → IsMounted R l held rows free.pools → CanGrow R l free cpu
     by held m = let keeps = m.keeps in shown_can R l held free cpu (record { sound = m.sound; lists = keeps.in_lists }) kept.lists two low
 
+  -- So the number has a slot, or the table can grow for it.
+  pub can_get : (cpu j : ℕ) → cpu < l.sup.cpus → new_number l rows cpu ≡ Some j → CanGetSlot R l free cpu j
+  can_get cpu j low e = elim (new_from l rows cpu j e) [
+    | inl lowest ↦ inl (unused_is l rows cpu j low lowest).1
+    | inr w ↦ inr (w.2, can_grow cpu low w.0)
+  ]
+
   -- The next number has no slot, and so no row.
   pub next_none : (cpu : ℕ) → cpu < l.sup.cpus → slot_of l (next_number l cpu) ≡ None
   next_none cpu low = by (slot_of l (next_number l cpu)) refl where
@@ -204,3 +207,15 @@ module _ {R : Region} {s : Super} {l : Layout} {rows : List Row} {free : FreeLis
     neither : (b : Bool) → ◌≡◌ {A = ℕ} (cond (b && false) 1 0) 0
     neither true = refl
     neither false = refl
+
+-- What is known where a new inode gets a name that a path says, in a directory that has a row.
+pub can_create : {R : Region} {s : Super} {l : Layout} {free : FreeLists} {faults : List Fault} {read_only stopped : Bool} (all : RowList) → IsKept R s l all.items free faults read_only stopped → stopped ≡ false → read_only ≡ false
+    → (cpu : ℕ) → cpu < l.sup.cpus → HasNumbersOf l all → (directory : ℕ) → IsInUse all.items directory → (j : ℕ) → new_number l all.items cpu ≡ Some j → (name : List ℕ) → IsPathName name → CanCreate R l free cpu all directory j name
+can_create all kept runs writes cpu low numbers directory used j number name spelled = record {
+  in_use = used;
+  numbers = numbers;
+  unused = new_unused kept runs writes cpu j low number;
+  stands = λ row at. stands_right kept runs writes row (row_there all.items directory row at);
+  can = λ row at. can_name_in kept runs writes cpu low row (row_there all.items directory row at);
+  good = (let fits = spelled.fits in record { some = fits.some; short = fits.fits });
+}

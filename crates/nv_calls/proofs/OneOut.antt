@@ -1,5 +1,7 @@
 -- A row that was lent, changed and given back.
-use Rattle.std.proofs.Common.{◌≡◌, ◌≢◌, ℕ, List, remove, set, refl, ap, sym, ◌∙◌, Some}
+use Rattle.std.proofs.Common.{◌≡◌, ◌≢◌, ℕ, List, remove, set, refl, ap, sym, ◌∙◌, subst, Option, Some, None}
+use Rattle.std.proofs.lemmas.Option.{same_Some}
+use Rattle.nv_super.specs.Layout.{Layout}
 use Rattle.nv_alloc.specs.FreeValue.{FreeLists}
 use Rattle.nv_scan.specs.declared.piece.Row.{Row}
 use Rattle.nv_rows.specs.Rows.{row_of, place_in, IsInUse, IsLent}
@@ -27,3 +29,38 @@ module _ (rows mid news : List Row) (i : ℕ) (was now : Row) (at : row_of rows 
     -- and where one goes out then, it does so at the place that it had
     pub other_out : {out : List Row} → out ≡ remove news (place_in news j) → out ≡ remove (set rows (place_in rows i) now) (place_in rows j)
     other_out gone = gone ∙ ap (λ (rs : List Row). remove rs (place_in rs j)) back ∙ ap (remove (set rows (place_in rows i) now)) (place_kept rows i j now number)
+
+-- ---- rows that were made ready before
+
+-- Of these rows one was lent, changed and given back.
+pub record GaveBack (rows news : List Row) (i : ℕ) (was now : Row) : Type 0 where
+  pub row : row_of rows i ≡ Some was
+  pub put : news ≡ set rows (place_in rows i) now
+  pub vacant : (j : ℕ) → row_of rows j ≡ None → row_of news j ≡ None
+
+pub gave_back : {rows ready mid news : List Row} {i : ℕ} {was now : Row} → ready ≡ rows → row_of ready i ≡ Some was → IsLent ready mid i → news ≡ set mid (place_in mid now.inode) now → now.inode ≡ i → GaveBack rows news i was now
+gave_back {rows} {ready} {mid} {news} {i} {was} {now} same at lent given number = record {
+  row = row;
+  put = back rows mid news i was now row here number given;
+  vacant = λ j none. other_row rows mid news i was now row here number given j (λ e. apart j none e) ∙ none;
+} where
+  row : row_of rows i ≡ Some was
+  row = ap (λ (rs : List Row). row_of rs i) (sym same) ∙ at
+
+  here : IsLent rows mid i
+  here = subst (λ (rs : List Row). IsLent rs mid i) same lent
+
+  apart : (j : ℕ) → row_of rows j ≡ None → i ≡ j → ⊥
+  apart j none e = let clash : Some was ≡ None = sym row ∙ ap (row_of rows) e ∙ none in cc
+
+-- what was refused has changed nothing
+pub left_back : {P : Type 0} {rows news : List Row} {i : ℕ} {was now : Row} {memory later : P} {free after : FreeLists} → GaveBack rows news i was now → LeavesStep memory later free after was now → LeavesRows memory later free after rows news
+left_back {rows = rows} {i = i} {was = was} {now = now} {memory = memory} {later = later} {free = free} {after = after} b left = rw b.put (leaves_set rows rows (place_in rows i) was now refl (at_place rows i ∙ b.row) memory later free after left)
+
+-- What is so of the row that was there is so of the row of that number.
+pub told_row : {rows : List Row} {i : ℕ} {was row : Row} (A : Row → Type 0) → row_of rows i ≡ Some was → row_of rows i ≡ Some row → A was → A row
+told_row A at is = subst A (same_Some _ _ (sym at ∙ is))
+
+-- the same of what was so by other tables
+pub told_by : {rows : List Row} {i : ℕ} {was row : Row} (A : Layout → Row → Type 0) {k l : Layout} → k ≡ l → row_of rows i ≡ Some was → row_of rows i ≡ Some row → A k was → A l row
+told_by {row = row} A {k} same at is a = subst (λ (x : Layout). A x row) same (told_row (A k) at is a)

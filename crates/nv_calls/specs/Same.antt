@@ -27,13 +27,13 @@ pub record KeepsMount {P : Type 0} (old new : Mount P) : Type 0 where
   pub read_only : new.read_only ≡ old.read_only
 
 -- The tables are as before. Or no number of the CPU's table was unused, in version 2, and its chain has one block more.
-abbrev pub MayGrow : {P : Type 0} → Mount P → ℕ → Layout → Type 0
-MayGrow m cpu after = (after ≡ m.layout) ⊎ ((m.layout.sup.version ≡ 2) × (unused_number m.layout m.rows cpu ≡ None) × (b : ℕ) × (after ≡ with_block m.layout cpu b))
+abbrev pub GrowsWhereFull : {P : Type 0} → Mount P → ℕ → Layout → Type 0
+GrowsWhereFull m cpu after = (after ≡ m.layout) ⊎ ((m.layout.sup.version ≡ 2) × (unused_number m.layout m.rows cpu ≡ None) × (b : ℕ) × (after ≡ with_block m.layout cpu b))
 
 -- What `create` and `mkdir` change of it alone: a table may grow.
 pub record GrowsMount {P : Type 0} (cpu : ℕ) (old new : Mount P) : Type 0 where
   pub sup : new.sup ≡ old.sup
-  pub tables : MayGrow old cpu new.layout
+  pub tables : GrowsWhereFull old cpu new.layout
   pub faults : new.faults ≡ old.faults
   pub read_only : new.read_only ≡ old.read_only
 

@@ -48,7 +48,8 @@ LeavesCall makes logs R m names left = StopLeaves R m.layout m.rows m.free.pools
 
 -- Tables and free lists are those that are mounted. Or no number of the CPU's table was unused, in version 2, and it grew.
 abbrev pub MayHaveGrown : {P : Type 0} → Mount P → ℕ → Layout → List (List Run) → Type 0
-MayHaveGrown m cpu l free = ((l ≡ m.layout) × (free ≡ m.free.pools)) ⊎ ((m.layout.sup.version ≡ 2) × (unused_number m.layout m.rows cpu ≡ None) × TableGrew m.layout m.free.pools cpu l free)
+MayHaveGrown m cpu l free = ((l ≡ m.layout) × (free ≡ m.free.pools))
+    ⊎ ((m.layout.sup.version ≡ 2) × (unused_number m.layout m.rows cpu ≡ None) × TableGrew m.layout m.free.pools cpu l free)
 
 -- The same of a call by which the table of a CPU may grow: by such tables and free lists recovery finds what was mounted, or what the
 -- call makes of it.

@@ -1,6 +1,6 @@
 //! `create` and `mkdir`: a new inode and its name. In version 2 the table of the CPU grows where no slot of it is unused.
 
-ghost use Rattle.std.specs.Prelude.{◌≡◌, ◌+◌, ◌<◌, ◌≤◌, ◌%◌, ℕ, List, Option, Result, IfErr, OnOk, false};
+ghost use Rattle.std.specs.Prelude.{◌≡◌, ◌+◌, ◌≤◌, ◌%◌, ℕ, List, Option, Result, IfErr, IsTrue, OnOk, false};
 ghost use Rattle.nv_region.specs.Stops.{LeavesOnly, NothingPending};
 ghost use Rattle.nv_journal.specs.InOrder.{FirstIsFirst};
 ghost use Rattle.nv_super.specs.declared.kind.Kind.TheVariants.{File, Directory};
@@ -9,29 +9,25 @@ ghost use Rattle.nv_alloc.specs.Taking.{all_blocks};
 ghost use Rattle.nv_entry.specs.declared.entry.Operation.{Operation as OperationValue};
 ghost use Rattle.nv_logpage.specs.Append.{needed};
 ghost use Rattle.nv_scan.specs.declared.piece.Row.{Row as RowValue};
-ghost use Rattle.nv_rows.specs.Rows.{IsInUse, place_in, row_of};
+ghost use Rattle.nv_inode.specs.Numbers.{has_slot};
+ghost use Rattle.nv_rows.specs.Rows.{place_in, row_of};
 ghost use Rattle.nv_mounted.specs.Held.{Held, Store};
 ghost use Rattle.nv_mounted.specs.Mounted.{ShowsSound};
-ghost use Rattle.nv_names.specs.Names.{IsName, name_at};
+ghost use Rattle.nv_names.specs.Names.{name_at};
 ghost use Rattle.nv_tree.specs.Path.{IsPath, Says, last_name};
 ghost use Rattle.nv_tree.specs.Tree.{SameTree, walk};
 ghost use Rattle.nv_tree.specs.Calls.{created};
 ghost use Rattle.nv_tree.specs.Refusals.{Path, create_tests, first_refusal, IsRefusedBy};
-ghost use Rattle.nv_steps.specs.Grown.{StandsRight};
 ghost use Rattle.nv_calls.specs.NameCalls.{ShowsCreated, create_blocks};
 ghost use Rattle.nv_steps.specs.NameEntries.{name_entries};
 ghost use Rattle.nv_commit.specs.Stopped.{LeavesEither};
-ghost use Rattle.nv_rows.specs.Unused.{IsTableNumber};
-ghost use Rattle.nv_steps.specs.GrownTables.{CanGrow};
-ghost use Rattle.nv_steps.specs.NewNames.{CanName};
 ghost use Rattle.nv_steps.specs.Stopped.{Named};
 ghost use Rattle.nv_calls.specs.AtPlaces.{CreatesAt, KeepsRows};
-ghost use Rattle.nv_calls.specs.Growing.{CanGetSlot, CanNameIn, CreatesGrown, KeepsTables, LeavesCreated, create_places, grown_blocks};
+ghost use Rattle.nv_calls.specs.Growing.{CanCreate, CanGetSlot, CreatesGrown, KeepsTables, LeavesCreated, create_places, grown_blocks};
 ghost use Rattle.nv_calls.specs.Effects.{logs_inode, makes_inode};
 ghost use Rattle.nv_calls.specs.Stopped.{LeavesGrowing};
 ghost use Rattle.nv_steps.specs.Steps.{RefusesStep, ShowsRow};
 ghost use Rattle.nv_steps.specs.InOrder.{tail_address};
-ghost use Rattle.nv_rows.specs.RowList.{HasNumbersOf};
 ghost use Rattle.nv_paths.specs.Spots.{new_number};
 ghost use Rattle.nv_calls.specs.World.{world_of};
 ghost use Rattle.nv_steps.specs.Stores.{StoresIn, one_more};
@@ -71,21 +67,17 @@ fn create_at<P: Pmem>(
     directory: u64,
     new: &NewName<'_>,
 ) -> Result<(), Refusal>
-    requires in_use { IsInUse rows.old.items directory }
-    requires numbers { HasNumbersOf tables.old.layout rows.old }
-    requires number { CanGetSlot tables.old.layout cpu new.now.inode }
-    requires unused { row_of rows.old.items new.now.inode ≡ Option.None }
-    requires grows { tables.old.layout.sup.version ≡ 2 → CanGrow (P.region memory.old) tables.old.layout free.old cpu }
-    requires stands { (row : RowValue) → row_of rows.old.items directory ≡ Option.Some row → StandsRight (P.region memory.old) tables.old.layout free.old row }
-    requires can { (row : RowValue) → row_of rows.old.items directory ≡ Option.Some row → CanNameIn (P.region memory.old) tables.old.layout cpu row }
-    requires name { IsName new.now.name.now }
+    requires can { CanCreate (P.region memory.old) tables.old.layout free.old cpu rows.old directory new.now.inode new.now.name.now }
+    requires slot { CanGetSlot (P.region memory.old) tables.old.layout free.old cpu new.now.inode }
     ensures created { OnOk result (CreatesGrown (P.region memory.old) (P.region memory.new) tables.old.layout tables.new.layout free.old free.new cpu rows.old.items rows.new.items
         (place_in rows.old.items directory) new.now.kind new.now.mode new.now.time new.now.inode new.now.name.now) }
     ensures enough { (row : RowValue) → row_of rows.old.items directory ≡ Option.Some row
-        → OnOk result (grown_blocks tables.old.layout new.now.inode + (1 + needed (row.tail % 4096) (name_entries OperationValue.Add new.now.inode new.now.name.now new.now.time)) ≤ all_blocks free.old.pools) }
+        → OnOk result (grown_blocks tables.old.layout new.now.inode + (1 + needed (row.tail % 4096) (name_entries OperationValue.Add new.now.inode new.now.name.now new.now.time))
+        ≤ all_blocks free.old.pools) }
     ensures kept { KeepsTables P.region P.may_hold P.fuse memory.old memory.new free.old free.new rows.old rows.new tables.old tables.new cpu new.now.inode result }
     ensures refused { (row : RowValue) → row_of rows.old.items directory ≡ Option.Some row
-        → IfErr result (λ e. RefusesStep e (grown_blocks tables.old.layout new.now.inode + (1 + needed (row.tail % 4096) (name_entries OperationValue.Add new.now.inode new.now.name.now new.now.time))) free.old) }
+        → IfErr result (λ e. RefusesStep e (grown_blocks tables.old.layout new.now.inode
+        + (1 + needed (row.tail % 4096) (name_entries OperationValue.Add new.now.inode new.now.name.now new.now.time))) free.old) }
     // Every word outside these places is as it was.
     ensures wrote { (row : RowValue) (held : Store) (h : Held) → row_of rows.old.items directory ≡ Option.Some row → ShowsRow (P.region memory.old) tables.old.layout held h row free.old
         → held new.now.inode ≡ Option.None
@@ -101,7 +93,6 @@ fn create_at<P: Pmem>(
         → LeavesOnly (P.region memory.new) (P.may_hold memory.new) (LeavesCreated (P.region memory.old) tables.old.layout free.old cpu held row new.now.kind new.now.mode new.now.time
         new.now.inode new.now.name.now) }
 {
-    tables.are_laid();
     if tables.slot_address(new.inode).is_some() {
         return create_in_table(alloc, memory, tables, free, cpu, rows, directory, new);
     }
@@ -122,12 +113,8 @@ fn create_in_table<P: Pmem>(
     directory: u64,
     new: &NewName<'_>,
 ) -> Result<(), Refusal>
-    requires in_use { IsInUse rows.old.items directory }
-    requires limit { IsTableNumber rows.old.sup.cpus rows.old.sizes new.now.inode }
-    requires unused { row_of rows.old.items new.now.inode ≡ Option.None }
-    requires stands { (row : RowValue) → row_of rows.old.items directory ≡ Option.Some row → StandsRight (P.region memory.old) tables.now.layout free.old row }
-    requires can { (row : RowValue) → row_of rows.old.items directory ≡ Option.Some row → CanName (P.region memory.old) tables.now.layout cpu new.now.inode row }
-    requires name { IsName new.now.name.now }
+    requires can { CanCreate (P.region memory.old) tables.now.layout free.old cpu rows.old directory new.now.inode new.now.name.now }
+    requires slot { IsTrue (has_slot tables.now.layout new.now.inode) }
     ensures created { OnOk result (CreatesAt (P.region memory.old) (P.region memory.new) tables.now.layout free.old free.new cpu rows.old.items rows.new.items
         (place_in rows.old.items directory) new.now.kind new.now.mode new.now.time new.now.inode new.now.name.now) }
     ensures enough { (row : RowValue) → row_of rows.old.items directory ≡ Option.Some row
@@ -149,6 +136,7 @@ fn create_in_table<P: Pmem>(
         → LeavesOnly (P.region memory.new) (P.may_hold memory.new) (LeavesEither (P.region memory.old) tables.now.layout held
         (Named (P.region memory.old) tables.now.layout free.old cpu row new.now.kind new.now.mode new.now.time new.now.inode new.now.name.now)) }
 {
+    tables.are_laid();
     let entries = [name_entry(Operation::Add, new.inode, new.name, new.time)];
     if free.free_blocks() < 1 + pages_needed(rows.row(directory).tail, &entries) {
         return Err(Refusal::NoSpace);
@@ -173,16 +161,18 @@ impl<P: Pmem + Drop> Fs<P> {
     /// - `BadName` where the text is no path or `/`
     /// - `NotFound` or `NotDirectory` for an inode on the way
     /// - `Exists` where the path leads to an inode
-    /// - `NoInodes` where the CPU's table has no unused slot, in version 1
-    /// - `NoSpace` where fewer blocks are free than both logs need, with one more where the table has to grow
+    /// - `NoInodes` where the CPU's table has no unused slot, in version 1 alone: in version 2 the table grows by a block then
+    /// - `NoSpace` where fewer blocks are free than both logs need, and the table where it grows
     ///
     /// Besides these `Memory` where a growth was refused, and `Stopped` where the fuse burns. All but `Stopped` leave
     /// everything as it was.
     pub fn create(&mut self, cpu: Cpu, path: &[u8], mode: u32, time: Time) -> Result<(), Refusal>
         ensures allowed { (p : Path) → Says path.now p
-            → OnOk result (first_refusal (create_tests (world_of self.old) (shown P.region self.old) cpu p (create_blocks self.old.layout self.old.rows cpu (shown P.region self.old) p)) ≡ Option.None) }
+            → OnOk result (first_refusal (create_tests (world_of self.old) (shown P.region self.old) cpu p
+            (create_blocks self.old.layout self.old.rows cpu (shown P.region self.old) p)) ≡ Option.None) }
         ensures refused { self.old.stopped ≡ false → (p : Path) → Says path.now p
-            → IfErr result (IsRefusedBy (first_refusal (create_tests (world_of self.old) (shown P.region self.old) cpu p (create_blocks self.old.layout self.old.rows cpu (shown P.region self.old) p)))) }
+            → IfErr result (IsRefusedBy (first_refusal (create_tests (world_of self.old) (shown P.region self.old) cpu p
+            (create_blocks self.old.layout self.old.rows cpu (shown P.region self.old) p)))) }
         ensures changed { (names : List (List ℕ)) → IsPath path.now names
             → OnOk result (SameTree (shown P.region self.new) (created File (new_number self.old.layout self.old.rows cpu) names mode time (shown P.region self.old))) }
         // The table of the CPU has grown just where the number of the new inode had no slot.
@@ -208,9 +198,11 @@ impl<P: Pmem + Drop> Fs<P> {
     /// Makes a directory of this mode, of which the low 12 bits are kept, with one name. Errors as `create` has them.
     pub fn mkdir(&mut self, cpu: Cpu, path: &[u8], mode: u32, time: Time) -> Result<(), Refusal>
         ensures allowed { (p : Path) → Says path.now p
-            → OnOk result (first_refusal (create_tests (world_of self.old) (shown P.region self.old) cpu p (create_blocks self.old.layout self.old.rows cpu (shown P.region self.old) p)) ≡ Option.None) }
+            → OnOk result (first_refusal (create_tests (world_of self.old) (shown P.region self.old) cpu p
+            (create_blocks self.old.layout self.old.rows cpu (shown P.region self.old) p)) ≡ Option.None) }
         ensures refused { self.old.stopped ≡ false → (p : Path) → Says path.now p
-            → IfErr result (IsRefusedBy (first_refusal (create_tests (world_of self.old) (shown P.region self.old) cpu p (create_blocks self.old.layout self.old.rows cpu (shown P.region self.old) p)))) }
+            → IfErr result (IsRefusedBy (first_refusal (create_tests (world_of self.old) (shown P.region self.old) cpu p
+            (create_blocks self.old.layout self.old.rows cpu (shown P.region self.old) p)))) }
         ensures changed { (names : List (List ℕ)) → IsPath path.now names
             → OnOk result (SameTree (shown P.region self.new) (created Directory (new_number self.old.layout self.old.rows cpu) names mode time (shown P.region self.old))) }
         // The table of the CPU has grown just where the number of the new inode had no slot.
@@ -243,9 +235,11 @@ impl<P: Pmem + Drop> Fs<P> {
         time: Time,
     ) -> Result<(), Refusal>
         ensures allowed { (p : Path) → Says path.now p
-            → OnOk result (first_refusal (create_tests (world_of self.old) (shown P.region self.old) cpu p (create_blocks self.old.layout self.old.rows cpu (shown P.region self.old) p)) ≡ Option.None) }
+            → OnOk result (first_refusal (create_tests (world_of self.old) (shown P.region self.old) cpu p
+            (create_blocks self.old.layout self.old.rows cpu (shown P.region self.old) p)) ≡ Option.None) }
         ensures refused { self.old.stopped ≡ false → (p : Path) → Says path.now p
-            → IfErr result (IsRefusedBy (first_refusal (create_tests (world_of self.old) (shown P.region self.old) cpu p (create_blocks self.old.layout self.old.rows cpu (shown P.region self.old) p)))) }
+            → IfErr result (IsRefusedBy (first_refusal (create_tests (world_of self.old) (shown P.region self.old) cpu p
+            (create_blocks self.old.layout self.old.rows cpu (shown P.region self.old) p)))) }
         ensures changed { (names : List (List ℕ)) → IsPath path.now names
             → OnOk result (SameTree (shown P.region self.new) (created kind (new_number self.old.layout self.old.rows cpu) names mode time (shown P.region self.old))) }
         // The table of the CPU has grown just where the number of the new inode had no slot.

@@ -1,28 +1,26 @@
 //! A new inode for which the table of its CPU grows: all memory first, then the growth and the inode, and then the rows.
 
-ghost use Rattle.std.specs.Prelude.{◌≡◌, ◌+◌, ◌%◌, ◌<◌, ◌≤◌, IfErr, OnErr, OnOk, Option};
+ghost use Rattle.std.specs.Prelude.{◌≡◌, ◌+◌, ◌%◌, ◌<◌, ◌≤◌, IfErr, OnOk, Option};
 ghost use Rattle.nv_region.specs.Stops.{LeavesOnly, NothingPending};
 ghost use Rattle.nv_journal.specs.InOrder.{FirstIsFirst};
 ghost use Rattle.nv_super.specs.Layout.{Layout};
 ghost use Rattle.nv_inode.specs.Chains.{IsLaid};
-ghost use Rattle.nv_inode.specs.Numbers.{next_number};
 ghost use Rattle.nv_inode.specs.Tables.{HasRoom};
 ghost use Rattle.nv_alloc.specs.Taking.{all_blocks};
 ghost use Rattle.nv_entry.specs.declared.entry.Operation.{Operation as OperationValue};
 ghost use Rattle.nv_logpage.specs.Append.{needed};
-ghost use Rattle.nv_names.specs.Names.{IsName, name_at};
+ghost use Rattle.nv_names.specs.Names.{name_at};
 ghost use Rattle.nv_scan.specs.declared.piece.Row.{Row as RowValue};
 ghost use Rattle.nv_rows.specs.RowList.{HasNumbersOf, HasSpace};
-ghost use Rattle.nv_rows.specs.Rows.{IsInUse, place_in, row_of};
+ghost use Rattle.nv_rows.specs.Rows.{place_in, row_of};
 ghost use Rattle.nv_mounted.specs.Held.{Held, Store};
-ghost use Rattle.nv_steps.specs.Grown.{StandsRight};
-ghost use Rattle.nv_steps.specs.GrownTables.{CanGrow, MayGrow, grown_more};
+ghost use Rattle.nv_steps.specs.GrownTables.{MayGrow, grown_more};
 ghost use Rattle.nv_steps.specs.InOrder.{tail_address};
 ghost use Rattle.nv_steps.specs.NameEntries.{name_entries};
 ghost use Rattle.nv_steps.specs.Slots.{slot_in};
 ghost use Rattle.nv_steps.specs.Steps.{RefusesStep, ShowsRow};
 ghost use Rattle.nv_steps.specs.Stores.{StoresIn};
-ghost use Rattle.nv_calls.specs.Growing.{CanNameIn, CreatesGrown, KeepsTables, LeavesCreated};
+ghost use Rattle.nv_calls.specs.Growing.{CanCreate, CreatesGrown, GetsNext, KeepsTables, LeavesCreated};
 
 use nv_alloc::Allocators;
 use nv_entry::{Operation, name_entry};
@@ -49,14 +47,8 @@ pub(crate) fn create_grown<P: Pmem>(
     directory: u64,
     new: &NewName<'_>,
 ) -> Result<(), Refusal>
-    requires in_use { IsInUse rows.old.items directory }
-    requires numbers { HasNumbersOf tables.old.layout rows.old }
-    requires number { new.now.inode ≡ next_number tables.old.layout cpu }
-    requires unused { row_of rows.old.items new.now.inode ≡ Option.None }
-    requires grows { CanGrow (P.region memory.old) tables.old.layout free.old cpu }
-    requires stands { (row : RowValue) → row_of rows.old.items directory ≡ Option.Some row → StandsRight (P.region memory.old) tables.old.layout free.old row }
-    requires can { (row : RowValue) → row_of rows.old.items directory ≡ Option.Some row → CanNameIn (P.region memory.old) tables.old.layout cpu row }
-    requires name { IsName new.now.name.now }
+    requires can { CanCreate (P.region memory.old) tables.old.layout free.old cpu rows.old directory new.now.inode new.now.name.now }
+    requires slot { GetsNext (P.region memory.old) tables.old.layout free.old cpu new.now.inode }
     ensures created { OnOk result (CreatesGrown (P.region memory.old) (P.region memory.new) tables.old.layout tables.new.layout free.old free.new cpu rows.old.items rows.new.items
         (place_in rows.old.items directory) new.now.kind new.now.mode new.now.time new.now.inode new.now.name.now) }
     ensures enough { (row : RowValue) → row_of rows.old.items directory ≡ Option.Some row

@@ -23,9 +23,7 @@ use Rattle.nv_calls.proofs.CreateCall.{create_allowed, create_refused, created_k
 use Rattle.nv_calls.proofs.GrownCall.{grew_for, grown_done, grown_refused, grown_sup, laid_for, may_grow, own_sup, tables_or_stopped, unchanged_tables}
 use Rattle.nv_paths.proofs.CreateTests.{spot_goes_on, spot_refuses}
 use Rattle.nv_tree.proofs.Replies.{refused_by}
-use Rattle.nv_calls.proofs.NewNumbers.{can_get, can_grow, can_name_in, growth_is, new_unused}
-use Rattle.nv_calls.proofs.OneRow.{stands_right}
-use Rattle.nv_super.proofs.Members.{stands}
+use Rattle.nv_calls.proofs.NewNumbers.{can_create, can_get, growth_is, new_unused}
 use Rattle.nv_calls.proofs.RowChange.{same_mount}
 use Rattle.nv_calls.proofs.SetAttr.{not_stop}
 use Rattle.nv_calls.proofs.Tests.{writing_goes_on}
@@ -106,47 +104,25 @@ returns-in_err-spot-clause-stores g c =
       in_order = λ names d j path ended number. ∣ inl refl ∣₁;
     }
 
-pub create_at-requires-clause-numbers : goal.create_at-requires-clause-numbers
-create_at-requires-clause-numbers g c = c.self.invariant.1
-
-pub create_at-requires-clause-number : goal.create_at-requires-clause-number
-create_at-requires-clause-number g c =
-    let low : c.cpu.inside.0 < c.self.inside.tables.layout.sup.cpus = subst (λ (m : Mount g.row.P.Denot). c.cpu.inside.0 < m.sup.cpus) (sym c.self.view_is) c.in_ok-writable.ensures.cpu in
-    let spot : (names : List (List ℕ)) → IsPath c.args.path.now names → IsSpot (tree_of (g.P.Pmem.region c.self.inside.memory) c.self.inside.rows.items) c.self.inside.rows.items c.self.inside.tables.layout c.cpu.inside.0 names (place_in c.self.inside.rows.items c.in_ok-spot.spot.directory) c.in_ok-spot.spot.name.now c.in_ok-spot.spot.inode =
-    c.in_ok-spot.ensures.spot (g.P.Pmem.region c.self.inside.memory) in
-    let path = c.in_ok-spot.ensures.path in
-    can_get c.self.inside.tables.layout c.self.inside.rows.items c.cpu.inside.0 c.in_ok-spot.spot.inode low (spot path.0 path.1).unused
-
-pub create_at-requires-clause-unused : goal.create_at-requires-clause-unused
-create_at-requires-clause-unused g c =
-    let runs : c.self.inside.stopped ≡ false = ap (λ (m : Mount g.row.P.Denot). m.stopped) c.self.view_is ∙ c.in_ok-writable.ensures.runs in
-    let writes : c.self.inside.read_only ≡ false = ap (λ (m : Mount g.row.P.Denot). m.read_only) c.self.view_is ∙ c.in_ok-writable.ensures.writes in
-    let low : c.cpu.inside.0 < c.self.inside.tables.layout.sup.cpus = subst (λ (m : Mount g.row.P.Denot). c.cpu.inside.0 < m.sup.cpus) (sym c.self.view_is) c.in_ok-writable.ensures.cpu in
-    let spot : (names : List (List ℕ)) → IsPath c.args.path.now names → IsSpot (tree_of (g.P.Pmem.region c.self.inside.memory) c.self.inside.rows.items) c.self.inside.rows.items c.self.inside.tables.layout c.cpu.inside.0 names (place_in c.self.inside.rows.items c.in_ok-spot.spot.directory) c.in_ok-spot.spot.name.now c.in_ok-spot.spot.inode =
-    c.in_ok-spot.ensures.spot (g.P.Pmem.region c.self.inside.memory) in
-    let path = c.in_ok-spot.ensures.path in
-    new_unused c.self.invariant.0 runs writes c.cpu.inside.0 c.in_ok-spot.spot.inode low (spot path.0 path.1).unused
-
-pub create_at-requires-clause-grows : goal.create_at-requires-clause-grows
-create_at-requires-clause-grows g c two =
-    let runs : c.self.inside.stopped ≡ false = ap (λ (m : Mount g.row.P.Denot). m.stopped) c.self.view_is ∙ c.in_ok-writable.ensures.runs in
-    let writes : c.self.inside.read_only ≡ false = ap (λ (m : Mount g.row.P.Denot). m.read_only) c.self.view_is ∙ c.in_ok-writable.ensures.writes in
-    let low : c.cpu.inside.0 < c.self.inside.tables.layout.sup.cpus = subst (λ (m : Mount g.row.P.Denot). c.cpu.inside.0 < m.sup.cpus) (sym c.self.view_is) c.in_ok-writable.ensures.cpu in
-    can_grow c.self.invariant.0 runs writes c.cpu.inside.0 low two
-
-pub create_at-requires-clause-stands : goal.create_at-requires-clause-stands
-create_at-requires-clause-stands g c row at =
-    let runs : c.self.inside.stopped ≡ false = ap (λ (m : Mount g.row.P.Denot). m.stopped) c.self.view_is ∙ c.in_ok-writable.ensures.runs in
-    let writes : c.self.inside.read_only ≡ false = ap (λ (m : Mount g.row.P.Denot). m.read_only) c.self.view_is ∙ c.in_ok-writable.ensures.writes in
-    stands_right c.self.invariant.0 runs writes row (stands c.self.inside.rows.items (place_in c.self.inside.rows.items c.in_ok-spot.spot.directory) row (at_place c.self.inside.rows.items c.in_ok-spot.spot.directory ∙ at))
-
 pub create_at-requires-clause-can : goal.create_at-requires-clause-can
-create_at-requires-clause-can g c row at =
+create_at-requires-clause-can g c =
     let runs : c.self.inside.stopped ≡ false = ap (λ (m : Mount g.row.P.Denot). m.stopped) c.self.view_is ∙ c.in_ok-writable.ensures.runs in
     let writes : c.self.inside.read_only ≡ false = ap (λ (m : Mount g.row.P.Denot). m.read_only) c.self.view_is ∙ c.in_ok-writable.ensures.writes in
     let low : c.cpu.inside.0 < c.self.inside.tables.layout.sup.cpus = subst (λ (m : Mount g.row.P.Denot). c.cpu.inside.0 < m.sup.cpus) (sym c.self.view_is) c.in_ok-writable.ensures.cpu in
-    can_name_in c.self.invariant.0 runs writes c.cpu.inside.0 low row
-    (stands c.self.inside.rows.items (place_in c.self.inside.rows.items c.in_ok-spot.spot.directory) row (at_place c.self.inside.rows.items c.in_ok-spot.spot.directory ∙ at))
+    let spot : (names : List (List ℕ)) → IsPath c.args.path.now names → IsSpot (tree_of (g.P.Pmem.region c.self.inside.memory) c.self.inside.rows.items) c.self.inside.rows.items c.self.inside.tables.layout c.cpu.inside.0 names (place_in c.self.inside.rows.items c.in_ok-spot.spot.directory) c.in_ok-spot.spot.name.now c.in_ok-spot.spot.inode =
+    c.in_ok-spot.ensures.spot (g.P.Pmem.region c.self.inside.memory) in
+    let path = c.in_ok-spot.ensures.path in
+    can_create c.self.inside.rows c.self.invariant.0 runs writes c.cpu.inside.0 low c.self.invariant.1 c.in_ok-spot.spot.directory c.in_ok-spot.ensures.in_use c.in_ok-spot.spot.inode (spot path.0 path.1).unused c.in_ok-spot.spot.name.now c.in_ok-spot.ensures.name
+
+pub create_at-requires-clause-slot : goal.create_at-requires-clause-slot
+create_at-requires-clause-slot g c =
+    let runs : c.self.inside.stopped ≡ false = ap (λ (m : Mount g.row.P.Denot). m.stopped) c.self.view_is ∙ c.in_ok-writable.ensures.runs in
+    let writes : c.self.inside.read_only ≡ false = ap (λ (m : Mount g.row.P.Denot). m.read_only) c.self.view_is ∙ c.in_ok-writable.ensures.writes in
+    let low : c.cpu.inside.0 < c.self.inside.tables.layout.sup.cpus = subst (λ (m : Mount g.row.P.Denot). c.cpu.inside.0 < m.sup.cpus) (sym c.self.view_is) c.in_ok-writable.ensures.cpu in
+    let spot : (names : List (List ℕ)) → IsPath c.args.path.now names → IsSpot (tree_of (g.P.Pmem.region c.self.inside.memory) c.self.inside.rows.items) c.self.inside.rows.items c.self.inside.tables.layout c.cpu.inside.0 names (place_in c.self.inside.rows.items c.in_ok-spot.spot.directory) c.in_ok-spot.spot.name.now c.in_ok-spot.spot.inode =
+    c.in_ok-spot.ensures.spot (g.P.Pmem.region c.self.inside.memory) in
+    let path = c.in_ok-spot.ensures.path in
+    can_get c.self.invariant.0 runs writes c.cpu.inside.0 c.in_ok-spot.spot.inode low (spot path.0 path.1).unused
 
 pub invariant_of-self : goal.invariant_of-self
 invariant_of-self g c =
@@ -335,9 +311,6 @@ returns-in-Ok-clause-stores g c =
           c.in_ok-spot.spot.name.now names (c.in_ok-spot.ensures.spot (g.P.Pmem.region c.self.inside.memory) names path) c.create_at.new.tables.layout c.create_at.ensures.in_order d j ended number
           );
     }
-
-pub create_at-requires-clause-in_use : goal.create_at-requires-clause-in_use
-create_at-requires-clause-in_use g c = c.in_ok-spot.ensures.in_use
 
 pub returns-in-Ok-clause-refused : goal.returns-in-Ok-clause-refused
 returns-in-Ok-clause-refused g c still p says = tt
