@@ -1,6 +1,6 @@
 -- A new inode by whether its number has a slot: how many blocks its table takes, where it stores, and what a stop leaves. And what rows
 -- keep as a table grows.
-use Rattle.std.proofs.Common.{◌≡◌, ◌⊎◌, inl, inr, ℕ, ◌+◌, ◌*◌, ◌<◌, ◌≤◌, ◌^◌, Bool, true, false, cond, List, set, get_or, Option, Some, None, is_some, refl, ap, sym, ◌∙◌, subst, arith, IsTrue}
+use Rattle.std.proofs.Common.{◌≡◌, ◌⊎◌, inl, inr, ℕ, ◌+◌, ◌<◌, ◌^◌, Bool, true, false, cond, List, get_or, Option, Some, None, is_some, refl, ap, sym, ◌∙◌, subst, arith, IsTrue}
 use Rattle.nv_region.specs.Region.{Region}
 use Rattle.nv_region.specs.Stops.{Choices, LeavesOnly, NothingPending}
 use Rattle.nv_region.proofs.Stops.{fenced_leaves}
@@ -9,7 +9,7 @@ use Rattle.nv_super.specs.declared.kind.Kind.{Kind}
 use Rattle.nv_super.specs.Layout.{Layout, slot_of}
 use Rattle.nv_inode.specs.Chains.{IsLaid}
 use Rattle.nv_inode.specs.Growing.{with_block}
-use Rattle.nv_inode.specs.Numbers.{has_slot, next_number, sizes_of, table_size}
+use Rattle.nv_inode.specs.Numbers.{has_slot, next_number, table_size}
 use Rattle.nv_inode.proofs.GrownTables.{next_has_none, own_size}
 use Rattle.nv_inode.proofs.NumberEnds.{size_small}
 use Rattle.nv_alloc.specs.FreeValue.{FreeLists}

@@ -1,5 +1,5 @@
 -- A row that was lent, changed and given back.
-use Rattle.std.proofs.Common.{◌≡◌, ◌≢◌, ℕ, List, remove, set, refl, ap, sym, ◌∙◌, subst, Option, Some, None}
+use Rattle.std.proofs.Common.{◌≡◌, ◌≢◌, ℕ, List, remove, set, refl, ap, sym, ◌∙◌, subst, Some, None}
 use Rattle.std.proofs.lemmas.Option.{same_Some}
 use Rattle.nv_super.specs.Layout.{Layout}
 use Rattle.nv_alloc.specs.FreeValue.{FreeLists}

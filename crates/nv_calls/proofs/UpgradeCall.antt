@@ -1,18 +1,17 @@
 -- What `upgrade` leaves of a mounted file system.
-use Rattle.std.proofs.Common.{◌≡◌, ◌⊎◌, inl, inr, ℕ, ◌+◌, ◌*◌, ◌≤◌, ◌<◌, ◌==◌, Bool, true, false, eqb, List, [], ◌∷◌, refl, ap, sym, ◌∙◌, subst, arith, Option, Some, None, Result, Err, Ok, IsTrue}
+use Rattle.std.proofs.Common.{◌≡◌, ◌⊎◌, inl, inr, ℕ, ◌+◌, ◌*◌, ◌≤◌, ◌==◌, Bool, true, false, List, [], ◌∷◌, refl, ap, sym, ◌∙◌, subst, arith, Some, Result, Err, Ok, IsTrue}
 use Rattle.std.proofs.Math.Logic.{∥∥₁_elim, ∥∥₁_map}
 use Rattle.std.proofs.Math.Nat.{ℕ_set}
 use Rattle.std.proofs.Props.{props}
 use Rattle.std.proofs.lemmas.Bool.{true≢false}
 use Rattle.nv_region.specs.Region.{Region, size}
-use Rattle.nv_region.specs.Stops.{Choices, IsMixed, LeavesOnly, NothingPending}
+use Rattle.nv_region.specs.Stops.{Choices, LeavesOnly, NothingPending}
 use Rattle.nv_region.specs.Fuses.{FuseState, KeepsFuse}
 use Rattle.nv_super.specs.declared.superblock.Super.{Super}
 use Rattle.nv_super.specs.declared.faults.Fault.{Fault}
 use Rattle.nv_super.specs.declared.owners.Run.{Run}
 use Rattle.nv_super.specs.Layout.{IsLayout, Layout}
-use Rattle.nv_inode.specs.Chains.{IsLaid}
-use Rattle.nv_inode.specs.Upgraded.{IsUpgraded, UpgradeStores, UpgradedOrNot, upgraded, upgraded_layout}
+use Rattle.nv_inode.specs.Upgraded.{IsUpgraded, UpgradedOrNot, upgraded, upgraded_layout}
 use Rattle.nv_alloc.specs.FreeValue.{FreeLists}
 use Rattle.nv_scan.specs.declared.piece.Row.{Row}
 use Rattle.nv_rows.specs.RowList.{HasNumbersOf, RowList}
@@ -21,22 +20,21 @@ use Rattle.nv_graph.specs.Read.{row_of}
 use Rattle.nv_mounted.specs.Held.{Store}
 use Rattle.nv_mounted.specs.Front.{SameBehind}
 use Rattle.nv_mounted.specs.Mounted.{IsMounted}
-use Rattle.nv_mounted.proofs.BytesKept.{data_behind, mixed_size}
+use Rattle.nv_mounted.proofs.BytesKept.{data_behind}
 use Rattle.nv_mounted.proofs.Closes.{own_undo}
 use Rattle.nv_mounted.proofs.Upgraded.{clearing_behind, clearing_mounted, upgraded_behind, upgraded_mounted}
 use Rattle.nv_commit.proofs.Left.{sound_can}
 use Rattle.nv_tree.specs.declared.refusal.Refusal.{Refusal}
 use Rattle.nv_tree.specs.declared.refusal.Refusal.TheVariants.{IsVersion2, ReadOnly, Stopped}
-use Rattle.nv_tree.specs.Refusals.{first_refusal, upgrade_tests}
+use Rattle.nv_tree.specs.Refusals.{first_refusal}
 use Rattle.nv_tree.specs.Tree.{SameTree}
 use Rattle.nv_paths.specs.Seen.{tree_of}
 use Rattle.nv_calls.specs.Mount.{IsKept, Mount}
 use Rattle.nv_calls.specs.Stopped.{IsAsMounted}
-use Rattle.nv_calls.specs.Upgrading.{KeepsUpgrade, LeavesUpgrade, Upgrades}
-use Rattle.nv_calls.specs.World.{world_of}
+use Rattle.nv_calls.specs.Upgrading.{KeepsUpgrade, Upgrades}
 use Rattle.nv_calls.proofs.CallKept.{refused_first}
 use Rattle.nv_calls.proofs.Early.{good_reply}
-use Rattle.nv_calls.proofs.Mounts.{bytes_stay, kept_of_mounted, kept_when_stopped, mounted_of_kept}
+use Rattle.nv_calls.proofs.Mounts.{bytes_stay, kept_of_mounted, mounted_of_kept}
 use Rattle.nv_calls.proofs.RowChange.{unchanged}
 use Rattle.nv_calls.proofs.Stopped.{files_stay, recovers_to, stays_itself}
 use Rattle.nv_calls.proofs.Tests.{if_err}

@@ -1,20 +1,9 @@
-use Rattle.std.proofs.Common.{◌≡◌, ◌+◌, ◌%◌, ◌≤◌, ℕ, List, Option, Some, None, inl, inr, is_some, refl, ap, sym, ◌∙◌, subst, true, false, IsTrue, arith}
+use Rattle.std.proofs.Common.{◌≤◌, ℕ, inl, refl, sym, subst}
 use Rattle.std.proofs.lemmas.Result.{IfErr-weaker, on_ok_weaker}
-use Rattle.nv_super.specs.Layout.{Layout, slot_of}
-use Rattle.nv_inode.specs.Numbers.{has_slot}
 use Rattle.nv_alloc.specs.Taking.{all_blocks}
-use Rattle.nv_entry.specs.declared.entry.Operation.TheVariants.{Add}
-use Rattle.nv_logpage.specs.Append.{needed}
 use Rattle.nv_rows.proofs.TableNumbers.{numbers_kept}
-use Rattle.nv_tree.specs.declared.refusal.Refusal.{Refusal}
-use Rattle.nv_tree.specs.declared.refusal.Refusal.TheVariants.{Stopped}
-use Rattle.nv_commit.specs.Stopped.{LeavesEither}
-use Rattle.nv_steps.specs.NameEntries.{name_entries}
 use Rattle.nv_steps.specs.Steps.{RefusesStep}
-use Rattle.nv_steps.specs.Stopped.{Named}
 use Rattle.nv_steps.specs.Stores.{Places, StoresIn}
-use Rattle.nv_calls.specs.AtPlaces.{CreatesAt, LeavesRows}
-use Rattle.nv_calls.specs.Growing.{CreatesGrown, create_places, grown_blocks}
 use Rattle.nv_calls.proofs.GrowingPlaces.{as_slot, blocks_grown, blocks_none, left_in_table, no_slot, places_grown, places_none}
 use Rattle.nv_calls.proofs.creating.create_at.Goals as goal
 

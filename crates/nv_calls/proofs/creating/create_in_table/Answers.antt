@@ -1,14 +1,12 @@
-use Rattle.std.proofs.Common.{◌≡◌, ◌∙◌, ◌+◌, ◌%◌, ◌≤◌, List, ℕ, Some, None, IsTrue, ap, refl, subst, sym, inl}
+use Rattle.std.proofs.Common.{◌≡◌, ◌∙◌, ◌+◌, ◌%◌, ◌≤◌, List, ℕ, None, ap, refl, subst, sym, inl}
 use Rattle.std.proofs.lemmas.Result.{err_from_is_err_and}
 use Rattle.nv_region.specs.Stops.{LeavesOnly}
 use Rattle.nv_journal.specs.InOrder.{FirstIsFirst}
-use Rattle.nv_super.specs.Layout.{Layout}
 use Rattle.nv_alloc.specs.Taking.{all_blocks}
 use Rattle.nv_entry.specs.declared.entry.Operation.TheVariants.{Add}
 use Rattle.nv_logpage.specs.Append.{needed}
 use Rattle.nv_names.specs.Names.{name_at}
 use Rattle.nv_scan.specs.declared.piece.Row.{Row}
-use Rattle.nv_rows.specs.RowList.{HasNumbersOf, RowList}
 use Rattle.nv_rows.specs.Rows.{IsInUse, HasInserted, row_of}
 use Rattle.nv_rows.specs.Unused.{IsTableNumber}
 use Rattle.nv_rows.proofs.Places.{at_place, in_use}

@@ -1,8 +1,8 @@
-use Rattle.std.proofs.Common.{◌≡◌, ◌<◌, ℕ, ap, sym, ◌∙◌, subst, arith}
+use Rattle.std.proofs.Common.{◌<◌, ap, sym, ◌∙◌, subst}
 use Rattle.nv_super.specs.declared.superblock.Super.{Super}
 use Rattle.nv_super.specs.Layout.{Layout}
 use Rattle.nv_rows.specs.RowList.{HasNumbersOf, RowList}
-use Rattle.nv_rows.proofs.MoreRoom.{grown_small, numbers_grown}
+use Rattle.nv_rows.proofs.MoreRoom.{numbers_grown}
 use Rattle.nv_calls.proofs.GrowingPlaces.{cpu_before, other_size, same_size, small_size}
 use Rattle.nv_calls.proofs.growing.grow_rows.Goals as goal
 

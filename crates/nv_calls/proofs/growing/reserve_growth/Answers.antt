@@ -1,4 +1,4 @@
-use Rattle.std.proofs.Common.{◌<◌, ◌*◌, ◌+◌, ◌^◌, ℕ, List, get_or, subst, sym}
+use Rattle.std.proofs.Common.{◌<◌, subst, sym}
 use Rattle.nv_super.specs.declared.superblock.Super.{Super}
 use Rattle.nv_rows.proofs.MoreRoom.{grown_small}
 use Rattle.nv_rows.proofs.TableNumbers.{numbers_kept}

@@ -1,10 +1,10 @@
-use Rattle.std.proofs.Common.{◌≡◌, ◌∙◌, ◌<◌, ◌++◌, ◌∷◌, [], List, ℕ, Some, None, Ok, false, inr, ap, refl, subst, sym, slice_get, inl}
+use Rattle.std.proofs.Common.{◌≡◌, ◌∙◌, ◌<◌, ◌++◌, ◌∷◌, [], Some, None, Ok, inr, ap, refl, subst, sym, slice_get, inl}
 use Rattle.std.proofs.lemmas.Result.{err_from_is_err_and, IfOk-from_err}
 use Rattle.nv_tree.specs.declared.refusal.Refusal.{Refusal}
 use Rattle.nv_rows.specs.Rows.{place_in}
 use Rattle.nv_rows.proofs.Places.{at_place, own_row, row_in_use}
 use Rattle.nv_mounted.specs.Mounted.{ShowsSound}
-use Rattle.nv_tree.specs.Path.{IsPath, last_name}
+use Rattle.nv_tree.specs.Path.{last_name}
 use Rattle.nv_tree.specs.Tree.{SameTree, walk}
 use Rattle.nv_tree.specs.Calls.{created}
 use Rattle.nv_tree.specs.Refusals.{create_tests, first_refusal, has_no_slot, has_no_space, is_bad_name, is_there, walk_tests, IsRefusedBy}
@@ -14,7 +14,7 @@ use Rattle.nv_calls.specs.Effects.{logs_inode, makes_inode}
 use Rattle.nv_calls.specs.Mount.{Mount}
 use Rattle.nv_calls.specs.NameCalls.{ShowsCreated, create_blocks}
 use Rattle.nv_calls.specs.Same.{IsLaidFor}
-use Rattle.nv_paths.specs.Spots.{IsSpot, new_number, spot_tests}
+use Rattle.nv_paths.specs.Spots.{new_number, spot_tests}
 use Rattle.nv_paths.specs.Seen.{tree_of}
 use Rattle.nv_calls.specs.World.{world_of}
 use Rattle.nv_calls.proofs.Stopped.{call_stays, settled_or_stopped}

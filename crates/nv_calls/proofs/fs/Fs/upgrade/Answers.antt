@@ -1,6 +1,6 @@
-use Rattle.std.proofs.Common.{◌≡◌, ◌==◌, ◌+◌, ◌*◌, ◌≤◌, ◌∙◌, ℕ, inl, inr, Bool, true, false, true≢false, is_err, ap, sym, subst, refl, Option, Some, None}
+use Rattle.std.proofs.Common.{◌≡◌, ◌==◌, ◌+◌, ◌*◌, ◌≤◌, ◌∙◌, inl, inr, true, false, true≢false, is_err, ap, sym, subst, refl, Some}
 use Rattle.std.proofs.lemmas.Result.{err_from_is_err_and, IfOk-from_err}
-use Rattle.nv_region.specs.Region.{HasBlocks, Region}
+use Rattle.nv_region.specs.Region.{HasBlocks}
 use Rattle.nv_region.specs.Stops.{IsMixed, LeavesOnly}
 use Rattle.nv_region.specs.Fuses.{KeepsFuse}
 use Rattle.nv_region.proofs.Stops.{mixed_same}
@@ -9,12 +9,10 @@ use Rattle.nv_super.specs.Layout.{IsLayout}
 use Rattle.nv_inode.specs.Upgraded.{IsUpgraded, UpgradeStores, UpgradedOrNot}
 use Rattle.nv_rows.specs.RowList.{RowList}
 use Rattle.nv_tree.specs.declared.refusal.Refusal.{Refusal}
-use Rattle.nv_tree.specs.Refusals.{first_refusal, upgrade_tests}
 use Rattle.nv_tree.proofs.Replies.{refused_by}
 use Rattle.nv_mounted.proofs.BytesKept.{mixed_size}
 use Rattle.nv_calls.specs.Mount.{Mount}
 use Rattle.nv_calls.specs.Upgrading.{LeavesUpgrade}
-use Rattle.nv_calls.specs.World.{world_of}
 use Rattle.nv_calls.proofs.CleanCall.{tree_stays}
 use Rattle.nv_calls.proofs.CleanedRow.{has_blocks, region_size}
 use Rattle.nv_calls.proofs.Mounts.{kept_when_stopped}

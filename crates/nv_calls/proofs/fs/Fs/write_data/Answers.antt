@@ -1,8 +1,7 @@
-use Rattle.std.proofs.Common.{◌≡◌, ◌∙◌, ◌+◌, ◌<◌, ◌≤◌, ◌++◌, ◌∷◌, [], List, ℕ, Some, None, false, inr, length, ap, set, subst, sym, arith, refl, true}
+use Rattle.std.proofs.Common.{◌≡◌, ◌∙◌, ◌+◌, ◌<◌, ◌≤◌, ◌++◌, ◌∷◌, [], List, ℕ, Some, None, false, inr, length, ap, set, subst, sym, arith, refl}
 use Rattle.std.proofs.lemmas.Result.{err_from_is_err_and, IfOk-from_err}
 use Rattle.std.proofs.lemmas.Option.{same_Some}
 use Rattle.nv_rows.proofs.TableNumbers.{numbers_kept}
-use Rattle.nv_region.specs.Region.{size}
 use Rattle.nv_radix.specs.Pages.{block_at}
 use Rattle.nv_mounted.specs.Held.{Held, Store}
 use Rattle.nv_scan.specs.declared.piece.Row.{Row}
