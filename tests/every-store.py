@@ -4,12 +4,12 @@
 usage: tests/every-store.py [PROGRAM] [--judge JUDGE] [--only WORD]
 
 A stop keeps of the words that are pending none, all, or each second one. Those three ways can't tell that a fence is missing
-between two stores, so of the pending words each subset is tried too where they are at most 6, and else 64 of them at random,
-the same in each run. What the recovery then shows (tree, free lists, faults, and the bytes of files) is what was there before
-the call or what is there after it, without faults. Where the call lets a table grow, it is what was there before, with one free
-block less, just where the link is kept and the commit isn't. A recovery that stores is stopped at each of its stores in the same
-ways, and the one after it once more; what the last one shows is what the first would have shown. Each writing call is tried in
-a region of 1 CPU and in one of 64.
+between two stores, so of the pending words each subset is tried too where they are at most 6, and else the other ones of each two,
+and 63 at random, the same in each run. What the recovery then shows (tree, free lists, faults, and the bytes of files) is what was
+there before the call or what is there after it, without faults. Where the call lets a table grow, it is what was there before, with
+one free block less, just where the link is kept and the commit isn't. A recovery that stores is stopped at each of its stores in
+the same ways, and the one after it once more; what the last one shows is what the first would have shown. Each writing call is
+tried in a region of 1 CPU and in one of 64.
 
 JUDGE, a program that takes the same scripts, leaves the same words behind each stop, and recovers the same of them. WORD
 leaves out the calls that don't have it in their names. Calls that the program doesn't have yet are left out, and counted.
@@ -293,9 +293,10 @@ class Stops:
         pending = [at for at in sorted(left["none"].keys() | left["all"].keys()) if value("none", at) != value("all", at)]
         if left["alternate"] != kept(sum(1 << place for place in range(0, len(pending), 2))):
             raise Wrong(Case(self.call.build, self.call.command), f"alternate doesn't keep each second word after {after} steps")
-        chosen = random.Random(f"{self.call.name} {after}")
-        few = 2 ** len(pending) <= SUBSETS
-        return [kept(mask) for mask in (range(2 ** len(pending)) if few else [chosen.getrandbits(len(pending)) for _ in range(SUBSETS)])]
+        chosen, few = random.Random(f"{self.call.name} {after}"), 2 ** len(pending) <= SUBSETS
+        dropped = sum(1 << place for place in range(1, len(pending), 2))
+        masks = range(2 ** len(pending)) if few else [dropped, *(chosen.getrandbits(len(pending)) for _ in range(SUBSETS - 1))]
+        return [kept(mask) for mask in masks]
 
 
 def try_call(given):
