@@ -219,7 +219,65 @@ FILES = [
     *(f"inode {k} file mode 420 owner 0 group 0 size 0 links 1 time 0\n  log {k + 2} tail {(k + 2) * BLOCK + 32}" for k in range(2, 32)),
     "free 0 34-63", "no faults",
 ]  # fmt: skip
+# The table is full, and `/x` lets it grow by block 34, whose first slot is inode 32. The log of that is block 35.
+GROWN = ["format 1 64 1", "recover 1", "upgrade", *CREATES, "create 0 /x"]
+GREW = ["ok", "recovered inodes 1 free 60 faults 0", *["ok"] * (len(CREATES) + 2)]
+GROWN_TREE = [
+    "inode 1 dir mode 493 owner 0 group 0 size 0 links 1 time 0", "  log 3 tail 13312",
+    *sorted(f"  name n{k} {k}" for k in range(2, 32)), "  name x 32", *FILES[32:-2],
+    "inode 32 file mode 420 owner 0 group 0 size 0 links 1 time 0", "  log 35 tail 143392",
+]  # fmt: skip
+# All blocks but those in use hold bytes 255, and the words where links come aren't 0.
+USED = ["create 0 /fill", "write 0 /fill 0 241664 255", "unlink 0 /fill"]
 SCRIPTS = {
+    "a table that grows": (
+        [*GROWN, "peek 4112", "peek 139392", "recover 2", "free"],
+        [*GREW, "word 139264", "word 1", "recovered inodes 32 free 28 faults 0", "free 0 36-63"],
+    ),
+    "the tree behind a growth": ([*GROWN, "tree"], [*GREW, *GROWN_TREE]),
+    "a wrong link of a grown table": (
+        [*GROWN, "peek 4112", "peek 139392", "recover 2", "free", "poke 4112 139265", "recover 2", "faults"],
+        [*GREW, "word 139264", "word 1", "recovered inodes 32 free 28 faults 0", "free 0 36-63", "ok"]
+        + ["recovered inodes 31 free 30 faults 2", "fault H1 cpu 0 at 4112", "fault C1 inode 1 at 13280"],
+    ),
+    "a ring of a grown table": (
+        [*GROWN, "peek 4112", "peek 139392", "recover 2", "free", "poke 139264 139264", "recover 2", "faults"],
+        [*GREW, "word 139264", "word 1", "recovered inodes 32 free 28 faults 0", "free 0 36-63", "ok"]
+        + ["recovered inodes 32 free 28 faults 1", "fault H2 cpu 0 at 139264"],
+    ),
+    # Of 2 free blocks one lets the table grow, and the other is the new log. Of 1 nothing is taken.
+    "the last blocks of a growth": (
+        ["format 1 36 1", *GROWN[1:], "free", "recover 1", "faults"],
+        ["ok", "recovered inodes 1 free 32 faults 0", *GREW[2:], "free 0", "recovered inodes 32 free 0 faults 0", "no faults"],
+    ),
+    "a block too few for a growth": (
+        ["format 1 35 1", *GROWN[1:], "peek 4112", "mkdir 0 /x", "free", "unlink 0 /n2", "create 0 /x", "peek 4112", "recover 1", "list /"],
+        ["ok", "recovered inodes 1 free 31 faults 0", *GREW[2:-1], "refused NoSpace", "word 0", "refused NoSpace", "free 0 34", "ok", "ok", "word 0"]
+        + ["recovered inodes 31 free 1 faults 0", *sorted(f"n{k} {k}" for k in range(3, 32)), "x 2"],
+    ),
+    # A growth takes the last block of its own pool, and the log one of the other. The block stays with the table.
+    "a growth by the last block of a pool": (
+        ["format 2 72 1", "recover 1", "upgrade", *(f"create 0 /n{k}" for k in range(31)), "free", "mkdir 0 /x", "free", "peek 4112", "rmdir 0 /x", "free"]
+        + ["peek 8208", "create 0 /y", "stat /y", "create 1 /z", "stat /z", "recover 64", "faults"],
+        ["ok", "recovered inodes 1 free 66 faults 0", "ok", *["ok"] * 31, "free 0 37", "free 1 38-71", "ok", "free 0", "free 1 39-71", "word 151552", "ok"]
+        + ["free 0", "free 1 38-71", "word 0", "ok", "stat inode 64 file mode 420 owner 0 group 0 size 0 links 1 time 0", "ok"]
+        + ["stat inode 3 file mode 420 owner 0 group 0 size 0 links 1 time 0", "recovered inodes 34 free 32 faults 0", "no faults"],
+    ),
+    # Another block comes where the first is full too, and the lowest slot that is free is taken before.
+    "a second growth": (
+        ["format 1 128 1", *GROWN[1:], *(f"create 0 /m{k}" for k in range(30)), "unlink 0 /n9", "mkdir 0 /y", "mkdir 0 /z", "stat /y", "stat /z"]
+        + ["peek 4112", "peek 139264", "recover 8", "free"],
+        ["ok", "recovered inodes 1 free 124 faults 0", *GREW[2:], *["ok"] * 33, "stat inode 9 dir mode 493 owner 0 group 0 size 0 links 1 time 0"]
+        + ["stat inode 63 dir mode 493 owner 0 group 0 size 0 links 1 time 0", "word 139264", "word 270336", "recovered inodes 63 free 60 faults 0"]
+        + ["free 0 68-127"],
+    ),
+    # The link and the valid words are stored, and the rest of a block stays as it was.
+    "a growth into used blocks": (
+        ["format 1 64 1", "poke 4112 12288", "recover 1", *USED, "upgrade", "peek 4112", *CREATES, "create 0 /x", "peek 139264", "peek 139272"]
+        + ["peek 139520", "peek 139528", "peek 143232", "peek 143240", "recover 3", "faults"],
+        ["ok", "ok", "recovered inodes 1 free 60 faults 0", *["ok"] * 4, "word 0", *["ok"] * 31, "word 0", "word 18446744073709551615"]
+        + ["word 0", "word 18446744073709551615", "word 0", "word 18446744073709551615", "recovered inodes 32 free 28 faults 0", "no faults"],
+    ),
     "a full table of version 1": (
         ["format 1 64 1", "recover 1", *CREATES, "create 0 /x", "mkdir 0 /x"],
         ["ok", "recovered inodes 1 free 60 faults 0", *["ok"] * len(CREATES), "refused NoInodes", "refused NoInodes"],

@@ -4,11 +4,12 @@
 usage: tests/every-store.py [PROGRAM] [--judge JUDGE] [--only WORD]
 
 A stop keeps of the words that are pending none, all, or each second one. Those three ways can't tell that a fence is missing
-between two stores, so of the pending words each subset is tried too where they are at most 6, and else 64 of them at random,
-the same in each run. What the recovery then shows (tree, free lists, faults, and the bytes of files) is what was there before
-the call or what is there after it, without faults. A recovery that stores is stopped at each of its stores in the same ways,
-and the one after it once more; what the last one shows is what the first would have shown. Each writing call is tried in a
-region of 1 CPU and in one of 64.
+between two stores, so of the pending words each subset is tried too where they are at most 6, and else the other ones of each two,
+and 63 at random, the same in each run. What the recovery then shows (tree, free lists, faults, and the bytes of files) is what was
+there before the call or what is there after it, without faults. Where the call lets a table grow, it is what was there before, with
+one free block less, just where the link is kept and the commit isn't. A recovery that stores is stopped at each of its stores in
+the same ways, and the one after it once more; what the last one shows is what the first would have shown. Each writing call is
+tried in a region of 1 CPU and in one of 64.
 
 JUDGE, a program that takes the same scripts, leaves the same words behind each stop, and recovers the same of them. WORD
 leaves out the calls that don't have it in their names. Calls that the program doesn't have yet are left out, and counted.
@@ -45,7 +46,7 @@ SMALL = lines("format 1 16 1", "recover 1")
 BASE64 = lines("format 64 512 1", "recover 1")
 MOVED = ["mkdir 0 /d", "mkdir 0 /e", "create 0 /d/x", "rename 0 /d/x /e/x"]
 FULL_OF_NAMES = ["create 0 /n0", *(f"link 0 /n0 /n{k}" for k in range(1, 127))]
-# Each writing call but `clean` and `upgrade`, made by the last CPU and some by the first.
+# Each writing call but `clean`, `upgrade` and those that let a table grow, made by the last CPU and some by the first.
 EACH_CALL = ["mkdir 0 /d", "mkdir {last} /e", "create {last} /a", "write {last} /a 0 5000 65", "size 0 /a 3", "attr {last} /a 448 1 2"]
 EACH_CALL += ["link {last} /a /d/b", "rename {last} /a /c", "rename {last} /d/b /e/b", "rename 0 /c /d/c"]
 EACH_CALL += ["unlink {last} /e/b", "unlink {last} /d/c", "rmdir {last} /d"]
@@ -57,6 +58,16 @@ DEAD_PAGE = ["create {last} /a", *["attr {last} /a 420 0 0"] * 127]
 def with_words_for_links(cpus, blocks):
     """A region of version 1 in which words stand where links come."""
     return lines(f"format {cpus} {blocks} 1", *(f"poke {BLOCK * (1 + cpu) + 16} {7 + cpu}" for cpu in range(cpus)), "recover 1", "create 0 /a")
+
+
+def full_table(cpus, blocks, *commands):
+    """A region of version 2 in which the table of the last CPU has no free slot. Its free blocks hold bytes 255, and words stood where
+    links come."""
+    root_log, slots = 1 + 2 * cpus, {1: 30, 2: 31, 64: 32}[cpus]
+    pokes = (f"poke {BLOCK * (1 + cpu) + 16} {BLOCK * root_log}" for cpu in range(cpus))
+    fill = ["create 0 /a", f"write 0 /a 0 {BLOCK * (blocks - root_log - 2)} 255", "unlink 0 /a"]
+    creates = (f"create {cpus - 1} /n{k}" for k in range(slots))
+    return lines(f"format {cpus} {blocks} 1", *pokes, "recover 1", *fill, "upgrade", *creates, *commands)
 
 
 # By name: the region that the calls begin with, and the calls.
@@ -72,6 +83,12 @@ SCRIPTS = {
     "inodes in a chain": (FULL_TABLE, ["mkdir 0 /d", "create 0 /d/x", "rename 0 /d/x /y", "rmdir 0 /d"]),
     "a log with a dead page": (SMALL + lines(*on_cpu(0, DEAD_PAGE)), ["clean /a"]),
     "a log with a dead page, of 64 CPUs": (BASE64 + lines(*on_cpu(63, DEAD_PAGE)), ["clean /a"]),
+    "a table that grows": (full_table(1, 64), ["create 0 /x"]),
+    "a table that grows by a directory": (full_table(1, 64), ["mkdir 0 /d", "create 0 /d/x", "unlink 0 /d/x", "rmdir 0 /d"]),
+    "a table that grows twice": (full_table(1, 128, *(f"create 0 /m{k}" for k in range(31))), ["create 0 /x"]),
+    # Its pool is empty, and the block is one of the other's.
+    "a table that grows, of 2 CPUs": (full_table(2, 72, "write 1 /n0 0 12288 65"), ["mkdir 1 /d"]),
+    "a table that grows, of 64 CPUs": (full_table(64, 512), ["create 63 /x"]),
     "words where links come, of 2 CPUs": (with_words_for_links(2, 64), ["upgrade"]),
     "words where links come, of 64 CPUs": (with_words_for_links(64, 136), ["upgrade"]),
     "overwritten pages": (lines("time 7", "format 1 16 1", "recover 1"), ["create 0 /a", "write 0 /a 0 5000 65", "attr 0 /a 448 1 2", "write 0 /a 4000 200 66"]),
@@ -79,6 +96,16 @@ SCRIPTS = {
 # The stores and fences of some calls.
 STEPS = {"a file of two pages: create 0 /a": 25, "a file cut and lengthened: write 0 /a 0 6 65": 520, "a format": 53}
 STEPS |= {f"words where links come, of {cpus} CPUs: upgrade": cpus + 3 for cpus in (2, 64)}
+# Where a call lets a table grow: the address of the link, and the block that it then leads to.
+GROWTHS = {
+    "a table that grows: create 0 /x": (BLOCK + 16, 34),
+    "a table that grows by a directory: mkdir 0 /d": (BLOCK + 16, 34),
+    "a table that grows twice: create 0 /x": (34 * BLOCK, 66),
+    "a table that grows, of 2 CPUs: mkdir 1 /d": (2 * BLOCK + 16, 6),
+    "a table that grows, of 64 CPUs: create 63 /x": (64 * BLOCK + 16, 290),
+}
+# 32 zeros, a fence, the link and a fence more than without a growth.
+STEPS |= dict.fromkeys(GROWTHS, 25 + 35)
 # The roll back of a journal: the region that a stop left between the two tails of a rename.
 STOPPED_RENAME = BASE2 + lines(*MOVED[:3], "stop at 12568 all", MOVED[3])
 
@@ -130,6 +157,27 @@ def peeks_of(blocks):
     return b"".join(peeks(block, block + 1) for block in blocks)
 
 
+def without_block(text, block):
+    """What a recovery shows, with one free block less: the first of a run."""
+    shown = []
+    for line in text.decode().split("\n"):
+        words = line.split(" ")
+        if words[0] == "recovered":
+            words[4] = str(int(words[4]) - 1)
+        elif words[0] == "free":
+            words = [run for word in words for run in shorter(word, block)]
+        shown.append(" ".join(words))
+    return "\n".join(shown).encode()
+
+
+def shorter(run, block):
+    """A run without its first block, where that is the one: none, or one that is shorter."""
+    first, _, last = run.partition("-")
+    if first != str(block):
+        return [run]
+    return [f"{block + 1}-{last}" if int(last) > block + 1 else last] if last else []
+
+
 class Blocks:
     """The blocks that a call may store to, and those of them that the recovery behind it may: all but the data blocks that no table has."""
 
@@ -142,7 +190,7 @@ class Blocks:
         else:
             before, after = (words_in(runner, build, range(blocks)) for build in (call.build, call.build + call.command))
             self.of_call = sorted({at // BLOCK for at in before if before[at] != after[at]})
-        chained = self.chained(runner, call.build, blocks)
+        chained = self.chained(runner, call.build, blocks) | self.chained(runner, call.build + call.command, blocks)
         self.of_recovery = [block for block in self.of_call if block < first_data or block in chained]
 
     def chained(self, runner, build, blocks):
@@ -179,12 +227,21 @@ class Stops:
         if b"no faults" not in after:
             raise Wrong(Case(call.build, call.command), "there are faults behind it")
         self.blocks = Blocks(self.runner, call)
-        self.steps = self.explore(call.build, call.command, {before, after}, 1, self.blocks.of_call)
+        self.steps = self.explore(call.build, call.command, self.allowed(before, after), 1, self.blocks.of_call)
         if self.steps != STEPS.get(call.name, self.steps):
             raise Wrong(Case(call.build, call.command), f"it has {self.steps} stores and fences, wanted {STEPS[call.name]}")
 
+    def allowed(self, before, after):
+        """The texts that may be found behind a stop of the call, by the words that are kept."""
+        if self.call.name not in GROWTHS:
+            return lambda words: {before, after}
+        link, block = GROWTHS[self.call.name]
+        grown = without_block(before, block)
+        return lambda words: {grown, after} if words.get(link) == BLOCK * block else {before}
+
     def explore(self, build, command, allowed, depth, blocks):
-        """Stops a command at each of its steps, sees that each region that is left shows an allowed text, and answers the steps."""
+        """Stops a command at each of its steps, sees that each region that is left shows a text that its words allow, and answers the
+        steps."""
         base, met, after = words_in(self.runner, build, blocks), set(), -1
         for after, left in self.stopped(build, command, base, allowed):
             tried = self.subsets(after, base, left)
@@ -194,9 +251,9 @@ class Stops:
             met |= fresh.keys()
             regions = [build + poked(words) for words in fresh.values()]
             for words, region, seen in zip(fresh.values(), regions, self.runner.answers([Case(r, self.call.seen) for r in regions])):
-                self.see(Case(region, self.call.seen), seen, allowed, f"after {after} steps some words are kept")
+                self.see(Case(region, self.call.seen), seen, allowed(words), f"after {after} steps some words are kept")
                 if depth < DEPTH and self.blocks.is_pending(base, words):
-                    self.explore(region, RECOVER, {seen}, depth + 1, self.blocks.of_recovery)
+                    self.explore(region, RECOVER, lambda _, seen=seen: {seen}, depth + 1, self.blocks.of_recovery)
         return after + 1
 
     def see(self, case, seen, allowed, when):
@@ -217,8 +274,9 @@ class Stops:
                 answer, *words = text.split(b"\n", count + 2)[1:]
                 if answer != b"stopped":
                     return
-                self.see(case, words.pop(), allowed, f"it is stopped after {after} steps, {keep} kept")
+                seen = words.pop()
                 left[keep] = {at: int(line[5:]) for (at, word), line in zip(base.items(), words) if line != b"word %d" % word}
+                self.see(case, seen, allowed(left[keep]), f"it is stopped after {after} steps, {keep} kept")
                 if keep == KEEPS[-1]:
                     yield after, dict(left)
             step += batch
@@ -235,9 +293,10 @@ class Stops:
         pending = [at for at in sorted(left["none"].keys() | left["all"].keys()) if value("none", at) != value("all", at)]
         if left["alternate"] != kept(sum(1 << place for place in range(0, len(pending), 2))):
             raise Wrong(Case(self.call.build, self.call.command), f"alternate doesn't keep each second word after {after} steps")
-        chosen = random.Random(f"{self.call.name} {after}")
-        few = 2 ** len(pending) <= SUBSETS
-        return [kept(mask) for mask in (range(2 ** len(pending)) if few else [chosen.getrandbits(len(pending)) for _ in range(SUBSETS)])]
+        chosen, few = random.Random(f"{self.call.name} {after}"), 2 ** len(pending) <= SUBSETS
+        dropped = sum(1 << place for place in range(1, len(pending), 2))
+        masks = range(2 ** len(pending)) if few else [dropped, *(chosen.getrandbits(len(pending)) for _ in range(SUBSETS - 1))]
+        return [kept(mask) for mask in masks]
 
 
 def try_call(given):

@@ -4,13 +4,13 @@
 usage: tests/fuzz.py PROGRAM MINUTES [--judge JUDGE] [--seed N] [--keep FOLDER]
 
 An image has 8 to 64 blocks: logs of random entries, in version 2 also chains of table blocks, and then some words of it are
-changed. A script formats, pokes, cuts and recovers regions, or makes calls on the files of one, with stops and now and then damage;
-commands that PROGRAM doesn't have yet are left out. Images and calls are run by one worker and by several, and an image is checked in a file, of
-which the metadata alone are read, and from a pipe, which is read whole. It is wrong where a run ends by a signal or with a
-status other than 0, 1 and 2, where it takes over a second of processor time, where the number of workers or the way of
-reading changes what is printed, and where JUDGE, a program that takes the same words, prints another text or ends with
-another status. What was wrong is kept in FOLDER, and the last line counts the cases. The exit status is 1 where one was
-wrong.
+changed. A script formats, pokes, cuts and recovers regions, or makes calls on the files of one, with stops and now and then damage,
+and in some so many files that tables grow; commands that PROGRAM doesn't have yet are left out. Images and calls are run by one
+worker and by several, and an image is checked in a file, of which the metadata alone are read, and from a pipe, which is read
+whole. It is wrong where a run ends by a signal or with a status other than 0, 1 and 2, where it takes over a second of processor
+time, where the number of workers or the way of reading changes what is printed, and where JUDGE, a program that takes the same
+words, prints another text or ends with another status. What was wrong is kept in FOLDER, and the last line counts the cases. The
+exit status is 1 where one was wrong.
 
 The cases of a seed are always the same ones.
 """

@@ -4,9 +4,10 @@
 usage: tests/names.py [PROGRAM] [--judge JUDGE] [--only WORD]
 
 Directories in directories; entries that fill a page of a log, or leave each rest of it; 1,000 links and one more; a region
-with too few free blocks for a call, by one, by two, and just enough; and each two reasons for a refusal at once, by all pairs
-of some paths in regions that can't be written, have no free block, no free inode, or no link to give. What each call answers
-and leaves is compared with a model (names_model.py), and what is mounted behind it with what a recovery finds. JUDGE, a
+with too few free blocks for a call, by one, by two, and just enough; tables of version 2 that grow, at each place and in scripts
+made at random; and each two reasons for a refusal at once, by all pairs of some paths in regions that can't be written, have no
+free block, no free inode, or no link to give. What each call answers and leaves is compared with a model (names_model.py), and
+what is mounted behind it with what a recovery finds. JUDGE, a
 program that takes the same scripts, prints the same. WORD leaves out the shapes whose names don't have it. Calls that the
 program doesn't have yet are left out, and counted. JOBS=2 processes are run at a time. The last line counts the cases, and
 the status is 1 where one was wrong.
@@ -14,6 +15,7 @@ the status is 1 where one was wrong.
 
 import copy
 import itertools
+import random
 import sys
 import time
 from collections import Counter
@@ -131,6 +133,55 @@ def full():
                 yield build.filled(left), command
 
 
+def used(cpus, blocks):
+    """A region whose free blocks hold bytes 255, and in which words stand where links come."""
+    root_log = 1 + 2 * cpus
+    build = Build(cpus, blocks, 1, *(f"poke {4096 * (1 + cpu) + 16} {4096 * root_log}" for cpu in range(cpus)), "recover 1", "create 0 /fill")
+    return build.also(f"write 0 /fill 0 {4096 * build.model.free} 255", "unlink 0 /fill")
+
+
+def growing():
+    """The table of each CPU has one block, and grows twice by blocks that were used. Lower slots that are free are taken first."""
+    for cpus in (1, 3):
+        creates = [f"{call} {cpu} /n{cpu}_{k}" for k, call in enumerate(["create", "create", "mkdir"] * 31) for cpu in range(cpus)]
+        gone = [f"unlink 0 /n{cpu}_{k}" for cpu in range(cpus) for k in (0, 31, 70)]
+        yield from steps(used(cpus, 32 + 110 * cpus).also("upgrade"), *creates, *gone, *(f"mkdir {cpus - 1} /m{k}" for k in range(4)))
+
+
+def short_of_blocks():
+    """A table has no free slot, and so many blocks are free: one for its growth, one for the new log, one for the directory's log."""
+    for rest, left in itertools.product([0, 8, 24, 32, 64], range(5)):
+        full_table = Build(1, 128, 1, "upgrade", "mkdir 0 /d", "create 0 /fill").ending("/", rest)
+        slots = 31 - len(full_table.model.inodes)
+        full_table.also(*(f"create 0 /d/n{k}" for k in range(slots)))
+        full_table.also(f"write 0 /fill 0 {4096 * (full_table.model.free - left)} 1")
+        yield from ((full_table.copy(), command) for command in ("create 0 /x", f"mkdir 0 /{LONG}", "create 0 /d/x"))
+
+
+def at_random():
+    """Scripts with more names than the fixed tables have slots, which are upgraded within: each call that is refused, and the end."""
+    for seed in range(40):
+        rng = random.Random(seed)
+        cpus = rng.choice([1, 1, 2, 3])
+        build = used(cpus, rng.choice([70, 150, 32 + 110 * cpus])) if rng.random() < 0.7 else Build(cpus, 32 + 110 * cpus, 1)
+        commands = ["mkdir 0 /n0", "mkdir 0 /n1", *(some_call(rng, cpus) for _ in range(120 * cpus))]
+        commands.insert(rng.randrange(len(commands)), "upgrade")
+        for command in commands:
+            answer = copy.deepcopy(build.model).answer(command)
+            if answer == "ok":
+                build.also(command)
+            elif answer == "refused NoSpace" or rng.random() < 0.2:
+                yield build.copy(), command
+        yield build, "upgrade"
+
+
+def some_call(rng, cpus):
+    """Mostly a name that is made."""
+    call = rng.choice([*["create"] * 12, *["mkdir"] * 3, *["unlink"] * 3, "rmdir", "link", "rename"])
+    paths = [rng.choice(["", "", "", "/n0", "/n1"]) + f"/n{rng.randrange(150 * cpus)}" for _ in range(2 if call in ("link", "rename") else 1)]
+    return f"{call} {rng.randrange(cpus)} {' '.join(paths)}"
+
+
 def many_links():
     """The most links that a file can have, and one more."""
     names = Build(1, 200, 1, "create 0 /a", "mkdir 0 /d", *(f"link 0 /a /d/n{k}" for k in range(997)))
@@ -157,6 +208,8 @@ def states():
         yield f"logs at their ends, {left} free", fine.copy().ending("/", 0).ending("/d", 8).ending("/f", 0).ending("/e", 0).filled(left), CALLS
     yield "no inode", fine.copy().also(*made), ["create", "mkdir"]
     yield "no inode and no block", fine.copy().also(*made[1:]).filled(0), ["create", "mkdir"]
+    for left in range(3):
+        yield f"a table that grows, {left} free", fine.copy().also(*made[1:]).filled(left).also("upgrade"), ["create", "mkdir"]
     linked = Build(2, 200, 1, *TREE, *(f"link 0 /f /e/l{k}" for k in range(998)))
     yield "most links", linked, ["link"]
     yield "most links and no block", linked.copy().filled(0), ["link"]
@@ -172,7 +225,7 @@ def refusals():
                     yield build, f"{call} {cpu} {' '.join(paths)}"
 
 
-SHAPES = [nested, filled_by_names, every_rest, full, many_links, refusals]
+SHAPES = [nested, filled_by_names, every_rest, full, growing, short_of_blocks, at_random, many_links, refusals]
 
 
 class Names:

@@ -7,6 +7,8 @@ Of blocks it knows how many are free and not which, of files their links and not
 import re
 
 ENTRIES_END = 4064
+# The slots of a block of the fixed tables, and those of a block by which a table grows.
+SLOTS, CHAINED_SLOTS = 32, 31
 NEXT_PAGE = 8
 MOST_LINKS = 1000
 FILE, DIRECTORY = "file", "dir"
@@ -56,7 +58,9 @@ def names_of(path):
 
 class Model:
     def __init__(self, cpus, blocks, tables):
-        self.cpus, self.slots = cpus, 32 * tables
+        self.cpus, self.version = cpus, 1
+        # By CPU: how many slots its table has.
+        self.slots = [SLOTS * tables] * cpus
         self.inodes = {1: Inode(DIRECTORY)}
         self.free = blocks - (1 + cpus + cpus * tables) - 1
         self.read_only = False
@@ -115,10 +119,16 @@ class Model:
         parent = self.parent_of(names)
         if names[-1] in self.inodes[parent].names:
             raise Refused("Exists")
-        inode = next((i for s in range(self.slots) if (i := s * self.cpus + int(cpu)) and i not in self.inodes), None)
-        if inode is None:
+        slots = self.slots[int(cpu)]
+        inode = next((i for s in range(slots) if (i := s * self.cpus + int(cpu)) and i not in self.inodes), None)
+        grows = inode is None
+        if grows and self.version == 1:
             raise Refused("NoInodes")
-        self.take(1, [(parent, [entry_of_name(names[-1])])])
+        # The block by which the table grows, and the new log.
+        self.take(1 + grows, [(parent, [entry_of_name(names[-1])])])
+        if grows:
+            inode = slots * self.cpus + int(cpu)
+            self.slots[int(cpu)] += CHAINED_SLOTS
         self.inodes[inode] = Inode(kind)
         self.inodes[parent].names[names[-1]] = inode
 
@@ -194,6 +204,13 @@ class Model:
         self.take(0, [(source, [removed, added])] if source == target else [(source, [removed]), (target, [added])])
         self.inodes[target].names[new[-1]] = self.inodes[source].names.pop(old[-1])
 
+    def upgrade(self):
+        if self.read_only:
+            raise Refused("ReadOnly")
+        if self.version == 2:
+            raise Refused("IsVersion2")
+        self.version = 2
+
     def attr(self, cpu, path, *_):
         self.enter(cpu)
         self.take(0, [(self.found(names_of(path)), [ENTRY_OF_ATTRIBUTES])])
@@ -208,9 +225,10 @@ class Model:
         self.free -= pages
         inode.data, inode.end = inode.data + pages, None
 
-    def poke(self, *_):
-        """Only damage that leaves all inodes, and a fault, behind the next recovery."""
-        self.read_only = True
+    def poke(self, at, _):
+        """Only words where links come, and damage that leaves all inodes, and a fault, behind the next recovery."""
+        if self.version == 2 or int(at) not in [4096 * (1 + cpu) + 16 for cpu in range(self.cpus)]:
+            self.read_only = True
 
     def recover(self, *_):
         """Nothing is changed."""

@@ -16,8 +16,11 @@ class Calls:
         self.folders, self.files = ["", ""], []
         self.cpus, self.blocks = rng.choice([1, 1, 2, 3]), rng.choice([8, 12, 16, 40, 64])
         self.lines = [f"format {self.cpus} {max(self.blocks, 8)} 1", "recover 1"]
-        if rng.random() < 0.2:
+        what = rng.random()
+        if what < 0.2:
             self.full_table()
+        elif what < 0.4:
+            self.growing_tables()
         # In some scripts logs grow by many entries, and are cleaned between all calls.
         self.cleans = rng.random() < 0.3
 
@@ -28,6 +31,24 @@ class Calls:
         self.lines = [f"format 1 {self.blocks} 1", "poke 8 2", f"poke {BLOCK + 16} {BLOCK * first}", f"poke {BLOCK * first} {BLOCK * second}"]
         self.lines += ["recover 1", *(f"create 0 /full{k}" for k in range(30))]
         self.files += [f"/full{k}" for k in range(0, 30, 6)]
+
+    def growing_tables(self):
+        """The tables have one block, and 60 files of each CPU come, some of which go. In the midst the region is upgraded, so that tables
+        grow where there are free blocks. Most of these were used, and words stand where links come."""
+        rng = self.rng
+        self.blocks = rng.choice([40, 80, 64 * self.cpus + 16, 300])
+        first = 1 + 2 * self.cpus
+        links = [f"poke {BLOCK * (1 + cpu) + 16} {BLOCK * rng.randrange(first + 2)}" for cpu in range(self.cpus)]
+        fill = ["create 0 /fill", f"write 0 /fill 0 {BLOCK * (self.blocks - first - 2)} 255", "unlink 0 /fill"]
+        self.lines = [f"format {self.cpus} {self.blocks} 1", *links, "recover 1", *(fill if rng.random() < 0.8 else [])]
+        calls = [f"{rng.choice(['create', 'create', 'mkdir'])} {cpu} /g{cpu}_{k}" for k in range(60) for cpu in range(self.cpus)]
+        for place, call in enumerate(calls):
+            self.lines += [call, f"unlink {call.split(' ', 1)[1]}"] if rng.random() < 0.15 else [call]
+            if place == len(calls) // 3:
+                self.lines += ["upgrade", "free"]
+        paths = [call.split(" ")[2] for call in calls]
+        self.files += rng.sample(paths, 8)
+        self.lines += [f"rmdir {rng.randrange(self.cpus)} {path}" for path in rng.sample(paths, 8)] + ["free"]
 
     def script(self):
         rng = self.rng
