@@ -280,6 +280,34 @@ SCRIPTS = {
         [*FULL, "create 0 /x", *["attr 0 /x 420 0 0"] * 127, "clean /x", "peek 139408", "free", "clean /x", "recover 2"],
         [*MADE, *["ok"] * 128, "cleaned 35", "word 147456", "free 0 35 37-63", "nothing", "recovered inodes 32 free 28 faults 0"],
     ),
+    # Words stood in block 34 where its link and the valid word of its second slot come. Inode 32 has its log in the block behind.
+    "a table that grows": (
+        ["format 1 64 1", "poke 139264 7", "poke 139520 1", "recover 1", "upgrade", *CREATES, "create 0 /x", "stat /x"]
+        + ["peek 4112", "peek 139264", "peek 139392", "peek 139520", "recover 2", "free", "faults"],
+        ["ok", "ok", "ok", "recovered inodes 1 free 60 faults 0", "ok", *["ok"] * len(CREATES), "ok"]
+        + ["stat inode 32 file mode 420 owner 0 group 0 size 0 links 1 time 0", "word 139264", "word 0", "word 1", "word 0"]
+        + ["recovered inodes 32 free 28 faults 0", "free 0 36-63", "no faults"],
+    ),
+    "a table that grows twice": (
+        ["format 1 128 1", "recover 1", "upgrade", *(f"create 0 /n{k}" for k in range(2, 63)), "mkdir 0 /x", "stat /x", "peek 4112"]
+        + ["peek 139264", "peek 270336", "recover 8", "free", "faults"],
+        ["ok", "recovered inodes 1 free 124 faults 0", "ok", *["ok"] * 62, "stat inode 63 dir mode 493 owner 0 group 0 size 0 links 1 time 0"]
+        + ["word 139264", "word 270336", "word 0", "recovered inodes 63 free 60 faults 0", "free 0 68-127", "no faults"],
+    ),
+    # One block is free, and the table needs it, and the new log another one.
+    "no space to grow": (
+        ["format 1 35 1", "recover 1", "upgrade", *CREATES, "create 0 /x", "free", "unlink 0 /n2", "create 0 /x", "stat /x"],
+        ["ok", "recovered inodes 1 free 31 faults 0", "ok", *["ok"] * len(CREATES), "refused NoSpace", "free 0 34", "ok", "ok"]
+        + ["stat inode 2 file mode 420 owner 0 group 0 size 0 links 1 time 0"],
+    ),
+    # Of the growth the fence behind the link is missing: the link is lost, or the table has a block more, and then a slot.
+    "stops of a growth": (
+        ["format 1 64 1", "recover 1", "upgrade", *CREATES, "stop after 34 none", "create 0 /x", "recover 1", "free"]
+        + ["stop after 34 all", "create 0 /x", "recover 1", "free", "create 0 /x", "stat /x", "free"],
+        ["ok", "recovered inodes 1 free 60 faults 0", "ok", *["ok"] * len(CREATES), "ok", "stopped", "recovered inodes 31 free 30 faults 0"]
+        + ["free 0 34-63", "ok", "stopped", "recovered inodes 31 free 29 faults 0", "free 0 35-63", "ok"]
+        + ["stat inode 32 file mode 420 owner 0 group 0 size 0 links 1 time 0", "free 0 36-63"],
+    ),
     "the version of a report": (
         ["format 1 64 1", "poke 8 2", "recover 1", "report"],
         ["ok", "ok", "recovered inodes 1 free 60 faults 0", "region version 2 cpus 1 blocks 64 tables 1 state 0"]

@@ -6,9 +6,9 @@ usage: tests/every-store.py [PROGRAM] [--judge JUDGE] [--only WORD]
 A stop keeps of the words that are pending none, all, or each second one. Those three ways can't tell that a fence is missing
 between two stores, so of the pending words each subset is tried too where they are at most 6, and else 64 of them at random,
 the same in each run. What the recovery then shows (tree, free lists, faults, and the bytes of files) is what was there before
-the call or what is there after it, without faults. A recovery that stores is stopped at each of its stores in the same ways,
-and the one after it once more; what the last one shows is what the first would have shown. Each writing call is tried in a
-region of 1 CPU and in one of 64.
+the call, also with a table that has grown, or what is there after it, without faults. A recovery that stores is stopped at
+each of its stores in the same ways, and the one after it once more; what the last one shows is what the first would have
+shown. Each writing call is tried in a region of 1 CPU and in one of 64.
 
 JUDGE, a program that takes the same scripts, leaves the same words behind each stop, and recovers the same of them. WORD
 leaves out the calls that don't have it in their names. Calls that the program doesn't have yet are left out, and counted.
@@ -51,6 +51,8 @@ EACH_CALL += ["link {last} /a /d/b", "rename {last} /a /c", "rename {last} /d/b 
 EACH_CALL += ["unlink {last} /e/b", "unlink {last} /d/c", "rmdir {last} /d"]
 # The table is full, and goes on in block 40.
 FULL_TABLE = lines("format 1 64 1", "poke 8 2", "poke 4112 163840", "recover 1", *(f"create 0 /n{k}" for k in range(30)))
+# It is full, and grows by block 34, where words stand.
+FULL_VERSION_2 = lines("format 1 64 1", "poke 139264 7", "poke 139520 1", "recover 1", "upgrade", *(f"create 0 /n{k}" for k in range(30)))
 DEAD_PAGE = ["create {last} /a", *["attr {last} /a 420 0 0"] * 127]
 
 
@@ -69,6 +71,7 @@ SCRIPTS = {
     "names that go": (SMALL, ["mkdir 0 /d", "create 0 /a", "link 0 /a /d/b", "unlink 0 /a", "rename 0 /d/b /c", "unlink 0 /c", "rmdir 0 /d"]),
     "each call, of 1 CPU": (SMALL, on_cpu(0, EACH_CALL)),
     "each call, of 64 CPUs": (BASE64, on_cpu(63, EACH_CALL)),
+    "a table that grows": (FULL_VERSION_2, ["create 0 /x", "mkdir 0 /d"]),
     "inodes in a chain": (FULL_TABLE, ["mkdir 0 /d", "create 0 /d/x", "rename 0 /d/x /y", "rmdir 0 /d"]),
     "a log with a dead page": (SMALL + lines(*on_cpu(0, DEAD_PAGE)), ["clean /a"]),
     "a log with a dead page, of 64 CPUs": (BASE64 + lines(*on_cpu(63, DEAD_PAGE)), ["clean /a"]),
@@ -78,7 +81,11 @@ SCRIPTS = {
 }
 # The stores and fences of some calls.
 STEPS = {"a file of two pages: create 0 /a": 25, "a file cut and lengthened: write 0 /a 0 6 65": 520, "a format": 53}
+# The growth has 33 stores and two fences.
+STEPS["a table that grows: create 0 /x"] = 25 + 35
 STEPS |= {f"words where links come, of {cpus} CPUs: upgrade": cpus + 3 for cpus in (2, 64)}
+# What a stop of some calls may leave besides what was before, and what is after: a text, by what it has in place of some words.
+BETWEEN = {"a table that grows: create 0 /x": [(b"inodes 31 free 30", b"inodes 31 free 29"), (b"free 0 34-63", b"free 0 35-63")]}
 # The roll back of a journal: the region that a stop left between the two tails of a rename.
 STOPPED_RENAME = BASE2 + lines(*MOVED[:3], "stop at 12568 all", MOVED[3])
 
@@ -143,6 +150,8 @@ class Blocks:
             before, after = (words_in(runner, build, range(blocks)) for build in (call.build, call.build + call.command))
             self.of_call = sorted({at // BLOCK for at in before if before[at] != after[at]})
         chained = self.chained(runner, call.build, blocks)
+        if b"upgrade" in call.build:
+            chained |= self.chained(runner, call.build + call.command, blocks)
         self.of_recovery = [block for block in self.of_call if block < first_data or block in chained]
 
     def chained(self, runner, build, blocks):
@@ -179,7 +188,10 @@ class Stops:
         if b"no faults" not in after:
             raise Wrong(Case(call.build, call.command), "there are faults behind it")
         self.blocks = Blocks(self.runner, call)
-        self.steps = self.explore(call.build, call.command, {before, after}, 1, self.blocks.of_call)
+        between = before
+        for words, others in BETWEEN.get(call.name, []):
+            between = between.replace(words, others)
+        self.steps = self.explore(call.build, call.command, {before, between, after}, 1, self.blocks.of_call)
         if self.steps != STEPS.get(call.name, self.steps):
             raise Wrong(Case(call.build, call.command), f"it has {self.steps} stores and fences, wanted {STEPS[call.name]}")
 
