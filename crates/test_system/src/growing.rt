@@ -20,7 +20,7 @@ const SEEN: &str = "ok\nstat inode 32 file mode 420 owner 0 group 0 size 0 links
 fn script_of(alloc: Global) -> Result<String, AllocError> {
     let mut script = String::new(alloc);
     script.push_str(BEGIN)?;
-    for number in 2..32 {
+    for number in 2..32u64 {
         script.push_str(format!(in alloc; "create 0 /{number}\n")?.as_str())?;
     }
     script.push_str(GROWN)?;
@@ -30,7 +30,7 @@ fn script_of(alloc: Global) -> Result<String, AllocError> {
 fn output_of(alloc: Global) -> Result<String, AllocError> {
     let mut output = String::new(alloc);
     output.push_str(BEGUN)?;
-    for _ in 2..32 {
+    for _ in 2..32u64 {
         output.push_str("ok\n")?;
     }
     output.push_str(SEEN)?;
