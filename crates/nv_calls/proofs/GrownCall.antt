@@ -23,6 +23,15 @@ use Rattle.nv_calls.proofs.Mounts.{kept_when_stopped}
 use Rattle.nv_calls.proofs.NewNumbers.{grows_for}
 use Rattle.nv_calls.proofs.SetAttr.{late_reply}
 
+-- a mount that a CPU can write
+pub record Able {P : Type 0} (m : Mount P) (cpu : ℕ) : Type 0 where
+  pub runs : m.stopped ≡ false
+  pub writes : m.read_only ≡ false
+  pub low : cpu < m.sup.cpus
+
+pub able_as : {P : Type 0} {n m : Mount P} {cpu : ℕ} → n ≡ m → m.stopped ≡ false → m.read_only ≡ false → cpu < m.sup.cpus → Able n cpu
+able_as {P} {cpu = cpu} same runs writes low = subst (λ (k : Mount P). Able k cpu) (sym same) (record { runs = runs; writes = writes; low = low })
+
 -- What keeps the tables keeps them but for growth.
 pub may_grow : {P T : Type 0} {region : P → Region} {fuse : P → FuseState} (cpu : ℕ) {old new : Mount P} {r : Result T Refusal} → KeepsCall region fuse old new r → KeepsCallBy (GrowsMount cpu) region fuse old new r
 may_grow cpu kept = record {
@@ -36,14 +45,16 @@ may_grow cpu kept = record {
 }
 
 -- how the tables of a mount have grown for a new number
-pub grew_for : {P : Type 0} (n : Mount P) (cpu j : ℕ) (laid : Layout) → cpu < n.layout.sup.cpus → new_number n.layout n.rows cpu ≡ Some j
+pub grew_for : {P : Type 0} {n : Mount P} {cpu j : ℕ} {laid : Layout} → Able n cpu → n.layout.sup ≡ n.sup → new_number n.layout n.rows cpu ≡ Some j
     → (laid ≡ n.layout) ⊎ ((slot_of n.layout j ≡ None) × ((b : ℕ) × (laid ≡ with_block n.layout cpu b))) → GrowsWhereFull n cpu laid
-grew_for n cpu j laid low number (inl same) = inl same
-grew_for n cpu j laid low number (inr w) = (let from = grows_for n.layout n.rows cpu j low number w.0 in inr (from.0, from.1, w.1.0, w.1.1))
+grew_for able tables number (inl same) = inl same
+grew_for {n = n} {cpu = cpu} {j = j} able tables number (inr w) =
+    let from = grows_for n.layout n.rows cpu j (subst (λ (s : Super). cpu < s.cpus) (sym tables) able.low) number w.0 in
+    inr (from.0, from.1, w.1.0, w.1.1)
 
-pub grown_sup : {P : Type 0} (n : Mount P) (cpu : ℕ) (laid : Layout) → GrowsWhereFull n cpu laid → laid.sup ≡ n.layout.sup
-grown_sup n cpu laid (inl same) = ap (λ (l : Layout). l.sup) same
-grown_sup n cpu laid (inr w) = ap (λ (l : Layout). l.sup) w.3
+pub grown_sup : {P : Type 0} {n : Mount P} {cpu : ℕ} {laid : Layout} → Able n cpu → GrowsWhereFull n cpu laid → laid.sup ≡ n.layout.sup
+grown_sup able (inl same) = ap (λ (l : Layout). l.sup) same
+grown_sup able (inr w) = ap (λ (l : Layout). l.sup) w.3
 
 -- the tables once the number got its slot
 pub laid_for : {R S : Region} {l grown : Layout} {free after : FreeLists} {cpu j : ℕ} (rows : List Row) → new_number l rows cpu ≡ Some j → GotSlot R S l grown free after cpu j → IsLaidFor l cpu (new_number l rows cpu) grown
@@ -54,21 +65,21 @@ laid_for {l = l} {grown = grown} {cpu = cpu} rows number (inr g) = subst (λ (o 
 abbrev pub by_tables : {P : Type 0} → Mount P → P → Layout → List Row → FreeLists → Bool → Mount P
 by_tables n now laid news after stops = record { memory = now; sup = laid.sup; layout = laid; rows = news; free = after; faults = n.faults; read_only = n.read_only; stopped = stops }
 
-module _ {P : Type 0} (region : P → Region) (fuse : P → FuseState) (cpu : ℕ) {n m : Mount P} (same : n ≡ m) (now : P) (laid : Layout) (news : List Row) (after : FreeLists) (runs : n.stopped ≡ false) (writes : n.read_only ≡ false) (tables : n.layout.sup ≡ n.sup) (grew : GrowsWhereFull n cpu laid) where
+module _ {P : Type 0} (region : P → Region) (fuse : P → FuseState) (cpu : ℕ) {n m : Mount P} (same : n ≡ m) (now : P) (laid : Layout) (news : List Row) (after : FreeLists) (able : Able n cpu) (tables : n.layout.sup ≡ n.sup) (grew : GrowsWhereFull n cpu laid) where
   kept_so : (stops : Bool) → GrowsMount cpu n (by_tables n now laid news after stops)
-  kept_so stops = record { sup = grown_sup n cpu laid grew ∙ tables; tables = grew; faults = refl; read_only = refl }
+  kept_so stops = record { sup = grown_sup {n = n} {cpu = cpu} {laid = laid} able grew ∙ tables; tables = grew; faults = refl; read_only = refl }
 
   -- done by its step
   pub grown_done : {A T : Type 0} (a : A) (b : T) → KeepsStep region fuse n.memory now n.free after (Ok a) → KeepsCallBy (GrowsMount cpu) region fuse m (by_tables n now laid news after n.stopped) (Ok b)
   grown_done a b kept =
       subst (λ (k : Mount P). KeepsCallBy (GrowsMount cpu) region fuse k (by_tables n now laid news after n.stopped) (Ok b)) same (record {
-        stopped_before = λ on. absurd (let clash : true ≡ false = sym on ∙ runs in cc);
+        stopped_before = λ on. absurd (let clash : true ≡ false = sym on ∙ able.runs in cc);
         unchanged = tt;
-        stopped = λ still. good_reply n.stopped b runs;
+        stopped = λ still. good_reply n.stopped b able.runs;
         keeps = kept_so n.stopped;
         length = kept.length;
         keeps_fuse = kept.keeps_fuse;
-        read_only = λ only. absurd (let clash : true ≡ false = sym only ∙ writes in cc);
+        read_only = λ only. absurd (let clash : true ≡ false = sym only ∙ able.writes in cc);
       })
 
   -- its step was refused
@@ -76,13 +87,13 @@ module _ {P : Type 0} (region : P → Region) (fuse : P → FuseState) (cpu : �
       → ((e ≡ Stopped → ⊥) → SameMount m (by_tables n now laid news after stops)) → KeepsCallBy {T = T} (GrowsMount cpu) region fuse m (by_tables n now laid news after stops) (Err e)
   grown_refused {T = T} e stops stopped_by goes_by kept left =
       subst (λ (k : Mount P). KeepsCallBy {T = T} (GrowsMount cpu) region fuse k (by_tables n now laid news after stops) (Err e)) same (record {
-        stopped_before = λ on. absurd (let clash : true ≡ false = sym on ∙ runs in cc);
+        stopped_before = λ on. absurd (let clash : true ≡ false = sym on ∙ able.runs in cc);
         unchanged = λ off. subst (λ (k : Mount P). SameMount k (by_tables n now laid news after stops)) (sym same) (left off);
         stopped = λ still. late_reply e stops stopped_by goes_by kept.stopped;
         keeps = kept_so stops;
         length = kept.length;
         keeps_fuse = kept.keeps_fuse;
-        read_only = λ only. absurd (let clash : true ≡ false = sym only ∙ writes in cc);
+        read_only = λ only. absurd (let clash : true ≡ false = sym only ∙ able.writes in cc);
       })
 
 -- A step that was refused but by a stop has left the tables.

@@ -34,13 +34,15 @@ abbrev pub AreNoPaths : List ℕ → List ℕ → Type 0
 AreNoPaths old new = (names others : List (List ℕ)) → IsPath old names → IsPath new others → ⊥
 
 -- The same, and where a text is no path, all stays as it was.
-pub record KeepsPathCallBy {P T : Type 0} (Kept : Mount P → Mount P → Type 0) (region : P → Region) (fuse : P → FuseState) (no_path : Type 0) (old new : Mount P) (result : Result T Refusal) : Type 0 where
+pub record KeepsPathCallBy {P T : Type 0} (Kept : Mount P → Mount P → Type 0) (region : P → Region) (fuse : P → FuseState) (no_path : Type 0) (old new : Mount P)
+    (result : Result T Refusal) : Type 0 where
   pub call : KeepsCallBy Kept region fuse old new result
   pub open call use *
   pub bad_text : no_path → SameMount old new
 
 -- The same, and where the call is done, nothing is pending.
-pub record SettlesCallBy {P T : Type 0} (Kept : Mount P → Mount P → Type 0) (region : P → Region) (may_hold : P → Choices) (fuse : P → FuseState) (no_path : Type 0) (old new : Mount P) (result : Result T Refusal) : Type 0 where
+pub record SettlesCallBy {P T : Type 0} (Kept : Mount P → Mount P → Type 0) (region : P → Region) (may_hold : P → Choices) (fuse : P → FuseState) (no_path : Type 0)
+    (old new : Mount P) (result : Result T Refusal) : Type 0 where
   pub of_path : KeepsPathCallBy Kept region fuse no_path old new result
   pub open of_path use *
   pub settled : OnOk result (NothingPending (region new.memory) (may_hold new.memory))

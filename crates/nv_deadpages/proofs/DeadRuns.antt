@@ -1,5 +1,5 @@
 -- Pages from a place on without which a log says the same: they go one after another.
-use Rattle.std.proofs.Common.{◌≡◌, ◌⊎◌, inl, inr, ℕ, ◌+◌, ◌-◌, ◌<◌, true, List, length, drop, take, slice_range, refl, ap, sym, ◌∙◌, subst, arith, Option, Some, IfSome}
+use Rattle.std.proofs.Common.{◌≡◌, ◌⊎◌, inl, inr, ℕ, ◌+◌, ◌-◌, ◌<◌, true, List, length, drop, take, slice_range, ap, sym, ◌∙◌, subst, arith, Option, Some, IfSome}
 use Rattle.nv_blockset.specs.Listed.{Listed}
 use Rattle.nv_region.specs.Region.{Region}
 use Rattle.nv_super.specs.declared.superblock.Super.{Super}

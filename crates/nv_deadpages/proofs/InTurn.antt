@@ -1,6 +1,6 @@
 -- Pages of a file's log that go one after another, where it says the same without all of them.
 use Rattle.std.proofs.Common.{◌≡◌, ◌≢◌, ◌⊎◌, inl, inr, ℕ, zero, suc, ◌+◌, ◌/◌, ◌<◌, ◌≤◌, List, [], ◌∷◌, ◌++◌, length, get_or, append_assoc, refl, ap, sym, ◌∙◌, subst, arith, not, Option, Some, None, unwrap_or}
-use Rattle.std.specs.List.{Contains, filter, remove}
+use Rattle.std.specs.List.{Contains, remove}
 use Rattle.std.proofs.Math.Dec.{eqb}
 use Rattle.std.proofs.lemmas.List.Edits.{get_or-remove_above, get_or-remove_below, length-remove}
 use Rattle.std.proofs.lemmas.List.Elements.{Contains-append_right, Contains-get_or}
@@ -20,7 +20,7 @@ use Rattle.nv_logpage.proofs.Unlinked.{gone_all, kept_all, without-append}
 use Rattle.nv_scan.specs.LastWord.{last_word}
 use Rattle.nv_scan.specs.State.{says_size, says_mode, says_owner, says_group, says_links, says_time, says_block, says_name}
 use Rattle.nv_scan.specs.Faults.{IsEntryFault, StandsBehind, e1, e2, e3, e4}
-use Rattle.nv_deadpages.specs.Dead.{CanGo, IsDead, IsFirstDead, SameState}
+use Rattle.nv_deadpages.specs.Dead.{CanGo, IsDead, SameState}
 use Rattle.nv_deadpages.specs.InTurn.{GoInTurn, IsCleanLog}
 use Rattle.nv_scan.proofs.Blocks.{last_word-all}
 use Rattle.nv_scan.proofs.Words.{last_word-cons, words-more}

@@ -1,6 +1,6 @@
 -- What was read so far of a log without some of its pages, at the head and after one entry more, and in all.
 use Rattle.std.proofs.Common.{◌≡◌, ◌/◌, ℕ, zero, suc, ◌+◌, ◌<◌, ◌≤◌, Bool, true, false, not, ◌||◌, List, [], ◌∷◌, ◌++◌, append-nil, length, get_or, drop, take, refl, ap, sym, ◌∙◌, subst, arith, cond, Option}
-use Rattle.std.specs.List.{filter, list_any, remove}
+use Rattle.std.specs.List.{list_any, remove}
 use Rattle.std.proofs.Math.Dec.{eqb}
 use Rattle.std.proofs.Math.Seq.{drop-cons}
 use Rattle.std.proofs.lemmas.List.Edits.{length-remove}

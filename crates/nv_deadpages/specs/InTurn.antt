@@ -1,5 +1,5 @@
 -- Pages of a log that go one after another.
-use Rattle.std.specs.Prelude.{◌≡◌, ◌+◌, ◌<◌, ◌/◌, not, ℕ, zero, suc, List, length, get_or, eqb, Option, Some, None}
+use Rattle.std.specs.Prelude.{◌<◌, ◌/◌, not, ℕ, zero, suc, List, get_or, eqb, Option, Some, None}
 use Rattle.std.specs.List.{filter, list_any, remove}
 use Rattle.nv_region.specs.Region.{Region}
 use Rattle.nv_super.specs.declared.superblock.Super.{Super}

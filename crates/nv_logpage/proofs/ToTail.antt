@@ -1,7 +1,6 @@
 -- A log is read from its own pages alone, and from that of its tail up to where an entry can end that begins before the tail.
-use Rattle.std.proofs.Common.{◌≡◌, ◌≢◌, inl, inr, ℕ, ◌+◌, ◌/◌, ◌%◌, ◌<◌, ◌≤◌, ◌==◌, ◌&&◌, ◌||◌, Bool, true, false, List, ◌∷◌, ◌++◌, [], length, refl, sym, ap, ◌∙◌, subst, arith, cond, Option, Some, None, MatchBool, eqb, nat_lt, eqb-true}
+use Rattle.std.proofs.Common.{◌≡◌, ℕ, ◌+◌, ◌/◌, ◌%◌, ◌<◌, ◌≤◌, ◌==◌, ◌&&◌, ◌||◌, Bool, true, false, List, ◌∷◌, [], refl, sym, ◌∙◌, subst, arith, cond, Option, Some, None, MatchBool, eqb, nat_lt, eqb-true}
 use Rattle.std.specs.List.{Contains}
-use Rattle.std.proofs.lemmas.Bool.{ne_eqb}
 use Rattle.std.proofs.lemmas.Bool.Decides.{nat_tests}
 use Rattle.std.proofs.lemmas.List.Elements.{Contains-append_left}
 use Rattle.nv_region.specs.Region.{Region, word}
@@ -15,7 +14,7 @@ use Rattle.nv_logpage.specs.declared.found.Finding.TheVariants as finds
 use Rattle.nv_logpage.specs.declared.found.LogEnd.{LogEnd}
 use Rattle.nv_logpage.specs.declared.found.LogFault.TheVariants as logs
 use Rattle.nv_logpage.specs.declared.found.Placed.{Placed}
-use Rattle.nv_logpage.specs.Reads.{EntryAt, Finds, FindsEntry, ReadsOn, ended, ends, followed, found_with, is_next_page, link_of, passes_tail, placed, reads, room_at, turns}
+use Rattle.nv_logpage.specs.Reads.{EntryAt, Finds, ReadsOn, ended, ends, followed, found_with, is_next_page, link_of, placed, reads, room_at, turns}
 use Rattle.nv_logpage.specs.ToTail.{SameToTail}
 use Rattle.nv_logpage.proofs.Local.{Contains-last, pages_stay}
 use Rattle.nv_logpage.proofs.Steps.{Finds-onward, start_whole}

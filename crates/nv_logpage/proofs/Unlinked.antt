@@ -1,6 +1,6 @@
 -- A log from which a page is unlinked is read without that page and its entries.
-use Rattle.std.proofs.Common.{◌≡◌, ◌≢◌, ◌⊎◌, inl, inr, Result, Ok, Err, OnOk, ℕ, zero, suc, ◌+◌, ◌-◌, ◌*◌, ◌/◌, ◌%◌, ◌<◌, ◌≤◌, false, IsTrue, List, [], ◌∷◌, ◌++◌, length, get_or, take, drop, append_assoc, length-append, refl, ap, sym, ◌∙◌, subst, arith, not, filter, None}
-use Rattle.std.specs.List.{Contains, list_any}
+use Rattle.std.proofs.Common.{◌≡◌, ◌≢◌, ◌⊎◌, inl, inr, Result, Ok, Err, OnOk, ℕ, zero, suc, ◌+◌, ◌-◌, ◌*◌, ◌/◌, ◌%◌, ◌<◌, ◌≤◌, false, IsTrue, List, [], ◌∷◌, ◌++◌, length, get_or, take, drop, append_assoc, length-append, refl, ap, sym, ◌∙◌, subst, arith, not, None}
+use Rattle.std.specs.List.{Contains}
 use Rattle.std.proofs.lemmas.Bool.{ne_eqb}
 use Rattle.std.proofs.lemmas.List.{append_cancel_left}
 use Rattle.std.proofs.lemmas.List.Elements.{Contains-append_left, Contains-append_right, filter-append}
@@ -21,7 +21,7 @@ use Rattle.nv_logpage.proofs.Local.{Contains-last, ReadsOn-same}
 use Rattle.nv_logpage.proofs.Longer.{eqb_yes}
 use Rattle.nv_logpage.proofs.DataBlocks.{contains_snoc}
 use Rattle.nv_logpage.proofs.Grown.{not_any}
-use Rattle.nv_logpage.proofs.Turning.{SameEntries, Onward, onward, Leaves, leaves}
+use Rattle.nv_logpage.proofs.Turning.{SameEntries, onward, Leaves, leaves}
 
 -- ---- entries
 

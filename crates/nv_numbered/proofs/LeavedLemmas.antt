@@ -1,14 +1,14 @@
 -- Leaves and the spare ones, as a word is replaced, comes and goes.
-use Rattle.std.proofs.Common.{◌≡◌, ◌≢◌, ◌⊎◌, ℕ, ◌+◌, ◌-◌, ◌*◌, ◌/◌, ◌%◌, ◌<◌, ◌≤◌, ◌^◌, List, [], ◌∷◌, ◌++◌, length, map, get_or, set, replicate, refl, sym, ap, ◌∙◌, subst, inl, inr, arith, length-set, vec_items, vec_capacity}
+use Rattle.std.proofs.Common.{◌≡◌, ◌≢◌, ◌⊎◌, ℕ, ◌+◌, ◌-◌, ◌/◌, ◌%◌, ◌<◌, ◌≤◌, ◌^◌, List, [], ◌∷◌, ◌++◌, length, get_or, set, replicate, refl, sym, ap, ◌∙◌, subst, inl, inr, arith, length-set, vec_items, vec_capacity}
 use Rattle.std.specs.List.{All}
 use Rattle.std.specs.declared.vec.Vec.{Vec}
 use Rattle.std.proofs.lemmas.Bool.{cases_eq, cases_lt}
 use Rattle.std.proofs.lemmas.List.{length-map, get_or-map, map-append, map-set, get_or-set_other, get_or-replicate, get_or_past, get_or_read_under, length-replicate, length_push, get_or_push}
 use Rattle.std.proofs.lemmas.List.Elements.{All-get_or}
 use Rattle.std.proofs.lemmas.Grind.{get_or-set_at}
-use Rattle.nv_numbered.specs.Leaved.{word_at, words_of, room_of, leaves_of, IsLeaf, AreLeaves, AreSpares, IsLeaved}
+use Rattle.nv_numbered.specs.Leaved.{word_at, words_of, room_of, leaves_of, IsLeaf, IsLeaved}
 use Rattle.nv_numbered.proofs.WordLemmas.{at_other, word_read, word_past, words-set}
-use Rattle.nv_numbered.proofs.LeafLemmas.{leaf_some, no_words, zeros_left, IsLeaf-bare, IsLeaf-first, IsLeaf-more, IsLeaf-replace, IsLeaf-less, AreLeaves-set, AreLeaves-write}
+use Rattle.nv_numbered.proofs.LeafLemmas.{leaf_some, zeros_left, IsLeaf-bare, IsLeaf-first, IsLeaf-more, IsLeaf-replace, IsLeaf-less, AreLeaves-set, AreLeaves-write}
 use Rattle.nv_numbered.proofs.SpareLemmas.{used_low, count_low, count_some, some_made, room_more, room_less, spare_there, AreSpares-more, AreSpares-first, AreSpares-less, AreSpares-last, AreSpares-grown, room_little, room_grown}
 
 -- each word of a spare leaf is 0

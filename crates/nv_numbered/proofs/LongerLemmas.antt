@@ -5,8 +5,8 @@ use Rattle.std.specs.declared.vec.Vec.{Vec}
 use Rattle.std.proofs.lemmas.Bool.{cases_eq, cases_lt}
 use Rattle.std.proofs.lemmas.List.{append-nil, ext_get_or, length-map, map-append, get_or-append_right, get_or_append_left, get_or-replicate, get_or_past, get_or_push, length-replicate, length_push}
 use Rattle.std.proofs.lemmas.List.Sums.{sum_by-append, sum_by-cons}
-use Rattle.nv_numbered.specs.Leaved.{word_at, words_of, room_of, leaves_of, IsLeaf, AreLeaves, IsLeaved}
-use Rattle.nv_numbered.specs.Table.{slot_of, slots_of, IsPaired, IsSound}
+use Rattle.nv_numbered.specs.Leaved.{word_at, words_of, room_of, leaves_of, IsLeaf, IsLeaved}
+use Rattle.nv_numbered.specs.Table.{slot_of, slots_of, IsSound}
 use Rattle.nv_numbered.proofs.WordLemmas.{length-words_of, word_read}
 use Rattle.nv_numbered.proofs.LeafLemmas.{IsLeaf-bare}
 use Rattle.nv_numbered.proofs.SoundLemmas.{length-slots_of}

@@ -1,13 +1,12 @@
 -- Spare leaves are there for each word that has room, as words come and go.
-use Rattle.std.proofs.Common.{◌≡◌, ◌≢◌, ◌⊎◌, ℕ, zero, suc, ◌+◌, ◌-◌, ◌*◌, ◌<◌, ◌≤◌, ◌^◌, nat_lt, true, false, cond, List, [], ◌∷◌, ◌++◌, length, get_or, set, replicate, count_by, refl, sym, ap, ◌∙◌, subst, inl, inr, arith, length-set, length-append}
-use Rattle.std.specs.Prelude.{nat_le}
+use Rattle.std.proofs.Common.{◌≡◌, ◌⊎◌, ℕ, ◌+◌, ◌-◌, ◌*◌, ◌<◌, ◌≤◌, ◌^◌, cond, List, [], ◌∷◌, ◌++◌, length, get_or, set, replicate, count_by, sym, ap, ◌∙◌, inl, inr, arith, length-set}
 use Rattle.std.specs.List.{sum_by, All}
 use Rattle.std.proofs.lemmas.Bool.{cases_eq, cases_lt, le-leb}
 use Rattle.std.proofs.lemmas.Bool.Decides.{nat_tests}
 use Rattle.std.proofs.lemmas.List.{length_push, get_or_append_left}
 use Rattle.std.proofs.lemmas.List.Elements.{All-push, All-get_or, All-from_get_or}
 use Rattle.std.proofs.lemmas.List.Sums.{sum_by-append, sum_by-set, sum_by-le, sum_by-le-sum_by, count_by-le-length}
-use Rattle.nv_numbered.specs.Leaved.{is_some_word, room_of, IsLeaf, AreLeaves, AreSpares}
+use Rattle.nv_numbered.specs.Leaved.{is_some_word, room_of, AreLeaves, AreSpares}
 
 abbrev one_of : ℕ → ℕ
 one_of word = cond (is_some_word word) 1 0

@@ -1,5 +1,5 @@
 -- The outcome of a region is read from its metadata alone.
-use Rattle.std.proofs.Common.{◌≡◌, ◌⊎◌, ℕ, ◌+◌, ◌*◌, ◌/◌, ◌%◌, ◌==◌, ◌≤◌, ◌<◌, cond, ◌&&◌, ◌||◌, Bool, true, false, nat_le, inl, inr, List, ap, refl, sym, ◌∙◌, subst, arith, Some, slice_get}
+use Rattle.std.proofs.Common.{◌≡◌, ◌⊎◌, ℕ, ◌+◌, ◌*◌, ◌/◌, ◌%◌, ◌==◌, ◌<◌, cond, ◌&&◌, ◌||◌, Bool, true, false, nat_le, inl, inr, List, ap, refl, sym, ◌∙◌, subst, arith, Some, slice_get}
 use Rattle.std.proofs.lemmas.Bool.Decides.{nat_tests}
 use Rattle.std.specs.List.{Contains}
 use Rattle.nv_region.specs.Region.{Region, size, word}

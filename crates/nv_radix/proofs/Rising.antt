@@ -1,5 +1,5 @@
 -- Rising pages, joined and cut.
-use Rattle.std.proofs.Common.{◌≡◌, ℕ, ◌+◌, ◌<◌, ◌≤◌, Bool, false, cond, ◌||◌, eqb, [], ◌∷◌, ◌++◌, None, refl, ap, ◌∙◌, arith, inl, inr}
+use Rattle.std.proofs.Common.{◌≡◌, ℕ, ◌+◌, ◌<◌, ◌≤◌, Bool, false, cond, ◌||◌, eqb, [], ◌∷◌, ◌++◌, None, refl, ap, arith, inl, inr}
 use Rattle.std.proofs.lemmas.Bool.Decides.{eqb_tells}
 use Rattle.nv_radix.specs.Pages.{Pages, block_at, is_ready}
 use Rattle.nv_radix.specs.Rising.{Rises}

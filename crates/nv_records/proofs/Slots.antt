@@ -1,13 +1,13 @@
 -- The slot of an inode, found by its address among the blocks of slots, and the words of a slot that a journal may name.
-use Rattle.std.proofs.Common.{◌≡◌, ◌⊎◌, ◌≤◌, ◌<◌, ◌+◌, ◌-◌, ◌*◌, ◌%◌, ◌∙◌, ℕ, inl, inr, ap, sym, refl, subst, arith, length, Option, Some, None, IfSome, IsNone}
+use Rattle.std.proofs.Common.{◌≡◌, ◌⊎◌, ◌≤◌, ◌<◌, ◌+◌, ◌-◌, ◌*◌, ◌%◌, ◌∙◌, ℕ, inl, inr, ap, sym, subst, arith, length, Option, Some, None, IfSome}
 use Rattle.std.specs.Prelude.{slice_get}
 use Rattle.std.specs.List.{Contains}
 use Rattle.std.proofs.lemmas.Option.{get_or_from_slice_get, slice_get-get_or, slice_get_within}
 use Rattle.nv_super.specs.Layout.{Layout, slot_of}
 use Rattle.nv_inode.specs.declared.blocks.SlotBlock.{SlotBlock}
 use Rattle.nv_inode.specs.Chains.{IsLaid}
-use Rattle.nv_inode.specs.Permitted.{IsKeyWord, NamesSlotBy}
-use Rattle.nv_inode.specs.SlotBlocks.{IsIn, IsSmallBlock, slot_blocks}
+use Rattle.nv_inode.specs.Permitted.{NamesSlotBy}
+use Rattle.nv_inode.specs.SlotBlocks.{IsSmallBlock, slot_blocks}
 use Rattle.nv_inode.proofs.BlockBounds.{small_block}
 use Rattle.nv_inode.proofs.BlocksOfSlots.{block_found, slots_are}
 use Rattle.nv_inode.proofs.LayoutWords.{slot_lies, slot_stands}

@@ -6,7 +6,7 @@ use Rattle.nv_super.specs.declared.superblock.Super.{Super}
 use Rattle.nv_super.specs.Layout.{Layout, slot_of}
 use Rattle.nv_inode.specs.Chains.{layout_of}
 use Rattle.nv_inode.specs.Permitted.{is_permitted_by}
-use Rattle.nv_inode.specs.SlotBlocks.{IsIn, slot_blocks}
+use Rattle.nv_inode.specs.SlotBlocks.{slot_blocks}
 use Rattle.nv_inode.specs.declared.blocks.SlotBlock.{SlotBlock}
 use Rattle.nv_journal.specs.Undo.{is_sound, number_of, pending_count, pending_of, record_at}
 use Rattle.nv_records.specs.declared.naming.NamedWord.{NamedWord}

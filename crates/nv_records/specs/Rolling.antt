@@ -2,7 +2,6 @@
 use Rattle.std.specs.Prelude.{◌≡◌}
 use Rattle.nv_region.specs.Region.{Region}
 use Rattle.nv_super.specs.Super.{IsRefused, IsSuper}
-use Rattle.nv_super.specs.declared.superblock.Super.{Super}
 use Rattle.nv_journal.specs.Undo.{undone}
 use Rattle.nv_records.specs.Records.{ArePending}
 use Rattle.nv_records.specs.declared.rolling.Journals.{Journals}

@@ -1,7 +1,7 @@
 -- What a scan of all inodes gives, whichever way it goes.
 use Rattle.std.specs.Prelude.{◌≡◌, ℕ, ◌*◌, ◌/◌, ◌<◌, ◌≤◌, ◌-◌, min, List, ◌++◌, length, map, Vec, if◌then◌else◌}
 use Rattle.std.specs.declared.alloc.Global.{Global}
-use Rattle.std.specs.List.{All, AllByRecursion, flat_map, range_with_len}
+use Rattle.std.specs.List.{All, flat_map, range_with_len}
 use Rattle.std.specs.List.Sorted.{IsPermutation}
 use Rattle.nv_blockset.specs.BlockSet.{is_set, has, with_block}
 use Rattle.nv_region.specs.Region.{Region}
@@ -13,7 +13,7 @@ use Rattle.nv_super.specs.Order.{fault_key, Lists}
 use Rattle.nv_claimcore.specs.Finished.{works_of}
 use Rattle.nv_claimmap.specs.declared.map.Claimed.{Claimed}
 use Rattle.nv_scan.specs.Owners.{AreAllClaims}
-use Rattle.nv_scan.specs.Rows.{HasRows, IsPiece}
+use Rattle.nv_scan.specs.Rows.{HasRows}
 use Rattle.nv_scan.specs.Work.{numbers_in, claims_in, ArePiecesOf}
 use Rattle.nv_scan.specs.declared.inodes.Inodes.{Inodes}
 use Rattle.nv_scan.specs.declared.inodes.ListedInodes.{ListedInodes}

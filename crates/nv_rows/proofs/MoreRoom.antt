@@ -1,5 +1,5 @@
 -- Room for more numbers of a CPU's table, and the numbers that it has then.
-use Rattle.std.proofs.Common.{◌≡◌, ◌≢◌, ℕ, zero, suc, ◌+◌, ◌-◌, ◌*◌, ◌/◌, ◌%◌, ◌<◌, ◌≤◌, ◌^◌, min, cond, is_some, List, [], ◌∷◌, ◌++◌, length, map, get_or, set, replicate, Option, Some, None, true, refl, sym, ap, ◌∙◌, subst, inl, inr, arith, length-set, length-append}
+use Rattle.std.proofs.Common.{◌≡◌, ◌≢◌, ℕ, zero, suc, ◌+◌, ◌-◌, ◌*◌, ◌/◌, ◌%◌, ◌<◌, ◌≤◌, ◌^◌, min, cond, is_some, List, [], ◌∷◌, ◌++◌, length, map, get_or, set, replicate, Option, Some, None, refl, sym, ap, ◌∙◌, subst, inl, inr, arith, length-set, length-append}
 use Rattle.std.specs.Global.{Vec}
 use Rattle.std.proofs.Math.Nat.{div-lt_iff_lt-mul, div-mul-le_self, mul-le-mul}
 use Rattle.std.proofs.lemmas.Bool.{cases_eq, cases_lt}
@@ -18,7 +18,7 @@ use Rattle.nv_inode.proofs.NumberEnds.{size_small}
 use Rattle.nv_inode.proofs.TicketBlocks.{lists_long}
 use Rattle.nv_numbered.proofs.LongerLemmas.{more_read}
 use Rattle.nv_scan.specs.declared.piece.Row.{Row}
-use Rattle.nv_rows.specs.InUse.{has_number, set_of, space_in, used_at, AreRows, HaveRoom, TellsUsed, UsedSets}
+use Rattle.nv_rows.specs.InUse.{has_number, set_of, space_in, AreRows, HaveRoom, TellsUsed, UsedSets}
 use Rattle.nv_rows.specs.RowList.{HasNumbersOf, RowList}
 use Rattle.nv_rows.specs.Slots.{rows_in, StandByNumber}
 use Rattle.nv_rows.specs.Unused.{IsTableNumber}

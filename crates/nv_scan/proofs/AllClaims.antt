@@ -1,19 +1,19 @@
 -- The claims of chains and those of rows are all that is owned.
-use Rattle.std.proofs.Common.{◌≡◌, ◌↔◌, ◌⊎◌, inl, inr, ℕ, suc, zero, ◌+◌, ◌<◌, ◌≤◌, List, [], ◌∷◌, ◌++◌, length, take, get_or, Some, refl, ap, sym, ◌∙◌, subst, arith, append_assoc, append-nil}
+use Rattle.std.proofs.Common.{◌≡◌, ◌⊎◌, inl, inr, ℕ, suc, zero, ◌+◌, ◌<◌, ◌≤◌, List, [], ◌∷◌, ◌++◌, length, take, get_or, Some, refl, ap, sym, ◌∙◌, subst, arith, append-nil}
 use Rattle.std.specs.Prelude.{slice_get}
-use Rattle.std.specs.List.{All, AllByRecursion, Contains, flat_map, range_with_len}
+use Rattle.std.specs.List.{Contains, flat_map, range_with_len}
 use Rattle.std.proofs.lemmas.Grind.{flat_map-append}
 use Rattle.std.proofs.lemmas.List.Elements.{Contains-append_left, Contains-append_right, Contains-append_cases}
 use Rattle.nv_region.specs.Region.{Region}
 use Rattle.nv_super.specs.declared.owners.Owner.{Owner}
 use Rattle.nv_super.specs.declared.owners.Owner.TheVariants as owners
 use Rattle.nv_super.specs.Layout.{IsLayout, Layout, chain_of}
-use Rattle.nv_super.proofs.Members.{from_flat, into_flat, none_in, stands}
+use Rattle.nv_super.proofs.Members.{from_flat, into_flat, none_in}
 use Rattle.nv_super.proofs.Ranges.{one_more}
 use Rattle.nv_super.proofs.Rising.{Contains-cons, Contains-head, Contains-tail}
 use Rattle.nv_inode.specs.Chains.{IsLaid}
 use Rattle.nv_scan.specs.ChainBlocks.{chain_claims, claims_of_chains}
-use Rattle.nv_scan.specs.Claims.{AreClaimsOf, AreRowClaims, IsClaim, of_log, of_page}
+use Rattle.nv_scan.specs.Claims.{AreClaimsOf, IsClaim, of_log, of_page}
 use Rattle.nv_scan.specs.Inode.{Log, IsInode}
 use Rattle.nv_scan.specs.Owners.{AreAllClaims, Owns, by_log, by_page, by_table}
 use Rattle.nv_scan.specs.Rows.{HasRows, IsRow}
@@ -21,7 +21,7 @@ use Rattle.nv_scan.specs.declared.piece.Row.{Row}
 use Rattle.nv_scan.proofs.Blocks.{data_pages}
 use Rattle.nv_scan.proofs.ChainBlocks.{chain_cpu}
 use Rattle.nv_scan.proofs.Only.{IsInode-only}
-use Rattle.nv_scan.proofs.RowClaims.{HasSmall, one_row_more}
+use Rattle.nv_scan.proofs.RowClaims.{HasSmall}
 
 -- ---- chains
 

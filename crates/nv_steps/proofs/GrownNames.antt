@@ -1,8 +1,7 @@
 -- A new inode in the first slot of a block that its CPU's table grew by: what the growth leaves for it, and both together.
-use Rattle.std.proofs.Common.{◌≡◌, ◌≢◌, ◌⊎◌, inl, inr, ℕ, ◌+◌, ◌*◌, ◌/◌, ◌%◌, ◌<◌, ◌≤◌, List, [], ◌∷◌, drop, length, get_or, Option, Some, None, is_some, Ok, Result, refl, ap, sym, ◌∙◌, subst, arith}
+use Rattle.std.proofs.Common.{◌≡◌, ◌≢◌, ◌⊎◌, inl, inr, ℕ, ◌+◌, ◌*◌, ◌/◌, ◌%◌, ◌<◌, ◌≤◌, List, [], ◌∷◌, drop, length, get_or, Option, Some, is_some, Ok, Result, refl, ap, sym, ◌∙◌, subst, arith}
 use Rattle.std.specs.Prelude.{IsTrue}
 use Rattle.std.specs.List.{Contains}
-use Rattle.std.proofs.lemmas.Bool.{cases_lt}
 use Rattle.nv_region.specs.Region.{Region, size, word}
 use Rattle.nv_region.specs.Stops.{Choices}
 use Rattle.nv_region.specs.Fuses.{FuseState}
@@ -31,7 +30,7 @@ use Rattle.nv_scan.specs.declared.piece.Row.{Row}
 use Rattle.nv_outcome.specs.Same.{SameRow}
 use Rattle.nv_mounted.specs.Bytes.{byte_of}
 use Rattle.nv_mounted.specs.Blocks.{IsUnowned}
-use Rattle.nv_mounted.specs.Held.{Held, Store}
+use Rattle.nv_mounted.specs.Held.{Store}
 use Rattle.nv_mounted.specs.Mounted.{ShowsSound}
 use Rattle.nv_mounted.proofs.ChainGrows.{grown_free}
 use Rattle.nv_mounted.proofs.Fronts.{sound_clear}
@@ -44,7 +43,6 @@ use Rattle.nv_steps.specs.Keeping.{SettlesStep}
 use Rattle.nv_steps.specs.NewNames.{CanCommitName, CanName}
 use Rattle.nv_steps.specs.NameEntries.{name_entries}
 use Rattle.nv_steps.specs.Slots.{slot_in}
-use Rattle.nv_steps.specs.Stopped.{Named}
 use Rattle.nv_steps.specs.Stores.{MayStore, StoresIn, at_commit, behind_tail, in_free, in_journal, in_slot, one_more}
 use Rattle.nv_steps.specs.Taken.{TakesEach}
 use Rattle.nv_steps.proofs.GrownTable.{fresh, in_data, within}

@@ -1,5 +1,5 @@
 -- Numbers that calls owe, apart from all else that is known there.
-use Rattle.std.proofs.Common.{ℕ, ◌≡◌, ◌+◌, ◌%◌, ◌<◌, ◌≤◌, List, [], ◌∷◌, ap, drop, length, length-drop, arith}
+use Rattle.std.proofs.Common.{ℕ, ◌≡◌, ◌+◌, ◌%◌, ◌≤◌, List, [], ◌∷◌, ap, drop, length, length-drop, arith}
 use Rattle.nv_entry.specs.declared.entry.Entry.{Entry}
 use Rattle.nv_entry.specs.Spelling.{entry_length}
 use Rattle.nv_logpage.specs.Append.{end_of}

@@ -1,4 +1,3 @@
-use Rattle.std.proofs.Common.{subst, sym}
 use Rattle.nv_region.proofs.Wordwise.{same_stores, stores_more}
 use Rattle.nv_bytes.proofs.storing.store_page.Goals as goal
 

@@ -1,4 +1,4 @@
-use Rattle.std.proofs.Common.{◌≡◌, ◌++◌, List, ℕ, ap, ◌∙◌, sym, append_assoc}
+use Rattle.std.proofs.Common.{◌++◌, List, ℕ, ap, ◌∙◌, sym, append_assoc}
 use Rattle.nv_super.specs.declared.owners.Owner.{Owner}
 use Rattle.nv_super.specs.Layout.{chain_of}
 use Rattle.nv_scan.specs.ChainBlocks.{chain_claims, claims_of_chains}

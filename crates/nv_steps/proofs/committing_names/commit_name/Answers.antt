@@ -1,12 +1,12 @@
 use Rattle.std.proofs.lemmas.Grind.{common_steps}
-use Rattle.std.proofs.Common.{arith, ◌≡◌, ◌+◌, ◌-◌, ◌%◌, ◌<◌, ◌≤◌, ◌∙◌, ◌∷◌, [], List, ℕ, ap, drop, length, refl, subst, sym, take, IsTrue}
+use Rattle.std.proofs.Common.{arith, ◌-◌, ◌∙◌, ◌∷◌, [], ap, drop, length, refl, take}
 use Rattle.nv_region.proofs.Fuses.{keeps_within}
 use Rattle.nv_entry.specs.declared.entry.Entry.{Entry}
 use Rattle.nv_entry.specs.Spelling.{entry_length}
 use Rattle.nv_logpage.specs.Append.{end_of}
 use Rattle.nv_mounted.proofs.BytesKept.{mixed_size}
 use Rattle.nv_steps.proofs.MadeNamed.{all_others, begins, commits, left_named, makes_named, makes_within, named_told, place_is}
-use Rattle.nv_steps.proofs.NumbersOwed.{ends_behind, has_one, others_fit}
+use Rattle.nv_steps.proofs.NumbersOwed.{ends_behind, others_fit}
 use Rattle.nv_steps.proofs.committing_names.commit_name.Goals as goal
 
 pub name_entry-requires : goal.name_entry-requires

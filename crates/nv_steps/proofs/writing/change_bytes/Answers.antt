@@ -1,5 +1,5 @@
 use Rattle.std.proofs.lemmas.Grind.{common_steps}
-use Rattle.std.proofs.Common.{arith, ◌∙◌, ℕ, List, length, inr, sym, subst, refl, inl, ◌<◌}
+use Rattle.std.proofs.Common.{arith, ◌∙◌, ℕ, List, length, inr, sym, subst, refl, inl}
 use Rattle.std.specs.Prelude.{IsTrue}
 use Rattle.nv_region.specs.Region.{Region}
 use Rattle.nv_super.specs.declared.owners.Run.{Run}

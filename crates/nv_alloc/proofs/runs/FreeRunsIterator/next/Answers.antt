@@ -1,4 +1,4 @@
-use Rattle.std.proofs.Common.{rules, ◌≡◌}
+use Rattle.std.proofs.Common.{rules}
 use Rattle.nv_alloc.specs.FreeRuns.{is_free}
 use Rattle.nv_alloc.proofs.RunsLeft.{next_run, none_behind, none_left}
 use Rattle.nv_alloc.proofs.runs.FreeRunsIterator.next.Goals as goal

@@ -1,4 +1,4 @@
-use Rattle.std.proofs.Common.{ℕ, ◌+◌, ◌-◌, ◌*◌, ◌∙◌, get_or, ap, arith}
+use Rattle.std.proofs.Common.{ℕ, ◌+◌, ◌*◌, ◌∙◌, get_or, ap, arith}
 use Rattle.nv_bytes.proofs.Changes.{new_byte}
 use Rattle.nv_bytes.specs.Data.{data_bytes}
 use Rattle.nv_bytes.proofs.change.NewBytes.read.Goals as goal

@@ -20,7 +20,7 @@ use Rattle.nv_calls.specs.World.{world_of}
 use Rattle.nv_calls.proofs.Stopped.{call_stays, settled_or_stopped}
 use Rattle.nv_calls.proofs.StoppedNames.{create_left, still_grows}
 use Rattle.nv_calls.proofs.CreateCall.{create_allowed, create_refused, created_kept, created_log, created_tree}
-use Rattle.nv_calls.proofs.GrownCall.{grew_for, grown_done, grown_refused, grown_sup, laid_for, may_grow, own_sup, tables_or_stopped, unchanged_tables}
+use Rattle.nv_calls.proofs.GrownCall.{able_as, grew_for, grown_done, grown_refused, grown_sup, laid_for, may_grow, own_sup, tables_or_stopped, unchanged_tables}
 use Rattle.nv_paths.proofs.CreateTests.{spot_goes_on, spot_refuses}
 use Rattle.nv_tree.proofs.Replies.{refused_by}
 use Rattle.nv_calls.proofs.NewNumbers.{can_create, can_get, growth_is, new_unused}
@@ -106,82 +106,63 @@ returns-in_err-spot-clause-stores g c =
 
 pub create_at-requires-clause-can : goal.create_at-requires-clause-can
 create_at-requires-clause-can g c =
-    let runs : c.self.inside.stopped ≡ false = ap (λ (m : Mount g.row.P.Denot). m.stopped) c.self.view_is ∙ c.in_ok-writable.ensures.runs in
-    let writes : c.self.inside.read_only ≡ false = ap (λ (m : Mount g.row.P.Denot). m.read_only) c.self.view_is ∙ c.in_ok-writable.ensures.writes in
-    let low : c.cpu.inside.0 < c.self.inside.tables.layout.sup.cpus = subst (λ (m : Mount g.row.P.Denot). c.cpu.inside.0 < m.sup.cpus) (sym c.self.view_is) c.in_ok-writable.ensures.cpu in
-    let spot : (names : List (List ℕ)) → IsPath c.args.path.now names → IsSpot (tree_of (g.P.Pmem.region c.self.inside.memory) c.self.inside.rows.items) c.self.inside.rows.items c.self.inside.tables.layout c.cpu.inside.0 names (place_in c.self.inside.rows.items c.in_ok-spot.spot.directory) c.in_ok-spot.spot.name.now c.in_ok-spot.spot.inode =
-    c.in_ok-spot.ensures.spot (g.P.Pmem.region c.self.inside.memory) in
+    let able = able_as c.self.view_is c.in_ok-writable.ensures.runs c.in_ok-writable.ensures.writes c.in_ok-writable.ensures.cpu in
+    let spot = c.in_ok-spot.ensures.spot (g.P.Pmem.region c.self.inside.memory) in
     let path = c.in_ok-spot.ensures.path in
-    can_create c.self.inside.rows c.self.invariant.0 runs writes c.cpu.inside.0 low c.self.invariant.1 c.in_ok-spot.spot.directory c.in_ok-spot.ensures.in_use c.in_ok-spot.spot.inode (spot path.0 path.1).unused c.in_ok-spot.spot.name.now c.in_ok-spot.ensures.name
+    can_create c.self.inside.rows c.self.invariant.0 able.runs able.writes c.cpu.inside.0 able.low c.self.invariant.1 c.in_ok-spot.spot.directory c.in_ok-spot.ensures.in_use c.in_ok-spot.spot.inode (spot path.0 path.1).unused c.in_ok-spot.spot.name.now c.in_ok-spot.ensures.name
 
 pub create_at-requires-clause-slot : goal.create_at-requires-clause-slot
 create_at-requires-clause-slot g c =
-    let runs : c.self.inside.stopped ≡ false = ap (λ (m : Mount g.row.P.Denot). m.stopped) c.self.view_is ∙ c.in_ok-writable.ensures.runs in
-    let writes : c.self.inside.read_only ≡ false = ap (λ (m : Mount g.row.P.Denot). m.read_only) c.self.view_is ∙ c.in_ok-writable.ensures.writes in
-    let low : c.cpu.inside.0 < c.self.inside.tables.layout.sup.cpus = subst (λ (m : Mount g.row.P.Denot). c.cpu.inside.0 < m.sup.cpus) (sym c.self.view_is) c.in_ok-writable.ensures.cpu in
-    let spot : (names : List (List ℕ)) → IsPath c.args.path.now names → IsSpot (tree_of (g.P.Pmem.region c.self.inside.memory) c.self.inside.rows.items) c.self.inside.rows.items c.self.inside.tables.layout c.cpu.inside.0 names (place_in c.self.inside.rows.items c.in_ok-spot.spot.directory) c.in_ok-spot.spot.name.now c.in_ok-spot.spot.inode =
-    c.in_ok-spot.ensures.spot (g.P.Pmem.region c.self.inside.memory) in
+    let able = able_as c.self.view_is c.in_ok-writable.ensures.runs c.in_ok-writable.ensures.writes c.in_ok-writable.ensures.cpu in
+    let spot = c.in_ok-spot.ensures.spot (g.P.Pmem.region c.self.inside.memory) in
     let path = c.in_ok-spot.ensures.path in
-    can_get c.self.invariant.0 runs writes c.cpu.inside.0 c.in_ok-spot.spot.inode low (spot path.0 path.1).unused
+    can_get c.self.invariant.0 able.runs able.writes c.cpu.inside.0 c.in_ok-spot.spot.inode able.low (spot path.0 path.1).unused
 
 pub invariant_of-self : goal.invariant_of-self
 invariant_of-self g c =
-    let runs : c.self.inside.stopped ≡ false = ap (λ (m : Mount g.row.P.Denot). m.stopped) c.self.view_is ∙ c.in_ok-writable.ensures.runs in
-    let writes : c.self.inside.read_only ≡ false = ap (λ (m : Mount g.row.P.Denot). m.read_only) c.self.view_is ∙ c.in_ok-writable.ensures.writes in
-    let low : c.cpu.inside.0 < c.self.inside.tables.layout.sup.cpus = subst (λ (m : Mount g.row.P.Denot). c.cpu.inside.0 < m.sup.cpus) (sym c.self.view_is) c.in_ok-writable.ensures.cpu in
-    let spot : (names : List (List ℕ)) → IsPath c.args.path.now names → IsSpot (tree_of (g.P.Pmem.region c.self.inside.memory) c.self.inside.rows.items) c.self.inside.rows.items c.self.inside.tables.layout c.cpu.inside.0 names (place_in c.self.inside.rows.items c.in_ok-spot.spot.directory) c.in_ok-spot.spot.name.now c.in_ok-spot.spot.inode =
-    c.in_ok-spot.ensures.spot (g.P.Pmem.region c.self.inside.memory) in
+    let able = able_as c.self.view_is c.in_ok-writable.ensures.runs c.in_ok-writable.ensures.writes c.in_ok-writable.ensures.cpu in
+    let spot = c.in_ok-spot.ensures.spot (g.P.Pmem.region c.self.inside.memory) in
     let path = c.in_ok-spot.ensures.path in
-    (own_sup (created_kept c.self.invariant.0 runs writes c.in-Ok.ensures.created low c.in_ok-spot.ensures.name path.0 (spot path.0 path.1) c.self.inside.stopped), c.create_at.ensures.kept.numbers, λ on. c.in-Ok.ensures.kept.settled)
+    (own_sup (created_kept c.self.invariant.0 able.runs able.writes c.in-Ok.ensures.created able.low c.in_ok-spot.ensures.name path.0 (spot path.0 path.1) c.self.inside.stopped), c.create_at.ensures.kept.numbers, λ on. c.in-Ok.ensures.kept.settled)
 
 pub invariant_of-self-in-Err : goal.invariant_of-self-in-Err
 invariant_of-self-in-Err g c =
-    let runs : c.self.inside.stopped ≡ false = ap (λ (m : Mount g.row.P.Denot). m.stopped) c.self.view_is ∙ c.in_ok-writable.ensures.runs in
-    let writes : c.self.inside.read_only ≡ false = ap (λ (m : Mount g.row.P.Denot). m.read_only) c.self.view_is ∙ c.in_ok-writable.ensures.writes in
-    let low : c.cpu.inside.0 < c.self.inside.tables.layout.sup.cpus = subst (λ (m : Mount g.row.P.Denot). c.cpu.inside.0 < m.sup.cpus) (sym c.self.view_is) c.in_ok-writable.ensures.cpu in
-    let spot : (names : List (List ℕ)) → IsPath c.args.path.now names → IsSpot (tree_of (g.P.Pmem.region c.self.inside.memory) c.self.inside.rows.items) c.self.inside.rows.items c.self.inside.tables.layout c.cpu.inside.0 names (place_in c.self.inside.rows.items c.in_ok-spot.spot.directory) c.in_ok-spot.spot.name.now c.in_ok-spot.spot.inode =
-    c.in_ok-spot.ensures.spot (g.P.Pmem.region c.self.inside.memory) in
+    let able = able_as c.self.view_is c.in_ok-writable.ensures.runs c.in_ok-writable.ensures.writes c.in_ok-writable.ensures.cpu in
+    let spot = c.in_ok-spot.ensures.spot (g.P.Pmem.region c.self.inside.memory) in
     let path = c.in_ok-spot.ensures.path in
-    let grew = grew_for (record { memory = c.self.inside.memory; sup = c.self.inside.tables.layout.sup; layout = c.self.inside.tables.layout; rows = c.self.inside.rows.items; free = c.self.inside.free; faults = c.self.inside.faults.items; read_only = c.self.inside.read_only; stopped = c.self.inside.stopped }) c.cpu.inside.0 c.in_ok-spot.spot.inode c.create_at.new.tables.layout low (spot path.0 path.1).unused c.create_at.ensures.kept.grown in (
-      tables_or_stopped g.P.Pmem.region c.self.invariant.0 runs writes c.in-Err.refusal c.is_stop-self-inside.result c.is_stop-self-inside.ensures.yes c.is_stop-self-inside.ensures.no
-          (grown_sup (record { memory = c.self.inside.memory; sup = c.self.inside.tables.layout.sup; layout = c.self.inside.tables.layout; rows = c.self.inside.rows.items; free = c.self.inside.free; faults = c.self.inside.faults.items; read_only = c.self.inside.read_only; stopped = c.self.inside.stopped }) c.cpu.inside.0 c.create_at.new.tables.layout grew) c.create_at.ensures.kept.lists c.in-Err.ensures.kept.unchanged,
+    let grew = grew_for able refl (spot path.0 path.1).unused c.create_at.ensures.kept.grown in (
+      tables_or_stopped g.P.Pmem.region c.self.invariant.0 able.runs able.writes c.in-Err.refusal c.is_stop-self-inside.result c.is_stop-self-inside.ensures.yes c.is_stop-self-inside.ensures.no
+          (grown_sup able grew) c.create_at.ensures.kept.lists c.in-Err.ensures.kept.unchanged,
       c.create_at.ensures.kept.numbers,
-      settled_or_stopped g.P.Pmem.region g.P.Pmem.may_hold c.in-Err.refusal c.is_stop-self-inside.result c.is_stop-self-inside.ensures.no (λ off. (let left = c.in-Err.ensures.kept.unchanged off in left.0.memory)) (c.self.invariant.2 runs),
+      settled_or_stopped g.P.Pmem.region g.P.Pmem.may_hold c.in-Err.refusal c.is_stop-self-inside.result c.is_stop-self-inside.ensures.no (λ off. (let left = c.in-Err.ensures.kept.unchanged off in left.0.memory)) (c.self.invariant.2 able.runs),
     )
 
 pub returns-in-Ok-clause-allowed : goal.returns-in-Ok-clause-allowed
 returns-in-Ok-clause-allowed g c =
     rw (← c.cpu.view_is) (λ p says.
-    let runs : c.self.inside.stopped ≡ false = ap (λ (m : Mount g.row.P.Denot). m.stopped) c.self.view_is ∙ c.in_ok-writable.ensures.runs in
-    let writes : c.self.inside.read_only ≡ false = ap (λ (m : Mount g.row.P.Denot). m.read_only) c.self.view_is ∙ c.in_ok-writable.ensures.writes in
-    let low : c.cpu.inside.0 < c.self.inside.tables.layout.sup.cpus = subst (λ (m : Mount g.row.P.Denot). c.cpu.inside.0 < m.sup.cpus) (sym c.self.view_is) c.in_ok-writable.ensures.cpu in
-    let spot : (names : List (List ℕ)) → IsPath c.args.path.now names → IsSpot (tree_of (g.P.Pmem.region c.self.inside.memory) c.self.inside.rows.items) c.self.inside.rows.items c.self.inside.tables.layout c.cpu.inside.0 names (place_in c.self.inside.rows.items c.in_ok-spot.spot.directory) c.in_ok-spot.spot.name.now c.in_ok-spot.spot.inode =
-    c.in_ok-spot.ensures.spot (g.P.Pmem.region c.self.inside.memory) in
+    let able = able_as c.self.view_is c.in_ok-writable.ensures.runs c.in_ok-writable.ensures.writes c.in_ok-writable.ensures.cpu in
+    let spot = c.in_ok-spot.ensures.spot (g.P.Pmem.region c.self.inside.memory) in
     let r = row_in_use c.self.inside.rows.items c.in_ok-spot.spot.directory c.in_ok-spot.ensures.in_use in
     let at : slice_get c.self.inside.rows.items (place_in c.self.inside.rows.items c.in_ok-spot.spot.directory) ≡ Some r.0 = at_place c.self.inside.rows.items c.in_ok-spot.spot.directory ∙ r.1 in
     let numbered = own_row c.self.inside.rows.items c.in_ok-spot.spot.directory r.0 r.1 in
     let none : first_refusal (spot_tests (tree_of (g.P.Pmem.region c.self.inside.memory) c.self.inside.rows.items) (new_number c.self.inside.tables.layout c.self.inside.rows.items c.cpu.inside.0) p) ≡ None =
     c.in_ok-spot.ensures.allowed (g.P.Pmem.region c.self.inside.memory) p says in
-    create_allowed g.P.Pmem.region c.self.view_is c.cpu.inside.0 c.in_ok-writable.ensures.passed (place_in c.self.inside.rows.items c.in_ok-spot.spot.directory) r.0 at numbered c.in_ok-spot.spot.name.now c.in_ok-spot.spot.inode c.time.inside.0 c.args.path.now spot p says none (let path = c.in_ok-spot.ensures.path in growth_is c.self.invariant.0 runs writes c.cpu.inside.0 c.in_ok-spot.spot.inode low (spot path.0 path.1).unused) (c.in-Ok.ensures.enough r.0 r.1)
+    create_allowed g.P.Pmem.region c.self.view_is c.cpu.inside.0 c.in_ok-writable.ensures.passed (place_in c.self.inside.rows.items c.in_ok-spot.spot.directory) r.0 at numbered c.in_ok-spot.spot.name.now c.in_ok-spot.spot.inode c.time.inside.0 c.args.path.now spot p says none (let path = c.in_ok-spot.ensures.path in growth_is c.self.invariant.0 able.runs able.writes c.cpu.inside.0 c.in_ok-spot.spot.inode able.low (spot path.0 path.1).unused) (c.in-Ok.ensures.enough r.0 r.1)
     )
 
 pub returns-in-Ok-clause-changed : goal.returns-in-Ok-clause-changed
 returns-in-Ok-clause-changed g c =
     rw (← c.cpu.view_is, ← c.time.view_is) (λ names path.
-    let runs : c.self.inside.stopped ≡ false = ap (λ (m : Mount g.row.P.Denot). m.stopped) c.self.view_is ∙ c.in_ok-writable.ensures.runs in
-    let writes : c.self.inside.read_only ≡ false = ap (λ (m : Mount g.row.P.Denot). m.read_only) c.self.view_is ∙ c.in_ok-writable.ensures.writes in
-    let low : c.cpu.inside.0 < c.self.inside.tables.layout.sup.cpus = subst (λ (m : Mount g.row.P.Denot). c.cpu.inside.0 < m.sup.cpus) (sym c.self.view_is) c.in_ok-writable.ensures.cpu in
-    let spot : (names : List (List ℕ)) → IsPath c.args.path.now names → IsSpot (tree_of (g.P.Pmem.region c.self.inside.memory) c.self.inside.rows.items) c.self.inside.rows.items c.self.inside.tables.layout c.cpu.inside.0 names (place_in c.self.inside.rows.items c.in_ok-spot.spot.directory) c.in_ok-spot.spot.name.now c.in_ok-spot.spot.inode =
-    c.in_ok-spot.ensures.spot (g.P.Pmem.region c.self.inside.memory) in
+    let able = able_as c.self.view_is c.in_ok-writable.ensures.runs c.in_ok-writable.ensures.writes c.in_ok-writable.ensures.cpu in
+    let spot = c.in_ok-spot.ensures.spot (g.P.Pmem.region c.self.inside.memory) in
     subst (λ (m : Mount g.row.P.Denot). SameTree (tree_of (g.P.Pmem.region c.create_at.new.memory) c.create_at.new.rows.items) (created c.args.kind (new_number m.layout m.rows c.cpu.inside.0) names c.args.mode c.time.inside.0 (tree_of (g.P.Pmem.region m.memory) m.rows))) c.self.view_is
-    (created_tree c.self.invariant.0 runs writes c.in-Ok.ensures.created low c.in_ok-spot.ensures.name names (spot names path))
+    (created_tree c.self.invariant.0 able.runs able.writes c.in-Ok.ensures.created able.low c.in_ok-spot.ensures.name names (spot names path))
     )
 
 pub returns-in-Ok-clause-tables : goal.returns-in-Ok-clause-tables
 returns-in-Ok-clause-tables g c =
     rw (← c.cpu.view_is) (
-    let spot : (names : List (List ℕ)) → IsPath c.args.path.now names → IsSpot (tree_of (g.P.Pmem.region c.self.inside.memory) c.self.inside.rows.items) c.self.inside.rows.items c.self.inside.tables.layout c.cpu.inside.0 names (place_in c.self.inside.rows.items c.in_ok-spot.spot.directory) c.in_ok-spot.spot.name.now c.in_ok-spot.spot.inode =
-    c.in_ok-spot.ensures.spot (g.P.Pmem.region c.self.inside.memory) in
+    let spot = c.in_ok-spot.ensures.spot (g.P.Pmem.region c.self.inside.memory) in
     let path = c.in_ok-spot.ensures.path in
     let grown = c.in-Ok.ensures.created in
     subst (λ (m : Mount g.row.P.Denot). IsLaidFor m.layout c.cpu.inside.0 (new_number m.layout m.rows c.cpu.inside.0) c.create_at.new.tables.layout) c.self.view_is
@@ -197,44 +178,35 @@ returns-in_err-spot-clause-tables g c = IfOk-from_err c.from_residual-in_err-spo
 pub returns-in-Ok-clause-log : goal.returns-in-Ok-clause-log
 returns-in-Ok-clause-log g c =
     rw (← c.cpu.view_is, ← c.time.view_is) (λ names d j held h path led number sound is.
-    let runs : c.self.inside.stopped ≡ false = ap (λ (m : Mount g.row.P.Denot). m.stopped) c.self.view_is ∙ c.in_ok-writable.ensures.runs in
-    let writes : c.self.inside.read_only ≡ false = ap (λ (m : Mount g.row.P.Denot). m.read_only) c.self.view_is ∙ c.in_ok-writable.ensures.writes in
-    let low : c.cpu.inside.0 < c.self.inside.tables.layout.sup.cpus = subst (λ (m : Mount g.row.P.Denot). c.cpu.inside.0 < m.sup.cpus) (sym c.self.view_is) c.in_ok-writable.ensures.cpu in
-    let spot : (names : List (List ℕ)) → IsPath c.args.path.now names → IsSpot (tree_of (g.P.Pmem.region c.self.inside.memory) c.self.inside.rows.items) c.self.inside.rows.items c.self.inside.tables.layout c.cpu.inside.0 names (place_in c.self.inside.rows.items c.in_ok-spot.spot.directory) c.in_ok-spot.spot.name.now c.in_ok-spot.spot.inode =
-    c.in_ok-spot.ensures.spot (g.P.Pmem.region c.self.inside.memory) in
+    let able = able_as c.self.view_is c.in_ok-writable.ensures.runs c.in_ok-writable.ensures.writes c.in_ok-writable.ensures.cpu in
+    let spot = c.in_ok-spot.ensures.spot (g.P.Pmem.region c.self.inside.memory) in
     subst (λ (m : Mount g.row.P.Denot). walk (tree_of (g.P.Pmem.region m.memory) m.rows) 1 names ≡ Ok d → new_number m.layout m.rows c.cpu.inside.0 ≡ Some j → ShowsSound (g.P.Pmem.region m.memory) m.layout held → ShowsCreated (g.P.Pmem.region c.create_at.new.memory) m.layout m.free.pools c.cpu.inside.0 held c.args.kind c.args.mode c.time.inside.0 j d h (last_name names)) c.self.view_is
-    (λ walked free_number shown. created_log c.self.invariant.0 runs writes c.in-Ok.ensures.created low c.in_ok-spot.ensures.name names (spot names path) d j held h walked free_number shown is) led number sound
+    (λ walked free_number shown. created_log c.self.invariant.0 able.runs able.writes c.in-Ok.ensures.created able.low c.in_ok-spot.ensures.name names (spot names path) d j held h walked free_number shown is) led number sound
     )
 
 pub returns-in-Err-clause-refused : goal.returns-in-Err-clause-refused
 returns-in-Err-clause-refused g c =
     rw (← c.cpu.view_is) (λ still p says.
-    let runs : c.self.inside.stopped ≡ false = ap (λ (m : Mount g.row.P.Denot). m.stopped) c.self.view_is ∙ c.in_ok-writable.ensures.runs in
-    let writes : c.self.inside.read_only ≡ false = ap (λ (m : Mount g.row.P.Denot). m.read_only) c.self.view_is ∙ c.in_ok-writable.ensures.writes in
-    let low : c.cpu.inside.0 < c.self.inside.tables.layout.sup.cpus = subst (λ (m : Mount g.row.P.Denot). c.cpu.inside.0 < m.sup.cpus) (sym c.self.view_is) c.in_ok-writable.ensures.cpu in
-    let spot : (names : List (List ℕ)) → IsPath c.args.path.now names → IsSpot (tree_of (g.P.Pmem.region c.self.inside.memory) c.self.inside.rows.items) c.self.inside.rows.items c.self.inside.tables.layout c.cpu.inside.0 names (place_in c.self.inside.rows.items c.in_ok-spot.spot.directory) c.in_ok-spot.spot.name.now c.in_ok-spot.spot.inode =
-    c.in_ok-spot.ensures.spot (g.P.Pmem.region c.self.inside.memory) in
+    let able = able_as c.self.view_is c.in_ok-writable.ensures.runs c.in_ok-writable.ensures.writes c.in_ok-writable.ensures.cpu in
+    let spot = c.in_ok-spot.ensures.spot (g.P.Pmem.region c.self.inside.memory) in
     let r = row_in_use c.self.inside.rows.items c.in_ok-spot.spot.directory c.in_ok-spot.ensures.in_use in
     let at : slice_get c.self.inside.rows.items (place_in c.self.inside.rows.items c.in_ok-spot.spot.directory) ≡ Some r.0 = at_place c.self.inside.rows.items c.in_ok-spot.spot.directory ∙ r.1 in
     let numbered = own_row c.self.inside.rows.items c.in_ok-spot.spot.directory r.0 r.1 in
     let none : first_refusal (spot_tests (tree_of (g.P.Pmem.region c.self.inside.memory) c.self.inside.rows.items) (new_number c.self.inside.tables.layout c.self.inside.rows.items c.cpu.inside.0) p) ≡ None =
     c.in_ok-spot.ensures.allowed (g.P.Pmem.region c.self.inside.memory) p says in
-    create_refused g.P.Pmem.region c.self.view_is c.cpu.inside.0 c.in_ok-writable.ensures.passed (place_in c.self.inside.rows.items c.in_ok-spot.spot.directory) r.0 at numbered c.in_ok-spot.spot.name.now c.in_ok-spot.spot.inode c.time.inside.0 c.args.path.now spot p says none (let path = c.in_ok-spot.ensures.path in growth_is c.self.invariant.0 runs writes c.cpu.inside.0 c.in_ok-spot.spot.inode low (spot path.0 path.1).unused) c.in-Err.refusal (c.in-Err.ensures.refused r.0 r.1)
+    create_refused g.P.Pmem.region c.self.view_is c.cpu.inside.0 c.in_ok-writable.ensures.passed (place_in c.self.inside.rows.items c.in_ok-spot.spot.directory) r.0 at numbered c.in_ok-spot.spot.name.now c.in_ok-spot.spot.inode c.time.inside.0 c.args.path.now spot p says none (let path = c.in_ok-spot.ensures.path in growth_is c.self.invariant.0 able.runs able.writes c.cpu.inside.0 c.in_ok-spot.spot.inode able.low (spot path.0 path.1).unused) c.in-Err.refusal (c.in-Err.ensures.refused r.0 r.1)
     )
 
 pub returns-in-Err-clause-call : goal.returns-in-Err-clause-call
 returns-in-Err-clause-call g c =
-    let runs : c.self.inside.stopped ≡ false = ap (λ (m : Mount g.row.P.Denot). m.stopped) c.self.view_is ∙ c.in_ok-writable.ensures.runs in
-    let writes : c.self.inside.read_only ≡ false = ap (λ (m : Mount g.row.P.Denot). m.read_only) c.self.view_is ∙ c.in_ok-writable.ensures.writes in
-    let low : c.cpu.inside.0 < c.self.inside.tables.layout.sup.cpus = subst (λ (m : Mount g.row.P.Denot). c.cpu.inside.0 < m.sup.cpus) (sym c.self.view_is) c.in_ok-writable.ensures.cpu in
-    let spot : (names : List (List ℕ)) → IsPath c.args.path.now names → IsSpot (tree_of (g.P.Pmem.region c.self.inside.memory) c.self.inside.rows.items) c.self.inside.rows.items c.self.inside.tables.layout c.cpu.inside.0 names (place_in c.self.inside.rows.items c.in_ok-spot.spot.directory) c.in_ok-spot.spot.name.now c.in_ok-spot.spot.inode =
-    c.in_ok-spot.ensures.spot (g.P.Pmem.region c.self.inside.memory) in
+    let able = able_as c.self.view_is c.in_ok-writable.ensures.runs c.in_ok-writable.ensures.writes c.in_ok-writable.ensures.cpu in
+    let spot = c.in_ok-spot.ensures.spot (g.P.Pmem.region c.self.inside.memory) in
     let path = c.in_ok-spot.ensures.path in
-    let grew = grew_for (record { memory = c.self.inside.memory; sup = c.self.inside.tables.layout.sup; layout = c.self.inside.tables.layout; rows = c.self.inside.rows.items; free = c.self.inside.free; faults = c.self.inside.faults.items; read_only = c.self.inside.read_only; stopped = c.self.inside.stopped }) c.cpu.inside.0 c.in_ok-spot.spot.inode c.create_at.new.tables.layout low (spot path.0 path.1).unused c.create_at.ensures.kept.grown in
+    let grew = grew_for able refl (spot path.0 path.1).unused c.create_at.ensures.kept.grown in
     record {
       of_path = record {
-        call = rw (← c.cpu.view_is) (grown_refused g.P.Pmem.region g.P.Pmem.fuse c.cpu.inside.0 c.self.view_is c.create_at.new.memory c.create_at.new.tables.layout c.create_at.new.rows.items c.create_at.new.free runs writes refl grew c.in-Err.refusal c.is_stop-self-inside.result c.is_stop-self-inside.ensures.yes c.is_stop-self-inside.ensures.no c.in-Err.ensures.kept.keeps
-            (λ off. unchanged_tables c.self.view_is refl c.create_at.new.memory c.create_at.new.tables.layout c.create_at.new.rows.items c.create_at.new.free c.is_stop-self-inside.result runs (not_stop c.in-Err.refusal c.is_stop-self-inside.result c.is_stop-self-inside.ensures.yes off) (c.in-Err.ensures.kept.unchanged off)));
+        call = rw (← c.cpu.view_is) (grown_refused g.P.Pmem.region g.P.Pmem.fuse c.cpu.inside.0 c.self.view_is c.create_at.new.memory c.create_at.new.tables.layout c.create_at.new.rows.items c.create_at.new.free able refl grew c.in-Err.refusal c.is_stop-self-inside.result c.is_stop-self-inside.ensures.yes c.is_stop-self-inside.ensures.no c.in-Err.ensures.kept.keeps
+            (λ off. unchanged_tables c.self.view_is refl c.create_at.new.memory c.create_at.new.tables.layout c.create_at.new.rows.items c.create_at.new.free c.is_stop-self-inside.result able.runs (not_stop c.in-Err.refusal c.is_stop-self-inside.result c.is_stop-self-inside.ensures.yes off) (c.in-Err.ensures.kept.unchanged off)));
         bad_text = λ bad. absurd (let path = c.in_ok-spot.ensures.path in bad path.0 path.1);
       };
       settled = tt;
@@ -274,16 +246,13 @@ returns-in_err-spot-clause-log g c names d j held h path led number sound is = I
 
 pub returns-in-Ok-clause-call : goal.returns-in-Ok-clause-call
 returns-in-Ok-clause-call g c =
-    let runs : c.self.inside.stopped ≡ false = ap (λ (m : Mount g.row.P.Denot). m.stopped) c.self.view_is ∙ c.in_ok-writable.ensures.runs in
-    let writes : c.self.inside.read_only ≡ false = ap (λ (m : Mount g.row.P.Denot). m.read_only) c.self.view_is ∙ c.in_ok-writable.ensures.writes in
-    let low : c.cpu.inside.0 < c.self.inside.tables.layout.sup.cpus = subst (λ (m : Mount g.row.P.Denot). c.cpu.inside.0 < m.sup.cpus) (sym c.self.view_is) c.in_ok-writable.ensures.cpu in
-    let spot : (names : List (List ℕ)) → IsPath c.args.path.now names → IsSpot (tree_of (g.P.Pmem.region c.self.inside.memory) c.self.inside.rows.items) c.self.inside.rows.items c.self.inside.tables.layout c.cpu.inside.0 names (place_in c.self.inside.rows.items c.in_ok-spot.spot.directory) c.in_ok-spot.spot.name.now c.in_ok-spot.spot.inode =
-    c.in_ok-spot.ensures.spot (g.P.Pmem.region c.self.inside.memory) in
+    let able = able_as c.self.view_is c.in_ok-writable.ensures.runs c.in_ok-writable.ensures.writes c.in_ok-writable.ensures.cpu in
+    let spot = c.in_ok-spot.ensures.spot (g.P.Pmem.region c.self.inside.memory) in
     let path = c.in_ok-spot.ensures.path in
-    let grew = grew_for (record { memory = c.self.inside.memory; sup = c.self.inside.tables.layout.sup; layout = c.self.inside.tables.layout; rows = c.self.inside.rows.items; free = c.self.inside.free; faults = c.self.inside.faults.items; read_only = c.self.inside.read_only; stopped = c.self.inside.stopped }) c.cpu.inside.0 c.in_ok-spot.spot.inode c.create_at.new.tables.layout low (spot path.0 path.1).unused c.create_at.ensures.kept.grown in
+    let grew = grew_for able refl (spot path.0 path.1).unused c.create_at.ensures.kept.grown in
     record {
       of_path = record {
-        call = rw (← c.cpu.view_is) (grown_done g.P.Pmem.region g.P.Pmem.fuse c.cpu.inside.0 c.self.view_is c.create_at.new.memory c.create_at.new.tables.layout c.create_at.new.rows.items c.create_at.new.free runs writes refl grew _ _ c.in-Ok.ensures.kept.keeps);
+        call = rw (← c.cpu.view_is) (grown_done g.P.Pmem.region g.P.Pmem.fuse c.cpu.inside.0 c.self.view_is c.create_at.new.memory c.create_at.new.tables.layout c.create_at.new.rows.items c.create_at.new.free able refl grew _ _ c.in-Ok.ensures.kept.keeps);
         bad_text = λ bad. absurd (let path = c.in_ok-spot.ensures.path in bad path.0 path.1);
       };
       settled = c.in-Ok.ensures.kept.settled;
@@ -293,14 +262,11 @@ pub returns-in-Ok-clause-stores : goal.returns-in-Ok-clause-stores
 returns-in-Ok-clause-stores g c =
     record {
       journals = rw (← c.cpu.view_is) (
-          let runs : c.self.inside.stopped ≡ false = ap (λ (m : Mount g.row.P.Denot). m.stopped) c.self.view_is ∙ c.in_ok-writable.ensures.runs in
-          let writes : c.self.inside.read_only ≡ false = ap (λ (m : Mount g.row.P.Denot). m.read_only) c.self.view_is ∙ c.in_ok-writable.ensures.writes in
-          let low : c.cpu.inside.0 < c.self.inside.tables.layout.sup.cpus = subst (λ (m : Mount g.row.P.Denot). c.cpu.inside.0 < m.sup.cpus) (sym c.self.view_is) c.in_ok-writable.ensures.cpu in
-          let spot : (names : List (List ℕ)) → IsPath c.args.path.now names → IsSpot (tree_of (g.P.Pmem.region c.self.inside.memory) c.self.inside.rows.items) c.self.inside.rows.items c.self.inside.tables.layout c.cpu.inside.0 names (place_in c.self.inside.rows.items c.in_ok-spot.spot.directory) c.in_ok-spot.spot.name.now c.in_ok-spot.spot.inode =
-          c.in_ok-spot.ensures.spot (g.P.Pmem.region c.self.inside.memory) in
+          let able = able_as c.self.view_is c.in_ok-writable.ensures.runs c.in_ok-writable.ensures.writes c.in_ok-writable.ensures.cpu in
+          let spot = c.in_ok-spot.ensures.spot (g.P.Pmem.region c.self.inside.memory) in
           let path = c.in_ok-spot.ensures.path in
           subst (λ (m : Mount g.row.P.Denot). SameFrontBut m.sup.cpus c.cpu.inside.0 (g.P.Pmem.region m.memory) (g.P.Pmem.region c.create_at.new.memory)) c.self.view_is
-          (created_front c.self.invariant.0 runs writes c.in-Ok.ensures.created low (new_unused c.self.invariant.0 runs writes c.cpu.inside.0 c.in_ok-spot.spot.inode low (spot path.0 path.1).unused) c.create_at.ensures.kept.length)
+          (created_front c.self.invariant.0 able.runs able.writes c.in-Ok.ensures.created able.low (new_unused c.self.invariant.0 able.runs able.writes c.cpu.inside.0 c.in_ok-spot.spot.inode able.low (spot path.0 path.1).unused) c.create_at.ensures.kept.length)
           );
       wrote = rw (← c.cpu.view_is) (λ names d j held path ended number sound.
           create_stored g.P.Pmem.region c.self.view_is c.self.invariant.0 c.in_ok-writable.ensures.runs (g.P.Pmem.region c.create_at.new.memory) c.cpu.inside.0 c.in_ok-writable.ensures.writes c.in_ok-spot.spot.directory c.in_ok-spot.spot.inode c.in_ok-spot.ensures.in_use c.in_ok-writable.ensures.cpu
@@ -333,27 +299,21 @@ returns-in_err-spot-clause-any_stop g c names path on able left may = still_grow
 pub returns-in-Ok-clause-any_stop : goal.returns-in-Ok-clause-any_stop
 returns-in-Ok-clause-any_stop g c =
     rw (← c.cpu.view_is, ← c.time.view_is) (λ names path on able.
-    let runs : c.self.inside.stopped ≡ false = ap (λ (m : Mount g.row.P.Denot). m.stopped) c.self.view_is ∙ c.in_ok-writable.ensures.runs in
-    let writes : c.self.inside.read_only ≡ false = ap (λ (m : Mount g.row.P.Denot). m.read_only) c.self.view_is ∙ c.in_ok-writable.ensures.writes in
-    let low : c.cpu.inside.0 < c.self.inside.tables.layout.sup.cpus = subst (λ (m : Mount g.row.P.Denot). c.cpu.inside.0 < m.sup.cpus) (sym c.self.view_is) c.in_ok-writable.ensures.cpu in
-    let spot : IsSpot (tree_of (g.P.Pmem.region c.self.inside.memory) c.self.inside.rows.items) c.self.inside.rows.items c.self.inside.tables.layout c.cpu.inside.0 names (place_in c.self.inside.rows.items c.in_ok-spot.spot.directory) c.in_ok-spot.spot.name.now c.in_ok-spot.spot.inode =
-    c.in_ok-spot.ensures.spot (g.P.Pmem.region c.self.inside.memory) names path in
+    let able = able_as c.self.view_is c.in_ok-writable.ensures.runs c.in_ok-writable.ensures.writes c.in_ok-writable.ensures.cpu in
+    let spot = c.in_ok-spot.ensures.spot (g.P.Pmem.region c.self.inside.memory) names path in
     let r = row_in_use c.self.inside.rows.items c.in_ok-spot.spot.directory c.in_ok-spot.ensures.in_use in
     let at : slice_get c.self.inside.rows.items (place_in c.self.inside.rows.items c.in_ok-spot.spot.directory) ≡ Some r.0 = at_place c.self.inside.rows.items c.in_ok-spot.spot.directory ∙ r.1 in
-    create_left g.P.Pmem.region c.self.view_is c.self.invariant.0 runs writes (place_in c.self.inside.rows.items c.in_ok-spot.spot.directory) r.0 at c.args.kind c.args.mode c.time.inside.0 c.in_ok-spot.spot.inode c.in_ok-spot.spot.name.now c.cpu.inside.0 low c.in_ok-spot.ensures.name names spot _ _ _
-    (λ held h shows out absent pending. c.create_at.ensures.any_stop r.0 held h r.1 shows out absent pending) (c.self.invariant.2 runs)
+    create_left g.P.Pmem.region c.self.view_is c.self.invariant.0 able.runs able.writes (place_in c.self.inside.rows.items c.in_ok-spot.spot.directory) r.0 at c.args.kind c.args.mode c.time.inside.0 c.in_ok-spot.spot.inode c.in_ok-spot.spot.name.now c.cpu.inside.0 able.low c.in_ok-spot.ensures.name names spot _ _ _
+    (λ held h shows out absent pending. c.create_at.ensures.any_stop r.0 held h r.1 shows out absent pending) (c.self.invariant.2 able.runs)
     )
 
 pub returns-in-Err-clause-any_stop : goal.returns-in-Err-clause-any_stop
 returns-in-Err-clause-any_stop g c =
     rw (← c.cpu.view_is, ← c.time.view_is) (λ names path on able.
-    let runs : c.self.inside.stopped ≡ false = ap (λ (m : Mount g.row.P.Denot). m.stopped) c.self.view_is ∙ c.in_ok-writable.ensures.runs in
-    let writes : c.self.inside.read_only ≡ false = ap (λ (m : Mount g.row.P.Denot). m.read_only) c.self.view_is ∙ c.in_ok-writable.ensures.writes in
-    let low : c.cpu.inside.0 < c.self.inside.tables.layout.sup.cpus = subst (λ (m : Mount g.row.P.Denot). c.cpu.inside.0 < m.sup.cpus) (sym c.self.view_is) c.in_ok-writable.ensures.cpu in
-    let spot : IsSpot (tree_of (g.P.Pmem.region c.self.inside.memory) c.self.inside.rows.items) c.self.inside.rows.items c.self.inside.tables.layout c.cpu.inside.0 names (place_in c.self.inside.rows.items c.in_ok-spot.spot.directory) c.in_ok-spot.spot.name.now c.in_ok-spot.spot.inode =
-    c.in_ok-spot.ensures.spot (g.P.Pmem.region c.self.inside.memory) names path in
+    let able = able_as c.self.view_is c.in_ok-writable.ensures.runs c.in_ok-writable.ensures.writes c.in_ok-writable.ensures.cpu in
+    let spot = c.in_ok-spot.ensures.spot (g.P.Pmem.region c.self.inside.memory) names path in
     let r = row_in_use c.self.inside.rows.items c.in_ok-spot.spot.directory c.in_ok-spot.ensures.in_use in
     let at : slice_get c.self.inside.rows.items (place_in c.self.inside.rows.items c.in_ok-spot.spot.directory) ≡ Some r.0 = at_place c.self.inside.rows.items c.in_ok-spot.spot.directory ∙ r.1 in
-    create_left g.P.Pmem.region c.self.view_is c.self.invariant.0 runs writes (place_in c.self.inside.rows.items c.in_ok-spot.spot.directory) r.0 at c.args.kind c.args.mode c.time.inside.0 c.in_ok-spot.spot.inode c.in_ok-spot.spot.name.now c.cpu.inside.0 low c.in_ok-spot.ensures.name names spot _ _ _
-    (λ held h shows out absent pending. c.create_at.ensures.any_stop r.0 held h r.1 shows out absent pending) (c.self.invariant.2 runs)
+    create_left g.P.Pmem.region c.self.view_is c.self.invariant.0 able.runs able.writes (place_in c.self.inside.rows.items c.in_ok-spot.spot.directory) r.0 at c.args.kind c.args.mode c.time.inside.0 c.in_ok-spot.spot.inode c.in_ok-spot.spot.name.now c.cpu.inside.0 able.low c.in_ok-spot.ensures.name names spot _ _ _
+    (λ held h shows out absent pending. c.create_at.ensures.any_stop r.0 held h r.1 shows out absent pending) (c.self.invariant.2 able.runs)
     )

@@ -3,7 +3,7 @@ use Rattle.std.proofs.lemmas.List.{take_at}
 use Rattle.std.proofs.Common.{subst, sym}
 use Rattle.nv_blockset.specs.BlockSet.{with_block as with_mark}
 use Rattle.nv_blockset.proofs.Sets.{with_block_long}
-use Rattle.nv_inode.specs.Tables.{HasRoom, TableChains, laid}
+use Rattle.nv_inode.specs.Tables.{HasRoom, TableChains}
 use Rattle.nv_inode.proofs.GrownTables.{layout_pushed, tables_pushed}
 use Rattle.nv_inode.proofs.chains.Tables.push_block.Goals as goal
 

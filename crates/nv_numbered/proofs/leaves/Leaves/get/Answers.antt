@@ -2,7 +2,7 @@ use Rattle.std.proofs.Common.{◌<◌, ◌%◌, ◌∙◌, sym, arith}
 use Rattle.std.proofs.lemmas.List.{get_or_past}
 use Rattle.nv_numbered.specs.Leaved.{leaves_of}
 use Rattle.nv_numbered.proofs.WordLemmas.{word_past}
-use Rattle.nv_numbered.proofs.LeavedLemmas.{leaf_inside, word_is}
+use Rattle.nv_numbered.proofs.LeavedLemmas.{word_is}
 use Rattle.nv_numbered.proofs.leaves.Leaves.get.Goals as goal
 
 pub returns-then-place-self : goal.returns-then-place-self

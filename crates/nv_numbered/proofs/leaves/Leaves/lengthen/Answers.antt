@@ -1,7 +1,5 @@
-use Rattle.std.proofs.Common.{◌≡◌, ◌-◌, ◌+◌, ◌*◌, ◌<◌, ◌≤◌, ◌++◌, ◌∷◌, [], ◌∙◌, List, ℕ, ap, arith, length, refl, vec_capacity}
-use Rattle.std.specs.Global.{Vec}
+use Rattle.std.proofs.Common.{◌≡◌, ◌+◌, ◌≤◌, ◌++◌, ◌∷◌, [], ◌∙◌, List, ℕ, ap, arith, vec_capacity}
 use Rattle.nv_numbered.specs.Leaved.{leaves_of}
-use Rattle.nv_numbered.proofs.WordLemmas.{length-words_of}
 use Rattle.nv_numbered.proofs.LeavedLemmas.{spares_low}
 use Rattle.nv_numbered.proofs.LongerLemmas.{IsLeaved-leaf, IsLeaved-longer, leaf_room, leaf_within, leaf_words, longer_words, words_enough}
 use Rattle.nv_numbered.proofs.leaves.Leaves.lengthen.Goals as goal

@@ -1,5 +1,5 @@
-use Rattle.std.proofs.Common.{◌≡◌, ◌∙◌, [], ap, replicate}
-use Rattle.nv_numbered.specs.Leaved.{leaves_of, words_of}
+use Rattle.std.proofs.Common.{◌∙◌, ap}
+use Rattle.nv_numbered.specs.Leaved.{words_of}
 use Rattle.nv_numbered.proofs.WordLemmas.{words_none}
 use Rattle.nv_numbered.proofs.leaves.Leaves.new.Goals as goal
 

@@ -1,7 +1,7 @@
-use Rattle.std.proofs.Common.{◌≡◌, ◌∙◌, ◌+◌, ◌-◌, ◌%◌, ◌<◌, ◌≤◌, ℕ, get_or, sym, ap, arith, inl, inr}
+use Rattle.std.proofs.Common.{◌∙◌, ◌<◌, sym, arith, inl, inr}
 use Rattle.std.proofs.lemmas.Bool.{cases_lt}
-use Rattle.nv_numbered.specs.Leaved.{leaves_of, words_of}
-use Rattle.nv_numbered.proofs.WordLemmas.{length-words_of, word_past}
+use Rattle.nv_numbered.specs.Leaved.{leaves_of}
+use Rattle.nv_numbered.proofs.WordLemmas.{length-words_of}
 use Rattle.nv_numbered.proofs.LeavedLemmas.{leaf_short, leaf_zeros, word_found, words_passed}
 use Rattle.nv_numbered.proofs.leaves.Leaves.next_used.Goals as goal
 

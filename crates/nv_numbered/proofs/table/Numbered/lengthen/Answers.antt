@@ -1,4 +1,4 @@
-use Rattle.std.proofs.Common.{◌≡◌, ◌-◌, ◌+◌, ◌<◌, ◌≤◌, ◌^◌, ◌++◌, ◌∙◌, ℕ, List, ap, arith, length, replicate, sym}
+use Rattle.std.proofs.Common.{◌-◌, arith, length}
 use Rattle.nv_numbered.proofs.SoundLemmas.{length-slots_of}
 use Rattle.nv_numbered.proofs.LongerLemmas.{IsSound-longer, slots_longer}
 use Rattle.nv_numbered.proofs.table.Numbered.lengthen.Goals as goal

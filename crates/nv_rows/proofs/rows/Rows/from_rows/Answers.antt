@@ -1,5 +1,5 @@
-use Rattle.std.proofs.Common.{◌≡◌, ◌<◌, ◌^◌, ◌∙◌, ℕ, List, ap, arith, length, get_or, refl, subst, sym}
-use Rattle.nv_inode.specs.Numbers.{number_end, sizes_of}
+use Rattle.std.proofs.Common.{◌<◌, ◌^◌, ◌∙◌, ℕ, List, ap, arith, length, subst, sym}
+use Rattle.nv_inode.specs.Numbers.{number_end}
 use Rattle.nv_inode.proofs.NumberEnds.{sizes_long}
 use Rattle.nv_numbered.specs.Values.{AreNumbersBelow}
 use Rattle.nv_rows.specs.Unused.{HaveSlots}

@@ -1,5 +1,4 @@
-use Rattle.std.proofs.Common.{◌≡◌, ◌<◌, ◌≤◌, ◌+◌, ◌∙◌, ℕ, List, ap, length, length-set, get_or, refl, set, arith}
-use Rattle.nv_rows.specs.RowList.{RowList}
+use Rattle.std.proofs.Common.{◌+◌, ◌∙◌, ℕ, List, ap, length, length-set, get_or, refl, arith}
 use Rattle.nv_rows.proofs.MoreRoom.{space_bound, tells_grown}
 use Rattle.nv_rows.proofs.rows.Rows.grow.Goals as goal
 

@@ -1,5 +1,4 @@
-use Rattle.std.proofs.Common.{◌≡◌, ℕ, List, length, sym, ap, ◌∙◌, subst, arith}
-use Rattle.nv_rows.specs.InUse.{has_number, UsedSets}
+use Rattle.std.proofs.Common.{ℕ, length, sym, ap, ◌∙◌, subst}
 use Rattle.nv_rows.specs.Unused.{IsTableNumber}
 use Rattle.nv_rows.proofs.SlotRows.{row_at_slot, slot_filled, stand-filled}
 use Rattle.nv_rows.proofs.UsedRows.{TellsUsed-filled}

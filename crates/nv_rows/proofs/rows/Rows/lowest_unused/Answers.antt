@@ -1,4 +1,4 @@
-use Rattle.std.proofs.Common.{◌≡◌, ◌≢◌, ℕ, sym, ◌∙◌, arith}
+use Rattle.std.proofs.Common.{◌≡◌, ◌≢◌, ℕ, sym, ◌∙◌}
 use Rattle.nv_rows.proofs.LowestPlace.{Begins, all_used, lowest}
 use Rattle.nv_rows.proofs.rows.Rows.lowest_unused.Goals as goal
 use Rattle.nv_rows.proofs.rows.Rows.lowest_unused.Goals.{then-cpu-eq0, else-cpu-eq0}

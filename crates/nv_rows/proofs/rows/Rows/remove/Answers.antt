@@ -1,4 +1,4 @@
-use Rattle.std.proofs.Common.{◌≡◌, ◌+◌, ◌<◌, ◌≤◌, OnSome, ℕ, List, Option, length, is_some, sym, subst, ◌∙◌, ap, arith, zero-add}
+use Rattle.std.proofs.Common.{◌≡◌, ◌+◌, ◌≤◌, OnSome, ℕ, List, Option, length, is_some, sym, subst, ◌∙◌, ap, zero-add}
 use Rattle.nv_numbered.proofs.SlotLemmas.{set_none}
 use Rattle.nv_scan.specs.declared.piece.Row.{Row}
 use Rattle.nv_rows.specs.InUse.{AreRows}

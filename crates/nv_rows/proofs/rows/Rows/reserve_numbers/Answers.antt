@@ -1,4 +1,4 @@
-use Rattle.std.proofs.Common.{◌≡◌, ◌<◌, ◌≤◌, ◌+◌, ◌-◌, ◌*◌, ◌^◌, ◌++◌, ◌∙◌, ℕ, List, Option, None, ap, refl, sym, subst, length, get_or, replicate, arith}
+use Rattle.std.proofs.Common.{◌≡◌, ◌≤◌, ◌+◌, ◌-◌, ◌*◌, ◌∙◌, ℕ, List, ap, sym, subst, length, get_or, arith}
 use Rattle.nv_rows.proofs.MoreRoom.{end_near, rows_longer, slots_longer, space_ready, stand_longer, tells_longer}
 use Rattle.nv_rows.proofs.rows.Rows.reserve_numbers.Goals as goal
 

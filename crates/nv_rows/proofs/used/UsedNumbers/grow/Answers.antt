@@ -1,7 +1,6 @@
-use Rattle.std.proofs.Common.{◌≡◌, ◌<◌, ◌≤◌, ◌+◌, ◌*◌, ◌^◌, ◌∙◌, ℕ, List, ap, set, sym, subst, length, get_or, arith}
+use Rattle.std.proofs.Common.{◌≡◌, ◌+◌, ◌∙◌, ℕ, ap, set, sym, get_or, arith}
 use Rattle.std.proofs.lemmas.List.{get_or_default}
 use Rattle.nv_inode.specs.Tables.{lists_of}
-use Rattle.nv_rows.specs.InUse.{HaveRoom, UsedSets}
 use Rattle.nv_rows.proofs.MoreRoom.{room_grown}
 use Rattle.nv_rows.proofs.used.UsedNumbers.grow.Goals as goal
 

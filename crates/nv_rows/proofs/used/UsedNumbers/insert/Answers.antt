@@ -1,5 +1,4 @@
-use Rattle.std.proofs.Common.{◌≡◌, ◌%◌, ◌∙◌, ℕ, List, ap, sym, subst, set, arith}
-use Rattle.std.specs.Vec.{with_items}
+use Rattle.std.proofs.Common.{◌∙◌, ℕ, List, ap, sym, subst, arith}
 use Rattle.nv_inode.specs.Tables.{lists_of}
 use Rattle.nv_rows.specs.InUse.{has_number, HaveRoom, UsedSets}
 use Rattle.nv_rows.proofs.UsedPlaces.{put_with, room_with, with_same, with_other}

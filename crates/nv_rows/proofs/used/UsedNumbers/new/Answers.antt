@@ -4,7 +4,6 @@ use Rattle.std.specs.Global.{Vec}
 use Rattle.std.proofs.lemmas.List.{map-append}
 use Rattle.std.proofs.lemmas.List.FromFn.{map-range_with_len_more}
 use Rattle.nv_blockset.specs.BlockSet.{words_for}
-use Rattle.nv_super.specs.Layout.{Layout}
 use Rattle.nv_inode.specs.Numbers.{sizes_of, table_size}
 use Rattle.nv_inode.specs.Tables.{lists_of}
 use Rattle.nv_rows.specs.InUse.{has_number, HaveRoom}

@@ -1,7 +1,7 @@
-use Rattle.std.proofs.Common.{◌≡◌, ◌<◌, ◌≤◌, ◌+◌, ◌*◌, ◌∙◌, ℕ, List, ap, sym, subst, length, get_or, arith}
+use Rattle.std.proofs.Common.{◌≡◌, ◌∙◌, ap, sym, get_or, arith}
 use Rattle.std.proofs.lemmas.List.{get_or_default}
 use Rattle.std.proofs.lemmas.Result.{on_ok_weaker}
-use Rattle.nv_rows.specs.InUse.{has_number, set_of, UsedSets}
+use Rattle.nv_rows.specs.InUse.{has_number, UsedSets}
 use Rattle.nv_rows.proofs.MoreRoom.{longer_long, longer_numbers, longer_room, sets_inside}
 use Rattle.nv_rows.proofs.used.UsedNumbers.reserve.Goals as goal
 
