@@ -30,8 +30,8 @@ use Rattle.nv_calls.specs.Growing.{CanGetSlot, GetsNext, LeavesCreated, create_p
 -- ---- by the slot
 
 -- what a test of an address tells
-pub as_slot : {l : Layout} {j : ℕ} (o : Option ℕ) (is : Bool) → o ≡ slot_of l j → is ≡ is_some o → is ≡ true → IsTrue (has_slot l j)
-as_slot o is address told on = ap is_some (sym address) ∙ sym told ∙ on
+pub as_slot : (l : Layout) (j : ℕ) (o : Option ℕ) (is : Bool) → o ≡ slot_of l j → is ≡ is_some o → is ≡ true → IsTrue (has_slot l j)
+as_slot l j o is address told on = ap is_some (sym address) ∙ sym told ∙ on
 
 none_of : {A : Type 0} (o : Option A) → is_some o ≡ false → o ≡ None
 none_of None off = refl
@@ -75,15 +75,15 @@ left_as_was {R} {l} {free} {cpu} {held} {choices} row kind mode time j name soun
 
 -- ---- the rows
 
-pub space_kept : {old new : RowList} (cpu : ℕ) → new.sizes ≡ old.sizes → new.space ≡ old.space → HasSpace old cpu → HasSpace new cpu
-space_kept {old} {new} cpu sizes space has =
+pub space_kept : (old new : RowList) (cpu : ℕ) → new.sizes ≡ old.sizes → new.space ≡ old.space → HasSpace old cpu → HasSpace new cpu
+space_kept old new cpu sizes space has =
     let one = ap (λ (all : List ℕ). get_or all cpu 0) sizes in
     let two = ap (λ (all : List ℕ). get_or all cpu 0) space in
     omega (arith, one, two, has)
 
 -- a number that has a slot is one of the rows' tables
-pub fits_table : {l : Layout} {rows : RowList} {j : ℕ} → IsLaid l → HasNumbersOf l rows → IsTrue (has_slot l j) → IsTableNumber rows.sup.cpus rows.sizes j
-fits_table {l} {rows} {j} laid numbers has =
+pub fits_table : {l : Layout} {rows : RowList} → IsLaid l → HasNumbersOf l rows → (j : ℕ) → IsTrue (has_slot l j) → IsTableNumber rows.sup.cpus rows.sizes j
+fits_table {l} {rows} laid numbers j has =
     subst (λ (s : Super). IsTableNumber s.cpus rows.sizes j) (sym numbers.sup) (subst (λ (sizes : List ℕ). IsTableNumber l.sup.cpus sizes j) (sym numbers.sizes) (number_by l laid j has))
 
 -- the size of a table among the rows

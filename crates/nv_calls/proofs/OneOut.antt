@@ -58,9 +58,9 @@ pub left_back : {P : Type 0} {rows news : List Row} {i : ℕ} {was now : Row} {m
 left_back {rows = rows} {i = i} {was = was} {now = now} {memory = memory} {later = later} {free = free} {after = after} b left = rw b.put (leaves_set rows rows (place_in rows i) was now refl (at_place rows i ∙ b.row) memory later free after left)
 
 -- What is so of the row that was there is so of the row of that number.
-pub told_row : {rows : List Row} {i : ℕ} {was row : Row} (A : Row → Type 0) → row_of rows i ≡ Some was → row_of rows i ≡ Some row → A was → A row
-told_row A at is = subst A (same_Some _ _ (sym at ∙ is))
+pub told_row : {rows ready : List Row} {was row : Row} (i : ℕ) (A : Row → Type 0) → ready ≡ rows → row_of ready i ≡ Some was → row_of rows i ≡ Some row → A was → A row
+told_row i A same at is = subst A (same_Some _ _ (sym at ∙ ap (λ (rs : List Row). row_of rs i) same ∙ is))
 
 -- the same of what was so by other tables
-pub told_by : {rows : List Row} {i : ℕ} {was row : Row} (A : Layout → Row → Type 0) {k l : Layout} → k ≡ l → row_of rows i ≡ Some was → row_of rows i ≡ Some row → A k was → A l row
-told_by {row = row} A {k} same at is a = subst (λ (x : Layout). A x row) same (told_row (A k) at is a)
+pub told_by : {rows ready : List Row} {was row : Row} {k l : Layout} (i : ℕ) (A : Layout → Row → Type 0) → k ≡ l → ready ≡ rows → row_of ready i ≡ Some was → row_of rows i ≡ Some row → A k was → A l row
+told_by {row = row} {k = k} i A laid same at is a = subst (λ (x : Layout). A x row) laid (told_row i (A k) same at is a)

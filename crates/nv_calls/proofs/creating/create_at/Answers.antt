@@ -24,16 +24,16 @@ pub create_in_table-requires-clause-can : goal.create_in_table-requires-clause-c
 create_in_table-requires-clause-can g c = c.requires.can
 
 pub create_in_table-requires-clause-slot : goal.create_in_table-requires-clause-slot
-create_in_table-requires-clause-slot g c = as_slot c.slot_address.result c.is_some.result c.slot_address.ensures.value c.is_some.ensures c.if-is_some.true
+create_in_table-requires-clause-slot g c = as_slot c.args.tables.now.layout c.args.new.now.inode c.slot_address.result c.is_some.result c.slot_address.ensures.value c.is_some.ensures c.if-is_some.true
 
 pub returns-then-is_some-clause-created : goal.returns-then-is_some-clause-created
 returns-then-is_some-clause-created g c =
-    let has = as_slot c.slot_address.result c.is_some.result c.slot_address.ensures.value c.is_some.ensures c.if-is_some.true in
+    let has = as_slot c.args.tables.now.layout c.args.new.now.inode c.slot_address.result c.is_some.result c.slot_address.ensures.value c.is_some.ensures c.if-is_some.true in
     on_ok_weaker c.create_in_table.result (λ made. record { mid = g.P.Pmem.region c.args.memory.now; between = c.args.free.now; got = inl (has, refl, refl, refl); step = made }) c.create_in_table.ensures.created
 
 pub returns-then-is_some-clause-enough : goal.returns-then-is_some-clause-enough
 returns-then-is_some-clause-enough g c row at =
-    let has = as_slot c.slot_address.result c.is_some.result c.slot_address.ensures.value c.is_some.ensures c.if-is_some.true in
+    let has = as_slot c.args.tables.now.layout c.args.new.now.inode c.slot_address.result c.is_some.result c.slot_address.ensures.value c.is_some.ensures c.if-is_some.true in
     on_ok_weaker c.create_in_table.result (λ enough. subst (λ (n : ℕ). n ≤ all_blocks c.args.free.now.pools) (sym (blocks_none c.args.tables.now.layout c.args.new.now.inode _ has)) enough) (c.create_in_table.ensures.enough row at)
 
 pub returns-then-is_some-clause-kept : goal.returns-then-is_some-clause-kept
@@ -48,12 +48,12 @@ returns-then-is_some-clause-kept g c =
 
 pub returns-then-is_some-clause-refused : goal.returns-then-is_some-clause-refused
 returns-then-is_some-clause-refused g c row at =
-    let has = as_slot c.slot_address.result c.is_some.result c.slot_address.ensures.value c.is_some.ensures c.if-is_some.true in
+    let has = as_slot c.args.tables.now.layout c.args.new.now.inode c.slot_address.result c.is_some.result c.slot_address.ensures.value c.is_some.ensures c.if-is_some.true in
     IfErr-weaker c.create_in_table.result _ _ (λ e refuses. subst (λ (n : ℕ). RefusesStep e n c.args.free.now) (sym (blocks_none c.args.tables.now.layout c.args.new.now.inode _ has)) refuses) (c.create_in_table.ensures.refused row at)
 
 pub returns-then-is_some-clause-wrote : goal.returns-then-is_some-clause-wrote
 returns-then-is_some-clause-wrote g c row held h at shows out =
-    let has = as_slot c.slot_address.result c.is_some.result c.slot_address.ensures.value c.is_some.ensures c.if-is_some.true in
+    let has = as_slot c.args.tables.now.layout c.args.new.now.inode c.slot_address.result c.is_some.result c.slot_address.ensures.value c.is_some.ensures c.if-is_some.true in
     subst (λ (p : Places). StoresIn c.args.tables.now.layout held p (g.P.Pmem.region c.args.memory.now) (g.P.Pmem.region c.create_in_table.new.memory)) (sym (places_none c.args.tables.now.layout c.args.cpu c.args.new.now.inode row.inode has))
     (c.create_in_table.ensures.wrote row held h at shows out)
 
@@ -62,7 +62,7 @@ returns-then-is_some-clause-in_order g c row held h at shows out = c.create_in_t
 
 pub returns-then-is_some-clause-any_stop : goal.returns-then-is_some-clause-any_stop
 returns-then-is_some-clause-any_stop g c row held h at shows out absent settled left may =
-    let has = as_slot c.slot_address.result c.is_some.result c.slot_address.ensures.value c.is_some.ensures c.if-is_some.true in
+    let has = as_slot c.args.tables.now.layout c.args.new.now.inode c.slot_address.result c.is_some.result c.slot_address.ensures.value c.is_some.ensures c.if-is_some.true in
     left_in_table row c.args.new.now.kind c.args.new.now.mode c.args.new.now.time c.args.new.now.inode c.args.new.now.name.now has left (c.create_in_table.ensures.any_stop row held h at shows out absent settled left may)
 
 -- ---- where it has none

@@ -57,7 +57,7 @@ give_back-requires g c =
 pub insert-requires-clause-within : goal.insert-requires-clause-within
 insert-requires-clause-within g c =
     subst (λ (i : ℕ). IsTableNumber c.give_back.new.self.sup.cpus c.give_back.new.self.sizes i) (sym c.in_ok-made.ensures.made.row.inode)
-    (fits_table c.are_laid.ensures (numbers_kept {new = c.give_back.new.self} (c.give_back.ensures.sup ∙ c.lend-row.ensures.sup ∙ c.reserve.ensures.sup) (c.give_back.ensures.sizes ∙ c.lend-row.ensures.sizes ∙ c.reserve.ensures.sizes) c.requires.can.numbers) c.requires.slot)
+    (fits_table c.are_laid.ensures (numbers_kept {new = c.give_back.new.self} (c.give_back.ensures.sup ∙ c.lend-row.ensures.sup ∙ c.reserve.ensures.sup) (c.give_back.ensures.sizes ∙ c.lend-row.ensures.sizes ∙ c.reserve.ensures.sizes) c.requires.can.numbers) c.args.new.now.inode c.requires.slot)
 
 pub insert-requires-clause-vacant : goal.insert-requires-clause-vacant
 insert-requires-clause-vacant g c =
@@ -109,7 +109,7 @@ returns-in_err-made-clause-refused g c row is =
     let w = err_from_is_err_and c.from_residual.result c.from_residual.ensures.1 in
     refused_by c.from_residual.result c.in_err-made.field-0.0 w.0
     (λ (e : Refusal). RefusesStep e (1 + needed (row.tail % 4096) (name_entries Add c.args.new.now.inode c.args.new.now.name.now c.args.new.now.time)) c.args.free.now) w.1 w.2
-    (told_row (λ (r : Row). RefusesStep c.in_err-made.field-0.0 (1 + needed (r.tail % 4096) (name_entries Add c.args.new.now.inode c.args.new.now.name.now c.args.new.now.time)) c.args.free.now) c.lend-row.ensures.row (ap (λ (rows : List Row). row_of rows c.args.directory) c.reserve.ensures.rows ∙ is) c.in_err-made.ensures.needs.refused)
+    (told_row c.args.directory (λ (r : Row). RefusesStep c.in_err-made.field-0.0 (1 + needed (r.tail % 4096) (name_entries Add c.args.new.now.inode c.args.new.now.name.now c.args.new.now.time)) c.args.free.now) c.reserve.ensures.rows c.lend-row.ensures.row is c.in_err-made.ensures.needs.refused)
 
 pub returns-in_err-made-clause-kept : goal.returns-in_err-made-clause-kept
 returns-in_err-made-clause-kept g c =
@@ -124,19 +124,19 @@ returns-in_err-made-clause-kept g c =
 
 pub returns-in_err-made-clause-wrote : goal.returns-in_err-made-clause-wrote
 returns-in_err-made-clause-wrote g c row held h is shows out =
-    told_row (λ (r : Row). ShowsRow (g.P.Pmem.region c.args.memory.now) c.args.tables.now.layout held h r c.args.free.now → StoresIn c.args.tables.now.layout held (one_more c.args.tables.now.layout c.args.cpu c.args.new.now.inode r.inode) (g.P.Pmem.region c.args.memory.now) (g.P.Pmem.region c.make_named-made.new.memory))
-    c.lend-row.ensures.row (ap (λ (rows : List Row). row_of rows c.args.directory) c.reserve.ensures.rows ∙ is) (λ seen. c.make_named-made.ensures.wrote held h seen out) shows
+    told_row c.args.directory (λ (r : Row). ShowsRow (g.P.Pmem.region c.args.memory.now) c.args.tables.now.layout held h r c.args.free.now → StoresIn c.args.tables.now.layout held (one_more c.args.tables.now.layout c.args.cpu c.args.new.now.inode r.inode) (g.P.Pmem.region c.args.memory.now) (g.P.Pmem.region c.make_named-made.new.memory))
+    c.reserve.ensures.rows c.lend-row.ensures.row is (λ seen. c.make_named-made.ensures.wrote held h seen out) shows
 
 pub returns-in_err-made-clause-in_order : goal.returns-in_err-made-clause-in_order
 returns-in_err-made-clause-in_order g c row held h is shows out =
-    told_row (λ (r : Row). ShowsRow (g.P.Pmem.region c.args.memory.now) c.args.tables.now.layout held h r c.args.free.now → FirstIsFirst (g.P.Pmem.region c.args.memory.now) (slot_in c.args.tables.now.layout c.args.new.now.inode) 1 (tail_address c.args.tables.now.layout r.inode) (g.P.Pmem.region c.make_named-made.new.memory))
-    c.lend-row.ensures.row (ap (λ (rows : List Row). row_of rows c.args.directory) c.reserve.ensures.rows ∙ is) (λ seen. c.make_named-made.ensures.in_order held h seen out) shows
+    told_row c.args.directory (λ (r : Row). ShowsRow (g.P.Pmem.region c.args.memory.now) c.args.tables.now.layout held h r c.args.free.now → FirstIsFirst (g.P.Pmem.region c.args.memory.now) (slot_in c.args.tables.now.layout c.args.new.now.inode) 1 (tail_address c.args.tables.now.layout r.inode) (g.P.Pmem.region c.make_named-made.new.memory))
+    c.reserve.ensures.rows c.lend-row.ensures.row is (λ seen. c.make_named-made.ensures.in_order held h seen out) shows
 
 pub returns-in_err-made-clause-any_stop : goal.returns-in_err-made-clause-any_stop
 returns-in_err-made-clause-any_stop g c row held h is shows out absent settled =
-    told_row (λ (r : Row). ShowsRow (g.P.Pmem.region c.args.memory.now) c.args.tables.now.layout held h r c.args.free.now → name_at r.names c.args.new.now.name.now ≡ None
+    told_row c.args.directory (λ (r : Row). ShowsRow (g.P.Pmem.region c.args.memory.now) c.args.tables.now.layout held h r c.args.free.now → name_at r.names c.args.new.now.name.now ≡ None
     → LeavesOnly (g.P.Pmem.region c.make_named-made.new.memory) (g.P.Pmem.may_hold c.make_named-made.new.memory) (LeavesEither (g.P.Pmem.region c.args.memory.now) c.args.tables.now.layout held (Named (g.P.Pmem.region c.args.memory.now) c.args.tables.now.layout c.args.free.now c.args.cpu r c.args.new.now.kind c.args.new.now.mode c.args.new.now.time c.args.new.now.inode c.args.new.now.name.now)))
-    c.lend-row.ensures.row (ap (λ (rows : List Row). row_of rows c.args.directory) c.reserve.ensures.rows ∙ is) (λ seen none. c.make_named-made.ensures.any_stop held h seen out none settled) shows absent
+    c.reserve.ensures.rows c.lend-row.ensures.row is (λ seen none. c.make_named-made.ensures.any_stop held h seen out none settled) shows absent
 
 -- ---- it was done
 
@@ -154,21 +154,21 @@ returns-clause-created g c =
 
 pub returns-clause-enough : goal.returns-clause-enough
 returns-clause-enough g c row is =
-    told_row (λ (r : Row). 1 + needed (r.tail % 4096) (name_entries Add c.args.new.now.inode c.args.new.now.name.now c.args.new.now.time) ≤ all_blocks c.args.free.now.pools)
-    c.lend-row.ensures.row (ap (λ (rows : List Row). row_of rows c.args.directory) c.reserve.ensures.rows ∙ is) c.in_ok-made.ensures.needs.enough
+    told_row c.args.directory (λ (r : Row). 1 + needed (r.tail % 4096) (name_entries Add c.args.new.now.inode c.args.new.now.name.now c.args.new.now.time) ≤ all_blocks c.args.free.now.pools)
+    c.reserve.ensures.rows c.lend-row.ensures.row is c.in_ok-made.ensures.needs.enough
 
 pub returns-clause-wrote : goal.returns-clause-wrote
 returns-clause-wrote g c row held h is shows out =
-    told_row (λ (r : Row). ShowsRow (g.P.Pmem.region c.args.memory.now) c.args.tables.now.layout held h r c.args.free.now → StoresIn c.args.tables.now.layout held (one_more c.args.tables.now.layout c.args.cpu c.args.new.now.inode r.inode) (g.P.Pmem.region c.args.memory.now) (g.P.Pmem.region c.make_named-made.new.memory))
-    c.lend-row.ensures.row (ap (λ (rows : List Row). row_of rows c.args.directory) c.reserve.ensures.rows ∙ is) (λ seen. c.make_named-made.ensures.wrote held h seen out) shows
+    told_row c.args.directory (λ (r : Row). ShowsRow (g.P.Pmem.region c.args.memory.now) c.args.tables.now.layout held h r c.args.free.now → StoresIn c.args.tables.now.layout held (one_more c.args.tables.now.layout c.args.cpu c.args.new.now.inode r.inode) (g.P.Pmem.region c.args.memory.now) (g.P.Pmem.region c.make_named-made.new.memory))
+    c.reserve.ensures.rows c.lend-row.ensures.row is (λ seen. c.make_named-made.ensures.wrote held h seen out) shows
 
 pub returns-clause-in_order : goal.returns-clause-in_order
 returns-clause-in_order g c row held h is shows out =
-    told_row (λ (r : Row). ShowsRow (g.P.Pmem.region c.args.memory.now) c.args.tables.now.layout held h r c.args.free.now → FirstIsFirst (g.P.Pmem.region c.args.memory.now) (slot_in c.args.tables.now.layout c.args.new.now.inode) 1 (tail_address c.args.tables.now.layout r.inode) (g.P.Pmem.region c.make_named-made.new.memory))
-    c.lend-row.ensures.row (ap (λ (rows : List Row). row_of rows c.args.directory) c.reserve.ensures.rows ∙ is) (λ seen. c.make_named-made.ensures.in_order held h seen out) shows
+    told_row c.args.directory (λ (r : Row). ShowsRow (g.P.Pmem.region c.args.memory.now) c.args.tables.now.layout held h r c.args.free.now → FirstIsFirst (g.P.Pmem.region c.args.memory.now) (slot_in c.args.tables.now.layout c.args.new.now.inode) 1 (tail_address c.args.tables.now.layout r.inode) (g.P.Pmem.region c.make_named-made.new.memory))
+    c.reserve.ensures.rows c.lend-row.ensures.row is (λ seen. c.make_named-made.ensures.in_order held h seen out) shows
 
 pub returns-clause-any_stop : goal.returns-clause-any_stop
 returns-clause-any_stop g c row held h is shows out absent settled =
-    told_row (λ (r : Row). ShowsRow (g.P.Pmem.region c.args.memory.now) c.args.tables.now.layout held h r c.args.free.now → name_at r.names c.args.new.now.name.now ≡ None
+    told_row c.args.directory (λ (r : Row). ShowsRow (g.P.Pmem.region c.args.memory.now) c.args.tables.now.layout held h r c.args.free.now → name_at r.names c.args.new.now.name.now ≡ None
     → LeavesOnly (g.P.Pmem.region c.make_named-made.new.memory) (g.P.Pmem.may_hold c.make_named-made.new.memory) (LeavesEither (g.P.Pmem.region c.args.memory.now) c.args.tables.now.layout held (Named (g.P.Pmem.region c.args.memory.now) c.args.tables.now.layout c.args.free.now c.args.cpu r c.args.new.now.kind c.args.new.now.mode c.args.new.now.time c.args.new.now.inode c.args.new.now.name.now)))
-    c.lend-row.ensures.row (ap (λ (rows : List Row). row_of rows c.args.directory) c.reserve.ensures.rows ∙ is) (λ seen none. c.make_named-made.ensures.any_stop held h seen out none settled) shows absent
+    c.reserve.ensures.rows c.lend-row.ensures.row is (λ seen none. c.make_named-made.ensures.any_stop held h seen out none settled) shows absent

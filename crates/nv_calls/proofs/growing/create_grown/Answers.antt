@@ -84,7 +84,7 @@ grow_rows-requires-clause-numbers g c =
     (c.reserve_growth.new.tables.layout, subst (λ (x : Layout). IsLaid x) (sym c.reserve_growth.ensures.layout) c.are_laid.ensures, subst (λ (x : Layout). HasNumbersOf x c.give_back.new.self) (sym c.reserve_growth.ensures.layout) (numbers_kept (c.give_back.ensures.sup ∙ c.lend-row.ensures.sup ∙ c.reserve_growth.ensures.sup) (c.give_back.ensures.sizes ∙ c.lend-row.ensures.sizes ∙ c.reserve_growth.ensures.sizes) c.requires.can.numbers), grew.layout)
 
 pub grow_rows-requires-clause-space : goal.grow_rows-requires-clause-space
-grow_rows-requires-clause-space g c = space_kept c.args.cpu (c.give_back.ensures.sizes ∙ c.lend-row.ensures.sizes) (c.give_back.ensures.space ∙ c.lend-row.ensures.space) (not_refused c.reserve_growth.result c.is_err.result c.is_err.ensures.value c.if-is_err.false c.reserve_growth.ensures.space)
+grow_rows-requires-clause-space g c = space_kept c.reserve_growth.new.rows c.give_back.new.self c.args.cpu (c.give_back.ensures.sizes ∙ c.lend-row.ensures.sizes) (c.give_back.ensures.space ∙ c.lend-row.ensures.space) (not_refused c.reserve_growth.result c.is_err.result c.is_err.ensures.value c.if-is_err.false c.reserve_growth.ensures.space)
 
 pub insert-requires-clause-within : goal.insert-requires-clause-within
 insert-requires-clause-within g c =
@@ -147,7 +147,7 @@ returns-in_err-made-clause-refused g c row is =
     let w = err_from_is_err_and c.from_residual.result c.from_residual.ensures.1 in
     refused_by c.from_residual.result c.in_err-made.field-0.0 w.0
     (λ (e : Refusal). RefusesStep e (2 + needed (row.tail % 4096) (name_entries Add c.args.new.now.inode c.args.new.now.name.now c.args.new.now.time)) c.args.free.now) w.1 w.2
-    (told_row (λ (r : Row). RefusesStep c.in_err-made.field-0.0 (2 + needed (r.tail % 4096) (name_entries Add c.args.new.now.inode c.args.new.now.name.now c.args.new.now.time)) c.args.free.now) c.lend-row.ensures.row (ap (λ (rows : List Row). row_of rows c.args.directory) c.reserve_growth.ensures.rows ∙ is) c.in_err-made.ensures.needs.refused)
+    (told_row c.args.directory (λ (r : Row). RefusesStep c.in_err-made.field-0.0 (2 + needed (r.tail % 4096) (name_entries Add c.args.new.now.inode c.args.new.now.name.now c.args.new.now.time)) c.args.free.now) c.reserve_growth.ensures.rows c.lend-row.ensures.row is c.in_err-made.ensures.needs.refused)
 
 pub returns-in_err-made-clause-kept : goal.returns-in_err-made-clause-kept
 returns-in_err-made-clause-kept g c =
@@ -168,19 +168,19 @@ returns-in_err-made-clause-kept g c =
 
 pub returns-in_err-made-clause-wrote : goal.returns-in_err-made-clause-wrote
 returns-in_err-made-clause-wrote g c row held h is shows =
-    told_by (λ (x : Layout) (r : Row). ShowsRow (g.P.Pmem.region c.args.memory.now) x held h r c.args.free.now → StoresIn x held (grown_more x c.args.cpu r.inode) (g.P.Pmem.region c.args.memory.now) (g.P.Pmem.region c.make_grown-made.new.memory))
-    c.reserve_growth.ensures.layout c.lend-row.ensures.row (ap (λ (rows : List Row). row_of rows c.args.directory) c.reserve_growth.ensures.rows ∙ is) (λ seen. c.make_grown-made.ensures.wrote held h seen) shows
+    told_by c.args.directory (λ (x : Layout) (r : Row). ShowsRow (g.P.Pmem.region c.args.memory.now) x held h r c.args.free.now → StoresIn x held (grown_more x c.args.cpu r.inode) (g.P.Pmem.region c.args.memory.now) (g.P.Pmem.region c.make_grown-made.new.memory))
+    c.reserve_growth.ensures.layout c.reserve_growth.ensures.rows c.lend-row.ensures.row is (λ seen. c.make_grown-made.ensures.wrote held h seen) shows
 
 pub returns-in_err-made-clause-in_order : goal.returns-in_err-made-clause-in_order
 returns-in_err-made-clause-in_order g c row held h is shows =
-    told_by (λ (x : Layout) (r : Row). ShowsRow (g.P.Pmem.region c.args.memory.now) x held h r c.args.free.now → FirstIsFirst (g.P.Pmem.region c.args.memory.now) (slot_in c.make_grown-made.new.tables.layout c.args.new.now.inode) 1 (tail_address c.make_grown-made.new.tables.layout r.inode) (g.P.Pmem.region c.make_grown-made.new.memory))
-    c.reserve_growth.ensures.layout c.lend-row.ensures.row (ap (λ (rows : List Row). row_of rows c.args.directory) c.reserve_growth.ensures.rows ∙ is) (λ seen. c.make_grown-made.ensures.in_order held h seen) shows
+    told_by c.args.directory (λ (x : Layout) (r : Row). ShowsRow (g.P.Pmem.region c.args.memory.now) x held h r c.args.free.now → FirstIsFirst (g.P.Pmem.region c.args.memory.now) (slot_in c.make_grown-made.new.tables.layout c.args.new.now.inode) 1 (tail_address c.make_grown-made.new.tables.layout r.inode) (g.P.Pmem.region c.make_grown-made.new.memory))
+    c.reserve_growth.ensures.layout c.reserve_growth.ensures.rows c.lend-row.ensures.row is (λ seen. c.make_grown-made.ensures.in_order held h seen) shows
 
 pub returns-in_err-made-clause-any_stop : goal.returns-in_err-made-clause-any_stop
 returns-in_err-made-clause-any_stop g c row held h is shows absent settled left may =
     left_after_growth row c.args.new.now.kind c.args.new.now.mode c.args.new.now.time c.args.new.now.inode c.args.new.now.name.now left
-    (told_by (λ (x : Layout) (r : Row). ShowsRow (g.P.Pmem.region c.args.memory.now) x held h r c.args.free.now → name_at r.names c.args.new.now.name.now ≡ None → LeavesOnly (g.P.Pmem.region c.make_grown-made.new.memory) (g.P.Pmem.may_hold c.make_grown-made.new.memory) (LeavesGrown (g.P.Pmem.region c.args.memory.now) x held c.args.free.now c.args.cpu r c.args.new.now.kind c.args.new.now.mode c.args.new.now.time c.args.new.now.inode c.args.new.now.name.now))
-    c.reserve_growth.ensures.layout c.lend-row.ensures.row (ap (λ (rows : List Row). row_of rows c.args.directory) c.reserve_growth.ensures.rows ∙ is) (λ seen none. c.make_grown-made.ensures.any_stop held h seen none settled) shows absent left may)
+    (told_by c.args.directory (λ (x : Layout) (r : Row). ShowsRow (g.P.Pmem.region c.args.memory.now) x held h r c.args.free.now → name_at r.names c.args.new.now.name.now ≡ None → LeavesOnly (g.P.Pmem.region c.make_grown-made.new.memory) (g.P.Pmem.may_hold c.make_grown-made.new.memory) (LeavesGrown (g.P.Pmem.region c.args.memory.now) x held c.args.free.now c.args.cpu r c.args.new.now.kind c.args.new.now.mode c.args.new.now.time c.args.new.now.inode c.args.new.now.name.now))
+    c.reserve_growth.ensures.layout c.reserve_growth.ensures.rows c.lend-row.ensures.row is (λ seen none. c.make_grown-made.ensures.any_stop held h seen none settled) shows absent left may)
 
 -- ---- it was done
 
@@ -204,8 +204,8 @@ returns-clause-created g c =
 
 pub returns-clause-enough : goal.returns-clause-enough
 returns-clause-enough g c row is =
-    told_row (λ (r : Row). 2 + needed (r.tail % 4096) (name_entries Add c.args.new.now.inode c.args.new.now.name.now c.args.new.now.time) ≤ all_blocks c.args.free.now.pools)
-    c.lend-row.ensures.row (ap (λ (rows : List Row). row_of rows c.args.directory) c.reserve_growth.ensures.rows ∙ is) c.in_ok-made.ensures.needs.enough
+    told_row c.args.directory (λ (r : Row). 2 + needed (r.tail % 4096) (name_entries Add c.args.new.now.inode c.args.new.now.name.now c.args.new.now.time) ≤ all_blocks c.args.free.now.pools)
+    c.reserve_growth.ensures.rows c.lend-row.ensures.row is c.in_ok-made.ensures.needs.enough
 
 pub returns-clause-kept : goal.returns-clause-kept
 returns-clause-kept g c =
@@ -220,16 +220,16 @@ returns-clause-kept g c =
 
 pub returns-clause-wrote : goal.returns-clause-wrote
 returns-clause-wrote g c row held h is shows =
-    told_by (λ (x : Layout) (r : Row). ShowsRow (g.P.Pmem.region c.args.memory.now) x held h r c.args.free.now → StoresIn x held (grown_more x c.args.cpu r.inode) (g.P.Pmem.region c.args.memory.now) (g.P.Pmem.region c.make_grown-made.new.memory))
-    c.reserve_growth.ensures.layout c.lend-row.ensures.row (ap (λ (rows : List Row). row_of rows c.args.directory) c.reserve_growth.ensures.rows ∙ is) (λ seen. c.make_grown-made.ensures.wrote held h seen) shows
+    told_by c.args.directory (λ (x : Layout) (r : Row). ShowsRow (g.P.Pmem.region c.args.memory.now) x held h r c.args.free.now → StoresIn x held (grown_more x c.args.cpu r.inode) (g.P.Pmem.region c.args.memory.now) (g.P.Pmem.region c.make_grown-made.new.memory))
+    c.reserve_growth.ensures.layout c.reserve_growth.ensures.rows c.lend-row.ensures.row is (λ seen. c.make_grown-made.ensures.wrote held h seen) shows
 
 pub returns-clause-in_order : goal.returns-clause-in_order
 returns-clause-in_order g c row held h is shows =
-    told_by (λ (x : Layout) (r : Row). ShowsRow (g.P.Pmem.region c.args.memory.now) x held h r c.args.free.now → FirstIsFirst (g.P.Pmem.region c.args.memory.now) (slot_in c.make_grown-made.new.tables.layout c.args.new.now.inode) 1 (tail_address c.make_grown-made.new.tables.layout r.inode) (g.P.Pmem.region c.make_grown-made.new.memory))
-    c.reserve_growth.ensures.layout c.lend-row.ensures.row (ap (λ (rows : List Row). row_of rows c.args.directory) c.reserve_growth.ensures.rows ∙ is) (λ seen. c.make_grown-made.ensures.in_order held h seen) shows
+    told_by c.args.directory (λ (x : Layout) (r : Row). ShowsRow (g.P.Pmem.region c.args.memory.now) x held h r c.args.free.now → FirstIsFirst (g.P.Pmem.region c.args.memory.now) (slot_in c.make_grown-made.new.tables.layout c.args.new.now.inode) 1 (tail_address c.make_grown-made.new.tables.layout r.inode) (g.P.Pmem.region c.make_grown-made.new.memory))
+    c.reserve_growth.ensures.layout c.reserve_growth.ensures.rows c.lend-row.ensures.row is (λ seen. c.make_grown-made.ensures.in_order held h seen) shows
 
 pub returns-clause-any_stop : goal.returns-clause-any_stop
 returns-clause-any_stop g c row held h is shows absent settled left may =
     left_after_growth row c.args.new.now.kind c.args.new.now.mode c.args.new.now.time c.args.new.now.inode c.args.new.now.name.now left
-    (told_by (λ (x : Layout) (r : Row). ShowsRow (g.P.Pmem.region c.args.memory.now) x held h r c.args.free.now → name_at r.names c.args.new.now.name.now ≡ None → LeavesOnly (g.P.Pmem.region c.make_grown-made.new.memory) (g.P.Pmem.may_hold c.make_grown-made.new.memory) (LeavesGrown (g.P.Pmem.region c.args.memory.now) x held c.args.free.now c.args.cpu r c.args.new.now.kind c.args.new.now.mode c.args.new.now.time c.args.new.now.inode c.args.new.now.name.now))
-    c.reserve_growth.ensures.layout c.lend-row.ensures.row (ap (λ (rows : List Row). row_of rows c.args.directory) c.reserve_growth.ensures.rows ∙ is) (λ seen none. c.make_grown-made.ensures.any_stop held h seen none settled) shows absent left may)
+    (told_by c.args.directory (λ (x : Layout) (r : Row). ShowsRow (g.P.Pmem.region c.args.memory.now) x held h r c.args.free.now → name_at r.names c.args.new.now.name.now ≡ None → LeavesOnly (g.P.Pmem.region c.make_grown-made.new.memory) (g.P.Pmem.may_hold c.make_grown-made.new.memory) (LeavesGrown (g.P.Pmem.region c.args.memory.now) x held c.args.free.now c.args.cpu r c.args.new.now.kind c.args.new.now.mode c.args.new.now.time c.args.new.now.inode c.args.new.now.name.now))
+    c.reserve_growth.ensures.layout c.reserve_growth.ensures.rows c.lend-row.ensures.row is (λ seen none. c.make_grown-made.ensures.any_stop held h seen none settled) shows absent left may)

@@ -9,11 +9,11 @@ use Rattle.nv_calls.proofs.growing.grow_rows.Goals as goal
 pub table_size-requires : goal.table_size-requires
 table_size-requires c = let w = c.requires.numbers in subst (λ (s : Super). c.args.cpu < s.cpus) (sym w.2.sup) (cpu_before c.args.cpu w.3 c.requires.cpu)
 
-pub returns-then-table_size-table_size-clause-numbers : goal.returns-then-table_size-table_size-clause-numbers
-returns-then-table_size-table_size-clause-numbers c =
+pub returns-then-table_size-clause-numbers : goal.returns-then-table_size-clause-numbers
+returns-then-table_size-clause-numbers c =
     let w = c.requires.numbers in
     subst (λ (x : Layout). HasNumbersOf x c.args.rows.now)
-    (sym (same_size c.args.cpu w.1 (cpu_before c.args.cpu w.3 c.requires.cpu) w.2 w.3 (sym c.table_size.ensures ∙ c.if-table_size-table_size.true ∙ c.table_size-2.ensures.value))) w.2
+    (sym (same_size c.args.cpu w.1 (cpu_before c.args.cpu w.3 c.requires.cpu) w.2 w.3 (sym c.table_size.ensures ∙ c.if-table_size.true ∙ c.table_size-2.ensures.value))) w.2
 
 pub grow-requires-clause-cpu : goal.grow-requires-clause-cpu
 grow-requires-clause-cpu c = let w = c.requires.numbers in subst (λ (s : Super). c.args.cpu < s.cpus) (sym w.2.sup) (cpu_before c.args.cpu w.3 c.requires.cpu)
@@ -25,7 +25,7 @@ pub returns-clause-numbers : goal.returns-clause-numbers
 returns-clause-numbers c =
     let w = c.requires.numbers in
     let below = cpu_before c.args.cpu w.3 c.requires.cpu in
-    let grew = other_size c.args.cpu below w.2 w.3 (λ same. c.if-table_size-table_size.false (c.table_size.ensures ∙ same ∙ sym c.table_size-2.ensures.value)) in
+    let grew = other_size c.args.cpu below w.2 w.3 (λ same. c.if-table_size.false (c.table_size.ensures ∙ same ∙ sym c.table_size-2.ensures.value)) in
     subst (λ (x : Layout). HasNumbersOf x c.grow.new.self) (sym grew.1)
     (numbers_grown c.args.cpu grew.0 w.1 below w.2 (ap (λ (l : RowList). l.sup) c.grow.ensures) (ap (λ (l : RowList). l.sizes) c.grow.ensures))
 
