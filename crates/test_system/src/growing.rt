@@ -11,9 +11,11 @@ const BEGIN: &str = "format 1 64 1\npoke 139264 7\npoke 139520 1\nrecover 1\nupg
 const BEGUN: &str = "ok\nok\nok\nrecovered inodes 1 free 60 faults 0\nok\n";
 
 /// The new inode and its slot, the link to its block, and what a recovery finds. Its log is block 35.
-const GROWN: &str = "create 0 /x\nstat /x\npeek 4112\npeek 139264\npeek 139392\npeek 139408\npeek 139520\nrecover 2\nfree\n";
+const GROWN: &str =
+    "create 0 /x\nstat /x\npeek 4112\npeek 139264\npeek 139392\npeek 139408\npeek 139520\nrecover 2\nfree\n";
 
-const SEEN: &str = "ok\nstat inode 32 file mode 420 owner 0 group 0 size 0 links 1 time 0\nword 139264\nword 0\n\
+const SEEN: &str =
+    "ok\nstat inode 32 file mode 420 owner 0 group 0 size 0 links 1 time 0\nword 139264\nword 0\n\
      word 1\nword 143360\nword 0\nrecovered inodes 32 free 28 faults 0\nfree 0 36-63\n";
 
 /// Files get all numbers of the table that the root doesn't have, and the blocks 4 to 33 for their logs.
