@@ -69,8 +69,11 @@ fn look_at_blocks<R: Print>(rt: &R, fs: &Fs<MemRegion>) -> Result<()> {
         for run in fs.free_runs(Cpu(cpu)) {
             println!(rt; "cpu {} has {} free from {} on", cpu, run.count, run.start)?;
         }
-        if let Some(inode) = fs.unused_number(Cpu(cpu)) {
+        if let Some(inode) = fs.new_number(Cpu(cpu)) {
             println!(rt; "cpu {} makes inode {} next", cpu, inode)?;
+        }
+        if fs.unused_number(Cpu(cpu)).is_none() {
+            println!(rt; "the table of cpu {} is full", cpu)?;
         }
     }
     let bytes = fs.memory().len();

@@ -23,6 +23,7 @@
 //!   it has by a number, also where no path leads to it; `rows`, `free` and `faults` all that was found.
 //! - `create`, `mkdir`, `write`, `set_size`, `set_attr`, `link`, `unlink`, `rmdir`, `rename` and `replace` make of the tree what
 //!   is defined of each. A call that is refused changes nothing, and says by a [`Refusal`] why. `clean` frees log pages.
+//!   After `upgrade` a full table grows for a new inode.
 //! - A power cut at any store of a call leaves the tree of before the call, or the one that the call makes. Once it has
 //!   answered `Ok`, the latter stays. After [`Refusal::Stopped`] every call answers it, until the region is mounted again:
 //!   `Fs::into_memory` gives the memory back, and `MemRegion::after_stop` is what the power cut left of it.

@@ -23,8 +23,8 @@ use std::alloc::Global;
 ///
 /// Statuses, the first that applies: 16 where the handle is closed, 13 where there is no CPU of that number, 10 where the mount
 /// has faults, 6 where the text is no path or `/`, 1 or 3 for an inode on the way, 2 where the path leads to an inode, 8 where
-/// the CPU's table has no unused slot, in version 1, 7 where too few blocks are free. Besides these 14 where memory was refused. All leave
-/// everything as it was.
+/// the CPU's table has no unused slot, in version 1, 7 where too few blocks are free. Besides these 14 where memory was
+/// refused. All leave everything as it was.
 #[unsafe(no_mangle)]
 pub extern "C" fn nova_create(
     alloc: Global,
@@ -64,8 +64,8 @@ pub extern "C" fn nova_create(
 ///
 /// Statuses, the first that applies: 16 where the handle is closed, 13 where there is no CPU of that number, 10 where the mount
 /// has faults, 6 where the text is no path or `/`, 1 or 3 for an inode on the way, 2 where the path leads to an inode, 8 where
-/// the CPU's table has no unused slot, in version 1, 7 where too few blocks are free. Besides these 14 where memory was refused. All leave
-/// everything as it was.
+/// the CPU's table has no unused slot, in version 1, 7 where too few blocks are free. Besides these 14 where memory was
+/// refused. All leave everything as it was.
 #[unsafe(no_mangle)]
 pub extern "C" fn nova_mkdir(
     alloc: Global,

@@ -9,12 +9,12 @@ use Rattle.nv_super.specs.declared.superblock.Super.{Super}
 use Rattle.nv_super.specs.Layout.{Layout}
 use Rattle.nv_super.specs.declared.kind.Kind.{Kind}
 use Rattle.nv_journal.specs.Undo.{undone}
-use Rattle.nv_outcome.specs.Outcome.{Outcome, IsOutcome}
+use Rattle.nv_outcome.specs.Outcome.{Outcome}
 use Rattle.nv_outcome.specs.Same.{SameOutcome}
 use Rattle.nv_outcome.proofs.OnlyOne.{same_outcome}
 use Rattle.nv_commit.proofs.Left.{one_held}
 use Rattle.nv_mounted.specs.Held.{Held, Store}
-use Rattle.nv_mounted.specs.Mounted.{ShowsSound, faultless_outcome}
+use Rattle.nv_mounted.specs.Mounted.{ShowsSound, outcome_layout}
 use Rattle.nv_tree.specs.Tree.{Node, Tree}
 use Rattle.nv_tree.specs.Refusals.{Path, Tests, first_refusal, refusal_word, clean_tests, create_tests, link_tests, rename_tests, rmdir_tests, set_attr_tests, set_size_tests, stat_tests, unlink_tests, write_tests}
 use Rattle.nv_tree.specs.declared.refusal.Refusal.{Refusal}
@@ -39,7 +39,7 @@ use Rattle.nv_calls.proofs.CleanAlike.{cleans_answer, cleans_leave}
 use Rattle.nv_calls.proofs.OneOutcome.{alike_faultless, faultless_bare, second_faultless}
 use Rattle.nv_calls.proofs.SeenAlike.{Alike}
 use Rattle.nv_session.specs.Alike.{AlikeStates, IsLeftOf, SeemSame}
-use Rattle.nv_session.specs.Calls.{Asked, Asks, FindsPage, LeavesTree, asks_attributes, asks_clean, asks_create, asks_link, asks_remove, asks_rename, asks_size, asks_unlink, asks_write, finds_page, mounted_as, seen_in}
+use Rattle.nv_session.specs.Calls.{Asked, Asks, FindsPage, LeavesTables, LeavesTreeBy, asks_attributes, asks_clean, asks_create, asks_link, asks_remove, asks_rename, asks_size, asks_unlink, asks_write, finds_page, mounted_as, seen_in}
 use Rattle.nv_session.specs.Machine.{State, Calls, CallsByTwo, CallsMounted, CallsTelling, DoesCall, MayStop, RefusesCall}
 use Rattle.nv_session.proofs.Calling.{can_write}
 use Rattle.nv_session.proofs.OneCall.{AskedOnce, SameSeen}
@@ -75,24 +75,25 @@ module _ {asks : Asks} {R S Q P : Region} {path : List ℕ} (a : Asked asks R S 
       (subst (λ (p : Path). asks P (seen_in b) p b.tests) (says_one path b.path_is a.path_is b.says a.says) b.are)
 
 -- what a call left, as what was done
-was_done : {A : Type 0} (makes : Makes ⊤) (logs : A → Logs ⊤) (S T : Region) (m : Mount ⊤) (names : List (List ℕ)) (x : A) → LeavesTree S T m (makes S m names) → logs x S m names T → WasDone makes (logs x) S m names T
-was_done makes logs S T m names x left l = record {
+was_done : {A : Type 0} (Laid : Layout → Type 0) (makes : Makes ⊤) (logs : A → Logs ⊤) (S T : Region) (m : Mount ⊤) (names : List (List ℕ)) (x : A) → LeavesTreeBy Laid S T m (makes S m names) → logs x S m names T → WasDone makes (logs x) S m names T
+was_done Laid makes logs S T m names x left l = record {
+  layout = outcome_layout left.after;
   rows = left.after.rows;
   free = left.after.free;
-  shown = subst (λ (x : Layout). IsOutcome T (faultless_outcome x left.after.rows left.after.free)) left.layout (faultless_bare T left.after left.shown left.faultless left.own);
+  shown = faultless_bare T left.after left.shown left.faultless left.own;
   tree = left.tree;
   left = l;
 }
 
 -- what is left is its own undone region
-own_left : (S T : Region) (m : Mount ⊤) (t : Tree) → LeavesTree S T m t → IsLeftOf (Some T) (Some T)
-own_left S T m t left o is =
+own_left : (Laid : Layout → Type 0) (S T : Region) (m : Mount ⊤) (t : Tree) → LeavesTreeBy Laid S T m t → IsLeftOf (Some T) (Some T)
+own_left Laid S T m t left o is =
     let same = same_outcome T left.after o left.shown is in
     sym left.own ∙ ap (λ (s : Super). undone s T) (sym same.sup)
 
 -- ---- the call
 
-module _ {A : Type 0} (line : A → List ℕ) (asks : Asks) (makes : Makes ⊤) (logs : A → Logs ⊤) (path : List ℕ) (one : AskedOnce asks) (writes : AsksToWrite asks) (leaves : LeavesOnce line asks makes logs) (old other : State) (states : AlikeStates old other) where
+module _ {A : Type 0} (grows : Option ℕ) (line : A → List ℕ) (asks : Asks) (makes : Makes ⊤) (logs : A → Logs ⊤) (path : List ℕ) (one : AskedOnce asks) (writes : AsksToWrite asks) (leaves : LeavesOnce line asks makes logs) (old other : State) (states : AlikeStates old other) where
   module _ (R S Q P : Region) (mounted : SeemSame (Some R) (Some Q)) (region : SeemSame (Some S) (Some P)) (left : IsLeftOf (Some R) (Some S)) (m n : State) (s t : List ℕ) where
     both_refused : RefusesCall asks R S path old s m → RefusesCall asks Q P path other t n → (s ≡ t) × AlikeStates m n
     both_refused p q = (
@@ -104,13 +105,13 @@ module _ {A : Type 0} (line : A → List ℕ) (asks : Asks) (makes : Makes ⊤) 
       subst (λ (x : State). AlikeStates x n) (sym p.2) (subst (λ (x : State). AlikeStates old x) (sym q.2) states),
     )
 
-    first_refused : RefusesCall asks R S path old s m → DoesCall asks makes logs line Q P path other t n → ⊥
+    first_refused : RefusesCall asks R S path old s m → DoesCall grows asks makes logs line Q P path other t n → ⊥
     first_refused p q = ∥∥₁_elim (trees_seem S P region p.0.here q.0.here p.0.of_here q.0.of_here) never_prop (λ alike. (let clash : Some p.1.0 ≡ None = sym p.1.1 ∙ sym (asked_alike p.0 q.0 mounted region one alike) ∙ q.1 in cc))
 
-    second_refused : DoesCall asks makes logs line R S path old s m → RefusesCall asks Q P path other t n → ⊥
+    second_refused : DoesCall grows asks makes logs line R S path old s m → RefusesCall asks Q P path other t n → ⊥
     second_refused p q = ∥∥₁_elim (trees_seem S P region p.0.here q.0.here p.0.of_here q.0.of_here) never_prop (λ alike. (let clash : Some q.1.0 ≡ None = sym q.1.1 ∙ asked_alike p.0 q.0 mounted region one alike ∙ p.1 in cc))
 
-    module _ (p : DoesCall asks makes logs line R S path old s m) (q : DoesCall asks makes logs line Q P path other t n) where
+    module _ (p : DoesCall grows asks makes logs line R S path old s m) (q : DoesCall grows asks makes logs line Q P path other t n) where
       abbrev a : Asked asks R S path
       a = p.0
 
@@ -127,10 +128,10 @@ module _ {A : Type 0} (line : A → List ℕ) (asks : Asks) (makes : Makes ⊤) 
       alike_here = sound_alike R S P a.shown a.of_shown (writes S (seen_in a) (Some p.2) a.tests asked p.1) (left a.shown a.of_shown) region
 
       done : WasDone makes (logs q.6) P (seen_in b) p.2 q.4
-      done = subst (λ (ns : List (List ℕ)). WasDone makes (logs q.6) P (seen_in b) ns q.4) same_names (was_done makes logs P q.4 (seen_in b) q.2 q.6 q.5 q.7)
+      done = subst (λ (ns : List (List ℕ)). WasDone makes (logs q.6) P (seen_in b) ns q.4) same_names (was_done (LeavesTables grows (seen_in b)) makes logs P q.4 (seen_in b) q.2 q.6 q.5 q.7)
 
       both_left : (line p.6 ≡ line q.6) × AreAlike p.4 q.4
-      both_left = leaves S P p.4 q.4 (seen_in a) (seen_in b) p.2 p.6 q.6 a.tests alike_here (alike_faultless S P alike_here a.here a.of_here) (second_faultless S P alike_here b.here b.of_here) asked p.1 (was_done makes logs S p.4 (seen_in a) p.2 p.6 p.5 p.7) done
+      both_left = leaves S P p.4 q.4 (seen_in a) (seen_in b) p.2 p.6 q.6 a.tests alike_here (alike_faultless S P alike_here a.here a.of_here) (second_faultless S P alike_here b.here b.of_here) asked p.1 (was_done (LeavesTables grows (seen_in a)) makes logs S p.4 (seen_in a) p.2 p.6 p.5 p.7) done
 
       after : AlikeStates (record old { region = Some p.4; mounted = Some p.4 }) (record other { region = Some q.4; mounted = Some q.4 })
       after = record {
@@ -139,8 +140,8 @@ module _ {A : Type 0} (line : A → List ℕ) (asks : Asks) (makes : Makes ⊤) 
         time = states.time;
         last = states.last;
         armed = states.armed;
-        first_left = own_left S p.4 (seen_in a) (makes S (seen_in a) p.2) p.5;
-        second_left = own_left P q.4 (seen_in b) (makes P (seen_in b) q.2) q.5;
+        first_left = own_left (LeavesTables grows (seen_in a)) S p.4 (seen_in a) (makes S (seen_in a) p.2) p.5;
+        second_left = own_left (LeavesTables grows (seen_in b)) P q.4 (seen_in b) (makes P (seen_in b) q.2) q.5;
       }
 
       both_done : (s ≡ t) × AlikeStates m n
@@ -150,7 +151,7 @@ module _ {A : Type 0} (line : A → List ℕ) (asks : Asks) (makes : Makes ⊤) 
       )
 
   pub called_alike : (mounted others region another : Option Region) → SeemSame mounted others → SeemSame region another → IsLeftOf mounted region → (m n : State) (s t : List ℕ)
-      → CallsMounted asks makes logs line path mounted region old s m → CallsMounted asks makes logs line path others another other t n → (s ≡ t) × AlikeStates m n
+      → CallsMounted grows asks makes logs line path mounted region old s m → CallsMounted grows asks makes logs line path others another other t n → (s ≡ t) × AlikeStates m n
   called_alike None None region another seem seem_region left m n s t p q = (p.0 ∙ sym q.0, subst (λ (x : State). AlikeStates x n) (sym p.1) (subst (λ (x : State). AlikeStates old x) (sym q.1) states))
   called_alike None (Some Q) region another seem seem_region left m n s t p q = absurd seem
   called_alike (Some R) None region another seem seem_region left m n s t p q = absurd seem
@@ -161,7 +162,7 @@ module _ {A : Type 0} (line : A → List ℕ) (asks : Asks) (makes : Makes ⊤) 
   called_alike (Some R) (Some Q) (Some S) (Some P) seem seem_region left m n s t (inr p) (inl q) = absurd (second_refused R S Q P seem seem_region left m n s t p q)
   called_alike (Some R) (Some Q) (Some S) (Some P) seem seem_region left m n s t (inr p) (inr q) = both_done R S Q P seem seem_region left m n s t p q
 
-  pub telling_alike : (stops others : Logs ⊤) (m n : State) (s t : List ℕ) → CallsTelling line false asks makes logs stops path old s m → CallsTelling line false asks makes logs others path other t n → (s ≡ t) × AlikeStates m n
+  pub telling_alike : (stops others : Logs ⊤) (m n : State) (s t : List ℕ) → CallsTelling grows line false asks makes logs stops path old s m → CallsTelling grows line false asks makes logs others path other t n → (s ≡ t) × AlikeStates m n
   telling_alike stops others m n s t (inl p) (inl q) = called_alike old.mounted other.mounted old.region other.region states.mounted states.region states.first_left m n s t p q
   telling_alike stops others m n s t (inl p) (inr q) = absurd (let never = q.0 in cc)
   telling_alike stops others m n s t (inr p) q = absurd (let never = p.0 in cc)
@@ -178,7 +179,7 @@ create_writes cpu S m p tests is none = can_write (world_of m) cpu _ tests is no
 
 pub create_leaves : (kind : Kind) (cpu mode time : ℕ) → LeavesOnce (λ (done : Unit {0}). ok_line) (asks_create cpu) (makes_inode kind cpu mode time) (λ done. logs_inode kind cpu mode time)
 create_leaves kind cpu mode time = ok_once (asks_create cpu) (makes_inode kind cpu mode time) (logs_inode kind cpu mode time) (λ R m p n. create_tests (world_of m) (tree_of R m.rows) cpu p n)
-    (λ S m names all is none. (create_blocks m.rows (tree_of S m.rows) (Some names), ap first_refusal (sym is) ∙ none)) (creates_alike kind cpu mode time)
+    (λ S m names all is none. (create_blocks m.layout m.rows cpu (tree_of S m.rows) (Some names), ap first_refusal (sym is) ∙ none)) (creates_alike kind cpu mode time)
 
 pub write_writes : (cpu offset count time : ℕ) → AsksToWrite (asks_write cpu offset count time)
 write_writes cpu offset count time S m p tests is none = can_write (world_of m) cpu _ tests is.2 none
@@ -247,7 +248,7 @@ found_logs x S T m names f i node held h leads sound at =
     (subst (λ (st : Store). ShowsCleaned S T m.layout st f.inode f.log x) store f.went))
 
 with_logs : (x : Option ℕ) (S T : Region) (m : Mount ⊤) (names : List (List ℕ)) → WasDone makes_no_change (finds_page x) S m names T → ∥ (WasDone makes_no_change (logs_clean x) S m names T) ∥₁
-with_logs x S T m names a = ∥∥₁_map a.left (λ f. record { rows = a.rows; free = a.free; shown = a.shown; tree = a.tree; left = found_logs x S T m names f })
+with_logs x S T m names a = ∥∥₁_map a.left (λ f. record { layout = a.layout; rows = a.rows; free = a.free; shown = a.shown; tree = a.tree; left = found_logs x S T m names f })
 
 pub clean_leaves : LeavesOnce cleaned_line asks_clean makes_no_change finds_page
 clean_leaves S Q T U m k names x y tests known is other asked none a b =

@@ -35,7 +35,7 @@ use Rattle.nv_calls.specs.Effects.{logs_page_less, Makes, Logs, LogsBytes, LogsU
 use Rattle.nv_calls.proofs.SeenAlike.{Alike}
 use Rattle.nv_session.specs.Alike.{AlikeStates, IsLeftOf, SeemSame, handles_words}
 use Rattle.nv_session.specs.Calls.{Asks, asks_create, asks_write, asks_size, asks_attributes, asks_link, asks_unlink, asks_remove, asks_rename, asks_clean, finds_page}
-use Rattle.nv_session.specs.Machine.{State, Step, Does, first_state, zeros, front, has_word, CutsRegion, IsRefusedAs, PokesRegion, Replaces, Unmounts, MayStop, StopsFormat, StopsRecovery, Recovers, Replays, ReadsMounted, TellsNames, TellsStat, TellsBytes, RefusesSuper, Mounts, RecoversRegion, ShowsMounted, Formats, Calls, CallsByTwo, file_mode, directory_mode}
+use Rattle.nv_session.specs.Machine.{State, Step, Does, first_state, zeros, front, has_word, CutsRegion, IsRefusedAs, PokesRegion, Replaces, Unmounts, MayStop, StopsFormat, StopsRecovery, Recovers, Replays, ReadsMounted, TellsNames, TellsStat, TellsBytes, RefusesSuper, Mounts, RecoversRegion, ShowsMounted, Formats, Calls, CallsBy, CallsByTwo, file_mode, directory_mode}
 use Rattle.nv_session.proofs.Alike.{stat_one, names_one, bytes_one}
 use Rattle.nv_session.proofs.OneCall.{AskedOnce, clean_one, create_one, write_one, size_one, attributes_one, link_one, unlink_one, remove_one, rename_one}
 use Rattle.nv_session.proofs.UpgradesOnce.{upgrade_alike}
@@ -158,13 +158,13 @@ module _ (old other : State) (states : AlikeStates old other) where
 
   -- ---- calls that write
 
-  call_alike : (asks : Asks) (makes : Makes ⊤) (logs : Logs ⊤) (path : List ℕ) → AskedOnce asks → AsksToWrite asks → LeavesOnce (λ (done : Unit {0}). ok_line) asks makes (λ done. logs) → TellAlike (λ s m. Calls false asks makes logs path old s m) (λ t n. Calls false asks makes logs path other t n)
-  call_alike asks makes logs path one writes leaves s t m n p q = telling_alike (λ (done : Unit {0}). ok_line) asks makes (λ done. logs) path one writes leaves old other states logs logs m n s t p q
+  call_alike : (grows : Option ℕ) (asks : Asks) (makes : Makes ⊤) (logs : Logs ⊤) (path : List ℕ) → AskedOnce asks → AsksToWrite asks → LeavesOnce (λ (done : Unit {0}). ok_line) asks makes (λ done. logs) → TellAlike (λ s m. CallsBy grows false asks makes logs path old s m) (λ t n. CallsBy grows false asks makes logs path other t n)
+  call_alike grows asks makes logs path one writes leaves s t m n p q = telling_alike grows (λ (done : Unit {0}). ok_line) asks makes (λ done. logs) path one writes leaves old other states logs logs m n s t p q
 
   call_alike_by_two : (asks : Path → Asks) (makes : Path → Makes ⊤) (logs : Path → Logs ⊤) (path second : List ℕ) → ((q : Path) → AskedOnce (asks q)) → ((q : Path) → AsksToWrite (asks q)) → ((q : Path) → LeavesOnce (λ (done : Unit {0}). ok_line) (asks q) (makes q) (λ done. logs q))
       → TellAlike (λ s m. CallsByTwo false asks makes logs path second old s m) (λ t n. CallsByTwo false asks makes logs path second other t n)
   call_alike_by_two asks makes logs path second one writes leaves s t m n p q =
-      call_alike (asks p.0) (makes p.0) (logs p.0) path (one p.0) (writes p.0) (leaves p.0) s t m n p.2 (subst (λ (x : Path). Calls false (asks x) (makes x) (logs x) path other t n) (says_one second q.0 p.0 q.1 p.1) q.2)
+      call_alike None (asks p.0) (makes p.0) (logs p.0) path (one p.0) (writes p.0) (leaves p.0) s t m n p.2 (subst (λ (x : Path). Calls false (asks x) (makes x) (logs x) path other t n) (says_one second q.0 p.0 q.1 p.1) q.2)
 
   -- a call whose effects are told by the time
   at_time : (Q : ℕ → List ℕ → State → Type 0) (t : List ℕ) (n : State) → Q other.time t n → Q old.time t n
@@ -182,33 +182,33 @@ module _ (old other : State) (states : AlikeStates old other) where
   does_alike (Stat path) reads s t m n p q = reads_alike TellsStat stat_one old.mounted other.mounted old.region other.region states.mounted states.region path s t m n p q
   does_alike (Read path offset count) reads s t m n p q = reads_alike (TellsBytes offset count) (λ t u alike. bytes_one t u alike offset count) old.mounted other.mounted old.region other.region states.mounted states.region path s t m n p q
   does_alike (Create cpu path) reads s t m n p q =
-      call_alike (asks_create cpu) (makes_inode File cpu file_mode old.time) (logs_inode File cpu file_mode old.time) path (λ S U m k same alike count. create_one S U m k same alike cpu) (create_writes cpu) (create_leaves File cpu file_mode old.time) s t m n p
-      (at_time (λ x t n. Calls false (asks_create cpu) (makes_inode File cpu file_mode x) (logs_inode File cpu file_mode x) path other t n) t n q)
+      call_alike (Some cpu) (asks_create cpu) (makes_inode File cpu file_mode old.time) (logs_inode File cpu file_mode old.time) path (λ S U m k same alike count. create_one S U m k same alike cpu) (create_writes cpu) (create_leaves File cpu file_mode old.time) s t m n p
+      (at_time (λ x t n. CallsBy (Some cpu) false (asks_create cpu) (makes_inode File cpu file_mode x) (logs_inode File cpu file_mode x) path other t n) t n q)
   does_alike (MakeDirectory cpu path) reads s t m n p q =
-      call_alike (asks_create cpu) (makes_inode Directory cpu directory_mode old.time) (logs_inode Directory cpu directory_mode old.time) path (λ S U m k same alike count. create_one S U m k same alike cpu) (create_writes cpu) (create_leaves Directory cpu directory_mode old.time) s t m n p
-      (at_time (λ x t n. Calls false (asks_create cpu) (makes_inode Directory cpu directory_mode x) (logs_inode Directory cpu directory_mode x) path other t n) t n q)
+      call_alike (Some cpu) (asks_create cpu) (makes_inode Directory cpu directory_mode old.time) (logs_inode Directory cpu directory_mode old.time) path (λ S U m k same alike count. create_one S U m k same alike cpu) (create_writes cpu) (create_leaves Directory cpu directory_mode old.time) s t m n p
+      (at_time (λ x t n. CallsBy (Some cpu) false (asks_create cpu) (makes_inode Directory cpu directory_mode x) (logs_inode Directory cpu directory_mode x) path other t n) t n q)
   does_alike (Write cpu path offset count byte) reads s t m n p q =
-      call_alike (asks_write cpu offset count old.time) (makes_bytes offset (replicate count byte) old.time) (LogsBytes cpu offset count old.time) path (λ S U m k same alike counts. write_one S U m k same alike counts cpu offset count old.time) (write_writes cpu offset count old.time) (write_leaves cpu offset count (replicate count byte) old.time) s t m n p
+      call_alike None (asks_write cpu offset count old.time) (makes_bytes offset (replicate count byte) old.time) (LogsBytes cpu offset count old.time) path (λ S U m k same alike counts. write_one S U m k same alike counts cpu offset count old.time) (write_writes cpu offset count old.time) (write_leaves cpu offset count (replicate count byte) old.time) s t m n p
       (at_time (λ x t n. Calls false (asks_write cpu offset count x) (makes_bytes offset (replicate count byte) x) (LogsBytes cpu offset count x) path other t n) t n q)
   does_alike (SetSize cpu path bytes) reads s t m n p q =
-      call_alike (asks_size cpu bytes) (makes_size bytes old.time) (logs_size cpu bytes old.time) path (λ S U m k same alike count. size_one S U m k same alike cpu bytes) (size_writes cpu bytes) (size_leaves cpu bytes old.time) s t m n p
+      call_alike None (asks_size cpu bytes) (makes_size bytes old.time) (logs_size cpu bytes old.time) path (λ S U m k same alike count. size_one S U m k same alike cpu bytes) (size_writes cpu bytes) (size_leaves cpu bytes old.time) s t m n p
       (at_time (λ x t n. Calls false (asks_size cpu bytes) (makes_size bytes x) (logs_size cpu bytes x) path other t n) t n q)
   does_alike (SetAttributes cpu path mode owner group) reads s t m n p q =
-      call_alike (asks_attributes cpu) (makes_attributes mode owner group old.time) (logs_attributes cpu mode owner group old.time) path (λ S U m k same alike count. attributes_one S U m k same alike cpu) (attributes_write cpu) (attributes_leave cpu mode owner group old.time) s t m n p
+      call_alike None (asks_attributes cpu) (makes_attributes mode owner group old.time) (logs_attributes cpu mode owner group old.time) path (λ S U m k same alike count. attributes_one S U m k same alike cpu) (attributes_write cpu) (attributes_leave cpu mode owner group old.time) s t m n p
       (at_time (λ x t n. Calls false (asks_attributes cpu) (makes_attributes mode owner group x) (logs_attributes cpu mode owner group x) path other t n) t n q)
   does_alike (Link cpu path second) reads s t m n p q =
       call_alike_by_two (asks_link cpu) (makes_link old.time) (logs_link cpu old.time) path second (λ r S U m k same alike count. link_one S U m k same alike cpu r) (link_writes cpu) (link_leaves cpu old.time) s t m n p
       (at_time (λ x t n. CallsByTwo false (asks_link cpu) (makes_link x) (logs_link cpu x) path second other t n) t n q)
   does_alike (Unlink cpu path) reads s t m n p q =
-      call_alike (asks_unlink cpu) (makes_unlink old.time) (LogsUnlink cpu old.time) path (λ S U m k same alike count. unlink_one S U m k same alike cpu) (unlink_writes cpu) (unlink_leaves cpu old.time) s t m n p
+      call_alike None (asks_unlink cpu) (makes_unlink old.time) (LogsUnlink cpu old.time) path (λ S U m k same alike count. unlink_one S U m k same alike cpu) (unlink_writes cpu) (unlink_leaves cpu old.time) s t m n p
       (at_time (λ x t n. Calls false (asks_unlink cpu) (makes_unlink x) (LogsUnlink cpu x) path other t n) t n q)
   does_alike (RemoveDirectory cpu path) reads s t m n p q =
-      call_alike (asks_remove cpu) (makes_removal old.time) (logs_removal cpu old.time) path (λ S U m k same alike count. remove_one S U m k same alike cpu) (remove_writes cpu) (remove_leaves cpu old.time) s t m n p
+      call_alike None (asks_remove cpu) (makes_removal old.time) (logs_removal cpu old.time) path (λ S U m k same alike count. remove_one S U m k same alike cpu) (remove_writes cpu) (remove_leaves cpu old.time) s t m n p
       (at_time (λ x t n. Calls false (asks_remove cpu) (makes_removal x) (logs_removal cpu x) path other t n) t n q)
   does_alike (Rename cpu path second) reads s t m n p q =
       call_alike_by_two (asks_rename cpu) (makes_rename old.time) (logs_rename cpu old.time) path second (λ r S U m k same alike count. rename_one S U m k same alike cpu r) (rename_writes cpu) (rename_leaves cpu old.time) s t m n p
       (at_time (λ x t n. CallsByTwo false (asks_rename cpu) (makes_rename x) (logs_rename cpu x) path second other t n) t n q)
-  does_alike (Clean path) reads s t m n p q = telling_alike cleaned_line asks_clean makes_no_change finds_page path (λ S U m k same alike count. clean_one S U m k same alike) clean_writes clean_leaves old other states logs_page_less logs_page_less m n s t p q
+  does_alike (Clean path) reads s t m n p q = telling_alike None cleaned_line asks_clean makes_no_change finds_page path (λ S U m k same alike count. clean_one S U m k same alike) clean_writes clean_leaves old other states logs_page_less logs_page_less m n s t p q
   does_alike Upgrade reads s t m n p q = upgrade_alike old other states m n s t p q
   does_alike Tree reads s t m n p q = shown_alike old.mounted other.mounted states.mounted parts.Tree s t m n p q
   does_alike Free reads s t m n p q = shown_alike old.mounted other.mounted states.mounted parts.Free s t m n p q

@@ -32,7 +32,7 @@ use Rattle.nv_calls.specs.RemoveCalls.{ShowsRemoved}
 use Rattle.nv_paths.specs.Seen.{LeadsTo, tree_of}
 use Rattle.nv_calls.specs.SizeCall.{ShowsResizedLog, resized_blocks}
 use Rattle.nv_calls.specs.UnlinkCalls.{unlink_blocks}
-use Rattle.nv_rows.specs.Unused.{unused_number}
+use Rattle.nv_paths.specs.Spots.{new_number}
 use Rattle.nv_calls.specs.World.{world_of}
 use Rattle.nv_calls.specs.WriteCall.{ShowsLogWrite, WriteNeeds}
 use Rattle.nv_calls.proofs.NeedsExist.{write_needs}
@@ -69,7 +69,7 @@ Refuses answer tests = IfErr answer (IsRefusedBy (first_refusal tests))
 
 module _ (m : Mount RegionState) (answer : Result (Unit {0}) Refusal) (cpu : ℕ) where
   abbrev tests_of_create : Path → Tests
-  tests_of_create p = create_tests (world_of m) (tree_of m.memory.region m.rows) cpu p (create_blocks m.rows (tree_of m.memory.region m.rows) p)
+  tests_of_create p = create_tests (world_of m) (tree_of m.memory.region m.rows) cpu p (create_blocks m.layout m.rows cpu (tree_of m.memory.region m.rows) p)
 
   pub create_answers : (p : Path) → Allows answer (tests_of_create p) → (m.stopped ≡ false → Refuses answer (tests_of_create p)) → Answers (asks_create cpu) m answer p
   create_answers p allowed refused = record {
@@ -182,7 +182,7 @@ module _ (m : Mount RegionState) (answer : Result (Unit {0}) Refusal) (cpu : ℕ
 
 module _ (S T : Region) (m : Mount ⊤) (names : List (List ℕ)) where
   pub inode_logged : (kind : Kind) (cpu mode time : ℕ) (answer : Result (Unit {0}) Refusal)
-      → ((d j : ℕ) (held : Store) (h : Held) → walk (tree_of S m.rows) 1 names ≡ Ok d → unused_number m.layout m.rows cpu ≡ Some j → ShowsSound S m.layout held → held d ≡ Some h → OnOk answer (ShowsCreated T m.layout m.free.pools cpu held kind mode time j d h (last_name names)))
+      → ((d j : ℕ) (held : Store) (h : Held) → walk (tree_of S m.rows) 1 names ≡ Ok d → new_number m.layout m.rows cpu ≡ Some j → ShowsSound S m.layout held → held d ≡ Some h → OnOk answer (ShowsCreated T m.layout m.free.pools cpu held kind mode time j d h (last_name names)))
       → OnOk answer (logs_inode kind cpu mode time S m names T)
   inode_logged kind cpu mode time (Ok done) log = log
   inode_logged kind cpu mode time (Err e) log = tt

@@ -17,13 +17,12 @@ use Rattle.nv_tree.specs.declared.refusal.Refusal.TheVariants.{BadCpu, ReadOnly,
 use Rattle.nv_tree.proofs.Texts.{text_says}
 use Rattle.nv_text.specs.Answers.{ok_line, refused_line, stopped_line}
 use Rattle.nv_calls.specs.Mount.{IsKept, Mount, has_faults, told}
-use Rattle.nv_calls.specs.Same.{KeepsMount, SameMount}
-use Rattle.nv_calls.specs.Stopped.{LeavesCall}
+use Rattle.nv_calls.specs.Same.{GrowsMount, KeepsMount, GrowsWhereFull, SameMount}
 use Rattle.nv_paths.specs.Seen.{tree_of}
 use Rattle.nv_calls.proofs.Mounts.{faultless}
 use Rattle.nv_calls.specs.Effects.{Makes, Logs}
-use Rattle.nv_session.specs.Calls.{Asks, Asked, LeavesTree}
-use Rattle.nv_session.specs.Machine.{State, Calls, CallsByTwo, CallsMounted, CallsTelling, DoesCall, StopsCall, StopsMounted}
+use Rattle.nv_session.specs.Calls.{Asks, Asked, LeavesStopped, LeavesTables, LeavesTreeBy}
+use Rattle.nv_session.specs.Machine.{State, Calls, CallsBy, CallsByTwo, CallsMounted, CallsTelling, DoesCall, StopsCall, StopsMounted}
 use Rattle.nv_session.specs.Sessions.{StandsFor, Moves, ShowsOutcome, IsMountOf, IsSettled, SettlesCall, TakesMount, PutsMount, mount_in, memory_in, with_fuse}
 use Rattle.nv_session.specs.declared.store.Store.{Store}
 use Rattle.nv_session.specs.declared.store.Store.TheVariants as stores
@@ -47,19 +46,44 @@ pub record Answers {A : Type 0} (asks : Asks) (m : Mount RegionState) (answer : 
   -- and only by a path
   pub named : first_refusal tests ≡ None → p ≡ None → ⊥
 
+-- What a call keeps of the mount, by the CPU whose table may grow, if it lets one grow.
+abbrev pub KeepsBy : Option ℕ → Mount RegionState → Mount RegionState → Type 0
+KeepsBy None m n = KeepsMount m n
+KeepsBy (Some cpu) m n = GrowsMount cpu m n
+
+keeps_sup : (grows : Option ℕ) (m n : Mount RegionState) → KeepsBy grows m n → n.sup ≡ m.sup
+keeps_sup None m n keeps = keeps.sup
+keeps_sup (Some cpu) m n keeps = keeps.sup
+
+keeps_faults : (grows : Option ℕ) (m n : Mount RegionState) → KeepsBy grows m n → n.faults ≡ m.faults
+keeps_faults None m n keeps = keeps.faults
+keeps_faults (Some cpu) m n keeps = keeps.faults
+
+keeps_mode : (grows : Option ℕ) (m n : Mount RegionState) → KeepsBy grows m n → n.read_only ≡ m.read_only
+keeps_mode None m n keeps = keeps.read_only
+keeps_mode (Some cpu) m n keeps = keeps.read_only
+
+-- a block more of a chain is no other superblock
+keeps_sup_there : (grows : Option ℕ) (m n : Mount RegionState) → KeepsBy grows m n → n.layout.sup ≡ m.layout.sup
+keeps_sup_there None m n keeps = ap (λ (l : Layout). l.sup) keeps.layout
+keeps_sup_there (Some cpu) m n keeps = by keeps.tables where
+  by : GrowsWhereFull m cpu n.layout → n.layout.sup ≡ m.layout.sup
+  by (inl same) = ap (λ (l : Layout). l.sup) same
+  by (inr grown) = ap (λ (l : Layout). l.sup) grown.3
+
 -- What the contract of a call says of the mount before and after it.
-pub record Called {A : Type 0} (asks : Asks) (makes : Makes ⊤) (logs : A → Logs ⊤) (stops : Logs ⊤) (path : List ℕ) (m n : Mount RegionState) (answer : Result A Refusal) : Type 0 where
+pub record Called {A : Type 0} (grows : Option ℕ) (asks : Asks) (makes : Makes ⊤) (logs : A → Logs ⊤) (stops : Logs ⊤) (path : List ℕ) (m n : Mount RegionState) (answer : Result A Refusal) : Type 0 where
   pub answers : (p : Path) → Says path p → Answers asks m answer p
   pub changed : (names : List (List ℕ)) → IsPath path names → OnOk answer (SameTree (tree_of n.memory.region n.rows) (makes m.memory.region (seen m) names))
   pub logged : (names : List (List ℕ)) → IsPath path names → IfOk answer (λ x. logs x m.memory.region (seen m) names n.memory.region)
   pub unchanged : IfErr answer (λ e. (e ≡ Stopped → ⊥) → SameMount m n)
   pub stopped : m.stopped ≡ false → (IsTrue n.stopped → (answer ≡ Err Stopped) × IsTrue n.memory.burnt) × (answer ≡ Err Stopped → IsTrue n.stopped)
-  pub keeps : KeepsMount m n
+  pub keeps : KeepsBy grows m n
   pub as_long : size n.memory.region ≡ size m.memory.region
   pub steady : IsTrue (is_steady m.memory) → IsTrue (is_steady n.memory)
   pub read_only : IsTrue m.read_only → SameMount m n
   pub bad_text : ((names : List (List ℕ)) → IsPath path names → ⊥) → SameMount m n
-  pub any_stop : (names : List (List ℕ)) → IsPath path names → m.stopped ≡ false → m.read_only ≡ false → IsTrue n.stopped → LeavesOnly n.memory.region (fenced_or_last n.memory) (LeavesCall makes stops m.memory.region (seen m) names)
+  pub any_stop : (names : List (List ℕ)) → IsPath path names → m.stopped ≡ false → m.read_only ≡ false → IsTrue n.stopped → LeavesOnly n.memory.region (fenced_or_last n.memory) (LeavesStopped grows makes stops m.memory.region (seen m) names)
   pub settled : n.stopped ≡ false → IsSettled n.memory
   pub kept : IsKept n.memory.region n.sup n.layout n.rows n.free n.faults n.read_only n.stopped
 
@@ -73,16 +97,16 @@ can_write w cpu tests all is none = by (not (nat_lt cpu w.cpus)) w.read_only (ap
   by false true none = absurd (cc)
   by false false none = refl
 
-module _ {A : Type 0} (line : A → List ℕ) (asks : ℕ → Asks) (makes : ℕ → Makes ⊤) (logs : ℕ → A → Logs ⊤) (stops : ℕ → Logs ⊤) (path : List ℕ) where
+module _ {A : Type 0} (grows : Option ℕ) (line : A → List ℕ) (asks : ℕ → Asks) (makes : ℕ → Makes ⊤) (logs : ℕ → A → Logs ⊤) (stops : ℕ → Logs ⊤) (path : List ℕ) where
   -- the call in a state
   abbrev CallsNow : Bool → State → List ℕ → State → Type 0
-  CallsNow armed state text next = CallsTelling line armed (asks state.time) (makes state.time) (logs state.time) (stops state.time) path state text next
+  CallsNow armed state text next = CallsTelling grows line armed (asks state.time) (makes state.time) (logs state.time) (stops state.time) path state text next
 
   pub untold_moves : (armed : Bool) (fuse : Fuse) (old new : Session) (text : List ℕ) → TakesMount fuse old None new → text ≡ refused_line (codes "NotMounted") → Moves (CallsNow armed) old text new
   untold_moves armed fuse old new text takes said = λ state stands.
       let none : IsMountOf state.mounted None = subst (λ (o : Option (Mount RegionState)). IsMountOf state.mounted o) takes.0 stands.mounted in
       (state, inl (by state.mounted none state.region state), subst (λ (s : Session). StandsFor s state) (sym takes.1) stands) where
-        by : (mounted : Option Region) → IsMountOf mounted None → (region : Option Region) (state : State) → CallsMounted (asks state.time) (makes state.time) (logs state.time) line path mounted region state text state
+        by : (mounted : Option Region) → IsMountOf mounted None → (region : Option Region) (state : State) → CallsMounted grows (asks state.time) (makes state.time) (logs state.time) line path mounted region state text state
         by None is region state = (said, refl)
         by (Some R) is region state = absurd is
 
@@ -99,13 +123,13 @@ module _ {A : Type 0} (line : A → List ℕ) (asks : ℕ → Asks) (makes : ℕ
     stands_with : (store : Store) (next : State) → new ≡ record mid { store = Some store } → next.region ≡ Some (memory_in store).region → IsMountOf next.mounted (mount_in (Some store)) → next.time ≡ state.time → next.last ≡ state.last → next.armed ≡ state.armed → IsSettled (memory_in store) → StandsFor new next
     stands_with = standing.stands_with fuse old mid new m takes state stands
 
-    module _ (answer : Result A Refusal) (called : Called (asks state.time) (makes state.time) (logs state.time) (stops state.time) path m n answer) where
+    module _ (answer : Result A Refusal) (called : Called grows (asks state.time) (makes state.time) (logs state.time) (stops state.time) path m n answer) where
       read_only : m.read_only ≡ has_faults m.faults
-      read_only = sym called.keeps.read_only ∙ called.kept.writes ∙ ap has_faults called.keeps.faults
+      read_only = sym (keeps_mode grows m n called.keeps) ∙ called.kept.writes ∙ ap has_faults (keeps_faults grows m n called.keeps)
 
       -- the superblock is that of the tables
       one_sup : m.sup ≡ m.layout.sup
-      one_sup = sym called.keeps.sup ∙ sym called.kept.tables ∙ ap (λ (l : Layout). l.sup) called.keeps.layout
+      one_sup = sym (keeps_sup grows m n called.keeps) ∙ sym called.kept.tables ∙ keeps_sup_there grows m n called.keeps
 
       abbrev seen_here : Mount ⊤
       seen_here = record (seen m) { sup = m.layout.sup; free = record { sup = m.layout.sup; pools = m.free.pools; room = 0 }; read_only = has_faults m.faults }
@@ -126,22 +150,26 @@ module _ {A : Type 0} (line : A → List ℕ) (asks : ℕ → Asks) (makes : ℕ
         are = subst (λ (k : Mount ⊤). asks state.time m.memory.region k p answers.tests) same_seen answers.are;
       })
 
+      tables : (g : Option ℕ) → KeepsBy g m n → LeavesTables g seen_here n.layout
+      tables None keeps = keeps.layout
+      tables (Some cpu) keeps = keeps.tables
+
       -- what the call leaves, where it was done
-      leaves : (x : A) → answer ≡ Ok x → n.stopped ≡ false → n.faults ≡ [] → (names : List (List ℕ)) → IsPath path names → LeavesTree m.memory.region n.memory.region seen_here (makes state.time m.memory.region seen_here names)
+      leaves : (x : A) → answer ≡ Ok x → n.stopped ≡ false → n.faults ≡ [] → (names : List (List ℕ)) → IsPath path names → LeavesTreeBy (LeavesTables grows seen_here) m.memory.region n.memory.region seen_here (makes state.time m.memory.region seen_here names)
       leaves x is runs clear names says = (let own = shows_own n called.kept runs clear in record {
         as_long = called.as_long;
         after = told n.layout n.rows n.free own.doubled n.faults;
         shown = own.shown;
         own = called.kept.own runs;
-        sup = ap (λ (l : Layout). l.sup) called.keeps.layout;
-        layout = called.keeps.layout;
+        sup = keeps_sup_there grows m n called.keeps;
+        layout = tables grows called.keeps;
         faultless = clear;
         tree = subst (λ (k : Mount ⊤). SameTree (tree_of n.memory.region n.rows) (makes state.time m.memory.region k names)) same_seen
             (subst (λ r. OnOk r (SameTree (tree_of n.memory.region n.rows) (makes state.time m.memory.region (seen m) names))) is (called.changed names says));
       })
 
       does : (x : A) (R : Region) (shows : ShowsOutcome R m) → answer ≡ Ok x → n.stopped ≡ false → n.faults ≡ [] → (p : Path) (says : Says path p) → (p ≡ None → ⊥) → first_refusal (called.answers p says).tests ≡ None → (next : State) (text : List ℕ) → text ≡ line x
-          → next ≡ record state { region = Some n.memory.region; mounted = Some n.memory.region } → DoesCall (asks state.time) (makes state.time) (logs state.time) line R m.memory.region path state text next
+          → next ≡ record state { region = Some n.memory.region; mounted = Some n.memory.region } → DoesCall grows (asks state.time) (makes state.time) (logs state.time) line R m.memory.region path state text next
       unfolding asked
       does x R shows is runs clear None says named none next text said left = absurd (named refl)
       does x R shows is runs clear (Some names) says named none next text said left = (
@@ -170,18 +198,18 @@ module _ {A : Type 0} (line : A → List ℕ) (asks : ℕ → Asks) (makes : ℕ
           let answers = called.answers p says in
           let none : first_refusal answers.tests ≡ None = subst (λ r. OnOk r (first_refusal answers.tests ≡ None)) is answers.allowed in
           let runs : n.stopped ≡ false = not_true n.stopped (λ stops. (let wrong : Ok x ≡ Err Stopped = sym is ∙ ((called.stopped runs_before).0 stops).0 in cc)) in
-          (none, runs, faultless called.kept (called.keeps.read_only ∙ answers.writes none))
+          (none, runs, faultless called.kept (keeps_mode grows m n called.keeps ∙ answers.writes none))
 
       -- the call on what is mounted
-      by_mount : (text : List ℕ) (next : State) → ((R : Region) → ShowsOutcome R m → CallsMounted (asks state.time) (makes state.time) (logs state.time) line path (Some R) (Some m.memory.region) state text next)
-          → CallsMounted (asks state.time) (makes state.time) (logs state.time) line path state.mounted state.region state text next
-      by_mount text next call = subst (λ (x : Option Region). CallsMounted (asks state.time) (makes state.time) (logs state.time) line path state.mounted x state text next) (sym here) (by state.mounted is_mounted) where
-        by : (mounted : Option Region) → IsMountOf mounted (Some m) → CallsMounted (asks state.time) (makes state.time) (logs state.time) line path mounted (Some m.memory.region) state text next
+      by_mount : (text : List ℕ) (next : State) → ((R : Region) → ShowsOutcome R m → CallsMounted grows (asks state.time) (makes state.time) (logs state.time) line path (Some R) (Some m.memory.region) state text next)
+          → CallsMounted grows (asks state.time) (makes state.time) (logs state.time) line path state.mounted state.region state text next
+      by_mount text next call = subst (λ (x : Option Region). CallsMounted grows (asks state.time) (makes state.time) (logs state.time) line path state.mounted x state text next) (sym here) (by state.mounted is_mounted) where
+        by : (mounted : Option Region) → IsMountOf mounted (Some m) → CallsMounted grows (asks state.time) (makes state.time) (logs state.time) line path mounted (Some m.memory.region) state text next
         by None is = absurd is
         by (Some R) shows = call R shows
 
       abbrev Moved : Bool → List ℕ → Type 0
-      Moved armed text = (next : State) × CallsTelling line armed (asks state.time) (makes state.time) (logs state.time) (stops state.time) path state text next × StandsFor new next
+      Moved armed text = (next : State) × CallsTelling grows line armed (asks state.time) (makes state.time) (logs state.time) (stops state.time) path state text next × StandsFor new next
 
       done_moves : (armed : Bool) (x : A) (text : List ℕ) → answer ≡ Ok x → text ≡ line x → PutsMount n mid new → Moved armed text
       done_moves armed x text is said puts =
@@ -218,10 +246,10 @@ module _ {A : Type 0} (line : A → List ℕ) (asks : ℕ → Asks) (makes : ℕ
 
       -- what it leaves
       stopped_call : (R : Region) (shows : ShowsOutcome R m) → IsTrue n.stopped → (left : RegionState) → MayBeLeft n.memory.region (fenced_or_last n.memory) left.region → (text : List ℕ) → text ≡ stopped_line → (next : State) → next ≡ record state { region = Some left.region; mounted = None }
-          → StopsCall (asks state.time) (makes state.time) (stops state.time) R m.memory.region path state text next
+          → StopsCall grows (asks state.time) (makes state.time) (stops state.time) R m.memory.region path state text next
       unfolding asked
       stopped_call R shows stopped left may text said next is = by (text_says path) where
-        by : (p : Path) × Says path p → StopsCall (asks state.time) (makes state.time) (stops state.time) R m.memory.region path state text next
+        by : (p : Path) × Says path p → StopsCall grows (asks state.time) (makes state.time) (stops state.time) R m.memory.region path state text next
         by (None, says) = absurd (not_stopped (called.bad_text says) runs_before stopped)
         by (Some names, says) = (
           asked R shows (Some names) says,
@@ -230,16 +258,16 @@ module _ {A : Type 0} (line : A → List ℕ) (asks : ℕ → Asks) (makes : ℕ
           refl,
           left.region,
           left_size n.memory.region (fenced_or_last n.memory) left.region may ∙ called.as_long,
-          subst (λ (k : Mount ⊤). LeavesCall (makes state.time) (stops state.time) m.memory.region k names left.region) same_seen
+          subst (λ (k : Mount ⊤). LeavesStopped grows (makes state.time) (stops state.time) m.memory.region k names left.region) same_seen
               (called.any_stop names says runs_before (writable stopped) stopped left.region may),
           said,
           is,
         )
 
       by_stopped : IsTrue n.stopped → (left : RegionState) → MayBeLeft n.memory.region (fenced_or_last n.memory) left.region → (text : List ℕ) → text ≡ stopped_line → (next : State) → next ≡ record state { region = Some left.region; mounted = None }
-          → StopsMounted (asks state.time) (makes state.time) (stops state.time) path state.mounted state.region state text next
-      by_stopped stopped left may text said next is = subst (λ (x : Option Region). StopsMounted (asks state.time) (makes state.time) (stops state.time) path state.mounted x state text next) (sym here) (by state.mounted is_mounted) where
-        by : (mounted : Option Region) → IsMountOf mounted (Some m) → StopsMounted (asks state.time) (makes state.time) (stops state.time) path mounted (Some m.memory.region) state text next
+          → StopsMounted grows (asks state.time) (makes state.time) (stops state.time) path state.mounted state.region state text next
+      by_stopped stopped left may text said next is = subst (λ (x : Option Region). StopsMounted grows (asks state.time) (makes state.time) (stops state.time) path state.mounted x state text next) (sym here) (by state.mounted is_mounted) where
+        by : (mounted : Option Region) → IsMountOf mounted (Some m) → StopsMounted grows (asks state.time) (makes state.time) (stops state.time) path mounted (Some m.memory.region) state text next
         by None is = absurd is
         by (Some R) shows = stopped_call R shows stopped left may text said next is
 
@@ -268,23 +296,23 @@ module _ {A : Type 0} (line : A → List ℕ) (asks : ℕ → Asks) (makes : ℕ
       by_answer (Err e) is text (inr s) = refused_moves (not (is_off fuse)) text e is s.0 s.1 s.2 s.3
 
   -- A call on what is mounted, by what its contract says.
-  pub telling_moves : (fuse : Fuse) (old mid new : Session) (m n : Mount RegionState) (answer : Result A Refusal) (text : List ℕ) → TakesMount fuse old (Some m) mid → Called (asks mid.time) (makes mid.time) (logs mid.time) (stops mid.time) path m n answer
+  pub telling_moves : (fuse : Fuse) (old mid new : Session) (m n : Mount RegionState) (answer : Result A Refusal) (text : List ℕ) → TakesMount fuse old (Some m) mid → Called grows (asks mid.time) (makes mid.time) (logs mid.time) (stops mid.time) path m n answer
       → SettlesCall line n answer mid text new → Moves (CallsNow (not (is_off fuse))) old text new
   telling_moves fuse old mid new m n answer text takes called settles = λ state stands.
       by_answer fuse old mid new m n takes state stands answer
-      (subst (λ (time : ℕ). Called (asks time) (makes time) (logs time) (stops time) path m n answer) (at_time fuse old mid new m n takes state stands) called) answer refl text settles
+      (subst (λ (time : ℕ). Called grows (asks time) (makes time) (logs time) (stops time) path m n answer) (at_time fuse old mid new m n takes state stands) called) answer refl text settles
 
 -- A call that answers `ok`.
-module _ (asks : ℕ → Asks) (makes : ℕ → Makes ⊤) (logs : ℕ → Logs ⊤) (path : List ℕ) where
+module _ (grows : Option ℕ) (asks : ℕ → Asks) (makes : ℕ → Makes ⊤) (logs : ℕ → Logs ⊤) (path : List ℕ) where
   abbrev CallsSo : Bool → State → List ℕ → State → Type 0
-  CallsSo armed state text next = Calls armed (asks state.time) (makes state.time) (logs state.time) path state text next
+  CallsSo armed state text next = CallsBy grows armed (asks state.time) (makes state.time) (logs state.time) path state text next
 
   pub uncalled_moves : (armed : Bool) (fuse : Fuse) (old new : Session) (text : List ℕ) → TakesMount fuse old None new → text ≡ refused_line (codes "NotMounted") → Moves (CallsSo armed) old text new
-  uncalled_moves = untold_moves (λ (done : Unit {0}). ok_line) asks makes (λ time done. logs time) logs path
+  uncalled_moves = untold_moves grows (λ (done : Unit {0}). ok_line) asks makes (λ time done. logs time) logs path
 
-  pub called_moves : (fuse : Fuse) (old mid new : Session) (m n : Mount RegionState) (answer : Result (Unit {0}) Refusal) (text : List ℕ) → TakesMount fuse old (Some m) mid → Called (asks mid.time) (makes mid.time) (λ done. logs mid.time) (logs mid.time) path m n answer
+  pub called_moves : (fuse : Fuse) (old mid new : Session) (m n : Mount RegionState) (answer : Result (Unit {0}) Refusal) (text : List ℕ) → TakesMount fuse old (Some m) mid → Called grows (asks mid.time) (makes mid.time) (λ done. logs mid.time) (logs mid.time) path m n answer
       → SettlesCall (λ done. ok_line) n answer mid text new → Moves (CallsSo (not (is_off fuse))) old text new
-  called_moves = telling_moves (λ (done : Unit {0}). ok_line) asks makes (λ time done. logs time) logs path
+  called_moves = telling_moves grows (λ (done : Unit {0}). ok_line) asks makes (λ time done. logs time) logs path
 
 -- A call by two paths, where it is one by the first for whatever the second says.
 pub two_moves : (asks : Path → Asks) (makes : ℕ → Path → Makes ⊤) (logs : ℕ → Path → Logs ⊤) (path other : List ℕ) (armed : Bool) (old new : Session) (text : List ℕ)

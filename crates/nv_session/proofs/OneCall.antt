@@ -31,12 +31,12 @@ use Rattle.nv_steps.specs.NameEntries.{links_entries, name_entries}
 use Rattle.nv_calls.specs.Mount.{Mount, has_faults}
 use Rattle.nv_calls.specs.MoveCalls.{end_together, rename_blocks}
 use Rattle.nv_steps.specs.Moves.{move_entries}
-use Rattle.nv_calls.specs.NameCalls.{create_blocks, ended_row, name_blocks, row_blocks}
+use Rattle.nv_calls.specs.NameCalls.{create_blocks, ended_row, name_blocks, row_blocks, table_growth}
 use Rattle.nv_paths.specs.Seen.{node_of, tree_of}
 use Rattle.nv_steps.specs.Sizes.{blocks_from, end_block}
 use Rattle.nv_calls.specs.SizeCall.{resized_blocks, size_blocks}
 use Rattle.nv_calls.specs.UnlinkCalls.{has_more_links, unlink_blocks}
-use Rattle.nv_rows.specs.Unused.{unused_number}
+use Rattle.nv_paths.specs.Spots.{new_number}
 use Rattle.nv_calls.specs.World.{world_of}
 use Rattle.nv_calls.specs.WriteCall.{WriteNeeds}
 use Rattle.nv_steps.specs.Writes.{NeedsBlocks, data_blocks, data_entries, plan_of}
@@ -46,7 +46,7 @@ use Rattle.nv_calls.specs.Effects.{Makes, Logs}
 use Rattle.nv_session.specs.Calls.{Asks, Asked, asks_create, asks_write, asks_size, asks_attributes, asks_link, asks_unlink, asks_remove, asks_rename, asks_clean, seen_in}
 use Rattle.nv_session.specs.Machine.{State, CallsMounted}
 use Rattle.nv_calls.proofs.Allowed.{first_passes, later_passes}
-use Rattle.nv_calls.proofs.SeenAlike.{Alike, AreSame, alike_here, rows_at, unused_same, walk_alike, found_alike, passed_alike, directory_alike}
+use Rattle.nv_calls.proofs.SeenAlike.{Alike, AreSame, alike_here, rows_at, new_same, unused_same, walk_alike, found_alike, passed_alike, directory_alike}
 
 -- Two mounts that nobody can tell apart by what the tests of calls look at.
 pub record SameSeen (m k : Mount ⊤) : Type 0 where
@@ -71,8 +71,8 @@ on_target f g same (Some i) = same i
 module _ (S U : Region) (m k : Mount ⊤) (same : SameSeen m k) (alike : Alike (tree_of S m.rows) (tree_of U k.rows)) where
   -- ---- what stands beside the tree
 
-  number_same : (cpu : ℕ) → unused_number k.layout k.rows cpu ≡ unused_number m.layout m.rows cpu
-  number_same cpu = unused_same m.layout k.layout m.rows k.rows same.layout same.rows cpu
+  number_same : (cpu : ℕ) → new_number k.layout k.rows cpu ≡ new_number m.layout m.rows cpu
+  number_same cpu = new_same m.layout k.layout m.rows k.rows same.layout same.rows cpu
 
   world_same : world_of k ≡ world_of m
   world_same = λ i. record { cpus = (same.sup i).cpus; read_only = same.read_only i; unused = λ cpu. number_same cpu i; free = all_blocks (same.pools i) }
@@ -108,8 +108,11 @@ module _ (S U : Region) (m k : Mount ⊤) (same : SameSeen m k) (alike : Alike (
   name_needs None = refl
   name_needs (Some names) = ended_needs names (name_entries Add 0 (last_name names) 0)
 
-  create_needs : (p : Path) → create_blocks k.rows (tree_of U k.rows) p ≡ create_blocks m.rows (tree_of S m.rows) p
-  create_needs p = ap (λ (n : ℕ). 1 + n) (name_needs p)
+  growth_same : (cpu : ℕ) → table_growth k.layout k.rows cpu ≡ table_growth m.layout m.rows cpu
+  growth_same cpu = λ i. cond (eqb (same.layout i).sup.version 2 && is_none (unused_same m.layout k.layout m.rows k.rows same.layout same.rows cpu i)) 1 0
+
+  create_needs : (cpu : ℕ) (p : Path) → create_blocks k.layout k.rows cpu (tree_of U k.rows) p ≡ create_blocks m.layout m.rows cpu (tree_of S m.rows) p
+  create_needs cpu p = λ i. growth_same cpu i + (1 + name_needs p i)
 
   links_needs : (p : Path) → links_blocks k.rows (tree_of U k.rows) p ≡ links_blocks m.rows (tree_of S m.rows) p
   links_needs p = ap (λ (o : Option ℕ). option_map_or (λ i. row_blocks (row_of k.rows i) (links_entries 0 0)) o 0) (target_same p) ∙ by (target (tree_of S m.rows) p) where
@@ -199,8 +202,8 @@ module _ (S U : Region) (m k : Mount ⊤) (same : SameSeen m k) (alike : Alike (
 
   pub create_one : (cpu : ℕ) (p : Path) (tests others : Tests) → asks_create cpu S m p tests → asks_create cpu U k p others → first_refusal others ≡ first_refusal tests
   create_one cpu p tests others is other = ap first_refusal other
-      ∙ ap (λ (w : World). first_refusal (create_tests w (tree_of U k.rows) cpu p (create_blocks k.rows (tree_of U k.rows) p))) world_same
-      ∙ ap (λ (n : ℕ). first_refusal (create_tests (world_of m) (tree_of U k.rows) cpu p n)) (create_needs p) ∙ create_front (world_of m) cpu p _ ∙ ap first_refusal (sym is)
+      ∙ ap (λ (w : World). first_refusal (create_tests w (tree_of U k.rows) cpu p (create_blocks k.layout k.rows cpu (tree_of U k.rows) p))) world_same
+      ∙ ap (λ (n : ℕ). first_refusal (create_tests (world_of m) (tree_of U k.rows) cpu p n)) (create_needs cpu p) ∙ create_front (world_of m) cpu p _ ∙ ap first_refusal (sym is)
 
   pub size_one : (cpu size : ℕ) (p : Path) (tests others : Tests) → asks_size cpu size S m p tests → asks_size cpu size U k p others → first_refusal others ≡ first_refusal tests
   size_one cpu size p tests others is other = ap first_refusal other
@@ -358,12 +361,12 @@ AskedOnce asks = (S U : Region) (m k : Mount ⊤) → SameSeen m k → Alike (tr
 abbrev pub AnsweredOnce : {A : Type 0} → (A → List ℕ) → (A → Logs ⊤) → Type 0
 AnsweredOnce {A} line logs = (S : Region) (m k : Mount ⊤) → SameSeen m k → (names : List (List ℕ)) (T U : Region) (x y : A) → logs x S m names T → logs y S k names U → line x ≡ line y
 
-module _ {A : Type 0} (line : A → List ℕ) (asks : Asks) (makes : Makes ⊤) (logs : A → Logs ⊤) (path : List ℕ) (one : AskedOnce asks) (answered : AnsweredOnce line logs) where
+module _ {A : Type 0} (grows : Option ℕ) (line : A → List ℕ) (asks : Asks) (makes : Makes ⊤) (logs : A → Logs ⊤) (path : List ℕ) (one : AskedOnce asks) (answered : AnsweredOnce line logs) where
   asked_one : (R S : Region) (a b : Asked asks R S path) → first_refusal b.tests ≡ first_refusal a.tests
   asked_one R S a b = one S S (seen_in a) (seen_in b) (same_seen asks R S path a b) (let same = same_seen asks R S path a b in alike_here S a.here.rows b.here.rows same.rows) a.of_here.free.pools a.path_is a.tests b.tests a.are
       (subst (λ (p : Path). asks S (seen_in b) p b.tests) (says_one path b.path_is a.path_is b.says a.says) b.are)
 
-  pub called_text : (mounted region : Option Region) (old m n : State) (s t : List ℕ) → CallsMounted asks makes logs line path mounted region old s m → CallsMounted asks makes logs line path mounted region old t n → s ≡ t
+  pub called_text : (mounted region : Option Region) (old m n : State) (s t : List ℕ) → CallsMounted grows asks makes logs line path mounted region old s m → CallsMounted grows asks makes logs line path mounted region old t n → s ≡ t
   called_text None region old m n s t p q = p.0 ∙ sym q.0
   called_text (Some R) None old m n s t p q = absurd p
   called_text (Some R) (Some S) old m n s t (inl p) (inl q) =

@@ -32,7 +32,7 @@ use Rattle.nv_report.specs.Last.{how_it_went}
 use Rattle.nv_report.specs.declared.part.Part.{Part}
 use Rattle.nv_report.specs.declared.part.Part.TheVariants as parts
 use Rattle.nv_report.proofs.OneText.{recovered_one, part_one}
-use Rattle.nv_session.specs.Machine.{State, Step, Does, IsRefusedAs, Replaces, Unmounts, front, MayStop, has_word, StopsRegion, StopsFormat, StopsRecovery, Recovers, Replays, ReadsMounted, TellsNames, TellsStat, TellsBytes, RefusesSuper, Mounts, RecoversRegion, ShowsMounted, PokesRegion, CutsRegion, Formats, Calls, CallsByTwo, CallsMounted, CallsTelling, StopsMounted, file_mode, directory_mode, writes}
+use Rattle.nv_session.specs.Machine.{State, Step, Does, IsRefusedAs, Replaces, Unmounts, front, MayStop, has_word, StopsRegion, StopsFormat, StopsRecovery, Recovers, Replays, ReadsMounted, TellsNames, TellsStat, TellsBytes, RefusesSuper, Mounts, RecoversRegion, ShowsMounted, PokesRegion, CutsRegion, Formats, Calls, CallsBy, CallsByTwo, CallsMounted, CallsTelling, StopsMounted, file_mode, directory_mode, writes}
 use Rattle.nv_calls.specs.Effects.{logs_page_less, Makes, Logs, LogsBytes, LogsUnlink, makes_inode, makes_bytes, makes_size, makes_attributes, makes_link, makes_unlink, makes_removal, makes_rename, makes_no_change, logs_inode, logs_size, logs_attributes, logs_link, logs_removal, logs_rename}
 use Rattle.nv_session.specs.Calls.{Asks, asks_create, asks_write, asks_size, asks_attributes, asks_link, asks_unlink, asks_remove, asks_rename, asks_clean, finds_page}
 
@@ -149,29 +149,29 @@ step_one old request unarmed reads = subst (λ (b : Bool). IsOne (λ s m. Does b
 -- ---- the text of any command
 
 -- without a stop, a call prints one text
-telling_text : {A : Type 0} (line : A → List ℕ) (asks : Asks) (makes : Makes ⊤) (logs : A → Logs ⊤) (stops : Logs ⊤) (path : List ℕ) → AskedOnce asks → AnsweredOnce line logs → (old m n : State) (s t : List ℕ) → CallsTelling line false asks makes logs stops path old s m → CallsTelling line false asks makes logs stops path old t n → s ≡ t
-telling_text line asks makes logs stops path one answered old m n s t (inl p) (inl q) = called_text line asks makes logs path one answered old.mounted old.region old m n s t p q
-telling_text line asks makes logs stops path one answered old m n s t (inl p) (inr q) = absurd (let never = q.0 in cc)
-telling_text line asks makes logs stops path one answered old m n s t (inr p) q = absurd (let never = p.0 in cc)
+telling_text : {A : Type 0} (grows : Option ℕ) (line : A → List ℕ) (asks : Asks) (makes : Makes ⊤) (logs : A → Logs ⊤) (stops : Logs ⊤) (path : List ℕ) → AskedOnce asks → AnsweredOnce line logs → (old m n : State) (s t : List ℕ) → CallsTelling grows line false asks makes logs stops path old s m → CallsTelling grows line false asks makes logs stops path old t n → s ≡ t
+telling_text grows line asks makes logs stops path one answered old m n s t (inl p) (inl q) = called_text grows line asks makes logs path one answered old.mounted old.region old m n s t p q
+telling_text grows line asks makes logs stops path one answered old m n s t (inl p) (inr q) = absurd (let never = q.0 in cc)
+telling_text grows line asks makes logs stops path one answered old m n s t (inr p) q = absurd (let never = p.0 in cc)
 
-call_text : (asks : Asks) (makes : Makes ⊤) (logs : Logs ⊤) (path : List ℕ) → AskedOnce asks → (old m n : State) (s t : List ℕ) → Calls false asks makes logs path old s m → Calls false asks makes logs path old t n → s ≡ t
-call_text asks makes logs path one = telling_text (λ (done : Unit {0}). ok_line) asks makes (λ done. logs) logs path one (λ S m k same names T U x y p q. refl)
+call_text : (grows : Option ℕ) (asks : Asks) (makes : Makes ⊤) (logs : Logs ⊤) (path : List ℕ) → AskedOnce asks → (old m n : State) (s t : List ℕ) → CallsBy grows false asks makes logs path old s m → CallsBy grows false asks makes logs path old t n → s ≡ t
+call_text grows asks makes logs path one = telling_text grows (λ (done : Unit {0}). ok_line) asks makes (λ done. logs) logs path one (λ S m k same names T U x y p q. refl)
 
 call_text_by_two : (asks : Path → Asks) (makes : Path → Makes ⊤) (logs : Path → Logs ⊤) (path other : List ℕ) → ((q : Path) → AskedOnce (asks q)) → (old m n : State) (s t : List ℕ) → CallsByTwo false asks makes logs path other old s m → CallsByTwo false asks makes logs path other old t n → s ≡ t
 call_text_by_two asks makes logs path other one old m n s t p q =
-    call_text (asks p.0) (makes p.0) (logs p.0) path (one p.0) old m n s t p.2 (subst (λ (x : Path). Calls false (asks x) (makes x) (logs x) path old t n) (says_one other q.0 p.0 q.1 p.1) q.2)
+    call_text None (asks p.0) (makes p.0) (logs p.0) path (one p.0) old m n s t p.2 (subst (λ (x : Path). Calls false (asks x) (makes x) (logs x) path old t n) (says_one other q.0 p.0 q.1 p.1) q.2)
 
 does_text : (old : State) (request : Request) (m n : State) (s t : List ℕ) → Does false request old s m → Does false request old t n → s ≡ t
-does_text old (Create cpu path) m n s t p q = call_text (asks_create cpu) (makes_inode File cpu file_mode old.time) (logs_inode File cpu file_mode old.time) path (λ S U m k same alike count. create_one S U m k same alike cpu) old m n s t p q
-does_text old (MakeDirectory cpu path) m n s t p q = call_text (asks_create cpu) (makes_inode Directory cpu directory_mode old.time) (logs_inode Directory cpu directory_mode old.time) path (λ S U m k same alike count. create_one S U m k same alike cpu) old m n s t p q
-does_text old (Write cpu path offset count byte) m n s t p q = call_text (asks_write cpu offset count old.time) (makes_bytes offset (replicate count byte) old.time) (LogsBytes cpu offset count old.time) path (λ S U m k same alike counts. write_one S U m k same alike counts cpu offset count old.time) old m n s t p q
-does_text old (SetSize cpu path bytes) m n s t p q = call_text (asks_size cpu bytes) (makes_size bytes old.time) (logs_size cpu bytes old.time) path (λ S U m k same alike count. size_one S U m k same alike cpu bytes) old m n s t p q
-does_text old (SetAttributes cpu path mode owner group) m n s t p q = call_text (asks_attributes cpu) (makes_attributes mode owner group old.time) (logs_attributes cpu mode owner group old.time) path (λ S U m k same alike count. attributes_one S U m k same alike cpu) old m n s t p q
+does_text old (Create cpu path) m n s t p q = call_text (Some cpu) (asks_create cpu) (makes_inode File cpu file_mode old.time) (logs_inode File cpu file_mode old.time) path (λ S U m k same alike count. create_one S U m k same alike cpu) old m n s t p q
+does_text old (MakeDirectory cpu path) m n s t p q = call_text (Some cpu) (asks_create cpu) (makes_inode Directory cpu directory_mode old.time) (logs_inode Directory cpu directory_mode old.time) path (λ S U m k same alike count. create_one S U m k same alike cpu) old m n s t p q
+does_text old (Write cpu path offset count byte) m n s t p q = call_text None (asks_write cpu offset count old.time) (makes_bytes offset (replicate count byte) old.time) (LogsBytes cpu offset count old.time) path (λ S U m k same alike counts. write_one S U m k same alike counts cpu offset count old.time) old m n s t p q
+does_text old (SetSize cpu path bytes) m n s t p q = call_text None (asks_size cpu bytes) (makes_size bytes old.time) (logs_size cpu bytes old.time) path (λ S U m k same alike count. size_one S U m k same alike cpu bytes) old m n s t p q
+does_text old (SetAttributes cpu path mode owner group) m n s t p q = call_text None (asks_attributes cpu) (makes_attributes mode owner group old.time) (logs_attributes cpu mode owner group old.time) path (λ S U m k same alike count. attributes_one S U m k same alike cpu) old m n s t p q
 does_text old (Link cpu path other) m n s t p q = call_text_by_two (asks_link cpu) (makes_link old.time) (logs_link cpu old.time) path other (λ r S U m k same alike count. link_one S U m k same alike cpu r) old m n s t p q
-does_text old (Unlink cpu path) m n s t p q = call_text (asks_unlink cpu) (makes_unlink old.time) (LogsUnlink cpu old.time) path (λ S U m k same alike count. unlink_one S U m k same alike cpu) old m n s t p q
-does_text old (RemoveDirectory cpu path) m n s t p q = call_text (asks_remove cpu) (makes_removal old.time) (logs_removal cpu old.time) path (λ S U m k same alike count. remove_one S U m k same alike cpu) old m n s t p q
+does_text old (Unlink cpu path) m n s t p q = call_text None (asks_unlink cpu) (makes_unlink old.time) (LogsUnlink cpu old.time) path (λ S U m k same alike count. unlink_one S U m k same alike cpu) old m n s t p q
+does_text old (RemoveDirectory cpu path) m n s t p q = call_text None (asks_remove cpu) (makes_removal old.time) (logs_removal cpu old.time) path (λ S U m k same alike count. remove_one S U m k same alike cpu) old m n s t p q
 does_text old (Rename cpu path other) m n s t p q = call_text_by_two (asks_rename cpu) (makes_rename old.time) (logs_rename cpu old.time) path other (λ r S U m k same alike count. rename_one S U m k same alike cpu r) old m n s t p q
-does_text old (Clean path) m n s t p q = telling_text cleaned_line asks_clean makes_no_change finds_page logs_page_less path (λ S U m k same alike count. clean_one S U m k same alike) clean_answered old m n s t p q
+does_text old (Clean path) m n s t p q = telling_text None cleaned_line asks_clean makes_no_change finds_page logs_page_less path (λ S U m k same alike count. clean_one S U m k same alike) clean_answered old m n s t p q
 does_text old Upgrade m n s t p q = upgrade_text old m n s t p q
 does_text old (Format cpus blocks tables) m n s t p q = (does_one old (Format cpus blocks tables) refl s t m n p q).0
 does_text old (Time time) m n s t p q = (does_one old (Time time) refl s t m n p q).0
@@ -208,23 +208,23 @@ read_unarmed Tells None region path old m s h = ap armed_of h.1
 read_unarmed Tells (Some R) None path old m s h = absurd h
 read_unarmed Tells (Some R) (Some S) path old m s h = ap armed_of h.5
 
-called_unarmed : {A : Type 0} (line : A → List ℕ) (asks : Asks) (makes : Makes ⊤) (logs : A → Logs ⊤) (path : List ℕ) (mounted region : Option Region) (old m : State) (s : List ℕ) → CallsMounted asks makes logs line path mounted region old s m → m.armed ≡ old.armed
-called_unarmed line asks makes logs path None region old m s h = ap armed_of h.1
-called_unarmed line asks makes logs path (Some R) None old m s h = absurd h
-called_unarmed line asks makes logs path (Some R) (Some S) old m s (inl h) = ap armed_of h.2
-called_unarmed line asks makes logs path (Some R) (Some S) old m s (inr h) = ap armed_of h.9
+called_unarmed : {A : Type 0} (grows : Option ℕ) (line : A → List ℕ) (asks : Asks) (makes : Makes ⊤) (logs : A → Logs ⊤) (path : List ℕ) (mounted region : Option Region) (old m : State) (s : List ℕ) → CallsMounted grows asks makes logs line path mounted region old s m → m.armed ≡ old.armed
+called_unarmed grows line asks makes logs path None region old m s h = ap armed_of h.1
+called_unarmed grows line asks makes logs path (Some R) None old m s h = absurd h
+called_unarmed grows line asks makes logs path (Some R) (Some S) old m s (inl h) = ap armed_of h.2
+called_unarmed grows line asks makes logs path (Some R) (Some S) old m s (inr h) = ap armed_of h.9
 
-ended_unarmed : (asks : Asks) (makes : Makes ⊤) (stops : Logs ⊤) (path : List ℕ) (mounted region : Option Region) (old m : State) (s : List ℕ) → StopsMounted asks makes stops path mounted region old s m → m.armed ≡ old.armed
-ended_unarmed asks makes stops path None region old m s h = absurd h
-ended_unarmed asks makes stops path (Some R) None old m s h = absurd h
-ended_unarmed asks makes stops path (Some R) (Some S) old m s h = ap armed_of h.8
+ended_unarmed : (grows : Option ℕ) (asks : Asks) (makes : Makes ⊤) (stops : Logs ⊤) (path : List ℕ) (mounted region : Option Region) (old m : State) (s : List ℕ) → StopsMounted grows asks makes stops path mounted region old s m → m.armed ≡ old.armed
+ended_unarmed grows asks makes stops path None region old m s h = absurd h
+ended_unarmed grows asks makes stops path (Some R) None old m s h = absurd h
+ended_unarmed grows asks makes stops path (Some R) (Some S) old m s h = ap armed_of h.8
 
-telling_unarmed : {A : Type 0} (line : A → List ℕ) (a : Bool) (asks : Asks) (makes : Makes ⊤) (logs : A → Logs ⊤) (stops : Logs ⊤) (path : List ℕ) (old m : State) (s : List ℕ) → CallsTelling line a asks makes logs stops path old s m → m.armed ≡ old.armed
-telling_unarmed line a asks makes logs stops path old m s (inl h) = called_unarmed line asks makes logs path old.mounted old.region old m s h
-telling_unarmed line a asks makes logs stops path old m s (inr h) = ended_unarmed asks makes stops path old.mounted old.region old m s h.1
+telling_unarmed : {A : Type 0} (grows : Option ℕ) (line : A → List ℕ) (a : Bool) (asks : Asks) (makes : Makes ⊤) (logs : A → Logs ⊤) (stops : Logs ⊤) (path : List ℕ) (old m : State) (s : List ℕ) → CallsTelling grows line a asks makes logs stops path old s m → m.armed ≡ old.armed
+telling_unarmed grows line a asks makes logs stops path old m s (inl h) = called_unarmed grows line asks makes logs path old.mounted old.region old m s h
+telling_unarmed grows line a asks makes logs stops path old m s (inr h) = ended_unarmed grows asks makes stops path old.mounted old.region old m s h.1
 
-call_unarmed : (a : Bool) (asks : Asks) (makes : Makes ⊤) (logs : Logs ⊤) (path : List ℕ) (old m : State) (s : List ℕ) → Calls a asks makes logs path old s m → m.armed ≡ old.armed
-call_unarmed a asks makes logs = telling_unarmed (λ (done : Unit {0}). ok_line) a asks makes (λ done. logs) logs
+call_unarmed : (grows : Option ℕ) (a : Bool) (asks : Asks) (makes : Makes ⊤) (logs : Logs ⊤) (path : List ℕ) (old m : State) (s : List ℕ) → CallsBy grows a asks makes logs path old s m → m.armed ≡ old.armed
+call_unarmed grows a asks makes logs = telling_unarmed grows (λ (done : Unit {0}). ok_line) a asks makes (λ done. logs) logs
 
 formatted_unarmed : (a : Bool) (cpus blocks tables : ℕ) (old m : State) (s : List ℕ) → MayStop a (Formats cpus blocks tables) (StopsFormat cpus blocks tables) old s m → m.armed ≡ old.armed
 formatted_unarmed a cpus blocks tables old m s (inl (inl h)) = ap armed_of h.3.1
@@ -273,16 +273,16 @@ does_unarmed a (Replay workers schedule) other old m s h = recovery_unarmed a wo
 does_unarmed a (ListNames path) other old m s h = read_unarmed TellsNames old.mounted old.region path old m s h
 does_unarmed a (Stat path) other old m s h = read_unarmed TellsStat old.mounted old.region path old m s h
 does_unarmed a (Read path offset count) other old m s h = read_unarmed (TellsBytes offset count) old.mounted old.region path old m s h
-does_unarmed a (Create cpu path) other old m s h = call_unarmed a (asks_create cpu) (makes_inode File cpu file_mode old.time) (logs_inode File cpu file_mode old.time) path old m s h
-does_unarmed a (MakeDirectory cpu path) other old m s h = call_unarmed a (asks_create cpu) (makes_inode Directory cpu directory_mode old.time) (logs_inode Directory cpu directory_mode old.time) path old m s h
-does_unarmed a (Write cpu path offset count byte) other old m s h = call_unarmed a (asks_write cpu offset count old.time) (makes_bytes offset (replicate count byte) old.time) (LogsBytes cpu offset count old.time) path old m s h
-does_unarmed a (SetSize cpu path bytes) other old m s h = call_unarmed a (asks_size cpu bytes) (makes_size bytes old.time) (logs_size cpu bytes old.time) path old m s h
-does_unarmed a (SetAttributes cpu path mode owner group) other old m s h = call_unarmed a (asks_attributes cpu) (makes_attributes mode owner group old.time) (logs_attributes cpu mode owner group old.time) path old m s h
-does_unarmed a (Link cpu path new) other old m s h = call_unarmed a (asks_link cpu h.0) (makes_link old.time h.0) (logs_link cpu old.time h.0) path old m s h.2
-does_unarmed a (Unlink cpu path) other old m s h = call_unarmed a (asks_unlink cpu) (makes_unlink old.time) (LogsUnlink cpu old.time) path old m s h
-does_unarmed a (RemoveDirectory cpu path) other old m s h = call_unarmed a (asks_remove cpu) (makes_removal old.time) (logs_removal cpu old.time) path old m s h
-does_unarmed a (Rename cpu path new) other old m s h = call_unarmed a (asks_rename cpu h.0) (makes_rename old.time h.0) (logs_rename cpu old.time h.0) path old m s h.2
-does_unarmed a (Clean path) other old m s h = telling_unarmed cleaned_line a asks_clean makes_no_change finds_page logs_page_less path old m s h
+does_unarmed a (Create cpu path) other old m s h = call_unarmed (Some cpu) a (asks_create cpu) (makes_inode File cpu file_mode old.time) (logs_inode File cpu file_mode old.time) path old m s h
+does_unarmed a (MakeDirectory cpu path) other old m s h = call_unarmed (Some cpu) a (asks_create cpu) (makes_inode Directory cpu directory_mode old.time) (logs_inode Directory cpu directory_mode old.time) path old m s h
+does_unarmed a (Write cpu path offset count byte) other old m s h = call_unarmed None a (asks_write cpu offset count old.time) (makes_bytes offset (replicate count byte) old.time) (LogsBytes cpu offset count old.time) path old m s h
+does_unarmed a (SetSize cpu path bytes) other old m s h = call_unarmed None a (asks_size cpu bytes) (makes_size bytes old.time) (logs_size cpu bytes old.time) path old m s h
+does_unarmed a (SetAttributes cpu path mode owner group) other old m s h = call_unarmed None a (asks_attributes cpu) (makes_attributes mode owner group old.time) (logs_attributes cpu mode owner group old.time) path old m s h
+does_unarmed a (Link cpu path new) other old m s h = call_unarmed None a (asks_link cpu h.0) (makes_link old.time h.0) (logs_link cpu old.time h.0) path old m s h.2
+does_unarmed a (Unlink cpu path) other old m s h = call_unarmed None a (asks_unlink cpu) (makes_unlink old.time) (LogsUnlink cpu old.time) path old m s h
+does_unarmed a (RemoveDirectory cpu path) other old m s h = call_unarmed None a (asks_remove cpu) (makes_removal old.time) (logs_removal cpu old.time) path old m s h
+does_unarmed a (Rename cpu path new) other old m s h = call_unarmed None a (asks_rename cpu h.0) (makes_rename old.time h.0) (logs_rename cpu old.time h.0) path old m s h.2
+does_unarmed a (Clean path) other old m s h = telling_unarmed None cleaned_line a asks_clean makes_no_change finds_page logs_page_less path old m s h
 does_unarmed a Upgrade other old m s h = upgrade_unarmed a old m s h
 does_unarmed a Tree other old m s h = shown_unarmed old.mounted parts.Tree old m s h
 does_unarmed a Free other old m s h = shown_unarmed old.mounted parts.Free old m s h

@@ -1,7 +1,8 @@
 -- What the file calls that write ask of a mounted region, and what they leave of it: the tree that the call makes, and nothing wrong.
-use Rattle.std.specs.Prelude.{◌≡◌, ℕ, ◌+◌, Bool, false, ⊤, List, [], Option, Some}
+use Rattle.std.specs.Prelude.{◌≡◌, ℕ, ◌+◌, Bool, false, ⊤, List, [], Option, Some, None}
 use Rattle.nv_region.specs.Region.{Region, size}
 use Rattle.nv_journal.specs.Undo.{undone}
+use Rattle.nv_super.specs.Layout.{Layout}
 use Rattle.nv_mounted.specs.Held.{Held, Store}
 use Rattle.nv_mounted.specs.Mounted.{ShowsSound, outcome_layout}
 use Rattle.nv_outcome.specs.Outcome.{Outcome, IsOutcome}
@@ -10,13 +11,15 @@ use Rattle.nv_tree.specs.Tree.{Node, Tree, SameTree}
 use Rattle.nv_tree.specs.Refusals.{Path, Tests, clean_tests, create_tests, link_tests, rename_tests, rmdir_tests, set_attr_tests, set_size_tests, unlink_tests, write_tests}
 use Rattle.nv_calls.specs.AttributesCall.{attributes_blocks}
 use Rattle.nv_calls.specs.CleanCall.{ShowsCleaned}
-use Rattle.nv_calls.specs.Effects.{Logs}
+use Rattle.nv_calls.specs.Effects.{Logs, Makes}
 use Rattle.nv_calls.specs.LinkCalls.{link_blocks}
 use Rattle.nv_calls.specs.Mount.{Mount, has_faults}
 use Rattle.nv_calls.specs.MoveCalls.{rename_blocks}
 use Rattle.nv_calls.specs.NameCalls.{create_blocks, name_blocks}
 use Rattle.nv_paths.specs.Seen.{LeadsTo, tree_of}
+use Rattle.nv_calls.specs.Same.{GrowsWhereFull}
 use Rattle.nv_calls.specs.SizeCall.{resized_blocks}
+use Rattle.nv_calls.specs.Stopped.{LeavesCall, LeavesGrowing}
 use Rattle.nv_calls.specs.UnlinkCalls.{unlink_blocks}
 use Rattle.nv_calls.specs.World.{world_of}
 use Rattle.nv_calls.specs.WriteCall.{WriteNeeds}
@@ -51,7 +54,7 @@ seen_in a = mounted_as a.here (has_faults a.shown.faults)
 
 -- `create` and `mkdir`
 abbrev pub asks_create : ℕ → Asks
-asks_create cpu S m p tests = tests ≡ create_tests (world_of m) (tree_of S m.rows) cpu p (create_blocks m.rows (tree_of S m.rows) p)
+asks_create cpu S m p tests = tests ≡ create_tests (world_of m) (tree_of S m.rows) cpu p (create_blocks m.layout m.rows cpu (tree_of S m.rows) p)
 
 -- `write`
 abbrev pub asks_write : ℕ → ℕ → ℕ → ℕ → Asks
@@ -87,16 +90,30 @@ asks_clean S m p tests = tests ≡ clean_tests (world_of m) (tree_of S m.rows) p
 
 -- ---- what is made
 
--- A region that is as long and its own undone region, whose outcome has the same superblock, the same tables and no fault, and shows this tree.
-pub record LeavesTree (S T : Region) (m : Mount ⊤) (t : Tree) : Type 0 where
+-- The tables that a call leaves, by the CPU whose table may grow, if it lets one grow: else they are as before.
+abbrev pub LeavesTables : Option ℕ → Mount ⊤ → Layout → Type 0
+LeavesTables None m l = l ≡ m.layout
+LeavesTables (Some cpu) m l = GrowsWhereFull m cpu l
+
+-- A region that is as long and its own undone region, whose outcome has the same superblock, such tables and no fault, and shows this tree.
+pub record LeavesTreeBy (Laid : Layout → Type 0) (S T : Region) (m : Mount ⊤) (t : Tree) : Type 0 where
   pub as_long : size T ≡ size S
   pub after : Outcome
   pub shown : IsOutcome T after
   pub own : undone after.sup T ≡ T
   pub sup : after.sup ≡ m.sup
-  pub layout : outcome_layout after ≡ m.layout
+  pub layout : Laid (outcome_layout after)
   pub faultless : after.faults ≡ []
   pub tree : SameTree (tree_of T after.rows) t
+
+-- the same with the tables of before
+abbrev pub LeavesTree : Region → Region → Mount ⊤ → Tree → Type 0
+LeavesTree S T m t = LeavesTreeBy (λ l. l ≡ m.layout) S T m t
+
+-- What recovery finds in a region that a stop within a call has left, by the CPU whose table may grow, if it lets one grow.
+abbrev pub LeavesStopped : Option ℕ → Makes ⊤ → Logs ⊤ → Region → Mount ⊤ → List (List ℕ) → Region → Type 0
+LeavesStopped None makes logs R m names left = LeavesCall makes logs R m names left
+LeavesStopped (Some cpu) makes logs R m names left = LeavesGrowing cpu makes logs R m names left
 
 -- ---- what is left of the log that `clean` shortens
 

@@ -17,12 +17,11 @@ use Rattle.nv_line.specs.Request.{Clean, Upgrade, Tree, Free, Faults, Report, Pe
 use Rattle.nv_super.specs.declared.kind.Kind.TheVariants.{File, Directory}
 use Rattle.nv_inode.specs.Upgraded.{IsUpgraded, upgraded, upgraded_layout}
 use Rattle.nv_calls.specs.Mount.{Mount, has_faults}
-use Rattle.nv_calls.specs.Stopped.{LeavesCall}
 use Rattle.nv_calls.specs.Upgrading.{LeavesUpgrade}
 use Rattle.nv_calls.specs.World.{world_of}
 use Rattle.nv_calls.specs.Effects.{logs_page_less, Makes, Logs, LogsBytes, LogsUnlink, makes_inode, makes_bytes, makes_size, makes_attributes, makes_link, makes_unlink, makes_removal, makes_rename}
 use Rattle.nv_calls.specs.Effects.{makes_no_change, logs_inode, logs_size, logs_attributes, logs_link, logs_removal, logs_rename}
-use Rattle.nv_session.specs.Calls.{Asks, Asked, LeavesTree, mounted_as, seen_in, asks_create, asks_write, asks_size, asks_attributes, asks_link, asks_unlink, asks_remove, asks_rename, asks_clean, finds_page}
+use Rattle.nv_session.specs.Calls.{Asks, Asked, LeavesStopped, LeavesTables, LeavesTree, LeavesTreeBy, mounted_as, seen_in, asks_create, asks_write, asks_size, asks_attributes, asks_link, asks_unlink, asks_remove, asks_rename, asks_clean, finds_page}
 use Rattle.nv_super.specs.FaultText.{super_fault_name}
 use Rattle.nv_tree.specs.Path.{Says}
 use Rattle.nv_tree.specs.Tree as trees
@@ -245,41 +244,46 @@ Reads Tells path old text new = ReadsMounted Tells old.mounted old.region path o
 abbrev pub RefusesCall : Asks → Region → Region → List ℕ → State → List ℕ → State → Type 0
 RefusesCall asks R S path old text new = (a : Asked asks R S path) × TellsRefusal a.tests text × (new ≡ old)
 
--- No test holds: the call is done, the line of its answer is told, and the region that it leaves is mounted.
-abbrev pub DoesCall : {A : Type 0} → Asks → Makes ⊤ → (A → Logs ⊤) → (A → List ℕ) → Region → Region → List ℕ → State → List ℕ → State → Type 0
-DoesCall {A} asks makes logs line R S path old text new = (a : Asked asks R S path) × (first_refusal a.tests ≡ None) × (names : List (List ℕ)) × (a.path_is ≡ Some names)
-    × (T : Region) × LeavesTree S T (seen_in a) (makes S (seen_in a) names) × (answer : A) × logs answer S (seen_in a) names T × (text ≡ line answer)
+-- No test holds: the call is done, the line of its answer is told, and the region that it leaves is mounted. The table of a CPU may
+-- have grown, if the call lets one grow.
+abbrev pub DoesCall : {A : Type 0} → Option ℕ → Asks → Makes ⊤ → (A → Logs ⊤) → (A → List ℕ) → Region → Region → List ℕ → State → List ℕ → State → Type 0
+DoesCall {A} grows asks makes logs line R S path old text new = (a : Asked asks R S path) × (first_refusal a.tests ≡ None) × (names : List (List ℕ)) × (a.path_is ≡ Some names)
+    × (T : Region) × LeavesTreeBy (LeavesTables grows (seen_in a)) S T (seen_in a) (makes S (seen_in a) names) × (answer : A) × logs answer S (seen_in a) names T × (text ≡ line answer)
     × (new ≡ record old { region = Some T; mounted = Some T })
 
 -- A call on what is mounted, if something is: of the mounted region, which came to the last recovery or which a call
 -- left, and of the one that there is.
-abbrev pub CallsMounted : {A : Type 0} → Asks → Makes ⊤ → (A → Logs ⊤) → (A → List ℕ) → List ℕ → Option Region → Option Region → State → List ℕ → State → Type 0
-CallsMounted asks makes logs line path None region old text new = IsRefusedAs (codes "NotMounted") old text new
-CallsMounted asks makes logs line path (Some R) None old text new = ⊥
-CallsMounted asks makes logs line path (Some R) (Some S) old text new = RefusesCall asks R S path old text new ⊎ DoesCall asks makes logs line R S path old text new
+abbrev pub CallsMounted : {A : Type 0} → Option ℕ → Asks → Makes ⊤ → (A → Logs ⊤) → (A → List ℕ) → List ℕ → Option Region → Option Region → State → List ℕ → State → Type 0
+CallsMounted grows asks makes logs line path None region old text new = IsRefusedAs (codes "NotMounted") old text new
+CallsMounted grows asks makes logs line path (Some R) None old text new = ⊥
+CallsMounted grows asks makes logs line path (Some R) (Some S) old text new = RefusesCall asks R S path old text new ⊎ DoesCall grows asks makes logs line R S path old text new
 
 -- The call is stopped, which comes only of a path, and where no faults were found. Recovery of the region that it leaves finds,
 -- without faults, what was mounted or what the call makes of it. Nothing is mounted.
-abbrev pub StopsCall : Asks → Makes ⊤ → Logs ⊤ → Region → Region → List ℕ → State → List ℕ → State → Type 0
-StopsCall asks makes stops R S path old text new = (a : Asked asks R S path) × (has_faults a.shown.faults ≡ false) × (names : List (List ℕ)) × (a.path_is ≡ Some names)
-    × (T : Region) × (size T ≡ size S) × LeavesCall makes stops S (seen_in a) names T × (text ≡ stopped_line) × (new ≡ record old { region = Some T; mounted = None })
+abbrev pub StopsCall : Option ℕ → Asks → Makes ⊤ → Logs ⊤ → Region → Region → List ℕ → State → List ℕ → State → Type 0
+StopsCall grows asks makes stops R S path old text new = (a : Asked asks R S path) × (has_faults a.shown.faults ≡ false) × (names : List (List ℕ)) × (a.path_is ≡ Some names)
+    × (T : Region) × (size T ≡ size S) × LeavesStopped grows makes stops S (seen_in a) names T × (text ≡ stopped_line) × (new ≡ record old { region = Some T; mounted = None })
 
 -- the same of what is mounted
-abbrev pub StopsMounted : Asks → Makes ⊤ → Logs ⊤ → List ℕ → Option Region → Option Region → State → List ℕ → State → Type 0
-StopsMounted asks makes stops path None region old text new = ⊥
-StopsMounted asks makes stops path (Some R) None old text new = ⊥
-StopsMounted asks makes stops path (Some R) (Some S) old text new = StopsCall asks makes stops R S path old text new
+abbrev pub StopsMounted : Option ℕ → Asks → Makes ⊤ → Logs ⊤ → List ℕ → Option Region → Option Region → State → List ℕ → State → Type 0
+StopsMounted grows asks makes stops path None region old text new = ⊥
+StopsMounted grows asks makes stops path (Some R) None old text new = ⊥
+StopsMounted grows asks makes stops path (Some R) (Some S) old text new = StopsCall grows asks makes stops R S path old text new
 
--- A call that writes, which is done and tells the line of its answer, or refused, or stopped where it may be: by what a
--- call that is done leaves of the logs, and what one that is stopped may leave of them.
-abbrev pub CallsTelling : {A : Type 0} → (A → List ℕ) → Bool → Asks → Makes ⊤ → (A → Logs ⊤) → Logs ⊤ → List ℕ → State → List ℕ → State → Type 0
-CallsTelling line armed asks makes logs stops path old text new = MayStop armed
-    (λ old text new. CallsMounted asks makes logs line path old.mounted old.region old text new)
-    (λ old text new. StopsMounted asks makes stops path old.mounted old.region old text new) old text new
+-- A call that writes, which is done and tells the line of its answer, or refused, or stopped where it may be: by the CPU whose table
+-- may grow, if it lets one grow, and what a call that is done leaves of the logs, and what one that is stopped may leave of them.
+abbrev pub CallsTelling : {A : Type 0} → Option ℕ → (A → List ℕ) → Bool → Asks → Makes ⊤ → (A → Logs ⊤) → Logs ⊤ → List ℕ → State → List ℕ → State → Type 0
+CallsTelling grows line armed asks makes logs stops path old text new = MayStop armed
+    (λ old text new. CallsMounted grows asks makes logs line path old.mounted old.region old text new)
+    (λ old text new. StopsMounted grows asks makes stops path old.mounted old.region old text new) old text new
 
 -- the same where there is nothing to answer but `ok`
+abbrev pub CallsBy : Option ℕ → Bool → Asks → Makes ⊤ → Logs ⊤ → List ℕ → State → List ℕ → State → Type 0
+CallsBy grows armed asks makes logs path old text new = CallsTelling grows (λ (done : Unit {0}). ok_line) armed asks makes (λ done. logs) logs path old text new
+
+-- and no table grows
 abbrev pub Calls : Bool → Asks → Makes ⊤ → Logs ⊤ → List ℕ → State → List ℕ → State → Type 0
-Calls armed asks makes logs path old text new = CallsTelling (λ (done : Unit {0}). ok_line) armed asks makes (λ done. logs) logs path old text new
+Calls armed asks makes logs path old text new = CallsBy None armed asks makes logs path old text new
 
 -- a call that writes by two paths: what the second says, and the call by the first
 abbrev pub CallsByTwo : Bool → (Path → Asks) → (Path → Makes ⊤) → (Path → Logs ⊤) → List ℕ → List ℕ → State → List ℕ → State → Type 0
@@ -293,13 +297,13 @@ file_mode = 420
 abbrev pub directory_mode : ℕ
 directory_mode = 493
 
--- `create` makes a file
+-- `create` makes a file. In version 2 the table of the CPU may grow for it.
 abbrev pub Creates : Bool → ℕ → List ℕ → State → List ℕ → State → Type 0
-Creates armed cpu path old text new = Calls armed (asks_create cpu) (makes_inode File cpu file_mode old.time) (logs_inode File cpu file_mode old.time) path old text new
+Creates armed cpu path old text new = CallsBy (Some cpu) armed (asks_create cpu) (makes_inode File cpu file_mode old.time) (logs_inode File cpu file_mode old.time) path old text new
 
--- `mkdir` makes a directory
+-- `mkdir` makes a directory, as `create` makes a file
 abbrev pub MakesDirectory : Bool → ℕ → List ℕ → State → List ℕ → State → Type 0
-MakesDirectory armed cpu path old text new = Calls armed (asks_create cpu) (makes_inode Directory cpu directory_mode old.time) (logs_inode Directory cpu directory_mode old.time) path old text new
+MakesDirectory armed cpu path old text new = CallsBy (Some cpu) armed (asks_create cpu) (makes_inode Directory cpu directory_mode old.time) (logs_inode Directory cpu directory_mode old.time) path old text new
 
 -- `write` writes so many copies of a byte
 abbrev pub Writes : Bool → ℕ → List ℕ → ℕ → ℕ → ℕ → State → List ℕ → State → Type 0
@@ -333,7 +337,7 @@ Renames armed cpu path other old text new = CallsByTwo armed (asks_rename cpu) (
 
 -- `clean` takes the first page out of an inode's log that the log can do without, and tells which, or that it needs each
 abbrev pub Cleans : Bool → List ℕ → State → List ℕ → State → Type 0
-Cleans armed path old text new = CallsTelling cleaned_line armed asks_clean makes_no_change finds_page logs_page_less path old text new
+Cleans armed path old text new = CallsTelling None cleaned_line armed asks_clean makes_no_change finds_page logs_page_less path old text new
 
 -- ---- the upgrade
 

@@ -29,9 +29,10 @@ pub(crate) enum Call {
     ReplaceWithin,
     RemoveDirectory,
     Upgrade,
+    CreateInFullTable,
 }
 
-/// All calls, in their order: each can be done once those before it are.
+/// All calls but the last, in their order: each can be done once those before it are.
 pub(crate) const CALLS: [Call; 22] = [
     Call::MakeDirectory,
     Call::MakeDirectoryInIt,
@@ -82,6 +83,7 @@ pub(crate) fn name_of(call: Call) -> &'static str {
         Call::ReplaceWithin => "ReplaceWithin",
         Call::RemoveDirectory => "RemoveDirectory",
         Call::Upgrade => "Upgrade",
+        Call::CreateInFullTable => "CreateInFullTable",
     }
 }
 
@@ -110,6 +112,7 @@ pub(crate) fn make(fs: &mut Fs<MemRegion>, call: Call) -> Result<(), Refusal> {
         Call::ReplaceWithin => fs.replace(Cpu(0), b"/e", b"/d", Time(18)),
         Call::RemoveDirectory => fs.rmdir(Cpu(0), b"/d", Time(19)),
         Call::Upgrade => fs.upgrade(),
+        Call::CreateInFullTable => fs.create(Cpu(0), b"/grown", 420, Time(21)),
     }
 }
 
@@ -121,4 +124,13 @@ fn list(fs: &Fs<MemRegion>, path: &[u8]) -> Result<(), Refusal> {
 fn read(fs: &Fs<MemRegion>, path: &[u8]) -> Result<(), Refusal> {
     let _bytes = fs.read(path, 0, 9000)?;
     Ok(())
+}
+
+/// Gives the 30 numbers that are unused in the table of CPU 0 to files, so that the next one makes the table grow; `None` where
+/// memory is refused.
+pub(crate) fn fill_table(fs: &mut Fs<MemRegion>) -> Option<()> {
+    for name in 65..95u8 {
+        fs.create(Cpu(0), &[b'/', name], 420, Time(20)).ok()?;
+    }
+    Some(())
 }

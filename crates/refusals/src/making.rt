@@ -3,7 +3,7 @@
 //! A call that answers want of memory leaves the region's bytes as they were, and what is mounted as a recovery finds it in
 //! them; it is then made once more, as is a claim or a join. So in the end all runs show the same.
 
-use crate::calls::{CALLS, Call, make, name_of};
+use crate::calls::{CALLS, Call, fill_table, make, name_of};
 use crate::claims::claim_and_join;
 use crate::mounted::{bytes_of, is_what_recovery_finds, mounted};
 use nv_calls::Fs;
@@ -65,7 +65,8 @@ fn make_all<R: AllocGlobal + Print>(rt: &R, fs: &mut Fs<MemRegion>) -> Option<()
     for call in &CALLS {
         tell_call(rt, fs, *call)?;
     }
-    Some(())
+    fill_table(fs)?;
+    tell_call(rt, fs, Call::CreateInFullTable)
 }
 
 fn tell_numbers<R: Print>(rt: &R, inodes: usize, free: u64, is_found: bool) -> Option<()> {

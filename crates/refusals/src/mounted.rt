@@ -8,9 +8,9 @@ use nv_scan::Row;
 use nv_super::Run;
 use std::alloc::{AllocError, Global};
 
-/// A region of 24 blocks for two CPUs, formatted and mounted; `None` where memory is refused.
+/// A region of 64 blocks for two CPUs, formatted and mounted; `None` where memory is refused.
 pub(crate) fn mounted(alloc: Global) -> Option<Fs<MemRegion>> {
-    let mut memory = MemRegion::new(alloc, 24).ok()?;
+    let mut memory = MemRegion::new(alloc, 64).ok()?;
     match format(&mut memory, 2, 1, 0) {
         Ok(()) => Fs::mount(alloc, memory).ok(),
         Err(_) => None,

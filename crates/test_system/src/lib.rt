@@ -21,6 +21,8 @@ mod faults;
 #[cfg(test)]
 mod first_reasons;
 #[cfg(test)]
+mod growing;
+#[cfg(test)]
 mod images;
 #[cfg(test)]
 mod json;

@@ -1,4 +1,4 @@
-use Rattle.std.proofs.Common.{Some, string_bytes}
+use Rattle.std.proofs.Common.{Some, None, string_bytes}
 use Rattle.std.proofs.lemmas.Result.{IfOk-weaker}
 use Rattle.nv_text.specs.Answers.{cleaned_line}
 use Rattle.nv_calls.specs.Effects.{logs_page_less, makes_no_change}
@@ -9,7 +9,7 @@ use Rattle.nv_session.proofs.Cleaned.{clean_answers, clean_logged}
 use Rattle.nv_session.proofs.session.Session.clean.Goals as goal
 
 pub returns : goal.returns
-returns c = IfOk-weaker c.settle_clean.result _ _ (λ text settles. telling_moves cleaned_line (λ time. asks_clean) (λ time. makes_no_change) (λ time. finds_page) (λ time. logs_page_less)
+returns c = IfOk-weaker c.settle_clean.result _ _ (λ text settles. telling_moves None cleaned_line (λ time. asks_clean) (λ time. makes_no_change) (λ time. finds_page) (λ time. logs_page_less)
     c.args.path.now c.args.stop.fuse c.args.self.now c.take_mount.new.self c.settle_clean.new.self c.in-Some.mount c.clean-answer.new.self c.clean-answer.result (string_bytes text) (rw c.in-Some.is at c.take_mount.ensures) (record {
       answers = λ p says. clean_answers c.in-Some.mount c.clean-answer.new.self c.clean-answer.result p (c.clean-answer.ensures.allowed p says) (λ runs. c.clean-answer.ensures.refused runs p says);
       changed = λ names is. c.clean-answer.ensures.same_tree;
@@ -27,5 +27,5 @@ returns c = IfOk-weaker c.settle_clean.result _ _ (λ text settles. telling_move
     }) settles) c.settle_clean.ensures.settles
 
 pub returns-in_default : goal.returns-in_default
-returns-in_default c = IfOk-weaker c.refused_text.result _ _ (λ text said. untold_moves cleaned_line (λ time. asks_clean) (λ time. makes_no_change) (λ time. finds_page) (λ time. logs_page_less)
+returns-in_default c = IfOk-weaker c.refused_text.result _ _ (λ text said. untold_moves None cleaned_line (λ time. asks_clean) (λ time. makes_no_change) (λ time. finds_page) (λ time. logs_page_less)
     c.args.path.now (is_armed c.args.stop) c.args.stop.fuse c.args.self.now c.take_mount.new.self (string_bytes text) (rw c.in_default.is at c.take_mount.ensures) said) c.refused_text.ensures

@@ -1,4 +1,4 @@
-use Rattle.std.proofs.Common.{string_bytes}
+use Rattle.std.proofs.Common.{None, string_bytes}
 use Rattle.std.specs.Prelude.{Some}
 use Rattle.std.proofs.lemmas.Result.{IfOk-weaker}
 use Rattle.nv_calls.specs.Effects.{makes_link, logs_link}
@@ -11,7 +11,7 @@ use Rattle.nv_session.proofs.session.Session.link.Goals as goal
 
 pub returns : goal.returns
 returns c = IfOk-weaker c.settle_call.result _ _ (λ text settles. two_moves (asks_link c.args.cpu) makes_link (logs_link c.args.cpu) c.args.old.now c.args.new.now (is_armed c.args.stop) c.args.self.now c.settle_call.new.self (string_bytes text)
-    (λ q says_q. called_moves (λ time. asks_link c.args.cpu q) (λ time. makes_link time q) (λ time. logs_link c.args.cpu time q)
+    (λ q says_q. called_moves None (λ time. asks_link c.args.cpu q) (λ time. makes_link time q) (λ time. logs_link c.args.cpu time q)
     c.args.old.now c.args.stop.fuse c.args.self.now c.take_mount.new.self c.settle_call.new.self c.in-Some.mount c.link-answer.new.self c.link-answer.result (string_bytes text) (rw c.in-Some.is at c.take_mount.ensures) (record {
       answers = λ p says. link_answers c.in-Some.mount c.link-answer.result c.args.cpu q p (c.link-answer.ensures.allowed p q says says_q) (λ runs. c.link-answer.ensures.refused runs p q says says_q);
       changed = λ names is. link_changed c.in-Some.mount c.link-answer.new.self c.link-answer.result c.args.cpu c.take_mount.new.self.time names c.args.new.now q says_q (c.link-answer.ensures.allowed (Some names) q is says_q) (λ others is_other. c.link-answer.ensures.changed names others is is_other);
@@ -30,5 +30,5 @@ returns c = IfOk-weaker c.settle_call.result _ _ (λ text settles. two_moves (as
 
 pub returns-in_default : goal.returns-in_default
 returns-in_default c = IfOk-weaker c.refused_text.result _ _ (λ text said. two_moves (asks_link c.args.cpu) makes_link (logs_link c.args.cpu) c.args.old.now c.args.new.now (is_armed c.args.stop) c.args.self.now c.take_mount.new.self (string_bytes text)
-    (λ q says_q. uncalled_moves (λ time. asks_link c.args.cpu q) (λ time. makes_link time q) (λ time. logs_link c.args.cpu time q)
+    (λ q says_q. uncalled_moves None (λ time. asks_link c.args.cpu q) (λ time. makes_link time q) (λ time. logs_link c.args.cpu time q)
     c.args.old.now (is_armed c.args.stop) c.args.stop.fuse c.args.self.now c.take_mount.new.self (string_bytes text) (rw c.in_default.is at c.take_mount.ensures) said)) c.refused_text.ensures

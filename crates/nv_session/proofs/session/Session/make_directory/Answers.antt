@@ -1,4 +1,4 @@
-use Rattle.std.proofs.Common.{string_bytes}
+use Rattle.std.proofs.Common.{Some, string_bytes}
 use Rattle.std.proofs.lemmas.Result.{IfOk-weaker}
 use Rattle.nv_super.specs.declared.kind.Kind.TheVariants.{Directory}
 use Rattle.nv_calls.specs.Effects.{makes_inode, logs_inode}
@@ -9,7 +9,7 @@ use Rattle.nv_session.proofs.Asking.{create_answers, inode_logged}
 use Rattle.nv_session.proofs.session.Session.make_directory.Goals as goal
 
 pub returns : goal.returns
-returns c = IfOk-weaker c.settle_call.result _ _ (λ text settles. called_moves (λ time. asks_create c.args.cpu) (makes_inode Directory c.args.cpu directory_mode) (logs_inode Directory c.args.cpu directory_mode)
+returns c = IfOk-weaker c.settle_call.result _ _ (λ text settles. called_moves (Some c.args.cpu) (λ time. asks_create c.args.cpu) (makes_inode Directory c.args.cpu directory_mode) (logs_inode Directory c.args.cpu directory_mode)
     c.args.path.now c.args.stop.fuse c.args.self.now c.take_mount.new.self c.settle_call.new.self c.in-Some.mount c.mkdir-answer.new.self c.mkdir-answer.result (string_bytes text) (rw c.in-Some.is at c.take_mount.ensures) (record {
       answers = λ p says. create_answers c.in-Some.mount c.mkdir-answer.result c.args.cpu p (c.mkdir-answer.ensures.allowed p says) (λ runs. c.mkdir-answer.ensures.refused runs p says);
       changed = c.mkdir-answer.ensures.changed;

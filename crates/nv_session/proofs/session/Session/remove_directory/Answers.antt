@@ -1,4 +1,4 @@
-use Rattle.std.proofs.Common.{string_bytes}
+use Rattle.std.proofs.Common.{None, string_bytes}
 use Rattle.std.proofs.lemmas.Result.{IfOk-weaker}
 use Rattle.nv_calls.specs.Effects.{makes_removal, logs_removal}
 use Rattle.nv_session.specs.Calls.{asks_remove}
@@ -7,7 +7,7 @@ use Rattle.nv_session.proofs.Asking.{removal_answers, removal_logged}
 use Rattle.nv_session.proofs.session.Session.remove_directory.Goals as goal
 
 pub returns : goal.returns
-returns c = IfOk-weaker c.settle_call.result _ _ (λ text settles. called_moves (λ time. asks_remove c.args.cpu) makes_removal (logs_removal c.args.cpu)
+returns c = IfOk-weaker c.settle_call.result _ _ (λ text settles. called_moves None (λ time. asks_remove c.args.cpu) makes_removal (logs_removal c.args.cpu)
     c.args.path.now c.args.stop.fuse c.args.self.now c.take_mount.new.self c.settle_call.new.self c.in-Some.mount c.rmdir-answer.new.self c.rmdir-answer.result (string_bytes text) (rw c.in-Some.is at c.take_mount.ensures) (record {
       answers = λ p says. removal_answers c.in-Some.mount c.rmdir-answer.result c.args.cpu p (c.rmdir-answer.ensures.allowed p says) (λ runs. c.rmdir-answer.ensures.refused runs p says);
       changed = c.rmdir-answer.ensures.changed;

@@ -1,4 +1,4 @@
-use Rattle.std.proofs.Common.{string_bytes}
+use Rattle.std.proofs.Common.{None, string_bytes}
 use Rattle.std.proofs.lemmas.Result.{IfOk-weaker}
 use Rattle.nv_calls.specs.Effects.{makes_attributes, logs_attributes}
 use Rattle.nv_session.specs.Calls.{asks_attributes}
@@ -7,7 +7,7 @@ use Rattle.nv_session.proofs.Asking.{attributes_answers, attributes_logged}
 use Rattle.nv_session.proofs.session.Session.set_attributes.Goals as goal
 
 pub returns : goal.returns
-returns c = IfOk-weaker c.settle_call.result _ _ (λ text settles. called_moves (λ time. asks_attributes c.args.cpu) (makes_attributes c.args.mode c.args.owner c.args.group) (logs_attributes c.args.cpu c.args.mode c.args.owner c.args.group)
+returns c = IfOk-weaker c.settle_call.result _ _ (λ text settles. called_moves None (λ time. asks_attributes c.args.cpu) (makes_attributes c.args.mode c.args.owner c.args.group) (logs_attributes c.args.cpu c.args.mode c.args.owner c.args.group)
     c.args.path.now c.args.stop.fuse c.args.self.now c.take_mount.new.self c.settle_call.new.self c.in-Some.mount c.set_attr-answer.new.self c.set_attr-answer.result (string_bytes text) (rw c.in-Some.is at c.take_mount.ensures) (record {
       answers = λ p says. attributes_answers c.in-Some.mount c.set_attr-answer.result c.args.cpu p (c.set_attr-answer.ensures.allowed p says) (λ runs. c.set_attr-answer.ensures.refused runs p says);
       changed = c.set_attr-answer.ensures.changed;

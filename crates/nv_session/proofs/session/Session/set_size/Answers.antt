@@ -1,4 +1,4 @@
-use Rattle.std.proofs.Common.{string_bytes}
+use Rattle.std.proofs.Common.{None, string_bytes}
 use Rattle.std.proofs.lemmas.Result.{IfOk-weaker}
 use Rattle.nv_calls.specs.Effects.{makes_size, logs_size}
 use Rattle.nv_session.specs.Calls.{asks_size}
@@ -7,7 +7,7 @@ use Rattle.nv_session.proofs.Asking.{size_answers, size_logged}
 use Rattle.nv_session.proofs.session.Session.set_size.Goals as goal
 
 pub returns : goal.returns
-returns c = IfOk-weaker c.settle_call.result _ _ (λ text settles. called_moves (λ time. asks_size c.args.cpu c.args.size) (makes_size c.args.size) (logs_size c.args.cpu c.args.size)
+returns c = IfOk-weaker c.settle_call.result _ _ (λ text settles. called_moves None (λ time. asks_size c.args.cpu c.args.size) (makes_size c.args.size) (logs_size c.args.cpu c.args.size)
     c.args.path.now c.args.stop.fuse c.args.self.now c.take_mount.new.self c.settle_call.new.self c.in-Some.mount c.set_size-answer.new.self c.set_size-answer.result (string_bytes text) (rw c.in-Some.is at c.take_mount.ensures) (record {
       answers = λ p says. size_answers c.in-Some.mount c.set_size-answer.result c.args.cpu c.args.size p (c.set_size-answer.ensures.allowed p says) (λ runs. c.set_size-answer.ensures.refused runs p says);
       changed = c.set_size-answer.ensures.changed;

@@ -1,4 +1,4 @@
-use Rattle.std.proofs.Common.{string_bytes}
+use Rattle.std.proofs.Common.{None, string_bytes}
 use Rattle.std.proofs.lemmas.Result.{IfOk-weaker}
 use Rattle.nv_calls.specs.Effects.{LogsUnlink, makes_unlink}
 use Rattle.nv_session.specs.Calls.{asks_unlink}
@@ -7,7 +7,7 @@ use Rattle.nv_session.proofs.Asking.{unlink_answers, unlink_logged, unlink_stops
 use Rattle.nv_session.proofs.session.Session.unlink.Goals as goal
 
 pub returns : goal.returns
-returns c = IfOk-weaker c.settle_call.result _ _ (λ text settles. called_moves (λ time. asks_unlink c.args.cpu) makes_unlink (LogsUnlink c.args.cpu)
+returns c = IfOk-weaker c.settle_call.result _ _ (λ text settles. called_moves None (λ time. asks_unlink c.args.cpu) makes_unlink (LogsUnlink c.args.cpu)
     c.args.path.now c.args.stop.fuse c.args.self.now c.take_mount.new.self c.settle_call.new.self c.in-Some.mount c.unlink-answer.new.self c.unlink-answer.result (string_bytes text) (rw c.in-Some.is at c.take_mount.ensures) (record {
       answers = λ p says. unlink_answers c.in-Some.mount c.unlink-answer.result c.args.cpu p (c.unlink-answer.ensures.allowed p says) (λ runs. c.unlink-answer.ensures.refused runs p says);
       changed = c.unlink-answer.ensures.changed;

@@ -1,4 +1,4 @@
-use Rattle.std.proofs.Common.{◌≡◌, ℕ, List, length, not, subst, string_bytes}
+use Rattle.std.proofs.Common.{◌≡◌, ℕ, List, length, not, subst, None, string_bytes}
 use Rattle.std.specs.Prelude.{replicate}
 use Rattle.std.proofs.lemmas.List.{length-replicate}
 use Rattle.std.proofs.lemmas.Result.{IfOk-weaker}
@@ -17,7 +17,7 @@ returns c =
     let count : length bytes ≡ c.args.count = length-replicate c.args.count c.args.byte in
     IfOk-weaker c.settle_call.result _ _ (λ text settles.
     subst (λ (n : ℕ). Moves (λ state said next. Calls (not (is_off c.args.stop.fuse)) (asks_write c.args.cpu c.args.offset n state.time) (makes_bytes c.args.offset bytes state.time) (LogsBytes c.args.cpu c.args.offset n state.time) c.args.path.now state said next) c.args.self.now (string_bytes text) c.settle_call.new.self) count
-    (called_moves (asks_write c.args.cpu c.args.offset (length bytes)) (makes_bytes c.args.offset bytes) (LogsBytes c.args.cpu c.args.offset (length bytes))
+    (called_moves None (asks_write c.args.cpu c.args.offset (length bytes)) (makes_bytes c.args.offset bytes) (LogsBytes c.args.cpu c.args.offset (length bytes))
     c.args.path.now c.args.stop.fuse c.args.self.now c.take_mount.new.self c.settle_call.new.self c.in-Some.mount c.write_data-answer.new.self c.write_data-answer.result (string_bytes text) (rw c.in-Some.is at c.take_mount.ensures) (record {
       answers = λ p says. write_answers c.in-Some.mount c.write_data-answer.result c.args.cpu c.args.offset (length bytes) c.take_mount.new.self.time p (λ n needs. c.write_data-answer.ensures.allowed p n says needs) (λ n needs runs. c.write_data-answer.ensures.refused runs p n says needs);
       changed = c.write_data-answer.ensures.changed;
