@@ -20,7 +20,7 @@ wanted=(
 sed 's/ refused once: [A-Za-z]*;//' "$ends" >"$folder/done"
 only_ways "$folder/done" "${wanted[@]}"
 each_way "${wanted[@]}"
-for call in Claim Join Create MakeDirectory Write; do
+for call in Claim Join Create MakeDirectory Write CreateInFullTable; do
     grep -q "refused once: $call;" "$ends" || say_wrong "no run in which $call was refused"
 done
 echo "$runs runs, in $(grep -c 'refused once' "$ends") a call was refused"
