@@ -1,7 +1,6 @@
 -- What is told of the names of two directories.
 use Rattle.std.specs.Prelude.{◌≡◌, ◌⊎◌, ℕ, Bool, true, false, IsTrue, is_some, nat_le, List, [], length, Option}
 use Rattle.std.specs.Option.{option_and_then}
-use Rattle.std.specs.List.{Contains}
 use Rattle.nv_super.specs.Order.{Lists}
 use Rattle.nv_names.specs.declared.named.Named.{Named}
 use Rattle.nv_tree.specs.Tree.{Node, Tree, name_in}

@@ -12,18 +12,17 @@ use Rattle.nv_super.specs.declared.kind.Kind.{Kind}
 use Rattle.nv_entry.specs.Content.{is_good}
 use Rattle.nv_logpage.specs.declared.found.Placed.{Placed}
 use Rattle.nv_logpage.specs.Good.{good_entries}
-use Rattle.nv_scan.specs.LastWord.{last_word}
 use Rattle.nv_scan.specs.Fold.{word_after}
 use Rattle.nv_scan.proofs.Words.{word-more}
 use Rattle.nv_deadpages.specs.Dead.{SameState}
 use Rattle.nv_inspect.specs.declared.fate.Fate.{Fate}
-use Rattle.nv_inspect.specs.declared.fate.Fate.TheVariants.{Stands, ChangesNothing, DeadBy}
+use Rattle.nv_inspect.specs.declared.fate.Fate.TheVariants.{Stands}
 use Rattle.nv_names.specs.Names.{name_at}
 use Rattle.nv_inspect.specs.declared.held.Held.{Held}
 use Rattle.nv_inspect.specs.declared.word.Word.{Word}
 use Rattle.nv_inspect.specs.declared.pieces.Piece.{Piece}
 use Rattle.nv_inspect.specs.Dead.{AreFates, IsDead, IsDeadFrom, IsFate}
-use Rattle.nv_inspect.specs.Held.{Subject, the_size, the_mode, the_owner, the_group, the_links, the_time, the_page, the_name, Value, says, unsaid, word_on, value_in, holder_in, IsHeld, IsHolder, IsTaken, Says, Loses, Marks, HoldsAll, HoldsOne, LosesOne, TakesGood, IsTaker, AreTakers, fate_with, fate_by, killed_by, piece_at, no_piece, block_held, page_holder, block_by_shift, name_holder}
+use Rattle.nv_inspect.specs.Held.{Subject, the_size, the_mode, the_owner, the_group, the_links, the_time, the_page, the_name, Value, says, unsaid, word_on, value_in, holder_in, IsHeld, Marks, HoldsAll, HoldsOne, LosesOne, TakesGood, IsTaker, AreTakers, fate_with, fate_by, killed_by, piece_at, no_piece, block_held, page_holder, block_by_shift, name_holder}
 use Rattle.nv_inspect.proofs.Holders.{held_more, still_held, inner_or_last, one_longer, remove_inner}
 
 -- what was written to the front of a list, where it fills it

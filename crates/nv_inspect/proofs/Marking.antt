@@ -1,5 +1,5 @@
 -- Marks of some entries, and then of others.
-use Rattle.std.proofs.Common.{◌≡◌, ◌∙◌, ◌<◌, ℕ, List, length, get_or, Option, Some, None, refl, sym, subst, arith, inl, inr, ◌⊎◌}
+use Rattle.std.proofs.Common.{◌∙◌, ℕ, List, Option, refl, arith, inl, inr, ◌⊎◌}
 use Rattle.nv_inspect.specs.Held.{Marks}
 
 module _ (by : ℕ) where

@@ -2,7 +2,6 @@
 use Rattle.std.proofs.Common.{◌≡◌, ◌∙◌, ℕ, Bool, true, false, cond, nat_eq, if◌then◌else◌, List, [], ◌∷◌, ◌&&◌, Option, Some, None, refl, ap, sym, subst, inl, inr}
 use Rattle.std.specs.Option.{IsSome, option_map}
 use Rattle.std.specs.Cmp.Lexicographic.{pointwise}
-use Rattle.std.proofs.lemmas.Bool.{false≢true}
 use Rattle.std.proofs.lemmas.Bool.Decides.{eqb_tells}
 use Rattle.nv_super.proofs.Sorted.{same_keys}
 use Rattle.nv_entry.specs.declared.entry.NameEntry.{NameEntry}

@@ -16,7 +16,7 @@ use Rattle.nv_scan.specs.declared.piece.Row.{Row}
 use Rattle.nv_text.specs.Answers.{line}
 use Rattle.nv_inspect.specs.declared.fate.Fate.{Fate}
 use Rattle.nv_inspect.specs.declared.fate.Fate.TheVariants.{Stands, ChangesNothing, DeadBy}
-use Rattle.nv_inspect.specs.Dead.{AreFates, IsDeadBy, IsDeadFrom, IsFate}
+use Rattle.nv_inspect.specs.Dead.{AreFates, IsDeadBy, IsFate}
 use Rattle.nv_inspect.specs.Log.{IsLogText, created_at, head_line, read_text}
 
 module _ (s : Super) (kind : Kind) (created : ℕ) (es : List Placed) where

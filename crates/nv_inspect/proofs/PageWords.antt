@@ -1,6 +1,5 @@
 -- What a write and a cut make of a file's pages.
-use Rattle.std.proofs.Common.{◌≡◌, ◌≢◌, ◌∙◌, ◌+◌, ◌-◌, ◌*◌, ◌<◌, ◌≤◌, ◌==◌, ℕ, Bool, true, false, cond, ◌&&◌, if◌then◌else◌, nat_le, nat_lt, List, Option, Some, None, refl, ap, sym, subst, arith, inl, inr, ◌⊎◌}
-use Rattle.std.specs.Prelude.{IsTrue}
+use Rattle.std.proofs.Common.{◌≡◌, ◌≢◌, ◌∙◌, ◌+◌, ◌-◌, ◌*◌, ◌<◌, ◌≤◌, ℕ, Bool, true, false, cond, ◌&&◌, if◌then◌else◌, nat_le, List, Option, Some, None, refl, ap, sym, subst, arith, inl, inr, ◌⊎◌}
 use Rattle.std.specs.Option.{IsSome}
 use Rattle.std.proofs.lemmas.Bool.{false≢true}
 use Rattle.std.proofs.lemmas.Bool.Decides.{eqb_tells, nat_tests}
@@ -12,7 +11,7 @@ use Rattle.nv_entry.specs.Content.{is_write_out_of_range}
 use Rattle.nv_radix.specs.Pages.{in_run}
 use Rattle.nv_scan.specs.State.{block_in, cuts}
 use Rattle.nv_inspect.specs.declared.pieces.Piece.{Piece}
-use Rattle.nv_inspect.specs.Held.{piece_at, block_held, page_holder, block_by_shift, said_piece, same_shift, is_among, is_before, IsTaken, Loses, Marks, Says}
+use Rattle.nv_inspect.specs.Held.{piece_at, block_held, page_holder, block_by_shift, said_piece, same_shift, is_among, IsTaken, Loses, Marks, Says}
 use Rattle.nv_inspect.proofs.Marking.{marks_as, marks_then}
 use Rattle.nv_inspect.proofs.Stretches.{HoldsPage}
 

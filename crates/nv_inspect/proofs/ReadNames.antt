@@ -1,5 +1,5 @@
 -- What is read of a log has names of 1 to 255 bytes.
-use Rattle.std.proofs.Common.{◌≡◌, ◌<◌, ℕ, zero, suc, List, [], ◌∷◌, length, get_or, Option, sym, subst, arith}
+use Rattle.std.proofs.Common.{ℕ, zero, suc, List, Option, sym, subst, arith}
 use Rattle.nv_region.specs.Region.{Region}
 use Rattle.nv_super.specs.declared.superblock.Super.{Super}
 use Rattle.nv_entry.specs.declared.entry.Entry.{Entry}

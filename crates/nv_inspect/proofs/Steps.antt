@@ -1,7 +1,7 @@
 -- The piece that a page stands in, by the pages where pieces begin.
-use Rattle.std.proofs.Common.{◌≡◌, ◌≢◌, ◌∙◌, ◌<◌, ◌≤◌, ◌++◌, ℕ, zero, suc, Bool, true, false, cond, ◌&&◌, if◌then◌else◌, nat_le, nat_lt, List, [], ◌∷◌, Option, Some, None, unwrap_or, refl, ap, sym, subst, arith, inl, inr, ◌⊎◌}
+use Rattle.std.proofs.Common.{◌≡◌, ◌≢◌, ◌∙◌, ◌<◌, ◌≤◌, ◌++◌, ℕ, zero, suc, Bool, true, false, cond, if◌then◌else◌, List, [], ◌∷◌, Option, Some, None, unwrap_or, refl, ap, sym, subst, arith, inl, inr}
 use Rattle.std.specs.Prelude.{IfNone, IfSome, IsTrue}
-use Rattle.std.specs.declared.ops.Bound.TheVariants.{Included, Excluded, Unbounded}
+use Rattle.std.specs.declared.ops.Bound.TheVariants.{Included, Unbounded}
 use Rattle.std.specs.Ordering.{nat_cmp, is_lt, is_gt}
 use Rattle.std.specs.declared.cmp.Ordering.TheVariants.{Less, Equal, Greater}
 use Rattle.std.specs.Cmp.{nat_cmp_is}
@@ -10,7 +10,7 @@ use Rattle.std.specs.BTreeMap.Range.{IsRangeOf}
 use Rattle.std.proofs.lemmas.Bool.{cases_lt, cases_order, false≢true}
 use Rattle.nv_inspect.specs.declared.pieces.Piece.{Piece}
 use Rattle.nv_inspect.proofs.Among.{among_behind, among_both, among_front, among_open, among_to, is_among_split}
-use Rattle.nv_inspect.specs.Held.{value_at, key_at, no_piece, piece_at, is_among, is_before}
+use Rattle.nv_inspect.specs.Held.{value_at, key_at, no_piece, piece_at, is_among}
 
 module _ {V : Type 0} (none : V) where
   -- where one begins

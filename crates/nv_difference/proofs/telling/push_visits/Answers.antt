@@ -1,4 +1,4 @@
-use Rattle.std.proofs.Common.{sym, subst, string_bytes, get_or, ◌∙◌}
+use Rattle.std.proofs.Common.{sym, subst, string_bytes}
 use Rattle.nv_super.proofs.Members.{into_map}
 use Rattle.nv_difference.specs.Names.{IsVisitText}
 use Rattle.nv_difference.specs.Texts.{Adds}

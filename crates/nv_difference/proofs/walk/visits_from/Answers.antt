@@ -1,6 +1,6 @@
 use Rattle.std.proofs.Common.{[], List, map, subst}
 use Rattle.nv_difference.specs.Pairs.{AreVisited}
-use Rattle.nv_difference.specs.Walk.{AreDirectories, visit_of, waiting}
+use Rattle.nv_difference.specs.Walk.{visit_of, waiting}
 use Rattle.nv_difference.specs.declared.pair.Pair.{Pair}
 use Rattle.nv_difference.proofs.Steps.{all_on, start_ready}
 use Rattle.nv_difference.proofs.walk.visits_from.Goals as goal

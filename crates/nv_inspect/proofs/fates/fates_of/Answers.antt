@@ -1,4 +1,4 @@
-use Rattle.std.proofs.Common.{◌≡◌, ◌∙◌, ◌++◌, ℕ, List, [], length, take, drop, arith, Option, None, sym, subst}
+use Rattle.std.proofs.Common.{◌≡◌, ◌∙◌, ℕ, List, length, drop, arith, Option, None, sym, subst}
 use Rattle.std.specs.Prelude.{replicate}
 use Rattle.nv_inspect.specs.Held.{AreTakers, HoldsOne, Marks}
 use Rattle.nv_inspect.proofs.Dying.{are_fates, front_only}

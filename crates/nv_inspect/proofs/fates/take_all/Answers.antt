@@ -1,4 +1,4 @@
-use Rattle.std.proofs.Common.{◌≡◌, ◌∙◌, ◌<◌, ◌≤◌, ℕ, Bool, true, false, not, List, [], length, take, Option, Some, None, is_some, is_none, ◌+◌, refl, ap, sym, subst, arith}
+use Rattle.std.proofs.Common.{◌≡◌, ◌∙◌, ◌<◌, ℕ, Bool, true, false, not, List, [], length, take, Option, Some, None, is_some, is_none, ◌+◌, refl, ap, sym, subst, arith}
 use Rattle.nv_entry.specs.Content.{is_good}
 use Rattle.nv_inspect.specs.declared.held.Held.{Held}
 use Rattle.nv_inspect.specs.Held.{AreTakers, HoldsAll}

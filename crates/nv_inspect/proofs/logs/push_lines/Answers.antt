@@ -1,4 +1,4 @@
-use Rattle.std.proofs.Common.{◌≡◌, ◌∙◌, ◌+◌, ◌/◌, ◌<◌, ◌++◌, ℕ, List, length, drop, ap, sym, arith, string_bytes}
+use Rattle.std.proofs.Common.{◌∙◌, ◌+◌, ◌/◌, ◌<◌, ◌++◌, ℕ, List, length, drop, ap, sym, arith, string_bytes}
 use Rattle.nv_inspect.specs.Entry.{entry_line}
 use Rattle.nv_inspect.specs.Log.{lines_of, links_to}
 use Rattle.nv_inspect.proofs.Lines.{lines_next, lines_step}

@@ -1,6 +1,6 @@
-use Rattle.std.proofs.Common.{◌≡◌, ◌<◌, ◌∙◌, ℕ, if◌then◌else◌, true, sym, refl, subst, arith}
+use Rattle.std.proofs.Common.{◌≡◌, ◌∙◌, ℕ, if◌then◌else◌, true, sym, refl, subst}
 use Rattle.nv_inspect.specs.declared.pieces.Piece.{Piece}
-use Rattle.nv_inspect.specs.Held.{is_among, is_before, piece_at, said_piece}
+use Rattle.nv_inspect.specs.Held.{is_among, is_before, piece_at}
 use Rattle.nv_inspect.proofs.Stretches.{all_said, before_to, next_ahead, none_said, said_all, said_more}
 use Rattle.nv_inspect.proofs.pages.say.Goals as goal
 

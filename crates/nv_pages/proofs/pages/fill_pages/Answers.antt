@@ -1,4 +1,4 @@
-use Rattle.std.proofs.Common.{◌≡◌, ◌+◌, ◌-◌, ◌*◌, ◌/◌, ◌++◌, ◌∙◌, ℕ, List, ap, append_assoc, arith, drop, length, length-drop, length-take, map, refl, take}
+use Rattle.std.proofs.Common.{◌≡◌, ◌+◌, ◌-◌, ◌*◌, ◌/◌, ◌++◌, ◌∙◌, ℕ, List, ap, append_assoc, arith, drop, length, length-drop, length-take, map, take}
 use Rattle.std.specs.List.{range_with_len}
 use Rattle.nv_region.specs.Region.{region_of}
 use Rattle.nv_bytes.specs.Bytes.{file_byte}

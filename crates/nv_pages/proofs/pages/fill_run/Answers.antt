@@ -1,4 +1,4 @@
-use Rattle.std.proofs.Common.{◌≡◌, ◌∙◌, ◌*◌, ◌++◌, ℕ, List, None, ap, arith, drop, length, length-take, replicate, sym, take}
+use Rattle.std.proofs.Common.{◌≡◌, ◌∙◌, ◌++◌, ℕ, List, None, ap, arith, drop, length, length-take, replicate, sym, take}
 use Rattle.nv_region.specs.Region.{region_of}
 use Rattle.nv_radix.specs.Pages.{block_at}
 use Rattle.nv_pages.proofs.Paged.{hole}

@@ -1,6 +1,6 @@
 use Rattle.std.proofs.Common.{◌≡◌, ◌∙◌, ℕ, Option, Some, ap, subst}
 use Rattle.std.specs.Option.{option_map}
-use Rattle.nv_names.specs.Names.{inode_and_place, name_at}
+use Rattle.nv_names.specs.Names.{inode_and_place}
 use Rattle.nv_inspect.specs.Held.{IsTaken, Marks, name_holder}
 use Rattle.nv_inspect.proofs.NameWords.{name_marks, name_said}
 use Rattle.nv_inspect.proofs.names.HeldNames.say_name.Goals as goal
