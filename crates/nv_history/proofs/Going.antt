@@ -8,17 +8,18 @@ use Rattle.nv_region.specs.Region.{Region, size}
 use Rattle.nv_region.specs.Fuses.{FuseState, KeepsFuse}
 use Rattle.nv_region.specs.Stops.{Choices, LeavesOnly}
 use Rattle.nv_region.proofs.Fuses.{keeps_more}
+use Rattle.nv_super.specs.declared.superblock.Super.{Super}
 use Rattle.nv_journal.specs.Undo.{undone}
 use Rattle.nv_tree.specs.declared.refusal.Refusal.{Refusal}
 use Rattle.nv_tree.specs.declared.refusal.Refusal.TheVariants.{Stopped}
-use Rattle.nv_tree.specs.Tree.{SameTree, Tree}
+use Rattle.nv_tree.specs.Tree.{Tree}
 use Rattle.nv_tree.proofs.Same.{same_itself}
 use Rattle.nv_paths.specs.Seen.{tree_of}
-use Rattle.nv_calls.specs.Mount.{Mount}
+use Rattle.nv_calls.specs.Mount.{IsKept, Mount, shown}
 use Rattle.nv_calls.specs.Same.{KeepsMount, SameMount}
 use Rattle.nv_calls.specs.Stopped.{IsAsMounted, LeavesMounted}
 use Rattle.nv_history.specs.declared.calls.Call.{Call}
-use Rattle.nv_history.specs.Making.{AreMadeOver, none, IsLaidBy, IsMadeBy, change_tables}
+use Rattle.nv_history.specs.Making.{AreMade, none, ChainsGrow, IsMadeBy, grow_tables, grows_tables, has_upgrade, is_upgrade, super_behind, supers_behind}
 use Rattle.nv_history.specs.Said.{said}
 use Rattle.nv_history.specs.Asking.{RefusesCall}
 use Rattle.nv_history.specs.Halting.{HaltsAt}
@@ -26,19 +27,22 @@ use Rattle.nv_history.specs.declared.runs.Halted.{Halted}
 use Rattle.nv_history.specs.Keeping.{KeepsCalled, KeepsRun}
 use Rattle.nv_history.specs.declared.calls.Answer.{Answer}
 use Rattle.nv_history.specs.Called.{AreNames, Called}
-use Rattle.nv_history.specs.Stopping.{BeforeOrMade, RecoversCall, RunLeaves, MayBeDone, RecoversMade, RecoversTree}
-use Rattle.nv_history.proofs.MadeTrees.{made_shown, one_keeps, one_more}
-use Rattle.nv_history.proofs.OneCall.{is_made, names_or_none, stop_leaves, tests_exist, tests_named}
+use Rattle.nv_history.specs.Stopping.{RunLeaves, MayBeDone, RecoversMade}
+use Rattle.nv_history.proofs.Growing.{MayHave, before_laid, chains_same, chains_then, made_laid}
+use Rattle.nv_history.proofs.MadeTrees.{behind_more, behind_same, made_shown, one_fixed, one_keeps, one_more}
+use Rattle.nv_history.proofs.OneCall.{BeforeOrMade, is_made, names_or_none, numbered, stop_leaves, tests_exist, tests_named}
 use Rattle.nv_history.proofs.Recoveries.{always}
-use Rattle.nv_super.specs.Layout.{Layout}
 
 -- So many calls were made, and the mount runs on as it did.
 pub record Going {P : Type 0} (region : P → Region) (fuse : P → FuseState) (calls : List Call) (old now : Mount P) (made : ℕ) : Type 0 where
-  pub trees : AreMadeOver old.layout (take made calls) (tree_of (region old.memory) old.rows) now.layout (tree_of (region now.memory) now.rows)
+  pub trees : AreMade old.sup (take made calls) (shown region old) (shown region now)
+  pub sup : now.sup ≡ supers_behind old.sup (take made calls)
+  pub chains : ChainsGrow old.layout now.layout
+  pub stays : grow_tables old.sup calls ≡ false → now.layout.chains ≡ old.layout.chains
+  pub keeps : has_upgrade calls ≡ false → grow_tables old.sup calls ≡ false → KeepsMount old now
   pub runs : now.stopped ≡ old.stopped
   pub begun : made ≡ 0 → now ≡ old
   pub stands : IsTrue old.stopped → made ≡ 0
-  pub keeps : change_tables calls ≡ false → KeepsMount old now
   pub faults : now.faults ≡ old.faults
   pub mode : now.read_only ≡ old.read_only
   pub as_long : size (region now.memory) ≡ size (region old.memory)
@@ -46,11 +50,14 @@ pub record Going {P : Type 0} (region : P → Region) (fuse : P → FuseState) (
 
 pub begins : {P : Type 0} (region : P → Region) (fuse : P → FuseState) (calls : List Call) (old : Mount P) → Going region fuse calls old old 0
 begins region fuse calls old = record {
-  trees = (let t = tree_of (region old.memory) old.rows in none old.layout old.layout t t refl (same_itself t));
+  trees = none old.sup (shown region old) (shown region old) (same_itself (shown region old));
+  sup = refl;
+  chains = chains_same old.layout old.layout refl;
+  stays = λ fixed. refl;
+  keeps = λ off fixed. record { sup = refl; layout = refl; faults = refl; read_only = refl };
   runs = refl;
   begun = λ zero. refl;
   stands = λ on. refl;
-  keeps = λ off. record { sup = refl; layout = refl; faults = refl; read_only = refl };
   faults = refl;
   mode = refl;
   as_long = refl;
@@ -64,65 +71,66 @@ off_or_on false off = refl
 pub one_refusal : (a b : Refusal) → ◌≡◌ {A = Result Answer Refusal} (Err a) (Err b) → a ≡ b
 one_refusal a b same = cc
 
--- ---- behind the last call
-
--- What a stop leaves shows what was made.
-shows_made : {P : Type 0} (region : P → Region) (m : Mount P) (l : Layout) (done : List Call) (t : Tree) → AreMadeOver l done t m.layout (tree_of (region m.memory) m.rows) → (left : Region) → IsAsMounted (region m.memory) m.layout m.rows m.free.pools left
-    → RecoversMade l done t left
-shows_made region m l done t made left w = record {
-  layout = m.layout;
-  rows = m.rows;
-  free = m.free.pools;
-  recovers = always left m.layout m.rows m.free.pools w.0;
-  made = made_shown made (tree_of (undone m.layout.sup left) m.rows) w.1;
-}
-
--- All calls were made.
-pub all_made : {P : Type 0} (region : P → Region) (fuse : P → FuseState) (calls : List Call) (old now : Mount P) (made : ℕ) → Going region fuse calls old now made → length calls ≤ made
-    → AreMadeOver old.layout calls (tree_of (region old.memory) old.rows) now.layout (tree_of (region now.memory) now.rows)
-all_made region fuse calls old now made going all = subst (λ (done : List Call). AreMadeOver old.layout done (tree_of (region old.memory) old.rows) now.layout (tree_of (region now.memory) now.rows)) (take_all made calls all) going.trees
-
--- What a stop leaves then.
-pub left_whole : {P : Type 0} (region : P → Region) (may_hold : P → Choices) (fuse : P → FuseState) (calls : List Call) (old now : Mount P) (made : ℕ) → Going region fuse calls old now made → length calls ≤ made
-    → LeavesOnly (region now.memory) (may_hold now.memory) (LeavesMounted (region now.memory) now)
-    → LeavesOnly (region now.memory) (may_hold now.memory) (RunLeaves old.layout calls (tree_of (region old.memory) old.rows) (Ok tt))
-left_whole region may_hold fuse calls old now made going all still left may =
-    ∥∥₁_map (still left may) (λ w. (calls, refl, shows_made region now old.layout calls (tree_of (region old.memory) old.rows) (all_made region fuse calls old now made going all) left w))
-
 none_there : (calls : List Call) → length calls ≤ 0 → calls ≡ []
 none_there [] few = refl
 none_there (call ∷ calls) few = absurd (omega (arith, few))
 
--- What the run keeps then.
-pub whole_keeps : {P : Type 0} (region : P → Region) (fuse : P → FuseState) (calls : List Call) (old now : Mount P) (made : ℕ) → Going region fuse calls old now made → length calls ≤ made → KeepsRun {T = ⊤} region fuse calls old now (Ok tt)
-whole_keeps region fuse calls old now made going all = record {
-  stopped_before = λ on. going.begun (going.stands on);
-  none_made = λ on. none_there calls (subst (λ (n : ℕ). length calls ≤ n) (going.stands on) all);
-  runs = going.runs;
-  stopped = tt;
-  burnt = λ off on. absurd (let clash : true ≡ false = sym on ∙ going.runs ∙ off in cc);
-  keeps = going.keeps;
-  faults = going.faults;
-  mode = going.mode;
-  laid = tt;
-  length = going.as_long;
-  keeps_fuse = going.burns;
-}
+-- what is kept of a mount
+abbrev pub Keeps : {P : Type 0} → (P → Region) → Mount P → Type 0
+Keeps region m = IsKept (region m.memory) m.sup m.layout m.rows m.free m.faults m.read_only m.stopped
+
+-- ---- behind the last call
+
+module _ {P : Type 0} (region : P → Region) (fuse : P → FuseState) (calls : List Call) (old now : Mount P) (made : ℕ) (going : Going region fuse calls old now made) where
+  -- What a stop leaves shows what was made.
+  shows_made : Keeps region now → (left : Region) → IsAsMounted (region now.memory) now.layout now.rows now.free.pools left → RecoversMade region old calls (take made calls) left
+  shows_made kept left w = record {
+    layout = now.layout;
+    rows = now.rows;
+    free = now.free.pools;
+    recovers = always left now.layout now.rows now.free.pools w.0;
+    sup = kept.tables ∙ going.sup;
+    chains = going.chains;
+    stays = going.stays;
+    made = made_shown going.trees (tree_of (undone now.layout.sup left) now.rows) w.1;
+  }
+
+  module _ (all : length calls ≤ made) where
+    -- All calls were made.
+    pub all_made : AreMade old.sup calls (shown region old) (shown region now)
+    all_made = subst (λ (done : List Call). AreMade old.sup done (shown region old) (shown region now)) (take_all made calls all) going.trees
+
+    -- What a stop leaves then.
+    pub left_whole : (may_hold : P → Choices) → Keeps region now → LeavesOnly (region now.memory) (may_hold now.memory) (LeavesMounted (region now.memory) now) → LeavesOnly (region now.memory) (may_hold now.memory) (RunLeaves region old calls (Ok tt))
+    left_whole may_hold kept still left may = ∥∥₁_map (still left may) (λ w. (take made calls, take_all made calls all, shows_made kept left w))
+
+    -- What the run keeps then.
+    pub whole_keeps : KeepsRun {T = ⊤} region fuse calls old now (Ok tt)
+    whole_keeps = record {
+      stopped_before = λ on. going.begun (going.stands on);
+      none_made = λ on. none_there calls (subst (λ (n : ℕ). length calls ≤ n) (going.stands on) all);
+      runs = going.runs;
+      stopped = tt;
+      burnt = λ off on. absurd (let clash : true ≡ false = sym on ∙ going.runs ∙ off in cc);
+      keeps = going.keeps;
+      sup = going.sup ∙ ap (supers_behind old.sup) (take_all made calls all);
+      chains = going.chains;
+      stays = going.stays;
+      faults = going.faults;
+      mode = going.mode;
+      front = tt;
+      length = going.as_long;
+      keeps_fuse = going.burns;
+    }
 
 -- ---- one call more
 
-module _ {P : Type 0} (region : P → Region) (may_hold : P → Choices) (fuse : P → FuseState) (calls : List Call) (old now next : Mount P) (made : ℕ) (going : Going region fuse calls old now made) (d : Call) (more : made < length calls) where
-  abbrev l : Layout
-  l = old.layout
-
+module _ {P : Type 0} (region : P → Region) (may_hold : P → Choices) (fuse : P → FuseState) (calls : List Call) (old now next : Mount P) (made : ℕ) (going : Going region fuse calls old now made) (kept : Keeps region now) (d : Call) (more : made < length calls) where
   abbrev call : Call
   call = get_or calls made d
 
-  abbrev first : Tree
-  first = tree_of (region old.memory) old.rows
-
   abbrev t : Tree
-  t = tree_of (region now.memory) now.rows
+  t = shown region now
 
   abbrev R : Region
   R = region now.memory
@@ -134,8 +142,19 @@ module _ {P : Type 0} (region : P → Region) (may_hold : P → Choices) (fuse :
   burns_on burns = keeps_more (λ limit past. subst (λ n. n ≤ limit) (sym going.as_long) past) going.burns burns
 
   -- the calls with this one
-  made_more : (k : Layout) (u : Tree) → IsLaidBy now.layout (said call) k → IsMadeBy k call t u → AreMadeOver l (take (made + 1) calls) first k u
-  made_more k u laid is = subst (λ (done : List Call). AreMadeOver l done first k u) (sym (take_more calls made d more)) (one_more going.trees call k u laid is)
+  made_more : (u : Tree) → IsMadeBy now.sup call t u → AreMade old.sup (take (made + 1) calls) (shown region old) u
+  made_more u is = subst (λ (done : List Call). AreMade old.sup done (shown region old) u) (sym (take_more calls made d more)) (one_more going.trees call u (subst (λ (s : Super). IsMadeBy s call t u) going.sup is))
+
+  -- the superblock behind them
+  sup_more : super_behind now.sup (said call) ≡ supers_behind old.sup (take (made + 1) calls)
+  sup_more = ap (λ (s : Super). super_behind s (said call)) going.sup ∙ sym (behind_more old.sup (take made calls) call) ∙ ap (supers_behind old.sup) (sym (take_more calls made d more))
+
+  -- where none lets a table grow, this one doesn't
+  call_fixed : grow_tables old.sup calls ≡ false → grows_tables now.sup (said call) ≡ false
+  call_fixed fixed = subst (λ (s : Super). grows_tables s (said call) ≡ false) (sym going.sup) (one_fixed old.sup calls made d more fixed)
+
+  call_keeps : has_upgrade calls ≡ false → is_upgrade (said call) ≡ false
+  call_keeps off = one_keeps calls made d more off
 
   -- ---- it is made
 
@@ -146,20 +165,27 @@ module _ {P : Type 0} (region : P → Region) (may_hold : P → Choices) (fuse :
     off : now.stopped ≡ false
     off = off_or_on now.stopped (λ on. (let clash : ◌≡◌ {A = Result Answer Refusal} (Ok answer) (Err Stopped) = (kept_made.stopped_before on).0 in cc))
 
+    has : MayHave now (said call) next.layout
+    has = made_laid now kept.tables next.layout (said call) kept_made.laid
+
     -- by names, since a text that says none is refused
-    is : IsMadeBy next.layout call t (tree_of (region next.memory) next.rows)
+    is : IsMadeBy now.sup call t (shown region next)
     is =
         let tests = tests_exist R now (said call) in
-        let named = tests_named R now (said call) tests.0 tests.1 (called.allowed tests.0 tests.1) in
-        is_made R now next.layout named.0 named.1 (tree_of (region next.memory) next.rows) call kept_made.laid named.2 (called.changed named.0 named.1 named.2)
+        let passes = called.allowed tests.0 tests.1 in
+        let named = tests_named R now (said call) tests.0 tests.1 passes in
+        is_made R now named.0 named.1 (shown region next) call (numbered R now kept off (said call) tests.0 tests.1 passes) named.2 (called.changed named.0 named.1 named.2)
 
     made_on : Going region fuse calls old next (made + 1)
     made_on = record {
-      trees = made_more next.layout (tree_of (region next.memory) next.rows) kept_made.laid is;
+      trees = made_more (shown region next) is;
+      sup = kept_made.sup ∙ sup_more;
+      chains = chains_then old.layout now.layout next.layout going.chains has.chains;
+      stays = λ fixed. has.stays (call_fixed fixed) ∙ going.stays fixed;
+      keeps = λ plain fixed. keeps_on (record { sup = kept_made.sup ∙ behind_same now.sup (said call) (call_keeps plain); layout = has.same (call_keeps plain) (call_fixed fixed); faults = kept_made.faults; read_only = kept_made.mode }) (going.keeps plain fixed);
       runs = off_or_on next.stopped (λ on. (let clash : ◌≡◌ {A = Result Answer Refusal} (Ok answer) (Err Stopped) = ((kept_made.stopped off).0 on).0 in cc)) ∙ sym off ∙ going.runs;
       begun = λ zero. absurd (omega (arith, zero));
       stands = λ on. absurd (let clash : true ≡ false = sym (going.runs ∙ on) ∙ off in cc);
-      keeps = λ fixed. keeps_on (kept_made.keeps (one_keeps calls made d more fixed)) (going.keeps fixed);
       faults = kept_made.faults ∙ going.faults;
       mode = kept_made.mode ∙ going.mode;
       as_long = kept_made.length ∙ going.as_long;
@@ -180,15 +206,19 @@ module _ {P : Type 0} (region : P → Region) (may_hold : P → Choices) (fuse :
     abbrev halted : Halted
     halted = record { made = made; refusal = e }
 
+    left_laid : MayHave now (said call) next.layout
+    left_laid = before_laid now kept.tables next.layout (said call) kept_refused.laid
+
     why : now.stopped ≡ false → RefusesCall R now call e
     why off = (let tests = tests_exist R now (said call) in (tests.0, tests.1, called.refused off tests.0 tests.1))
 
-    pub halts : (e ≡ Stopped → ⊥) → HaltsAt l first calls halted (region next.memory) next
+    pub halts : (e ≡ Stopped → ⊥) → HaltsAt old.sup (shown region old) calls halted (region next.memory) next
     halts runs =
         let same = kept_refused.unchanged runs in
         record {
           asked = now;
-          made = subst (λ (p : P). AreMadeOver l (take made calls) first now.layout (tree_of (region p) now.rows)) (sym same.memory) going.trees;
+          made = subst (λ (p : P). AreMade old.sup (take made calls) (shown region old) (tree_of (region p) now.rows)) (sym same.memory) going.trees;
+          sup = going.sup;
           same = same;
           why = (call, slice_get-get_or calls made d more, subst (λ (p : P). RefusesCall (region p) now call e) (sym same.memory) (why (off_or_on now.stopped (λ on. runs (one_refusal e Stopped (kept_refused.stopped_before on).0)))));
         }
@@ -201,10 +231,13 @@ module _ {P : Type 0} (region : P → Region) (may_hold : P → Choices) (fuse :
       runs = tt;
       stopped = by now.stopped refl;
       burnt = λ off on. ((kept_refused.stopped (going.runs ∙ off)).0 on).1;
-      keeps = λ fixed. keeps_on (kept_refused.keeps (one_keeps calls made d more fixed)) (going.keeps fixed);
+      keeps = λ plain fixed. keeps_on (record { sup = kept_refused.sup; layout = left_laid.same (call_keeps plain) (call_fixed fixed); faults = kept_refused.faults; read_only = kept_refused.mode }) (going.keeps plain fixed);
+      sup = kept_refused.sup ∙ going.sup;
+      chains = chains_then old.layout now.layout next.layout going.chains left_laid.chains;
+      stays = λ fixed. left_laid.stays (call_fixed fixed) ∙ going.stays fixed;
       faults = kept_refused.faults ∙ going.faults;
       mode = kept_refused.mode ∙ going.mode;
-      laid = (t, subst (λ (k : Layout). AreMadeOver l (take made calls) first k t) (sym kept_refused.laid) going.trees);
+      front = (t, going.trees);
       length = kept_refused.length ∙ going.as_long;
       keeps_fuse = burns_on kept_refused.keeps_fuse;
     } where
@@ -213,31 +246,50 @@ module _ {P : Type 0} (region : P → Region) (may_hold : P → Choices) (fuse :
       by false off = ((λ is. (kept_refused.stopped off).1 (ap (λ (f : Refusal). Err f) is)), (λ at. one_refusal e Stopped ((kept_refused.stopped off).0 at).0))
 
     abbrev Left : Region → Type 0
-    Left left = (done : List Call) × MayBeDone calls (Err halted) done × RecoversMade l done first left
+    Left left = (done : List Call) × MayBeDone calls (Err halted) done × RecoversMade region old calls done left
 
     -- What a stop leaves where all stays as it was.
-    stays : SameMount now next → LeavesOnly R (may_hold now.memory) (LeavesMounted R now) → LeavesOnly (region next.memory) (may_hold next.memory) (RunLeaves l calls first (Err halted))
-    stays same still =
-        subst (λ (p : P). LeavesOnly (region p) (may_hold p) (RunLeaves l calls first (Err halted))) (sym same.memory)
-        (λ left may. ∥∥₁_map (still left may) (λ w. (take made calls, inl refl, shows_made region now l (take made calls) first going.trees left w)))
+    stays_left : SameMount now next → LeavesOnly R (may_hold now.memory) (LeavesMounted R now) → LeavesOnly (region next.memory) (may_hold next.memory) (RunLeaves region old calls (Err halted))
+    stays_left same still =
+        subst (λ (p : P). LeavesOnly (region p) (may_hold p) (RunLeaves region old calls (Err halted))) (sym same.memory)
+        (λ left may. ∥∥₁_map (still left may) (λ w. (take made calls, inl refl, shows_made region fuse calls old now made going kept left w)))
 
-    by_trees : e ≡ Stopped → (left : Region) → RecoversTree now.layout (λ u. SameTree u t) left ⊎ RecoversCall now.layout call t left → Left left
+    by_trees : e ≡ Stopped → (left : Region) → BeforeOrMade R now call left → Left left
     by_trees stop left (inl w) = (
       take made calls,
       inl refl,
-      record { layout = now.layout; rows = w.rows; free = w.free; recovers = always left now.layout w.rows w.free w.recovers; made = made_shown going.trees (tree_of (undone now.layout.sup left) w.rows) w.shows },
+      record {
+        layout = w.layout;
+        rows = w.rows;
+        free = w.free;
+        recovers = always left w.layout w.rows w.free w.recovers;
+        sup = w.sup ∙ going.sup;
+        chains = chains_then old.layout now.layout w.layout going.chains w.laid.chains;
+        stays = λ fixed. w.laid.stays (call_fixed fixed) ∙ going.stays fixed;
+        made = made_shown going.trees (tree_of (undone w.layout.sup left) w.rows) w.shows;
+      },
     )
-    by_trees stop left (inr (k, laid, w)) = (
+    by_trees stop left (inr w) = (
       take (made + 1) calls,
       inr (stop, refl),
-      record { layout = k; rows = w.rows; free = w.free; recovers = always left k w.rows w.free w.recovers; made = made_more k (tree_of (undone k.sup left) w.rows) laid w.shows },
+      record {
+        layout = w.layout;
+        rows = w.rows;
+        free = w.free;
+        recovers = always left w.layout w.rows w.free w.recovers;
+        sup = w.sup ∙ sup_more;
+        chains = chains_then old.layout now.layout w.layout going.chains w.laid.chains;
+        stays = λ fixed. w.laid.stays (call_fixed fixed) ∙ going.stays fixed;
+        made = made_more (tree_of (undone w.layout.sup left) w.rows) w.shows;
+      },
     )
 
     -- What a stop leaves at any exit of the call: a call whose texts say no names leaves all as it was.
-    pub left_halted : now.stopped ≡ false → now.read_only ≡ false → LeavesOnly R (may_hold now.memory) (LeavesMounted R now) → LeavesOnly (region next.memory) (may_hold next.memory) (RunLeaves l calls first (Err halted))
+    pub left_halted : now.stopped ≡ false → now.read_only ≡ false → LeavesOnly R (may_hold now.memory) (LeavesMounted R now) → LeavesOnly (region next.memory) (may_hold next.memory) (RunLeaves region old calls (Err halted))
     left_halted off writes still = by next.stopped refl (names_or_none (said call)) where
       by : (b : Bool) → next.stopped ≡ b → ((names : List (List ℕ)) × (others : List (List ℕ)) × AreNames (said call) names others) ⊎ ((names others : List (List ℕ)) → AreNames (said call) names others → ⊥)
-          → LeavesOnly (region next.memory) (may_hold next.memory) (RunLeaves l calls first (Err halted))
-      by true on (inl (names, others, are)) = λ left may. ∥∥₁_map (stop_leaves R now names others left call are (called.any_stop names others are off writes left may)) (λ w. by_trees (one_refusal e Stopped ((kept_refused.stopped off).0 on).0) left w)
-      by true on (inr nowhere) = stays (called.bad_text nowhere) still
-      by false runs are = stays (kept_refused.unchanged (λ is. absurd (let clash : true ≡ false = sym ((kept_refused.stopped off).1 (ap (λ (f : Refusal). Err f) is)) ∙ runs in cc))) still
+          → LeavesOnly (region next.memory) (may_hold next.memory) (RunLeaves region old calls (Err halted))
+      by true on (inl (names, others, are)) = λ left may. ∥∥₁_map (stop_leaves R now kept off writes left names others call are (called.any_stop names others are off writes left may))
+          (λ w. by_trees (one_refusal e Stopped ((kept_refused.stopped off).0 on).0) left w)
+      by true on (inr nowhere) = stays_left (called.bad_text nowhere) still
+      by false runs are = stays_left (kept_refused.unchanged (λ is. absurd (let clash : true ≡ false = sym ((kept_refused.stopped off).1 (ap (λ (f : Refusal). Err f) is)) ∙ runs in cc))) still

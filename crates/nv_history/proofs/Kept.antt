@@ -1,23 +1,24 @@
 -- What comes of a call, by what the contract of its method says.
-use Rattle.std.proofs.Common.{◌≡◌, ℕ, Bool, true, false, IsTrue, List, Option, Some, None, Result, Ok, Err, IfErr, IfOk, OnOk, refl, sym, ap, subst}
+use Rattle.std.proofs.Common.{◌≡◌, ℕ, false, List, None, Result, Ok, Err, IfErr, IfOk, OnOk, sym, ap, ◌∙◌, subst}
 use Rattle.std.specs.Prelude.{MatchResult}
 use Rattle.nv_region.specs.Region.{Region}
 use Rattle.nv_region.specs.Fuses.{FuseState}
 use Rattle.nv_region.specs.Stops.{Choices, LeavesOnly}
 use Rattle.nv_tree.specs.Tree.{SameTree}
+use Rattle.nv_paths.specs.Spots.{new_number}
 use Rattle.nv_tree.specs.Refusals.{Tests, first_refusal, IsRefusedBy}
 use Rattle.nv_tree.specs.declared.refusal.Refusal.{Refusal}
 use Rattle.nv_tree.specs.declared.refusal.Refusal.TheVariants.{Stopped}
-use Rattle.nv_calls.specs.Keeping.{KeepsCall}
+use Rattle.nv_calls.specs.Keeping.{KeepsCall, KeepsCallBy}
 use Rattle.nv_calls.specs.Mount.{Mount, shown}
-use Rattle.nv_calls.specs.Same.{SameMount}
+use Rattle.nv_calls.specs.Same.{GrowsMount, IsLaidFor, GrowsWhereFull, SameMount}
 use Rattle.nv_calls.specs.Upgrading.{KeepsUpgrade, Upgrades}
 use Rattle.nv_calls.proofs.RowChange.{same_mount}
 use Rattle.nv_history.specs.declared.calls.Answer.{Answer}
 use Rattle.nv_history.specs.Said.{Said, Upgrade}
-use Rattle.nv_history.specs.Making.{IsLaidBy}
+use Rattle.nv_history.specs.Making.{super_behind}
 use Rattle.nv_history.specs.Asking.{AreTestsOf}
-use Rattle.nv_history.specs.Keeping.{KeepsCalled}
+use Rattle.nv_history.specs.Keeping.{IsLaidBy, KeepsCalled, MayBeLaid}
 use Rattle.nv_history.specs.Called.{AreNames, Called, answered_by, call_logs, call_makes, call_stops}
 
 -- ---- tests
@@ -36,13 +37,14 @@ both_ways (Err e) Made Before made before = before
 
 module _ {P A : Type 0} (region : P → Region) (fuse : P → FuseState) (old new : Mount P) (r : Result A Refusal) where
   -- by a call that changes no tables
-  pub of_call : (call : Said) → (new.layout ≡ old.layout → IsLaidBy old.layout call new.layout) → KeepsCall region fuse old new r → KeepsCalled region fuse call old new r
-  of_call call laid kept = record {
+  pub of_call : (call : Said) → super_behind old.sup call ≡ old.sup → (new.layout ≡ old.layout → IsLaidBy call old new.layout) → (new.layout ≡ old.layout → MayBeLaid call old new.layout) → KeepsCall region fuse old new r
+      → KeepsCalled region fuse call old new r
+  of_call call behind made refused kept = record {
     stopped_before = kept.stopped_before;
     unchanged = kept.unchanged;
     stopped = kept.stopped;
-    laid = both_ways r _ _ (laid kept.keeps.layout) kept.keeps.layout;
-    keeps = λ off. kept.keeps;
+    sup = both_ways r _ _ (kept.keeps.sup ∙ sym behind) kept.keeps.sup;
+    laid = both_ways r _ _ (made kept.keeps.layout) (refused kept.keeps.layout);
     faults = kept.keeps.faults;
     mode = kept.keeps.read_only;
     length = kept.length;
@@ -50,14 +52,33 @@ module _ {P A : Type 0} (region : P → Region) (fuse : P → FuseState) (old ne
     read_only = kept.read_only;
   }
 
+  -- by one that makes an inode
+  pub of_inode : (cpu : ℕ) (call : Said) → super_behind old.sup call ≡ old.sup → (GrowsWhereFull old cpu new.layout × IsLaidFor old.layout cpu (new_number old.layout old.rows cpu) new.layout → IsLaidBy call old new.layout)
+      → (GrowsWhereFull old cpu new.layout → MayBeLaid call old new.layout) → KeepsCallBy (GrowsMount cpu) region fuse old new r → OnOk r (IsLaidFor old.layout cpu (new_number old.layout old.rows cpu) new.layout) → KeepsCalled region fuse call old new r
+  of_inode cpu call behind made refused kept laid_for = record {
+    stopped_before = kept.stopped_before;
+    unchanged = kept.unchanged;
+    stopped = kept.stopped;
+    sup = both_ways r _ _ (kept.keeps.sup ∙ sym behind) kept.keeps.sup;
+    laid = laid_by r laid_for;
+    faults = kept.keeps.faults;
+    mode = kept.keeps.read_only;
+    length = kept.length;
+    keeps_fuse = kept.keeps_fuse;
+    read_only = kept.read_only;
+  } where
+    laid_by : (x : Result A Refusal) → OnOk x (IsLaidFor old.layout cpu (new_number old.layout old.rows cpu) new.layout) → MatchResult x (λ _. IsLaidBy call old new.layout) (λ _. MayBeLaid call old new.layout)
+    laid_by (Ok a) is = made (kept.keeps.tables, is)
+    laid_by (Err e) is = refused kept.keeps.tables
+
   -- by `upgrade`
   pub of_upgrade : KeepsUpgrade region fuse old new r → OnOk r (Upgrades region old new) → KeepsCalled region fuse Upgrade old new r
   of_upgrade kept upgrades = record {
     stopped_before = kept.stopped_before;
     unchanged = still r kept.unchanged;
     stopped = kept.stopped;
+    sup = superblock r kept.tables upgrades;
     laid = tables r kept.tables upgrades;
-    keeps = λ off. absurd (cc);
     faults = kept.faults;
     mode = kept.mode;
     length = kept.length;
@@ -71,7 +92,11 @@ module _ {P A : Type 0} (region : P → Region) (fuse : P → FuseState) (old ne
     still (Ok a) same = tt
     still (Err e) same = λ runs. as_same (same runs)
 
-    tables : (x : Result A Refusal) → IfErr x (λ e. (new.sup ≡ old.sup) × (new.layout ≡ old.layout)) → OnOk x (Upgrades region old new) → MatchResult x (λ _. IsLaidBy old.layout Upgrade new.layout) (λ _. new.layout ≡ old.layout)
+    superblock : (x : Result A Refusal) → IfErr x (λ e. (new.sup ≡ old.sup) × (new.layout ≡ old.layout)) → OnOk x (Upgrades region old new) → MatchResult x (λ _. new.sup ≡ super_behind old.sup Upgrade) (λ _. new.sup ≡ old.sup)
+    superblock (Ok a) before made = made.sup
+    superblock (Err e) before made = before.0
+
+    tables : (x : Result A Refusal) → IfErr x (λ e. (new.sup ≡ old.sup) × (new.layout ≡ old.layout)) → OnOk x (Upgrades region old new) → MatchResult x (λ _. IsLaidBy Upgrade old new.layout) (λ _. MayBeLaid Upgrade old new.layout)
     tables (Ok a) before made = made.layout
     tables (Err e) before made = before.1
 
@@ -81,8 +106,8 @@ kept_answered {P} {A} region fuse call old new answer (Ok a) kept = record {
   stopped_before = λ on. absurd (let clash : ◌≡◌ {A = Result A Refusal} (Ok a) (Err Stopped) = (kept.stopped_before on).0 in cc);
   unchanged = tt;
   stopped = λ runs. ((λ on. absurd (let clash : ◌≡◌ {A = Result A Refusal} (Ok a) (Err Stopped) = ((kept.stopped runs).0 on).0 in cc)), (λ is. absurd (cc)));
+  sup = kept.sup;
   laid = kept.laid;
-  keeps = kept.keeps;
   faults = kept.faults;
   mode = kept.mode;
   length = kept.length;
@@ -93,8 +118,8 @@ kept_answered {P} {A} region fuse call old new answer (Err e) kept = record {
   stopped_before = λ on. (let told = kept.stopped_before on in (same_stop told.0, told.1));
   unchanged = kept.unchanged;
   stopped = λ runs. (let told = kept.stopped runs in ((λ on. (same_stop (told.0 on).0, (told.0 on).1)), (λ is. told.1 (other_stop is))));
+  sup = kept.sup;
   laid = kept.laid;
-  keeps = kept.keeps;
   faults = kept.faults;
   mode = kept.mode;
   length = kept.length;

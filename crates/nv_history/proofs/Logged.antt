@@ -22,7 +22,7 @@ use Rattle.nv_calls.specs.RemoveCalls.{ShowsRemoved}
 use Rattle.nv_calls.specs.SizeCall.{ShowsResizedLog}
 use Rattle.nv_calls.specs.WriteCall.{ShowsLogWrite}
 use Rattle.nv_paths.specs.Seen.{LeadsTo, tree_of}
-use Rattle.nv_rows.specs.Unused.{unused_number}
+use Rattle.nv_paths.specs.Spots.{new_number}
 use Rattle.nv_history.specs.declared.calls.Answer.{Answer}
 use Rattle.nv_history.specs.declared.calls.Answer.TheVariants.{Done}
 
@@ -33,7 +33,7 @@ done_logged (Err e) Logged logged = tt
 
 module _ {P : Type 0} (S T : Region) (m : Mount P) (names : List (List ℕ)) where
   pub inode_logged : (kind : Kind) (cpu mode time : ℕ) (answer : Result (Unit {0}) Refusal)
-      → ((d j : ℕ) (held : Store) (h : Held) → walk (tree_of S m.rows) 1 names ≡ Ok d → unused_number m.layout m.rows cpu ≡ Some j → ShowsSound S m.layout held → held d ≡ Some h → OnOk answer (ShowsCreated T m.layout m.free.pools cpu held kind mode time j d h (last_name names)))
+      → ((d j : ℕ) (held : Store) (h : Held) → walk (tree_of S m.rows) 1 names ≡ Ok d → new_number m.layout m.rows cpu ≡ Some j → ShowsSound S m.layout held → held d ≡ Some h → OnOk answer (ShowsCreated T m.layout m.free.pools cpu held kind mode time j d h (last_name names)))
       → OnOk answer (logs_inode kind cpu mode time S m names T)
   inode_logged kind cpu mode time (Ok done) log = log
   inode_logged kind cpu mode time (Err e) log = tt

@@ -1,44 +1,50 @@
 -- What comes of one call, by what its texts say: a row for each call.
-use Rattle.std.proofs.Common.{◌≡◌, ◌⊎◌, ℕ, ◌+◌, Bool, true, false, not, eqb, ◌==◌, nat_lt, inl, inr, List, [], ◌∷◌, length, refl, sym, ap, ◌∙◌, subst, Option, Some, None, Result, Ok, Err, IfErr, IfOk, OnOk}
+use Rattle.std.proofs.Common.{◌≡◌, ◌⊎◌, ℕ, ◌+◌, Bool, true, false, not, eqb, nat_lt, inl, inr, List, [], ◌∷◌, length, refl, sym, ap, ◌∙◌, subst, Option, Some, None, arith}
+use Rattle.std.specs.Prelude.{◌<◌, ⊤}
 use Rattle.std.proofs.Math.Logic.{∥∥₁_map}
+use Rattle.std.proofs.lemmas.Bool.Decides.{nat_tests}
 use Rattle.nv_region.specs.Region.{Region}
 use Rattle.nv_super.specs.Layout.{Layout}
+use Rattle.nv_super.specs.declared.superblock.Super.{Super}
+use Rattle.nv_super.specs.declared.owners.Run.{Run}
+use Rattle.nv_super.specs.declared.kind.Kind.{Kind}
 use Rattle.nv_super.specs.declared.kind.Kind.TheVariants.{File, Directory}
-use Rattle.nv_inode.specs.Upgraded.{upgraded_layout}
+use Rattle.nv_inode.specs.Upgraded.{upgraded, upgraded_layout}
 use Rattle.nv_bytes.specs.Data.{data_bytes}
 use Rattle.nv_journal.specs.Undo.{undone}
-use Rattle.nv_rows.specs.Unused.{unused_number}
-use Rattle.nv_tree.specs.declared.refusal.Refusal.{Refusal}
+use Rattle.nv_scan.specs.declared.piece.Row.{Row}
+use Rattle.nv_paths.specs.Spots.{new_number}
 use Rattle.nv_tree.specs.declared.refusal.Refusal.TheVariants.{BadCpu, BadName, IsVersion2, ReadOnly}
 use Rattle.nv_tree.specs.Calls.{created}
 use Rattle.nv_tree.specs.Path.{IsPath, Says}
 use Rattle.nv_tree.specs.Tree.{SameTree, Tree}
-use Rattle.nv_tree.specs.Refusals.{Path, Tests, World, first_refusal, is_bad_name, writing, IsRefusedBy}
+use Rattle.nv_tree.specs.Refusals.{Path, Tests, World, first_refusal, is_bad_name, writing}
 use Rattle.nv_tree.specs.Refusals.{clean_tests, create_tests, link_tests, rename_tests, rmdir_tests, set_attr_tests, set_size_tests, stat_tests, unlink_tests, upgrade_tests, write_tests}
 use Rattle.nv_tree.proofs.Texts.{says_one, text_says}
 use Rattle.nv_paths.specs.Seen.{tree_of}
 use Rattle.nv_calls.specs.AttributesCall.{attributes_blocks}
 use Rattle.nv_calls.specs.Effects.{LogsBytes, LogsUnlink, logs_attributes, logs_inode, logs_link, logs_page_less, logs_removal, logs_rename, logs_size}
-use Rattle.nv_calls.specs.Effects.{makes_attributes, makes_bytes, makes_inode, makes_link, makes_no_change, makes_removal, makes_rename, makes_size, makes_unlink}
+use Rattle.nv_calls.specs.Effects.{makes_inode}
 use Rattle.nv_calls.specs.LinkCalls.{link_blocks}
-use Rattle.nv_calls.specs.Mount.{Mount}
+use Rattle.nv_calls.specs.Mount.{IsKept, Mount}
 use Rattle.nv_calls.specs.MoveCalls.{rename_blocks}
 use Rattle.nv_calls.specs.NameCalls.{create_blocks, name_blocks}
 use Rattle.nv_calls.specs.SizeCall.{resized_blocks}
-use Rattle.nv_calls.specs.Stopped.{IsAsMade, IsAsMounted, StopLeaves}
+use Rattle.nv_calls.specs.Same.{GrowsWhereFull}
+use Rattle.nv_calls.specs.Stopped.{IsAsMade, IsAsMounted, MayHaveGrown, RecoversTo, StopLeaves}
 use Rattle.nv_calls.specs.UnlinkCalls.{unlink_blocks}
 use Rattle.nv_calls.specs.World.{world_of}
-use Rattle.nv_calls.specs.WriteCall.{WriteNeeds}
 use Rattle.nv_calls.proofs.Allowed.{first_passes}
 use Rattle.nv_calls.proofs.NeedsExist.{write_needs}
 use Rattle.nv_history.specs.declared.calls.Call.{Call}
 use Rattle.nv_history.specs.declared.calls.Call.TheVariants as calls
 use Rattle.nv_history.specs.Said.{Said, said, Create, MakeDirectory, Write, SetSize, SetAttributes, Link, Unlink, RemoveDirectory, Rename, Clean, Upgrade}
-use Rattle.nv_history.specs.Making.{ByPath, ByPaths, IsLaidBy, IsMadeBy, lowest_unused}
+use Rattle.nv_history.specs.Making.{IsMadeBy, lowest_unused, super_behind}
+use Rattle.nv_history.specs.Keeping.{MayBeLaid}
 use Rattle.nv_history.specs.Asking.{AreTestsOf, AskedBy, AskedByBoth}
 use Rattle.nv_history.specs.Called.{AreNames, AreTwoPaths, IsOnePath, call_makes, call_stops}
-use Rattle.nv_history.specs.Stopping.{BeforeOrMade, RecoversCall, RecoversTree}
-use Rattle.nv_history.proofs.MadeTrees.{lowest_is}
+use Rattle.nv_history.proofs.Growing.{MayHave, before_laid, made_laid}
+use Rattle.nv_history.proofs.NewNumbers.{number_given, numbers_same}
 
 -- ---- names
 
@@ -133,6 +139,13 @@ can_write w cpu tests all is none = by (not (nat_lt cpu w.cpus)) w.read_only (ap
   by false true none = absurd (cc)
   by false false none = refl
 
+-- and the one before it
+cpu_there : (w : World) (cpu : ℕ) (tests all : Tests) → all ≡ writing w cpu tests → first_refusal all ≡ None → cpu < w.cpus
+cpu_there w cpu tests all is none = by (nat_lt cpu w.cpus) refl (ap first_refusal (sym is) ∙ none) where
+  by : (inside : Bool) → nat_lt cpu w.cpus ≡ inside → first_refusal ((not inside, BadCpu) ∷ (w.read_only, ReadOnly) ∷ tests) ≡ None → cpu < w.cpus
+  by true test none = grind (arith, nat_tests)
+  by false test none = absurd (cc)
+
 one_named : (text : List ℕ) (asked : Path → Tests) (tests : Tests) → (first_refusal (asked None) ≡ None → ⊥) → AskedBy text asked tests → first_refusal tests ≡ None → (names : List (List ℕ)) × (others : List (List ℕ)) × IsOnePath text names others
 one_named text asked tests bad (None, says, is) none = absurd (bad (ap first_refusal (sym is) ∙ none))
 one_named text asked tests bad (Some names, says, is) none = (names, [], (says, refl))
@@ -157,7 +170,7 @@ module _ {P : Type 0} (R : Region) (m : Mount P) where
   w = world_of m
 
   abbrev create_asked : ℕ → Path → Tests
-  create_asked cpu p = create_tests w t cpu p (create_blocks m.rows t p)
+  create_asked cpu p = create_tests w t cpu p (create_blocks m.layout m.rows cpu t p)
 
   abbrev size_asked : ℕ → ℕ → Path → Tests
   size_asked cpu size p = set_size_tests w t cpu p size (resized_blocks m.rows t p size)
@@ -231,58 +244,159 @@ module _ {P : Type 0} (R : Region) (m : Mount P) where
 
   -- ---- what is made
 
-  module _ (k : Layout) (names others : List (List ℕ)) (u : Tree) where
-    -- the number of a new inode is that by the tree
-    numbered : (cpu : ℕ) (made : Option ℕ → Tree) → k ≡ m.layout → SameTree u (made (unused_number m.layout m.rows cpu)) → SameTree u (made (lowest_unused k t cpu))
-    numbered cpu made laid same =
-        subst (λ (l : Layout). SameTree u (made (lowest_unused l t cpu))) (sym laid)
-        (subst (λ (o : Option ℕ). SameTree u (made o)) (sym (lowest_is m.layout R m.rows cpu)) same)
+  abbrev Kept : Type 0
+  Kept = IsKept R m.sup m.layout m.rows m.free m.faults m.read_only m.stopped
 
-    pub is_made : (call : Call) → IsLaidBy m.layout (said call) k → AreNames (said call) names others → SameTree u (call_makes (said call) others R m names) → IsMadeBy k call t u
-    is_made (calls.Create cpu path mode time) laid is same = (names, is.0, numbered cpu (λ o. created File o names mode time t) laid same)
-    is_made (calls.MakeDirectory cpu path mode time) laid is same = (names, is.0, numbered cpu (λ o. created Directory o names mode time t) laid same)
-    is_made (calls.Write cpu path offset content time) laid is same = (names, is.0, same)
-    is_made (calls.SetSize cpu path size time) laid is same = (names, is.0, same)
-    is_made (calls.SetAttributes cpu path mode owner group time) laid is same = (names, is.0, same)
-    is_made (calls.Link cpu old new time) laid is same = (names, others, is.0, is.1, same)
-    is_made (calls.Unlink cpu path time) laid is same = (names, is.0, same)
-    is_made (calls.RemoveDirectory cpu path time) laid is same = (names, is.0, same)
-    is_made (calls.Rename cpu old new time) laid is same = (names, others, is.0, is.1, same)
-    is_made (calls.Clean path) laid is same = (names, is.0, same)
-    is_made calls.Upgrade laid is same = same
+  -- the number of a new inode is that by the tree
+  abbrev pub IsNumbered : Said → Type 0
+  IsNumbered (Create cpu path mode time) = lowest_unused m.sup t cpu ≡ new_number m.layout m.rows cpu
+  IsNumbered (MakeDirectory cpu path mode time) = lowest_unused m.sup t cpu ≡ new_number m.layout m.rows cpu
+  IsNumbered _ = ⊤
+
+  pub numbered : Kept → m.stopped ≡ false → (call : Said) (tests : Tests) → AreTestsOf R m call tests → first_refusal tests ≡ None → IsNumbered call
+  numbered kept runs (Create cpu path mode time) tests asked none = numbers_same kept runs (can_write w cpu _ tests asked.2 none) cpu (cpu_there w cpu _ tests asked.2 none)
+  numbered kept runs (MakeDirectory cpu path mode time) tests asked none = numbers_same kept runs (can_write w cpu _ tests asked.2 none) cpu (cpu_there w cpu _ tests asked.2 none)
+  numbered kept runs (Write cpu path offset bytes time) tests asked none = tt
+  numbered kept runs (SetSize cpu path size time) tests asked none = tt
+  numbered kept runs (SetAttributes cpu path mode owner group time) tests asked none = tt
+  numbered kept runs (Link cpu old new time) tests asked none = tt
+  numbered kept runs (Unlink cpu path time) tests asked none = tt
+  numbered kept runs (RemoveDirectory cpu path time) tests asked none = tt
+  numbered kept runs (Rename cpu old new time) tests asked none = tt
+  numbered kept runs (Clean path) tests asked none = tt
+  numbered kept runs Upgrade tests asked none = tt
+
+  module _ (names others : List (List ℕ)) (u : Tree) where
+    by_number : (cpu : ℕ) (made : Option ℕ → Tree) → lowest_unused m.sup t cpu ≡ new_number m.layout m.rows cpu → SameTree u (made (new_number m.layout m.rows cpu)) → SameTree u (made (lowest_unused m.sup t cpu))
+    by_number cpu made same is = subst (λ (o : Option ℕ). SameTree u (made o)) (sym same) is
+
+    pub is_made : (call : Call) → IsNumbered (said call) → AreNames (said call) names others → SameTree u (call_makes (said call) others R m names) → IsMadeBy m.sup call t u
+    is_made (calls.Create cpu path mode time) number is same = (names, is.0, by_number cpu (λ o. created File o names mode time t) number same)
+    is_made (calls.MakeDirectory cpu path mode time) number is same = (names, is.0, by_number cpu (λ o. created Directory o names mode time t) number same)
+    is_made (calls.Write cpu path offset content time) number is same = (names, is.0, same)
+    is_made (calls.SetSize cpu path size time) number is same = (names, is.0, same)
+    is_made (calls.SetAttributes cpu path mode owner group time) number is same = (names, is.0, same)
+    is_made (calls.Link cpu old new time) number is same = (names, others, is.0, is.1, same)
+    is_made (calls.Unlink cpu path time) number is same = (names, is.0, same)
+    is_made (calls.RemoveDirectory cpu path time) number is same = (names, is.0, same)
+    is_made (calls.Rename cpu old new time) number is same = (names, others, is.0, is.1, same)
+    is_made (calls.Clean path) number is same = (names, is.0, same)
+    is_made calls.Upgrade number is same = same
 
   -- ---- what a stop leaves
 
-  abbrev Left : Call → Region → Type 0
-  Left call left = RecoversTree m.layout (λ u. SameTree u t) left ⊎ RecoversCall m.layout call t left
+  -- Recovery finds rows and free lists without faults, whose tree is of this kind, in tables of this superblock that a call may leave.
+  pub record RecoversTree (call : Said) (s : Super) (IsShown : Tree → Type 0) (left : Region) : Type 0 where
+    pub layout : Layout
+    pub sup : layout.sup ≡ s
+    pub laid : MayHave m call layout
+    pub rows : List Row
+    pub free : List (List Run)
+    pub recovers : RecoversTo left layout rows free
+    pub shows : IsShown (tree_of (undone layout.sup left) rows)
 
-  mounted_left : (call : Call) (left : Region) → IsAsMounted R m.layout m.rows m.free.pools left → Left call left
-  mounted_left call left is = inl (record { rows = m.rows; free = m.free.pools; recovers = is.0; shows = is.1 })
+  -- recovery finds the tree that there was, or what a call makes of it
+  abbrev pub BeforeOrMade : Call → Region → Type 0
+  BeforeOrMade call left = RecoversTree (said call) m.sup (λ u. SameTree u t) left ⊎ RecoversTree (said call) (super_behind m.sup (said call)) (λ u. IsMadeBy m.sup call t u) left
 
-  module _ (names others : List (List ℕ)) (left : Region) where
-    -- a call that changes no tables
-    made_left : (call : Call) (Logged : Region → Type 0) → IsLaidBy m.layout (said call) m.layout → AreNames (said call) names others
-        → StopLeaves R m.layout m.rows m.free.pools (call_makes (said call) others R m names) Logged left → BeforeOrMade m.layout call t left
-    made_left call Logged laid is known = ∥∥₁_map known by where
-      by : IsAsMounted R m.layout m.rows m.free.pools left ⊎ IsAsMade m.layout (call_makes (said call) others R m names) Logged left → Left call left
-      by (inl mounted) = mounted_left call left mounted
-      by (inr made) = inr (m.layout, laid, record { rows = made.rows; free = made.free; recovers = made.recovers; shows = is_made m.layout names others (tree_of (undone m.layout.sup left) made.rows) call laid is made.tree })
+  module _ (kept : Kept) (runs : m.stopped ≡ false) (writes : m.read_only ≡ false) (left : Region) where
+    -- what was mounted, in such tables
+    mounted_left : (call : Call) (l : Layout) (free : List (List Run)) → l.sup ≡ m.sup → MayHave m (said call) l → IsAsMounted R l m.rows free left → BeforeOrMade call left
+    mounted_left call l free sup laid is = inl (record { layout = l; sup = sup; laid = laid; rows = m.rows; free = free; recovers = is.0; shows = is.1 })
 
-    upgraded_left : call_stops Upgrade others R m names left → BeforeOrMade m.layout calls.Upgrade t left
-    upgraded_left known = ∥∥₁_map known by where
-      by : IsAsMounted R m.layout m.rows m.free.pools left ⊎ IsAsMounted R (upgraded_layout m.layout) m.rows m.free.pools left → Left calls.Upgrade left
-      by (inl mounted) = mounted_left calls.Upgrade left mounted
-      by (inr later) = inr (upgraded_layout m.layout, refl, record { rows = m.rows; free = m.free.pools; recovers = later.0; shows = later.1 })
+    module _ (names others : List (List ℕ)) where
+      -- a call that changes no tables
+      plain_left : (call : Call) (Logged : Region → Type 0) → IsNumbered (said call) → MayHave m (said call) m.layout → super_behind m.sup (said call) ≡ m.sup → AreNames (said call) names others
+          → StopLeaves R m.layout m.rows m.free.pools (call_makes (said call) others R m names) Logged left → ∥ (BeforeOrMade call left) ∥₁
+      plain_left call Logged number laid behind is known = ∥∥₁_map known by where
+        by : IsAsMounted R m.layout m.rows m.free.pools left ⊎ IsAsMade m.layout (call_makes (said call) others R m names) Logged left → BeforeOrMade call left
+        by (inl mounted) = mounted_left call m.layout m.free.pools kept.tables laid mounted
+        by (inr made) = inr (record {
+          layout = m.layout;
+          sup = kept.tables ∙ sym behind;
+          laid = laid;
+          rows = made.rows;
+          free = made.free;
+          recovers = made.recovers;
+          shows = is_made names others (tree_of (undone m.layout.sup left) made.rows) call number is made.tree;
+        })
 
-    pub stop_leaves : (call : Call) → AreNames (said call) names others → call_stops (said call) others R m names left → BeforeOrMade m.layout call t left
-    stop_leaves (calls.Create cpu path mode time) is known = made_left (calls.Create cpu path mode time) (logs_inode File cpu mode time R m names) refl is known
-    stop_leaves (calls.MakeDirectory cpu path mode time) is known = made_left (calls.MakeDirectory cpu path mode time) (logs_inode Directory cpu mode time R m names) refl is known
-    stop_leaves (calls.Write cpu path offset content time) is known = made_left (calls.Write cpu path offset content time) (LogsBytes cpu offset (length (data_bytes content)) time R m names) refl is known
-    stop_leaves (calls.SetSize cpu path size time) is known = made_left (calls.SetSize cpu path size time) (logs_size cpu size time R m names) refl is known
-    stop_leaves (calls.SetAttributes cpu path mode owner group time) is known = made_left (calls.SetAttributes cpu path mode owner group time) (logs_attributes cpu mode owner group time R m names) refl is known
-    stop_leaves (calls.Link cpu old new time) is known = made_left (calls.Link cpu old new time) (logs_link cpu time (Some others) R m names) refl is known
-    stop_leaves (calls.Unlink cpu path time) is known = made_left (calls.Unlink cpu path time) (LogsUnlink cpu time R m names) refl is known
-    stop_leaves (calls.RemoveDirectory cpu path time) is known = made_left (calls.RemoveDirectory cpu path time) (logs_removal cpu time R m names) refl is known
-    stop_leaves (calls.Rename cpu old new time) is known = made_left (calls.Rename cpu old new time) (logs_rename cpu time (Some others) R m names) refl is known
-    stop_leaves (calls.Clean path) is known = made_left (calls.Clean path) (logs_page_less R m names) refl is known
-    stop_leaves calls.Upgrade is known = upgraded_left known
+      -- One that makes an inode. Where no number is given, it makes nothing.
+      inode_left : (cpu : ℕ) (call : Call) (Logged : Region → Type 0) → (lowest_unused m.sup t cpu ≡ new_number m.layout m.rows cpu → IsNumbered (said call)) → (new_number m.layout m.rows cpu ≡ None → call_makes (said call) others R m names ≡ t)
+          → ((l : Layout) → GrowsWhereFull m cpu l → MayHave m (said call) l) → super_behind m.sup (said call) ≡ m.sup → AreNames (said call) names others
+          → ∥ ((l : Layout) × (free : List (List Run)) × MayHaveGrown m cpu l free × (IsAsMounted R l m.rows free left ⊎ IsAsMade l (call_makes (said call) others R m names) Logged left)) ∥₁ → ∥ (BeforeOrMade call left) ∥₁
+      inode_left cpu call Logged number nothing laid behind is known = ∥∥₁_map known (λ w. by w.0 w.1 (may w.0 w.1 w.2) w.3) where
+        may : (l : Layout) (free : List (List Run)) → MayHaveGrown m cpu l free → GrowsWhereFull m cpu l
+        may l free (inl same) = inl same.0
+        may l free (inr (two, none, grew)) = inr (two, none, grew.0, grew.1)
+
+        sup_of : (l : Layout) → GrowsWhereFull m cpu l → l.sup ≡ m.sup
+        sup_of l (inl same) = ap (λ (k : Layout). k.sup) same ∙ kept.tables
+        sup_of l (inr (two, none, b, is)) = ap (λ (k : Layout). k.sup) is ∙ kept.tables
+
+        by : (l : Layout) (free : List (List Run)) → GrowsWhereFull m cpu l → IsAsMounted R l m.rows free left ⊎ IsAsMade l (call_makes (said call) others R m names) Logged left → BeforeOrMade call left
+        by l free grew (inl mounted) = mounted_left call l free (sup_of l grew) (laid l grew) mounted
+        by l free grew (inr made) = with_number (new_number m.layout m.rows cpu) refl where
+          with_number : (o : Option ℕ) → new_number m.layout m.rows cpu ≡ o → BeforeOrMade call left
+          with_number None e = inl (record {
+            layout = l;
+            sup = sup_of l grew;
+            laid = laid l grew;
+            rows = made.rows;
+            free = made.free;
+            recovers = made.recovers;
+            shows = subst (λ (u : Tree). SameTree (tree_of (undone l.sup left) made.rows) u) (nothing e) made.tree;
+          })
+          with_number (Some j) e = inr (record {
+            layout = l;
+            sup = sup_of l grew ∙ sym behind;
+            laid = laid l grew;
+            rows = made.rows;
+            free = made.free;
+            recovers = made.recovers;
+            shows = is_made names others (tree_of (undone l.sup left) made.rows) call (number (number_given kept runs writes cpu j e ∙ sym e)) is made.tree;
+          })
+
+      upgraded_left : call_stops Upgrade others R m names left → ∥ (BeforeOrMade calls.Upgrade left) ∥₁
+      upgraded_left known = ∥∥₁_map known by where
+        by : IsAsMounted R m.layout m.rows m.free.pools left ⊎ IsAsMounted R (upgraded_layout m.layout) m.rows m.free.pools left → BeforeOrMade calls.Upgrade left
+        by (inl mounted) = mounted_left calls.Upgrade m.layout m.free.pools kept.tables (before_laid m kept.tables m.layout Upgrade refl) mounted
+        by (inr later) = inr (record {
+          layout = upgraded_layout m.layout;
+          sup = ap upgraded kept.tables;
+          laid = made_laid m kept.tables (upgraded_layout m.layout) Upgrade refl;
+          rows = m.rows;
+          free = m.free.pools;
+          recovers = later.0;
+          shows = later.1;
+        })
+
+      -- no number makes no inode
+      none_made : (kind : Kind) (cpu mode time : ℕ) → new_number m.layout m.rows cpu ≡ None → makes_inode kind cpu mode time R m names ≡ t
+      none_made kind cpu mode time none = ap (λ (o : Option ℕ). created kind o names mode time t) none
+
+      as_mounted : (call : Said) → MayBeLaid call m m.layout → MayHave m call m.layout
+      as_mounted call is = before_laid m kept.tables m.layout call is
+
+      pub stop_leaves : (call : Call) → AreNames (said call) names others → call_stops (said call) others R m names left → ∥ (BeforeOrMade call left) ∥₁
+      stop_leaves (calls.Create cpu path mode time) is known =
+          inode_left cpu (calls.Create cpu path mode time) (logs_inode File cpu mode time R m names) (λ same. same) (none_made File cpu mode time) (λ l grew. before_laid m kept.tables l (Create cpu path.now mode time) grew) refl is known
+      stop_leaves (calls.MakeDirectory cpu path mode time) is known =
+          inode_left cpu (calls.MakeDirectory cpu path mode time) (logs_inode Directory cpu mode time R m names) (λ same. same) (none_made Directory cpu mode time) (λ l grew. before_laid m kept.tables l (MakeDirectory cpu path.now mode time) grew) refl is known
+      stop_leaves (calls.Write cpu path offset content time) is known =
+          plain_left (calls.Write cpu path offset content time) (LogsBytes cpu offset (length (data_bytes content)) time R m names) tt (as_mounted (Write cpu path.now offset (data_bytes content) time) refl) refl is known
+      stop_leaves (calls.SetSize cpu path size time) is known =
+          plain_left (calls.SetSize cpu path size time) (logs_size cpu size time R m names) tt (as_mounted (SetSize cpu path.now size time) refl) refl is known
+      stop_leaves (calls.SetAttributes cpu path mode owner group time) is known =
+          plain_left (calls.SetAttributes cpu path mode owner group time) (logs_attributes cpu mode owner group time R m names) tt (as_mounted (SetAttributes cpu path.now mode owner group time) refl) refl is known
+      stop_leaves (calls.Link cpu old new time) is known =
+          plain_left (calls.Link cpu old new time) (logs_link cpu time (Some others) R m names) tt (as_mounted (Link cpu old.now new.now time) refl) refl is known
+      stop_leaves (calls.Unlink cpu path time) is known =
+          plain_left (calls.Unlink cpu path time) (LogsUnlink cpu time R m names) tt (as_mounted (Unlink cpu path.now time) refl) refl is known
+      stop_leaves (calls.RemoveDirectory cpu path time) is known =
+          plain_left (calls.RemoveDirectory cpu path time) (logs_removal cpu time R m names) tt (as_mounted (RemoveDirectory cpu path.now time) refl) refl is known
+      stop_leaves (calls.Rename cpu old new time) is known =
+          plain_left (calls.Rename cpu old new time) (logs_rename cpu time (Some others) R m names) tt (as_mounted (Rename cpu old.now new.now time) refl) refl is known
+      stop_leaves (calls.Clean path) is known =
+          plain_left (calls.Clean path) (logs_page_less R m names) tt (as_mounted (Clean path.now) refl) refl is known
+      stop_leaves calls.Upgrade is known = upgraded_left known

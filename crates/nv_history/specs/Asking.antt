@@ -27,8 +27,8 @@ AskedByBoth old new asked tests = (p : Path) × (q : Path) × Says old p × Says
 
 -- The tests of a call, where this region is mounted so: with how many blocks it needs.
 abbrev pub AreTestsOf : {P : Type 0} → Region → Mount P → Said → Tests → Type 0
-AreTestsOf R m (Create cpu path mode time) tests = AskedBy path (λ p. create_tests (world_of m) (tree_of R m.rows) cpu p (create_blocks m.rows (tree_of R m.rows) p)) tests
-AreTestsOf R m (MakeDirectory cpu path mode time) tests = AskedBy path (λ p. create_tests (world_of m) (tree_of R m.rows) cpu p (create_blocks m.rows (tree_of R m.rows) p)) tests
+AreTestsOf R m (Create cpu path mode time) tests = AskedBy path (λ p. create_tests (world_of m) (tree_of R m.rows) cpu p (create_blocks m.layout m.rows cpu (tree_of R m.rows) p)) tests
+AreTestsOf R m (MakeDirectory cpu path mode time) tests = AskedBy path (λ p. create_tests (world_of m) (tree_of R m.rows) cpu p (create_blocks m.layout m.rows cpu (tree_of R m.rows) p)) tests
 AreTestsOf R m (Write cpu path offset bytes time) tests = (p : Path) × (count : ℕ) × Says path p × WriteNeeds R m cpu p offset (length bytes) time count
     × (tests ≡ write_tests (world_of m) (tree_of R m.rows) cpu p (offset + length bytes) count)
 AreTestsOf R m (SetSize cpu path size time) tests = AskedBy path (λ p. set_size_tests (world_of m) (tree_of R m.rows) cpu p size (resized_blocks m.rows (tree_of R m.rows) p size)) tests

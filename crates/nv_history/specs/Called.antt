@@ -17,7 +17,7 @@ use Rattle.nv_calls.specs.Effects.{Logs, LogsBytes, LogsUnlink, Makes, logs_attr
 use Rattle.nv_calls.specs.Effects.{makes_attributes, makes_bytes, makes_inode, makes_link, makes_no_change, makes_removal, makes_rename, makes_size, makes_unlink}
 use Rattle.nv_calls.specs.Mount.{Mount, shown}
 use Rattle.nv_calls.specs.Same.{SameMount}
-use Rattle.nv_calls.specs.Stopped.{LeavesCall}
+use Rattle.nv_calls.specs.Stopped.{LeavesCall, LeavesGrowing}
 use Rattle.nv_calls.specs.Upgrading.{LeavesUpgrade}
 use Rattle.nv_history.specs.declared.calls.Answer.{Answer}
 use Rattle.nv_history.specs.declared.calls.Answer.TheVariants.{Done, Cleaned}
@@ -98,10 +98,10 @@ call_logs (Clean path) others answer S m names T = (page : Option ℕ) × (answe
 call_logs Upgrade others answer S m names T = (answer ≡ Done) × IsUpgraded S m.sup.cpus T
 
 -- What recovery finds in a region that a stop within a call has left, by the names of its second path: what was mounted, or what the
--- call makes of it.
+-- call makes of it. Where the call makes an inode, the table of its CPU may have grown.
 abbrev pub call_stops : {P : Type 0} → Said → List (List ℕ) → Logs P
-call_stops (Create cpu path mode time) others = LeavesCall (makes_inode File cpu mode time) (logs_inode File cpu mode time)
-call_stops (MakeDirectory cpu path mode time) others = LeavesCall (makes_inode Directory cpu mode time) (logs_inode Directory cpu mode time)
+call_stops (Create cpu path mode time) others = LeavesGrowing cpu (makes_inode File cpu mode time) (logs_inode File cpu mode time)
+call_stops (MakeDirectory cpu path mode time) others = LeavesGrowing cpu (makes_inode Directory cpu mode time) (logs_inode Directory cpu mode time)
 call_stops (Write cpu path offset bytes time) others = LeavesCall (makes_bytes offset bytes time) (LogsBytes cpu offset (length bytes) time)
 call_stops (SetSize cpu path size time) others = LeavesCall (makes_size size time) (logs_size cpu size time)
 call_stops (SetAttributes cpu path mode owner group time) others = LeavesCall (makes_attributes mode owner group time) (logs_attributes cpu mode owner group time)

@@ -3,4 +3,4 @@ use Rattle.nv_history.proofs.MadeTrees.{one_tree}
 use Rattle.nv_history.proofs.laws.calls_make_one_tree.Goals as goal
 
 pub returns : goal.returns
-returns c = λ l calls t u v first second. one_tree first.1 (same_itself t) second.1
+returns c = λ s calls t u v first second. one_tree first (same_itself t) second

@@ -1,5 +1,8 @@
-use Rattle.nv_history.proofs.MadeTrees.{tables_stay}
+use Rattle.nv_history.proofs.MadeTrees.{super_stays, version_1_stays}
 use Rattle.nv_history.proofs.laws.tables_stay_but_for_upgrades.Goals as goal
 
-pub returns : goal.returns
-returns c = λ l k calls t u off made. tables_stay off made
+pub returns-clause-superblock : goal.returns-clause-superblock
+returns-clause-superblock c = super_stays
+
+pub returns-clause-tables : goal.returns-clause-tables
+returns-clause-tables c = version_1_stays
