@@ -219,9 +219,9 @@ same "and nothing is proved" "" "$(cat "$log")"
 
 # Words that name no program, and help.
 same "no program is named so" "status 1" "$("$copy/prove.py" novel 2>"$folder/said"; echo "status $?")"
-same "which ones there are" "nova: no program is named novel; there are nova_c, nova_check, nova, first_program, mount_and_list, each_call, lent_words, refusals, bench" "$(cat "$folder/said")"
+same "which ones there are" "nova: no program is named novel; there are nova_c, nova_check, nova, first_program, each_call, refusals, bench" "$(cat "$folder/said")"
 same "no words" "status 1" "$("$copy/prove.py" 2>"$folder/said"; echo "status $?")"
-same "what to name" "nova: name one program, as in ./prove.py nova; there are nova_c, nova_check, nova, first_program, mount_and_list, each_call, lent_words, refusals, bench" "$(cat "$folder/said")"
+same "what to name" "nova: name one program, as in ./prove.py nova; there are nova_c, nova_check, nova, first_program, each_call, refusals, bench" "$(cat "$folder/said")"
 same "help" "usage: ./prove.py PROGRAM status 0" "$("$copy/prove.py" --help | grep usage: | xargs) status $?"
 
 # Where all is built, the kit isn't needed, also in a copy whose sources are newer than the build; the verdicts stay.

@@ -1,5 +1,4 @@
 //! A file system in words that the caller lends: when the mount is gone, what was written is in them.
-#![tactic(auto)]
 
 use anyhow::Result;
 use indiumlark::{Cpu, Fs, Time, WordRegion, format};
@@ -37,9 +36,10 @@ fn write(alloc: Global, words: &mut [u64]) -> Result<()> {
     greet(&mut fs)
 }
 
-fn main(rt: HostRuntime) -> Result<()> {
+/// Writes a file, and reads it where the words are mounted again.
+pub(crate) fn write_and_read<R: AllocGlobal + Print>(rt: &R) -> Result<()> {
     let mut words = vec![in rt.alloc(); 0; 16 * 512]?;
     write(rt.alloc(), &mut words)?;
     let fs = mounted(rt.alloc(), &mut words)?;
-    show(&rt, &fs)
+    show(rt, &fs)
 }
