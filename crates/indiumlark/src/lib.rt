@@ -11,8 +11,9 @@
 //! let bytes = fs.read(b"/hello", 0, 100)?;
 //! ```
 //!
-//! The program `each_call` has an example for each call and each memory. A *region* is memory of 4096-byte blocks, a [`Pmem`]: a [`MemRegion`],
-//! which a fuse can stop as a power cut does; a [`WordRegion`] over words that you lend; or one of your own. What the calls promise, each in its contract:
+//! The program `each_call` has an example for each call and each memory. A *region* is memory of 4096-byte blocks, a [`Pmem`]:
+//! a [`MemRegion`], which a fuse can stop as a power cut does; a [`WordRegion`] over words that you lend; or one of your own.
+//! What the calls promise, each in its contract:
 //!
 //! - [`format`] makes a region a file system with the root directory alone.
 //! - [`Fs::mount`] takes any region, damaged or not. What it mounts is the outcome that is defined of the region as it came:
