@@ -4,8 +4,13 @@ use Rattle.nv_calls.specs.Mount.{Mount}
 use Rattle.nv_super.specs.declared.kind.Kind.TheVariants.{Directory}
 use Rattle.nv_calls.specs.Effects.{logs_inode, makes_inode}
 use Rattle.nova_c.specs.Refused.{create_refusal}
-use Rattle.nova_c.proofs.Calls.{growing_stop_of, refused_by, unchanged_by}
+use Rattle.nova_c.proofs.Calls.{growing_stop_of, logs_of, refused_by, unchanged_by}
 use Rattle.nova_c.proofs.names.nova_mkdir.Goals as goal
+
+pub returns-in-Ok-clause-logs : goal.returns-in-Ok-clause-logs
+returns-in-Ok-clause-logs c owns done names is =
+    logs_of _ _ _ _ (c.deref_mut.ensures.value ∙ c.in-Some.ensures.mount.1) c.put.ensures.mount (logs_inode Directory c.args.cpu c.args.mode c.args.time) names
+    (λ d j held h way number sound here. c.in-Ok.ensures.log names d j held h is way number sound here)
 
 pub returns-in-Ok-clause-any_stop : goal.returns-in-Ok-clause-any_stop
 returns-in-Ok-clause-any_stop c running writes names is =
