@@ -1,6 +1,7 @@
 -- What the calls of a change leave of a region that was opened, and why a change is refused.
 use Rattle.std.proofs.Common.{◌≡◌, ◌≢◌, ◌∙◌, ℕ, Bool, true, false, IsTrue, ◌||◌, List, [], ◌∷◌, refl, sym, ap, subst, inl, inr}
 use Rattle.nv_super.specs.Layout.{Layout}
+use Rattle.nv_super.specs.declared.superblock.Super.{Super}
 use Rattle.nv_region.specs.Region.{Region, size}
 use Rattle.nv_region.specs.RegionState.{RegionState, is_steady, steady_unburnt}
 use Rattle.nv_journal.specs.Undo.{undone}
@@ -12,20 +13,20 @@ use Rattle.nv_tree.specs.declared.refusal.Refusal.{Refusal}
 use Rattle.nv_tree.specs.declared.refusal.Refusal.TheVariants.{Memory, Stopped}
 use Rattle.nv_mounted.specs.Mounted.{outcome_layout}
 use Rattle.nv_calls.specs.Mount.{IsKept, Mount, has_faults}
-use Rattle.nv_calls.specs.Same.{KeepsMount}
 use Rattle.nv_paths.specs.Seen.{tree_of}
-use Rattle.nv_session.specs.Calls.{LeavesTree, mounted_as}
+use Rattle.nv_session.specs.Calls.{LeavesTreeBy, mounted_as}
 use Rattle.nv_session.specs.Sessions.{IsSettled}
 use Rattle.nv_session.proofs.Moved.{same_size}
-use Rattle.nv_history.specs.Making.{AreMade, change_tables, changes_tables}
+use Rattle.nv_history.specs.Making.{AreMade, ChainsGrow, grow_tables, has_upgrade, is_upgrade}
 use Rattle.nv_history.specs.Said.{said}
 use Rattle.nv_history.specs.Halting.{HaltsAt}
 use Rattle.nv_history.specs.declared.calls.Call.{Call}
 use Rattle.nv_history.specs.declared.runs.Halted.{Halted}
+use Rattle.nv_history.proofs.LeftTables.{LeavesTables}
 use Rattle.nv_script.specs.Cleaning.{CanClean, IsOpenedAs}
 use Rattle.nv_script.proofs.Cleanings.{shows_now}
 use Rattle.nv_changes.specs.Calls.{AreCallsOf, IsFirstCall, next_calls}
-use Rattle.nv_changes.specs.Changing.{IsChanged, IsChangedAs, IsHalted, IsMade, IsRefusal, tree_shown}
+use Rattle.nv_changes.specs.Changing.{IsChanged, IsChangedAs, IsHalted, IsMade, IsRefusal, MayLeave, tree_shown}
 use Rattle.nv_changes.specs.declared.change.Change.{Change}
 use Rattle.nv_changes.specs.declared.change.Change.TheVariants.{MakeDirectory, Remove, RemoveDirectory, Rename, Link, SetSize, SetMode, SetOwner, Put}
 use Rattle.nv_changes.specs.declared.changing.Changed.{Changed}
@@ -58,24 +59,24 @@ not_on false never = refl
 pub unstopped : (m : RegionState) → IsTrue (is_steady m) → IsTrue m.burnt → ⊥
 unstopped m steady burnt = let off : m.burnt ≡ false = steady_unburnt m steady in let never : true ≡ false = sym burnt ∙ off in cc
 
--- ---- no call of a change changes how the tables are laid out
+-- ---- no call of a change is `upgrade`
 
-abbrev changes : Call → Bool
-changes call = changes_tables (said call)
+abbrev upgrades : Call → Bool
+upgrades call = is_upgrade (said call)
 
-first_keeps : (t : Tree) (change : Change) (cpu time : ℕ) (call : Call) → IsFirstCall t change cpu time call → changes call ≡ false
-first_keeps t (MakeDirectory path) cpu time call is = ap changes is
-first_keeps t (Remove path) cpu time call is = ap changes is
-first_keeps t (RemoveDirectory path) cpu time call is = ap changes is
-first_keeps t (Rename old new) cpu time call is = ap changes is
-first_keeps t (Link old new) cpu time call is = ap changes is
-first_keeps t (SetSize path size) cpu time call is = ap changes is
-first_keeps t (SetMode path mode) cpu time call is = ap changes is.4
-first_keeps t (SetOwner path owner group) cpu time call is = ap changes is.4
-first_keeps t (Put path bytes) cpu time call (inl there) = ap changes there.1
-first_keeps t (Put path bytes) cpu time call (inr none) = ap changes none.1
+first_keeps : (t : Tree) (change : Change) (cpu time : ℕ) (call : Call) → IsFirstCall t change cpu time call → upgrades call ≡ false
+first_keeps t (MakeDirectory path) cpu time call is = ap upgrades is
+first_keeps t (Remove path) cpu time call is = ap upgrades is
+first_keeps t (RemoveDirectory path) cpu time call is = ap upgrades is
+first_keeps t (Rename old new) cpu time call is = ap upgrades is
+first_keeps t (Link old new) cpu time call is = ap upgrades is
+first_keeps t (SetSize path size) cpu time call is = ap upgrades is
+first_keeps t (SetMode path mode) cpu time call is = ap upgrades is.4
+first_keeps t (SetOwner path owner group) cpu time call is = ap upgrades is.4
+first_keeps t (Put path bytes) cpu time call (inl there) = ap upgrades there.1
+first_keeps t (Put path bytes) cpu time call (inr none) = ap upgrades none.1
 
-next_keep : (change : Change) (cpu time : ℕ) → change_tables (next_calls change cpu time) ≡ false
+next_keep : (change : Change) (cpu time : ℕ) → has_upgrade (next_calls change cpu time) ≡ false
 next_keep (MakeDirectory path) cpu time = refl
 next_keep (Remove path) cpu time = refl
 next_keep (RemoveDirectory path) cpu time = refl
@@ -90,8 +91,8 @@ both_keep : (a b : Bool) → a ≡ false → b ≡ false → (a || b) ≡ false
 both_keep true b off none = off
 both_keep false b off none = none
 
-pub calls_keep : (t : Tree) (change : Change) (cpu time : ℕ) (calls : List Call) → AreCallsOf t change cpu time calls → change_tables calls ≡ false
-calls_keep t change cpu time calls (first, is, are) = ap change_tables are ∙ both_keep (changes first) (change_tables (next_calls change cpu time)) (first_keeps t change cpu time first is) (next_keep change cpu time)
+pub calls_keep : (t : Tree) (change : Change) (cpu time : ℕ) (calls : List Call) → AreCallsOf t change cpu time calls → has_upgrade calls ≡ false
+calls_keep t change cpu time calls (first, is, are) = ap has_upgrade are ∙ both_keep (upgrades first) (has_upgrade (next_calls change cpu time)) (first_keeps t change cpu time first is) (next_keep change cpu time)
 
 module _ (R : Region) (o : Outcome) (m n : Mount RegionState) (is : IsOpenedAs R o m) (calls : List Call) (change : Change) (cpu time : ℕ) where
   same_tree : tree m ≡ tree_shown R o
@@ -104,13 +105,16 @@ module _ (R : Region) (o : Outcome) (m n : Mount RegionState) (is : IsOpenedAs R
   as_long : size m.memory.region ≡ size R
   as_long = ap size is.region ∙ same_size R (undone o.sup R) (o.sup, is.is.sup, (rolled_back R o is.is).sup, stays R o.sup is.is.sup)
 
-  made_here : (u : Tree) → AreMade m.layout calls (tree m) u → AreMade (outcome_layout o) calls (tree_shown R o) u
-  made_here u made = subst (λ l. AreMade l calls (tree_shown R o) u) is.layout (subst (λ (t : Tree). AreMade m.layout calls t u) same_tree made)
+  made_here : (u : Tree) → AreMade m.sup calls (tree m) u → AreMade o.sup calls (tree_shown R o) u
+  made_here u made = subst (λ (s : Super). AreMade s calls (tree_shown R o) u) is.sup (subst (λ (t : Tree). AreMade m.sup calls t u) same_tree made)
+
+  may_leave : LeavesTables m n calls → MayLeave o calls n.layout
+  may_leave ran = (subst (λ (l : Layout). ChainsGrow l n.layout) is.layout ran.chains, λ fixed. ran.stays (ap (λ (s : Super). grow_tables s calls) is.sup ∙ fixed) ∙ ap (λ (l : Layout). l.chains) is.layout)
 
   -- The region that is left shows what the calls make.
-  pub all_made : CanClean n → KeepsMount m n → size n.memory.region ≡ size m.memory.region → AreCallsOf (tree m) change cpu time calls → AreMade m.layout calls (tree m) (tree n) → Keeps n → IsSettled n.memory
+  pub all_made : CanClean n → LeavesTables m n calls → size n.memory.region ≡ size m.memory.region → AreCallsOf (tree m) change cpu time calls → AreMade m.sup calls (tree m) (tree n) → Keeps n → IsSettled n.memory
       → IsMade R o change cpu time n.memory
-  all_made can keeps long are made kept settled =
+  all_made can ran long are made kept settled =
       let own = shows_now n kept can in
       record {
         calls = calls;
@@ -122,8 +126,8 @@ module _ (R : Region) (o : Outcome) (m n : Mount RegionState) (is : IsOpenedAs R
           after = record { sup = n.layout.sup; tables = n.layout.chains; rows = n.rows; free = n.free.pools; doubled = own.0; faults = [] };
           shown = own.1;
           own = kept.own can.runs;
-          sup = ap (λ (l : Layout). l.sup) (keeps.layout ∙ is.layout);
-          layout = keeps.layout ∙ is.layout;
+          sup = kept.tables ∙ ran.sup ∙ is.sup;
+          layout = may_leave ran;
           faultless = refl;
           tree = same_itself (tree n);
         };
@@ -131,19 +135,19 @@ module _ (R : Region) (o : Outcome) (m n : Mount RegionState) (is : IsOpenedAs R
       }
 
   -- A call is refused by its tests.
-  pub one_refused : (halted : Halted) → n.stopped ≡ false → n.read_only ≡ false → KeepsMount m n → AreCallsOf (tree m) change cpu time calls → Keeps n → halted.refusal ≢ Stopped
-      → HaltsAt m.layout (tree m) calls halted n.memory.region n → (refusal : Refusal) → refusal ≡ halted.refusal → halted.refusal ≢ Memory → IsHalted R o change cpu time refusal
-  one_refused halted runs writes keeps are kept no_stop halts refusal same no_memory = record {
+  pub one_refused : (halted : Halted) → n.stopped ≡ false → n.read_only ≡ false → LeavesTables m n calls → AreCallsOf (tree m) change cpu time calls → Keeps n → halted.refusal ≢ Stopped
+      → HaltsAt m.sup (tree m) calls halted n.memory.region n → (refusal : Refusal) → refusal ≡ halted.refusal → halted.refusal ≢ Memory → IsHalted R o change cpu time refusal
+  one_refused halted runs writes ran are kept no_stop halts refusal same no_memory = record {
     calls = calls;
     are = calls_here are;
     halted = halted;
     left = n;
     kept = kept;
     runs = runs;
-    sup = keeps.sup ∙ is.sup;
-    layout = keeps.layout ∙ is.layout;
+    sup = ran.sup ∙ is.sup;
+    tables = may_leave ran;
     writes = writes;
-    halts = subst (λ l. HaltsAt l (tree_shown R o) calls halted n.memory.region n) is.layout (subst (λ (t : Tree). HaltsAt m.layout t calls halted n.memory.region n) same_tree halts);
+    halts = subst (λ (s : Super). HaltsAt s (tree_shown R o) calls halted n.memory.region n) is.sup (subst (λ (t : Tree). HaltsAt m.sup t calls halted n.memory.region n) same_tree halts);
     is = sym same;
     no_stop = λ e. no_stop (sym same ∙ e);
     no_memory = λ e. no_memory (sym same ∙ e);

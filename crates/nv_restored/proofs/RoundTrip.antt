@@ -1,6 +1,6 @@
 -- What is unpacked of the bytes of an archive.
 use Rattle.std.proofs.Common.{◌≡◌, ℕ, false, List, length, map, codes, Result, Ok, refl, sym, subst}
-use Rattle.nv_super.specs.Layout.{Layout}
+use Rattle.nv_super.specs.declared.superblock.Super.{Super}
 use Rattle.nv_tree.specs.Tree.{Tree}
 use Rattle.nv_tar.specs.Archive.{IsArchive}
 use Rattle.nv_untar.specs.declared.errors.Damage.{Damage}
@@ -22,11 +22,11 @@ use Rattle.nv_restored.proofs.Unpacked.{steps_unpacked}
 same_items : (a b : List Item) → ◌≡◌ {A = Result (List Item) Damage} (Ok a) (Ok b) → a ≡ b
 same_items a b h = cc
 
-module _ (t empty u : Tree) (l : Layout) (maker : Maker) (lost bytes : List ℕ) (archive : IsArchive t 1 (codes ".") lost false bytes) (items : List ItemValue) where
-  pub items_unpacked : IsOrderly t → IsEmpty empty → HasNumbersFor l maker (length archive.members) → map item_of items ≡ items_of t archive.paths archive.members → AreSteps l (codes "/") maker (steps_of items) empty u
+module _ (t empty u : Tree) (sup : Super) (maker : Maker) (lost bytes : List ℕ) (archive : IsArchive t 1 (codes ".") lost false bytes) (items : List ItemValue) where
+  pub items_unpacked : IsOrderly t → IsEmpty empty → HasNumbersFor sup maker (length archive.members) → map item_of items ≡ items_of t archive.paths archive.members → AreSteps sup (codes "/") maker (steps_of items) empty u
       → IsRestored t u
   items_unpacked orderly is_empty numbers are steps =
-      steps_unpacked t archive.members archive.are_members orderly lost archive.paths archive.are_paths l maker numbers items empty u is_empty are _ _ steps
+      steps_unpacked t archive.members archive.are_members orderly lost archive.paths archive.are_paths sup maker numbers items empty u is_empty are _ _ steps
       (λ value v w step. record {
         tree = step.tree;
         leads = step.way;
@@ -40,10 +40,10 @@ module _ (t empty u : Tree) (l : Layout) (maker : Maker) (lost bytes : List ℕ)
         cpu = step.are.cpu;
         all = map said step.calls;
         are = step.are.are;
-        made = record { calls = step.calls; say = refl; made = subst (λ (x : Tree). AreMade l step.calls x w) (sym step.way) step.made };
+        made = record { calls = step.calls; say = refl; made = subst (λ (x : Tree). AreMade sup step.calls x w) (sym step.way) step.made };
       })
 
-  pub bytes_unpacked : IsOrderly t → HasRoomFor t (codes ".") lost → IsEmpty empty → HasNumbersFor l maker (length archive.members) → Holds bytes (Ok (map item_of items)) → AreSteps l (codes "/") maker (steps_of items) empty u
+  pub bytes_unpacked : IsOrderly t → HasRoomFor t (codes ".") lost → IsEmpty empty → HasNumbersFor sup maker (length archive.members) → Holds bytes (Ok (map item_of items)) → AreSteps sup (codes "/") maker (steps_of items) empty u
       → IsRestored t u
   bytes_unpacked orderly room is_empty numbers holds steps =
       items_unpacked orderly is_empty numbers (same_items (map item_of items) (items_of t archive.paths archive.members) (archive_read_alone t 1 (codes ".") lost false bytes archive room (Ok (map item_of items)) holds)) steps

@@ -1,17 +1,16 @@
 -- What calls make of a tree, by what they say.
 use Rattle.std.proofs.Common.{◌≡◌, ℕ, Bool, true, false, not, nat_eq, is_none, ◌&&◌, cond, List, [], ◌∷◌, take, map, Option, Some, None, refl, sym, ◌∙◌, ap, subst}
 use Rattle.std.specs.List.{find}
-use Rattle.nv_super.specs.Layout.{Layout}
+use Rattle.nv_super.specs.declared.superblock.Super.{Super}
 use Rattle.nv_super.specs.declared.kind.Kind.TheVariants as kinds
 use Rattle.nv_tree.specs.Path.{IsPath}
 use Rattle.nv_tree.specs.Tree.{Node, Tree, SameTree, found}
 use Rattle.nv_tree.specs.Calls.{attributed, created, linked, removed, renamed, resized, unlinked, written}
 use Rattle.nv_tree.proofs.Texts.{says_one}
-use Rattle.nv_rows.specs.Unused.{numbers_in_table}
 use Rattle.nv_history.specs.declared.calls.Call.{Call}
 use Rattle.nv_history.specs.declared.calls.Call.TheVariants as calls
-use Rattle.nv_history.specs.Making.{AreMade, none, more, ByPath, ByPaths, IsMadeBy, changes_tables, is_unused_in, lowest_unused}
-use Rattle.nv_history.proofs.MadeTrees.{laid_same}
+use Rattle.nv_history.specs.Making.{AreMade, none, more, ByPath, ByPaths, IsMadeBy, is_unused_in, is_upgrade, lowest_unused, most_numbers}
+use Rattle.nv_history.proofs.MadeTrees.{behind_same}
 use Rattle.nv_history.specs.Said.{Said, said, Create, MakeDirectory, Write, SetSize, SetAttributes, Link, Unlink, RemoveDirectory, Rename, Clean, Upgrade}
 use Rattle.nv_unpack.specs.declared.maker.Maker.{Maker}
 use Rattle.nv_unpack.specs.Ways.{MakesWay, ends_above}
@@ -36,43 +35,43 @@ both_hold : (x y : Bool) → (x && y) ≡ true → y ≡ true
 both_hold true y h = h
 both_hold false y h = absurd (cc)
 
-pub lowest_is_unused : (l : Layout) (v : Tree) (cpu n : ℕ) → lowest_unused l v cpu ≡ Some n → v n ≡ None
-lowest_is_unused l v cpu n is = none_there (v n) (both_hold (not (nat_eq n 0)) (is_none (v n)) (found_passes (is_unused_in v) (numbers_in_table l cpu) n is))
+pub lowest_is_unused : (sup : Super) (v : Tree) (cpu n : ℕ) → lowest_unused sup v cpu ≡ Some n → v n ≡ None
+lowest_is_unused sup v cpu n is = none_there (v n) (both_hold (not (nat_eq n 0)) (is_none (v n)) (found_passes (is_unused_in v) (most_numbers sup cpu) n is))
 
 -- ---- calls
 
 -- what a call makes, by what it says
-abbrev pub SaidMakes : Layout → Said → Tree → Tree → Type 0
-SaidMakes l (Create cpu path mode time) t u = ByPath path (λ names. created kinds.File (lowest_unused l t cpu) names mode time t) u
-SaidMakes l (MakeDirectory cpu path mode time) t u = ByPath path (λ names. created kinds.Directory (lowest_unused l t cpu) names mode time t) u
-SaidMakes l (Write cpu path offset bytes time) t u = ByPath path (λ names. written names offset bytes time t) u
-SaidMakes l (SetSize cpu path size time) t u = ByPath path (λ names. resized names size time t) u
-SaidMakes l (SetAttributes cpu path mode owner group time) t u = ByPath path (λ names. attributed names mode owner group time t) u
-SaidMakes l (Link cpu old new time) t u = ByPaths old new (λ names others. linked names others time t) u
-SaidMakes l (Unlink cpu path time) t u = ByPath path (λ names. unlinked names time t) u
-SaidMakes l (RemoveDirectory cpu path time) t u = ByPath path (λ names. removed names time t) u
-SaidMakes l (Rename cpu old new time) t u = ByPaths old new (λ names others. renamed names others time t) u
-SaidMakes l (Clean path) t u = ByPath path (λ names. t) u
-SaidMakes l Upgrade t u = SameTree u t
+abbrev pub SaidMakes : Super → Said → Tree → Tree → Type 0
+SaidMakes sup (Create cpu path mode time) t u = ByPath path (λ names. created kinds.File (lowest_unused sup t cpu) names mode time t) u
+SaidMakes sup (MakeDirectory cpu path mode time) t u = ByPath path (λ names. created kinds.Directory (lowest_unused sup t cpu) names mode time t) u
+SaidMakes sup (Write cpu path offset bytes time) t u = ByPath path (λ names. written names offset bytes time t) u
+SaidMakes sup (SetSize cpu path size time) t u = ByPath path (λ names. resized names size time t) u
+SaidMakes sup (SetAttributes cpu path mode owner group time) t u = ByPath path (λ names. attributed names mode owner group time t) u
+SaidMakes sup (Link cpu old new time) t u = ByPaths old new (λ names others. linked names others time t) u
+SaidMakes sup (Unlink cpu path time) t u = ByPath path (λ names. unlinked names time t) u
+SaidMakes sup (RemoveDirectory cpu path time) t u = ByPath path (λ names. removed names time t) u
+SaidMakes sup (Rename cpu old new time) t u = ByPaths old new (λ names others. renamed names others time t) u
+SaidMakes sup (Clean path) t u = ByPath path (λ names. t) u
+SaidMakes sup Upgrade t u = SameTree u t
 
-said_makes : (l : Layout) (call : Call) (t u : Tree) → IsMadeBy l call t u → SaidMakes l (said call) t u
-said_makes l (calls.Create cpu path mode time) t u h = h
-said_makes l (calls.MakeDirectory cpu path mode time) t u h = h
-said_makes l (calls.Write cpu path offset content time) t u h = h
-said_makes l (calls.SetSize cpu path size time) t u h = h
-said_makes l (calls.SetAttributes cpu path mode owner group time) t u h = h
-said_makes l (calls.Link cpu old new time) t u h = h
-said_makes l (calls.Unlink cpu path time) t u h = h
-said_makes l (calls.RemoveDirectory cpu path time) t u h = h
-said_makes l (calls.Rename cpu old new time) t u h = h
-said_makes l (calls.Clean path) t u h = h
-said_makes l calls.Upgrade t u h = h
+said_makes : (sup : Super) (call : Call) (t u : Tree) → IsMadeBy sup call t u → SaidMakes sup (said call) t u
+said_makes sup (calls.Create cpu path mode time) t u h = h
+said_makes sup (calls.MakeDirectory cpu path mode time) t u h = h
+said_makes sup (calls.Write cpu path offset content time) t u h = h
+said_makes sup (calls.SetSize cpu path size time) t u h = h
+said_makes sup (calls.SetAttributes cpu path mode owner group time) t u h = h
+said_makes sup (calls.Link cpu old new time) t u h = h
+said_makes sup (calls.Unlink cpu path time) t u h = h
+said_makes sup (calls.RemoveDirectory cpu path time) t u h = h
+said_makes sup (calls.Rename cpu old new time) t u h = h
+said_makes sup (calls.Clean path) t u h = h
+said_makes sup calls.Upgrade t u h = h
 
 -- The second tree is made by calls that say this.
-pub record AreSaid (l : Layout) (all : List Said) (t u : Tree) : Type 0 where
+pub record AreSaid (sup : Super) (all : List Said) (t u : Tree) : Type 0 where
   pub calls : List Call
   pub say : map said calls ≡ all
-  pub made : AreMade l calls t u
+  pub made : AreMade sup calls t u
 
 first_of_both : (x y : Said) (xs ys : List Said) → x ∷ xs ≡ y ∷ ys → x ≡ y
 first_of_both x y xs ys h = cc
@@ -80,26 +79,26 @@ first_of_both x y xs ys h = cc
 rest_of_both : (x y : Said) (xs ys : List Said) → x ∷ xs ≡ y ∷ ys → xs ≡ ys
 rest_of_both x y xs ys h = cc
 
-no_calls : (l : Layout) (calls : List Call) (t u : Tree) → map said calls ≡ [] → AreMade l calls t u → SameTree u t
-no_calls l [] t u say (_, none _ _ _ _ _ same) = same
-no_calls l (call ∷ calls) t u say made = absurd (cc)
+no_calls : (sup : Super) (calls : List Call) (t u : Tree) → map said calls ≡ [] → AreMade sup calls t u → SameTree u t
+no_calls sup [] t u say (none _ _ _ same) = same
+no_calls sup (call ∷ calls) t u say made = absurd (cc)
 
-pub none_said : (l : Layout) (t u : Tree) → AreSaid l [] t u → SameTree u t
-none_said l t u h = no_calls l h.calls t u h.say h.made
+pub none_said : (sup : Super) (t u : Tree) → AreSaid sup [] t u → SameTree u t
+none_said sup t u h = no_calls sup h.calls t u h.say h.made
 
--- by a call that doesn't change the tables
-one_call : (l : Layout) (calls : List Call) (one : Said) (all : List Said) (t u : Tree) → map said calls ≡ one ∷ all → changes_tables one ≡ false → AreMade l calls t u → (v : Tree) × SaidMakes l one t v × AreSaid l all v u
-one_call l [] one all t u say stays made = absurd (cc)
-one_call l (call ∷ calls) one all t u say stays (m, more _ _ _ k _ _ v _ laid first rest) =
+-- by a call that isn't `upgrade`
+one_call : (sup : Super) (calls : List Call) (one : Said) (all : List Said) (t u : Tree) → map said calls ≡ one ∷ all → is_upgrade one ≡ false → AreMade sup calls t u → (v : Tree) × SaidMakes sup one t v × AreSaid sup all v u
+one_call sup [] one all t u say stays made = absurd (cc)
+one_call sup (call ∷ calls) one all t u say stays (more _ _ _ _ v _ first rest) =
     let begins = first_of_both (said call) one (map said calls) all say in
-    let same = laid_same (said call) l k (ap changes_tables begins ∙ stays) laid in (
+    let same = behind_same sup (said call) (ap is_upgrade begins ∙ stays) in (
       v,
-      subst (λ (z : Said). SaidMakes l z t v) begins (said_makes l call t v (subst (λ (j : Layout). IsMadeBy j call t v) same first)),
-      record { calls = calls; say = rest_of_both (said call) one (map said calls) all say; made = subst (λ (j : Layout). AreMade j calls v u) same (m, rest) },
+      subst (λ (z : Said). SaidMakes sup z t v) begins (said_makes sup call t v first),
+      record { calls = calls; say = rest_of_both (said call) one (map said calls) all say; made = subst (λ (x : Super). AreMade x calls v u) same rest },
     )
 
-pub more_said : (l : Layout) (one : Said) (all : List Said) (t u : Tree) → changes_tables one ≡ false → AreSaid l (one ∷ all) t u → (v : Tree) × SaidMakes l one t v × AreSaid l all v u
-more_said l one all t u stays h = one_call l h.calls one all t u h.say stays h.made
+pub more_said : (sup : Super) (one : Said) (all : List Said) (t u : Tree) → is_upgrade one ≡ false → AreSaid sup (one ∷ all) t u → (v : Tree) × SaidMakes sup one t v × AreSaid sup all v u
+more_said sup one all t u stays h = one_call sup h.calls one all t u h.say stays h.made
 
 -- ---- paths
 
@@ -123,9 +122,9 @@ not_there v text names is nowhere h =
 -- ---- the way to a place
 
 -- where each directory above is there, none is made
-pub no_way : (l : Layout) (maker : Maker) (time : ℕ) (text : List ℕ) (v : Tree) → ((k : ℕ) → ends_above text k ≡ true → IsThere v (take k text)) → (n : ℕ) (t w : Tree) → t ≡ v → MakesWay l maker time text n t w → w ≡ v
-no_way l maker time text v there n t w is (ways.none x) = is
-no_way l maker time text v there n t w is (ways.passes k x y why rest) = no_way l maker time text v there k x y is rest
-no_way l maker time text v there n t w is (ways.makes k x y z calls asks made rest) =
-    let same = no_way l maker time text v there k x y is rest in
+pub no_way : (sup : Super) (maker : Maker) (time : ℕ) (text : List ℕ) (v : Tree) → ((k : ℕ) → ends_above text k ≡ true → IsThere v (take k text)) → (n : ℕ) (t w : Tree) → t ≡ v → MakesWay sup maker time text n t w → w ≡ v
+no_way sup maker time text v there n t w is (ways.none x) = is
+no_way sup maker time text v there n t w is (ways.passes k x y why rest) = no_way sup maker time text v there k x y is rest
+no_way sup maker time text v there n t w is (ways.makes k x y z calls asks made rest) =
+    let same = no_way sup maker time text v there k x y is rest in
     absurd (asks.1 (subst (λ (q : Tree). IsThere q (take k text)) (sym same) (there k asks.0)))

@@ -1,18 +1,16 @@
--- A table with more numbers than inodes are in use has an unused one, and so have all tables together.
-use Rattle.std.proofs.Common.{◌≡◌, ℕ, zero, suc, ◌+◌, ◌*◌, ◌/◌, ◌%◌, ◌<◌, ◌≤◌, ◌⊎◌, Bool, true, false, IsTrue, not, nat_eq, ◌&&◌, is_none, is_some, cond, List, [], ◌∷◌, length, map, Option, Some, None, refl, sym, ◌∙◌, ap, subst, inl, inr, arith}
-use Rattle.std.specs.List.{Contains, find, range_with_len, sum}
+-- A table that can have more numbers than inodes are in use has an unused one, or gets it, and so have all tables together.
+use Rattle.std.proofs.Common.{◌≡◌, ℕ, zero, suc, ◌+◌, ◌*◌, ◌/◌, ◌%◌, ◌<◌, ◌≤◌, ◌⊎◌, Bool, true, false, IsTrue, not, nat_eq, ◌&&◌, is_none, is_some, cond, List, [], ◌∷◌, length, Option, Some, None, refl, sym, ◌∙◌, ap, subst, inl, inr, arith}
+use Rattle.std.specs.List.{Contains, find}
 use Rattle.std.proofs.lemmas.Bool.{cases_eq, ne_eqb}
 use Rattle.std.proofs.Math.Nat.{add_right_cancel}
 use Rattle.std.proofs.lemmas.Nat.{div-mul-add, mod-mul-add}
-use Rattle.std.proofs.lemmas.List.FromFn.{length-map-range_with_len, get_or-map-range_with_len, sum_by-map-range_with_len_more}
-use Rattle.nv_super.specs.Layout.{Layout}
+use Rattle.std.proofs.lemmas.List.FromFn.{length-map-range_with_len, get_or-map-range_with_len}
+use Rattle.nv_super.specs.declared.superblock.Super.{Super}
 use Rattle.nv_super.proofs.Members.{none_in}
 use Rattle.nv_super.proofs.Rising.{Contains-cons, Contains-head, Contains-tail}
-use Rattle.nv_inode.specs.Numbers.{sizes_of, table_size}
-use Rattle.nv_rows.specs.Unused.{numbers_in_table}
 use Rattle.nv_tree.specs.Tree.{Node, Tree}
 use Rattle.nv_members.specs.Members.{IsUsed}
-use Rattle.nv_history.specs.Making.{is_unused_in, lowest_unused}
+use Rattle.nv_history.specs.Making.{is_unused_in, lowest_unused, most_numbers, most_slots}
 use Rattle.nv_unpack.specs.declared.maker.Maker.TheVariants as makers
 use Rattle.nv_unpack.specs.Turns.{HasNumber, NoneHasNumber}
 use Rattle.nv_restored.specs.Numbers.{HasNumbersFor}
@@ -81,58 +79,57 @@ taken t used all n fails = here (cases_eq n 0)
         let there : is_none (t n) ≡ false = ap (λ (b : Bool). not b && is_none (t n)) (sym (ne_eqb n 0 differs)) ∙ fails in
         Contains-tail 0 used n (all n (used_where (t n) there))
 
-module _ (l : Layout) (some : 0 < l.sup.cpus) where
-  same_place : (cpu j k : ℕ) → j * l.sup.cpus + cpu ≡ k * l.sup.cpus + cpu → j ≡ k
+module _ (s : Super) (some : 0 < s.cpus) where
+  same_place : (cpu j k : ℕ) → j * s.cpus + cpu ≡ k * s.cpus + cpu → j ≡ k
   same_place cpu j k same =
-      let equal : j * l.sup.cpus ≡ k * l.sup.cpus = add_right_cancel cpu same in
-      sym (div-mul-add j l.sup.cpus 0 some) ∙ ap (λ n. (n + 0) / l.sup.cpus) equal ∙ div-mul-add k l.sup.cpus 0 some
+      let equal : j * s.cpus ≡ k * s.cpus = add_right_cancel cpu same in
+      sym (div-mul-add j s.cpus 0 some) ∙ ap (λ n. (n + 0) / s.cpus) equal ∙ div-mul-add k s.cpus 0 some
 
-  long : (cpu : ℕ) → length (numbers_in_table l cpu) ≡ table_size l cpu
-  long cpu = length-map-range_with_len (λ k. k * l.sup.cpus + cpu) 0 (table_size l cpu)
+  long : (cpu : ℕ) → length (most_numbers s cpu) ≡ most_slots s
+  long cpu = length-map-range_with_len (λ k. k * s.cpus + cpu) 0 (most_slots s)
 
-  in_table : (cpu k : ℕ) → k < table_size l cpu → Contains (numbers_in_table l cpu) (k * l.sup.cpus + cpu)
+  in_table : (cpu k : ℕ) → k < most_slots s → Contains (most_numbers s cpu) (k * s.cpus + cpu)
   in_table cpu k below =
-      (k, subst (λ (n : ℕ). k < n) (sym (long cpu)) below, get_or-map-range_with_len (λ k. k * l.sup.cpus + cpu) 0 (table_size l cpu) k k (k * l.sup.cpus + cpu) below (omega arith))
+      (k, subst (λ (n : ℕ). k < n) (sym (long cpu)) below, get_or-map-range_with_len (λ k. k * s.cpus + cpu) 0 (most_slots s) k k (k * s.cpus + cpu) below (omega arith))
 
-  -- where a table has no unused number, each of its numbers is 0 or in use
-  all_taken : (t : Tree) (used : List ℕ) → ((i : ℕ) → IsUsed t i → Contains used i) → (cpu : ℕ) → lowest_unused l t cpu ≡ None → (k : ℕ) → k < table_size l cpu → Contains (0 ∷ used) (k * l.sup.cpus + cpu)
-  all_taken t used all cpu none k below = taken t used all (k * l.sup.cpus + cpu) (none_passes (is_unused_in t) (numbers_in_table l cpu) none (k * l.sup.cpus + cpu) (in_table cpu k below))
+  -- where a table has no unused number and gets none, each that it can have is 0 or in use
+  all_taken : (t : Tree) (used : List ℕ) → ((i : ℕ) → IsUsed t i → Contains used i) → (cpu : ℕ) → lowest_unused s t cpu ≡ None → (k : ℕ) → k < most_slots s → Contains (0 ∷ used) (k * s.cpus + cpu)
+  all_taken t used all cpu none k below = taken t used all (k * s.cpus + cpu) (none_passes (is_unused_in t) (most_numbers s cpu) none (k * s.cpus + cpu) (in_table cpu k below))
 
   -- the table of one CPU
-  pub table_has_numbers : (cpu count : ℕ) → count < length (numbers_in_table l cpu) → HasNumbersFor l (makers.Named cpu) count
-  table_has_numbers cpu count more t used few all named is = subst (λ (c : ℕ). (n : ℕ) × (lowest_unused l t c ≡ Some n)) (sym is) (by (lowest_unused l t cpu) refl)
+  pub table_has_numbers : (cpu count : ℕ) → count < most_slots s → HasNumbersFor s (makers.Named cpu) count
+  table_has_numbers cpu count more t used few all named is = subst (λ (c : ℕ). (n : ℕ) × (lowest_unused s t c ≡ Some n)) (sym is) (by (lowest_unused s t cpu) refl)
     where
-      by : (o : Option ℕ) → lowest_unused l t cpu ≡ o → (n : ℕ) × (lowest_unused l t cpu ≡ Some n)
+      by : (o : Option ℕ) → lowest_unused s t cpu ≡ o → (n : ℕ) × (lowest_unused s t cpu ≡ Some n)
       by (Some n) is = (n, is)
       by None none =
-          let fits = pigeons (table_size l cpu) (λ k. k * l.sup.cpus + cpu) (0 ∷ used) (λ j k low high same. same_place cpu j k same) (all_taken t used all cpu none) in
-          let size = long cpu in
-          absurd (omega (arith, fits, more, few, size))
+          let fits = pigeons (most_slots s) (λ k. k * s.cpus + cpu) (0 ∷ used) (λ j k low high same. same_place cpu j k same) (all_taken t used all cpu none) in
+          absurd (omega (arith, fits, more, few))
 
   -- numbers of two CPUs differ
-  apart : (a b j k : ℕ) → a < b → b < l.sup.cpus → j * l.sup.cpus + a ≡ k * l.sup.cpus + b → ⊥
+  apart : (a b j k : ℕ) → a < b → b < s.cpus → j * s.cpus + a ≡ k * s.cpus + b → ⊥
   apart a b j k less low same =
-      let is : a ≡ b = sym (mod-mul-add j l.sup.cpus a (omega (arith, less, low))) ∙ ap (λ n. n % l.sup.cpus) same ∙ mod-mul-add k l.sup.cpus b low in
+      let is : a ≡ b = sym (mod-mul-add j s.cpus a (omega (arith, less, low))) ∙ ap (λ n. n % s.cpus) same ∙ mod-mul-add k s.cpus b low in
       omega (arith, is, less)
 
   -- a list with the numbers of the first CPUs is as long as their tables together
-  all_sizes : (n : ℕ) → n ≤ l.sup.cpus → (xs : List ℕ) → ((cpu k : ℕ) → cpu < n → k < table_size l cpu → Contains xs (k * l.sup.cpus + cpu)) → sum (map (table_size l) (range_with_len 0 n)) ≤ length xs
-  all_sizes zero few xs there = omega arith
+  all_sizes : (n : ℕ) → n ≤ s.cpus → (xs : List ℕ) → ((cpu k : ℕ) → cpu < n → k < most_slots s → Contains xs (k * s.cpus + cpu)) → n * most_slots s ≤ length xs
+  all_sizes zero few xs there =
+      let none : 0 * most_slots s ≡ 0 = grind arith in
+      omega (arith, none)
   all_sizes (suc n) few xs there =
-      let last = taken_out (table_size l n) (λ k. k * l.sup.cpus + n) xs (λ j k low high same. same_place n j k same) (λ k below. there n k (omega arith) below) in
-      let rest = all_sizes n (omega (arith, few)) last.0 (λ cpu k low below. last.2 (k * l.sup.cpus + cpu) (there cpu k (omega (arith, low)) below) (λ j inside same. apart cpu n k j low (omega (arith, few)) same)) in
-      let next : suc n ≡ n + 1 = omega arith in
-      let more : sum (map (table_size l) (range_with_len 0 (suc n))) ≡ sum (map (table_size l) (range_with_len 0 n)) + table_size l n
-      = ap (λ (m : ℕ). sum (map (table_size l) (range_with_len 0 m))) next ∙ sum_by-map-range_with_len_more (λ x. x) (table_size l) 0 n n (omega arith) in
+      let last = taken_out (most_slots s) (λ k. k * s.cpus + n) xs (λ j k low high same. same_place n j k same) (λ k below. there n k (omega arith) below) in
+      let rest = all_sizes n (omega (arith, few)) last.0 (λ cpu k low below. last.2 (k * s.cpus + cpu) (there cpu k (omega (arith, low)) below) (λ j inside same. apart cpu n k j low (omega (arith, few)) same)) in
+      let more : suc n * most_slots s ≡ n * most_slots s + most_slots s = grind arith in
       let long = last.1 in
       omega (arith, rest, more, long)
 
   -- all tables together
-  pub all_have_numbers : (count : ℕ) → count < sum (sizes_of l) → HasNumbersFor l makers.Free count
+  pub all_have_numbers : (count : ℕ) → count < s.cpus * most_slots s → HasNumbersFor s makers.Free count
   all_have_numbers count more t used few all cpu may = by may.1
     where
-      by : HasNumber l t cpu ⊎ NoneHasNumber l t → (n : ℕ) × (lowest_unused l t cpu ≡ Some n)
+      by : HasNumber s t cpu ⊎ NoneHasNumber s t → (n : ℕ) × (lowest_unused s t cpu ≡ Some n)
       by (inl has) = has
       by (inr none) =
-          let fits = all_sizes l.sup.cpus (omega arith) (0 ∷ used) (λ c k low below. all_taken t used all c (none c low) k below) in
+          let fits = all_sizes s.cpus (omega arith) (0 ∷ used) (λ c k low below. all_taken t used all c (none c low) k below) in
           absurd (omega (arith, fits, more, few))

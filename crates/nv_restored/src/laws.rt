@@ -1,15 +1,13 @@
 //! Laws of what is unpacked of an archive of a tree.
 
-ghost use Rattle.std.specs.Prelude.{◌≡◌, ◌<◌, ℕ, List, false, length, map, codes, Result};
-ghost use Rattle.std.specs.List.{sum};
+ghost use Rattle.std.specs.Prelude.{◌≡◌, ◌<◌, ◌*◌, ℕ, List, false, length, map, codes, Result};
 ghost use Rattle.nv_region.specs.Region.{Region};
 ghost use Rattle.nv_super.specs.Layout.{Layout, fixed_layout};
 ghost use Rattle.nv_super.specs.declared.superblock.Super.{Super};
-ghost use Rattle.nv_inode.specs.Numbers.{sizes_of};
 ghost use Rattle.nv_format.specs.Format.{IsFormatted};
 ghost use Rattle.nv_scan.specs.declared.piece.Row.{Row};
 ghost use Rattle.nv_scan.specs.Rows.{HasRows};
-ghost use Rattle.nv_rows.specs.Unused.{numbers_in_table};
+ghost use Rattle.nv_history.specs.Making.{most_slots};
 ghost use Rattle.nv_graph.specs.Graph.{NoCrossFaults};
 ghost use Rattle.nv_graph.specs.Read.{graph_of};
 ghost use Rattle.nv_paths.specs.Seen.{tree_of};
@@ -31,15 +29,15 @@ ghost use Rattle.nv_restored.specs.Numbers.{HasNumbersFor};
 /// Of an empty tree the steps for the members of an archive make the tree that the archive is of, but for the numbers of
 /// inodes.
 pub fn unpacked_is_same()
-    ensures { (t empty u : Tree) (l : Layout) (maker : Maker) (lost bytes : List ℕ) (archive : IsArchive t 1 (codes ".") lost false bytes) (items : List Item) → IsOrderly t → IsEmpty empty
-        → HasNumbersFor l maker (length archive.members) → map item_of items ≡ items_of t archive.paths archive.members → AreSteps l (codes "/") maker (steps_of items) empty u → IsRestored t u }
+    ensures { (t empty u : Tree) (s : Super) (maker : Maker) (lost bytes : List ℕ) (archive : IsArchive t 1 (codes ".") lost false bytes) (items : List Item) → IsOrderly t → IsEmpty empty
+        → HasNumbersFor s maker (length archive.members) → map item_of items ≡ items_of t archive.paths archive.members → AreSteps s (codes "/") maker (steps_of items) empty u → IsRestored t u }
 {}
 
 /// The same of the items that the bytes of the archive hold.
 pub fn round_trip()
-    ensures { (t empty u : Tree) (l : Layout) (maker : Maker) (lost bytes : List ℕ) (archive : IsArchive t 1 (codes ".") lost false bytes) (items : List Item) → IsOrderly t
-        → HasRoomFor t (codes ".") lost → IsEmpty empty → HasNumbersFor l maker (length archive.members)
-        → Holds bytes (Result.Ok (map item_of items)) → AreSteps l (codes "/") maker (steps_of items) empty u → IsRestored t u }
+    ensures { (t empty u : Tree) (s : Super) (maker : Maker) (lost bytes : List ℕ) (archive : IsArchive t 1 (codes ".") lost false bytes) (items : List Item) → IsOrderly t
+        → HasRoomFor t (codes ".") lost → IsEmpty empty → HasNumbersFor s maker (length archive.members)
+        → Holds bytes (Result.Ok (map item_of items)) → AreSteps s (codes "/") maker (steps_of items) empty u → IsRestored t u }
 {}
 
 /// In trees that are the same but for numbers files have as many links, where link counts are numbers of names and each name
@@ -65,13 +63,14 @@ pub fn formatted_trees_are_empty()
         → IsEmpty (tree_of shown rows) }
 {}
 
-/// A CPU whose table has more numbers than so many inodes has one for each of them, where it is named.
+/// A CPU whose table can have more numbers than so many inodes has one for each of them, where it is named. In version 2 its table
+/// needn't be so large, since it grows.
 pub fn tables_have_numbers()
-    ensures { (l : Layout) (cpu count : ℕ) → 0 < l.sup.cpus → count < length (numbers_in_table l cpu) → HasNumbersFor l (Maker.Named cpu) count }
+    ensures { (s : Super) (cpu count : ℕ) → 0 < s.cpus → count < most_slots s → HasNumbersFor s (Maker.Named cpu) count }
 {}
 
-/// Where no CPU is named, the tables of all together have a number for each of so many inodes, if with their chains they have
-/// more numbers than that.
+/// Where no CPU is named, the tables of all together have a number for each of so many inodes, if they can have more numbers than
+/// that.
 pub fn all_tables_have_numbers()
-    ensures { (l : Layout) (count : ℕ) → 0 < l.sup.cpus → count < sum (sizes_of l) → HasNumbersFor l Maker.Free count }
+    ensures { (s : Super) (count : ℕ) → 0 < s.cpus → count < s.cpus * most_slots s → HasNumbersFor s Maker.Free count }
 {}

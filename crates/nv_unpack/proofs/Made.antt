@@ -1,6 +1,8 @@
 -- What steps leave of a region that was opened, and why unpacking is refused.
 use Rattle.std.proofs.Common.{◌≡◌, ◌∙◌, ℕ, false, List, [], refl, ap, subst}
 use Rattle.nv_super.specs.Layout.{Layout}
+use Rattle.nv_super.specs.declared.superblock.Super.{Super}
+use Rattle.nv_history.specs.Making.{ChainsGrow}
 use Rattle.nv_region.specs.Region.{Region, size}
 use Rattle.nv_region.specs.RegionState.{RegionState}
 use Rattle.nv_journal.specs.Undo.{undone}
@@ -23,7 +25,7 @@ use Rattle.nv_unpack.specs.declared.unpacking.Unpacked.{Unpacked}
 use Rattle.nv_unpack.specs.declared.unpacking.Unpacked.TheVariants as unpacked
 use Rattle.nv_unpack.specs.Steps.{steps_of}
 use Rattle.nv_unpack.specs.Making.{AreSteps, GoesOn, RefusesSteps}
-use Rattle.nv_unpack.specs.Unpacking.{IsHalted, IsMade, IsUnpacked, IsUnpackedAs}
+use Rattle.nv_unpack.specs.Unpacking.{IsHalted, IsMade, IsUnpacked, IsUnpackedAs, MayLeave}
 use Rattle.nv_unpack.proofs.Going.{tree}
 
 abbrev Keeps : Mount RegionState → Type 0
@@ -44,20 +46,23 @@ module _ (R : Region) (o : Outcome) (m n : Mount RegionState) (is : IsOpenedAs R
   as_long : size m.memory.region ≡ size R
   as_long = ap size is.region ∙ same_size R (undone o.sup R) (o.sup, is.is.sup, (rolled_back R o is.is).sup, stays R o.sup is.is.sup)
 
+  may_leave : MayLeave o n.layout
+  may_leave = (subst (λ (l : Layout). ChainsGrow l n.layout) is.layout on.chains, λ one. on.stays (ap (λ (s : Super). s.version) is.sup ∙ one) ∙ ap (λ (l : Layout). l.chains) is.layout)
+
   -- The region that is left shows what the steps make.
-  pub all_left : AreSteps m.layout base maker (steps_of items) (tree m) (tree n) → IsSettled n.memory → IsMade R o base items maker n.memory
+  pub all_left : AreSteps m.sup base maker (steps_of items) (tree m) (tree n) → IsSettled n.memory → IsMade R o base items maker n.memory
   all_left made settled =
       let own = shows_now n kept on.can in
       record {
         tree = tree n;
-        made = subst (λ l. AreSteps l base maker (steps_of items) (tree_shown R o) (tree n)) is.layout (subst (λ (t : Tree). AreSteps m.layout base maker (steps_of items) t (tree n)) same_tree made);
+        made = subst (λ s. AreSteps s base maker (steps_of items) (tree_shown R o) (tree n)) is.sup (subst (λ (t : Tree). AreSteps m.sup base maker (steps_of items) t (tree n)) same_tree made);
         leaves = record {
           as_long = on.as_long ∙ as_long;
           after = record { sup = n.layout.sup; tables = n.layout.chains; rows = n.rows; free = n.free.pools; doubled = own.0; faults = [] };
           shown = own.1;
           own = kept.own on.can.runs;
-          sup = ap (λ (l : Layout). l.sup) (on.keeps.layout ∙ is.layout);
-          layout = on.keeps.layout ∙ is.layout;
+          sup = kept.tables ∙ on.sup ∙ is.sup;
+          layout = may_leave;
           faultless = refl;
           tree = same_itself (tree n);
         };
@@ -65,14 +70,14 @@ module _ (R : Region) (o : Outcome) (m n : Mount RegionState) (is : IsOpenedAs R
       }
 
   -- A step is refused.
-  pub one_refused : (item : Item) (refusal : Refusal) → RefusesSteps m.layout base maker (steps_of items) (tree m) n item refusal → IsHalted R o base items maker item refusal
+  pub one_refused : (item : Item) (refusal : Refusal) → RefusesSteps m.sup base maker (steps_of items) (tree m) n item refusal → IsHalted R o base items maker item refusal
   one_refused item refusal refuses = record {
     left = n;
     kept = kept;
     runs = on.can.runs;
-    sup = on.keeps.sup ∙ is.sup;
-    layout = on.keeps.layout ∙ is.layout;
+    sup = on.sup ∙ is.sup;
+    tables = may_leave;
     writes = on.can.writes;
-    refuses = subst (λ l. RefusesSteps l base maker (steps_of items) (tree_shown R o) n item refusal) is.layout
-        (subst (λ (t : Tree). RefusesSteps m.layout base maker (steps_of items) t n item refusal) same_tree refuses);
+    refuses = subst (λ s. RefusesSteps s base maker (steps_of items) (tree_shown R o) n item refusal) is.sup
+        (subst (λ (t : Tree). RefusesSteps m.sup base maker (steps_of items) t n item refusal) same_tree refuses);
   }

@@ -9,9 +9,11 @@ use Rattle.nv_tree.specs.declared.refusal.Refusal.{Refusal as CallRefusal}
 use Rattle.nv_tree.specs.declared.refusal.Refusal.TheVariants as refusals
 use Rattle.nv_text.specs.Answers.{refused_line}
 use Rattle.nv_text.specs.Refusals.{refusal_name}
-use Rattle.nv_session.specs.Calls.{LeavesTree, mounted_as}
+use Rattle.nv_session.specs.Calls.{LeavesTreeBy, mounted_as}
 use Rattle.nv_session.specs.Sessions.{IsSettled}
+use Rattle.nv_super.specs.Layout.{Layout}
 use Rattle.nv_mounted.specs.Mounted.{outcome_layout}
+use Rattle.nv_history.specs.Making.{ChainsGrow}
 use Rattle.nv_calls.specs.Mount.{IsKept, Mount, has_faults}
 use Rattle.nv_image_check.specs.Recovering.{IsSuperRefused}
 use Rattle.nv_changes.specs.Changing.{tree_shown}
@@ -24,12 +26,16 @@ use Rattle.nv_unpack.specs.Making.{AreSteps, RefusesSteps}
 use Rattle.nv_unpack.specs.Steps.{steps_of}
 use Rattle.nv_unpack.specs.Told.{refused_item}
 
+-- the tables that steps may leave: chains only grow, and none does in version 1
+abbrev pub MayLeave : Outcome → Layout → Type 0
+MayLeave o l = ChainsGrow (outcome_layout o) l × (o.sup.version ≡ 1 → l.chains ≡ o.tables)
+
 -- All steps were made. The region that is left is as long as the one that came, its own undone region, and has no fault; it shows
--- the tree that the steps make. Nothing is pending in it.
+-- the tree that the steps make, in such tables. Nothing is pending in it.
 pub record IsMade (R : Region) (o : Outcome) (base : List ℕ) (items : List Item) (maker : Maker) (left : RegionState) : Type 0 where
   pub tree : Tree
-  pub made : AreSteps (outcome_layout o) base maker (steps_of items) (tree_shown R o) tree
-  pub leaves : LeavesTree R left.region (mounted_as o false) tree
+  pub made : AreSteps o.sup base maker (steps_of items) (tree_shown R o) tree
+  pub leaves : LeavesTreeBy (MayLeave o) R left.region (mounted_as o false) tree
   pub settled : IsSettled left
 
 -- A call for this item is refused, of what is mounted then without faults.
@@ -38,9 +44,9 @@ pub record IsHalted (R : Region) (o : Outcome) (base : List ℕ) (items : List I
   pub kept : IsKept left.memory.region left.sup left.layout left.rows left.free left.faults left.read_only left.stopped
   pub runs : left.stopped ≡ false
   pub sup : left.sup ≡ o.sup
-  pub layout : left.layout ≡ outcome_layout o
+  pub tables : MayLeave o left.layout
   pub writes : left.read_only ≡ false
-  pub refuses : RefusesSteps (outcome_layout o) base maker (steps_of items) (tree_shown R o) left item refusal
+  pub refuses : RefusesSteps o.sup base maker (steps_of items) (tree_shown R o) left item refusal
 
 -- what came of it, by the region's outcome: faults refuse it before anything else
 abbrev pub IsUnpackedAs : Region → Outcome → List ℕ → List Item → Maker → Unpacked → Type 0

@@ -1,6 +1,6 @@
 -- The directories above a place.
 use Rattle.std.specs.Prelude.{◌≡◌, ◌⊎◌, ℕ, ◌+◌, nat_lt, ◌&&◌, Bool, true, false, List, [], ◌∷◌, map, take, slice_index}
-use Rattle.nv_super.specs.Layout.{Layout}
+use Rattle.nv_super.specs.declared.superblock.Super.{Super}
 use Rattle.nv_tree.specs.Path.{is_slash}
 use Rattle.nv_tree.specs.Tree.{Tree}
 use Rattle.nv_session.specs.Machine.{directory_mode}
@@ -16,26 +16,26 @@ abbrev pub ends_above : List ℕ → ℕ → Bool
 ends_above text k = nat_lt 0 k && is_slash (slice_index text k)
 
 -- One call, which makes a directory at a path, in the name of a CPU that may.
-pub record IsDirectoryCall (l : Layout) (maker : Maker) (path : List ℕ) (time : ℕ) (t : Tree) (calls : List Call) : Type 0 where
+pub record IsDirectoryCall (s : Super) (maker : Maker) (path : List ℕ) (time : ℕ) (t : Tree) (calls : List Call) : Type 0 where
   pub cpu : ℕ
-  pub may : IsInodeMaker maker l t cpu
+  pub may : IsInodeMaker maker s t cpu
   pub says : map said calls ≡ MakeDirectory cpu path directory_mode time ∷ []
 
 -- a directory above a place ends there and is missing, and this call makes it
-abbrev pub IsWayCall : Layout → Maker → ℕ → List ℕ → ℕ → Tree → List Call → Type 0
-IsWayCall l maker time text k t calls = (ends_above text k ≡ true) × (¬ IsThere t (take k text)) × IsDirectoryCall l maker (take k text) time t calls
+abbrev pub IsWayCall : Super → Maker → ℕ → List ℕ → ℕ → Tree → List Call → Type 0
+IsWayCall s maker time text k t calls = (ends_above text k ≡ true) × (¬ IsThere t (take k text)) × IsDirectoryCall s maker (take k text) time t calls
 
 -- The second tree is the first with the directories above a place that end within so many bytes of its text: each that is
 -- missing was made.
-pub data MakesWay (l : Layout) (maker : Maker) (time : ℕ) (text : List ℕ) : ℕ → Tree → Tree → Type 0 where
-  none : (t : Tree) → MakesWay l maker time text 0 t t
-  passes : (k : ℕ) (t u : Tree) → (ends_above text k ≡ false) ⊎ IsThere u (take k text) → MakesWay l maker time text k t u → MakesWay l maker time text (k + 1) t u
-  makes : (k : ℕ) (t v u : Tree) (calls : List Call) → IsWayCall l maker time text k v calls → AreMade l calls v u → MakesWay l maker time text k t v
-      → MakesWay l maker time text (k + 1) t u
+pub data MakesWay (s : Super) (maker : Maker) (time : ℕ) (text : List ℕ) : ℕ → Tree → Tree → Type 0 where
+  none : (t : Tree) → MakesWay s maker time text 0 t t
+  passes : (k : ℕ) (t u : Tree) → (ends_above text k ≡ false) ⊎ IsThere u (take k text) → MakesWay s maker time text k t u → MakesWay s maker time text (k + 1) t u
+  makes : (k : ℕ) (t v u : Tree) (calls : List Call) → IsWayCall s maker time text k v calls → AreMade s calls v u → MakesWay s maker time text k t v
+      → MakesWay s maker time text (k + 1) t u
 
 -- ---- within
 
 -- what is made for the byte at an index: nothing, or a directory
-abbrev pub MakesAbove : Layout → Maker → ℕ → List ℕ → ℕ → Tree → Tree → Type 0
-MakesAbove l maker time text k t u = (((ends_above text k ≡ false) ⊎ IsThere u (take k text)) × (t ≡ u))
-    ⊎ ((calls : List Call) × IsWayCall l maker time text k t calls × AreMade l calls t u)
+abbrev pub MakesAbove : Super → Maker → ℕ → List ℕ → ℕ → Tree → Tree → Type 0
+MakesAbove s maker time text k t u = (((ends_above text k ≡ false) ⊎ IsThere u (take k text)) × (t ≡ u))
+    ⊎ ((calls : List Call) × IsWayCall s maker time text k t calls × AreMade s calls t u)

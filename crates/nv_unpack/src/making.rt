@@ -27,8 +27,8 @@ pub(crate) fn make_steps<'a>(
 ) -> Result<(), Halt<'a>>
     requires { CanClean mount.old }
     ensures goes { GoesOn mount.old mount.new }
-    ensures made { OnOk result (AreSteps mount.old.layout base.now maker steps.now (tree_of mount.old.memory.region mount.old.rows) (tree_of mount.new.memory.region mount.new.rows)) }
-    ensures refused { IfErr result (HaltsSteps mount.old.layout base.now maker steps.now (tree_of mount.old.memory.region mount.old.rows) mount.new) }
+    ensures made { OnOk result (AreSteps mount.old.sup base.now maker steps.now (tree_of mount.old.memory.region mount.old.rows) (tree_of mount.new.memory.region mount.new.rows)) }
+    ensures refused { IfErr result (HaltsSteps mount.old.sup base.now maker steps.now (tree_of mount.old.memory.region mount.old.rows) mount.new) }
 {
     let mut hint = 0;
     for step in steps {
@@ -49,8 +49,8 @@ fn make_step<'a>(
 ) -> Result<(), Halt<'a>>
     requires { CanClean mount.old }
     ensures goes { GoesOn mount.old mount.new }
-    ensures made { OnOk result (IsStep mount.old.layout base.now maker step.entry (tree_of mount.old.memory.region mount.old.rows) (tree_of mount.new.memory.region mount.new.rows)) }
-    ensures refused { IfErr result (HaltsStep mount.old.layout base.now maker step.entry (tree_of mount.old.memory.region mount.old.rows) mount.new) }
+    ensures made { OnOk result (IsStep mount.old.sup base.now maker step.entry (tree_of mount.old.memory.region mount.old.rows) (tree_of mount.new.memory.region mount.new.rows)) }
+    ensures refused { IfErr result (HaltsStep mount.old.sup base.now maker step.entry (tree_of mount.old.memory.region mount.old.rows) mount.new) }
 {
     let item = step.item();
     let text = place(alloc, base, item.prefix, item.path)?;
@@ -73,8 +73,8 @@ fn make_own<'a>(
 ) -> Result<(), Halt<'a>>
     requires { CanClean mount.old }
     ensures goes { GoesOn mount.old mount.new }
-    ensures made { OnOk result (MakesOwn mount.old.layout maker text.now old.now step.entry (tree_of mount.old.memory.region mount.old.rows) (tree_of mount.new.memory.region mount.new.rows)) }
-    ensures refused { IfErr result (HaltsOwn mount.old.layout maker text.now old.now step.entry (tree_of mount.old.memory.region mount.old.rows) mount.new) }
+    ensures made { OnOk result (MakesOwn mount.old.sup maker text.now old.now step.entry (tree_of mount.old.memory.region mount.old.rows) (tree_of mount.new.memory.region mount.new.rows)) }
+    ensures refused { IfErr result (HaltsOwn mount.old.sup maker text.now old.now step.entry (tree_of mount.old.memory.region mount.old.rows) mount.new) }
 {
     let item = step.item();
     let cpu = cpu_at(mount, maker, hint, text);

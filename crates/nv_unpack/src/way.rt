@@ -30,8 +30,8 @@ pub(crate) fn make_way_of(
 ) -> Result<(), CallRefusal>
     requires { CanClean mount.old }
     ensures goes { GoesOn mount.old mount.new }
-    ensures made { OnOk result (MakesWayOf mount.old.layout maker text.now step.entry (tree_of mount.old.memory.region mount.old.rows) (tree_of mount.new.memory.region mount.new.rows)) }
-    ensures refused { IfErr result (RefusesWayOf mount.old.layout maker text.now step.entry (tree_of mount.old.memory.region mount.old.rows) mount.new) }
+    ensures made { OnOk result (MakesWayOf mount.old.sup maker text.now step.entry (tree_of mount.old.memory.region mount.old.rows) (tree_of mount.new.memory.region mount.new.rows)) }
+    ensures refused { IfErr result (RefusesWayOf mount.old.sup maker text.now step.entry (tree_of mount.old.memory.region mount.old.rows) mount.new) }
 {
     match step {
         Step::Make(item) => make_way(mount, maker, hint, text, item.time),
@@ -48,8 +48,8 @@ fn make_way(
 ) -> Result<(), CallRefusal>
     requires { CanClean mount.old }
     ensures goes { GoesOn mount.old mount.new }
-    ensures made { OnOk result (MakesWay mount.old.layout maker time text.now (length text.now) (tree_of mount.old.memory.region mount.old.rows) (tree_of mount.new.memory.region mount.new.rows)) }
-    ensures refused { IfErr result (RefusesWay mount.old.layout maker time text.now (tree_of mount.old.memory.region mount.old.rows) mount.new) }
+    ensures made { OnOk result (MakesWay mount.old.sup maker time text.now (length text.now) (tree_of mount.old.memory.region mount.old.rows) (tree_of mount.new.memory.region mount.new.rows)) }
+    ensures refused { IfErr result (RefusesWay mount.old.sup maker time text.now (tree_of mount.old.memory.region mount.old.rows) mount.new) }
 {
     for at in 0..text.len() {
         if let Err(refusal) = make_above(mount, maker, hint, text, at, time) {
@@ -71,8 +71,8 @@ fn make_above(
     requires can { CanClean mount.old }
     requires at { at < length text.now }
     ensures goes { GoesOn mount.old mount.new }
-    ensures made { OnOk result (MakesAbove mount.old.layout maker time text.now at (tree_of mount.old.memory.region mount.old.rows) (tree_of mount.new.memory.region mount.new.rows)) }
-    ensures refused { IfErr result (RefusesAbove mount.old.layout maker time text.now at (tree_of mount.old.memory.region mount.old.rows) mount.new) }
+    ensures made { OnOk result (MakesAbove mount.old.sup maker time text.now at (tree_of mount.old.memory.region mount.old.rows) (tree_of mount.new.memory.region mount.new.rows)) }
+    ensures refused { IfErr result (RefusesAbove mount.old.sup maker time text.now at (tree_of mount.old.memory.region mount.old.rows) mount.new) }
 {
     if !ends_above(text, at) {
         return Ok(());
@@ -99,9 +99,9 @@ fn make_directory(
 ) -> Result<(), CallRefusal>
     requires { CanClean mount.old }
     ensures goes { GoesOn mount.old mount.new }
-    ensures made { OnOk result ((calls : List CallValue) × IsDirectoryCall mount.old.layout maker path.now time (tree_of mount.old.memory.region mount.old.rows) calls
-        × AreMade mount.old.layout calls (tree_of mount.old.memory.region mount.old.rows) (tree_of mount.new.memory.region mount.new.rows)) }
-    ensures refused { IfErr result (RefusesDirectory mount.old.layout maker path.now time (tree_of mount.old.memory.region mount.old.rows) mount.new) }
+    ensures made { OnOk result ((calls : List CallValue) × IsDirectoryCall mount.old.sup maker path.now time (tree_of mount.old.memory.region mount.old.rows) calls
+        × AreMade mount.old.sup calls (tree_of mount.old.memory.region mount.old.rows) (tree_of mount.new.memory.region mount.new.rows)) }
+    ensures refused { IfErr result (RefusesDirectory mount.old.sup maker path.now time (tree_of mount.old.memory.region mount.old.rows) mount.new) }
 {
     let call = Call::MakeDirectory {
         cpu: inode_cpu(mount, maker, hint),

@@ -2,4 +2,4 @@ use Rattle.nv_restored.proofs.Slots.{all_have_numbers}
 use Rattle.nv_restored.proofs.laws.all_tables_have_numbers.Goals as goal
 
 pub returns : goal.returns
-returns c l count some more = all_have_numbers l some count more
+returns c s count some more = all_have_numbers s some count more

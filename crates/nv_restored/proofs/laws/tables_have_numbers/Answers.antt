@@ -2,4 +2,4 @@ use Rattle.nv_restored.proofs.Slots.{table_has_numbers}
 use Rattle.nv_restored.proofs.laws.tables_have_numbers.Goals as goal
 
 pub returns : goal.returns
-returns c l cpu count some more = table_has_numbers l some cpu count more
+returns c s cpu count some more = table_has_numbers s some cpu count more

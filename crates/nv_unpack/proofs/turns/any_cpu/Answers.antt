@@ -1,6 +1,6 @@
 use Rattle.std.proofs.Common.{◌∙◌, ◌<◌, ◌%◌, sym, subst, arith}
 use Rattle.nv_super.specs.declared.superblock.Super.{Super}
-use Rattle.nv_script.proofs.Cleanings.{laid_here, layout_here}
+use Rattle.nv_script.proofs.Cleanings.{layout_here}
 use Rattle.nv_unpack.specs.declared.maker.Maker.{Maker}
 use Rattle.nv_unpack.specs.Turns.{IsMaker}
 use Rattle.nv_unpack.proofs.Unused.{of_any}
@@ -14,5 +14,5 @@ nonzero_rem-result c =
 pub returns-in-Free : goal.returns-in-Free
 returns-in-Free c =
     let m = c.args.mount.now in
-    subst (λ (maker : Maker). IsMaker maker m.layout (c.args.hint % c.superblock.result.now.cpus)) (sym c.in-Free.is)
-    (of_any m.layout c.superblock.result.now (c.superblock.ensures ∙ sym c.keeps.ensures.tables) (laid_here m c.keeps.ensures c.requires) c.args.hint)
+    subst (λ (maker : Maker). IsMaker maker m.sup (c.args.hint % c.superblock.result.now.cpus)) (sym c.in-Free.is)
+    (of_any m.sup c.superblock.result.now c.superblock.ensures (layout_here m c.keeps.ensures c.requires) c.args.hint)

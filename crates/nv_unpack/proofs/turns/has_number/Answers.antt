@@ -1,8 +1,6 @@
 use Rattle.std.proofs.Common.{is_some, ap, sym, ◌∙◌}
-use Rattle.nv_history.proofs.MadeTrees.{lowest_is}
+use Rattle.nv_history.proofs.NewNumbers.{numbers_same}
 use Rattle.nv_unpack.proofs.turns.has_number.Goals as goal
 
 pub returns : goal.returns
-returns c =
-    let m = c.args.mount.now in
-    c.is_some.ensures ∙ ap is_some (c.unused_number-number.ensures ∙ sym (lowest_is m.layout m.memory.region m.rows c.args.cpu))
+returns c = c.is_some.ensures ∙ ap is_some (c.new_number-number.ensures ∙ sym (numbers_same c.keeps.ensures c.requires.can.runs c.requires.can.writes c.args.cpu c.requires.cpu))

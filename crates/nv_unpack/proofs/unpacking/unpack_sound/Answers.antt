@@ -12,7 +12,7 @@ returns-in-Ok c = λ R o is.
     let m = c.args.mount in
     let n = c.make_steps-answer.new.mount in
     let on = c.make_steps-answer.ensures.goes in
-    let made = subst (λ (steps : List Step). AreSteps m.layout c.args.base.now c.args.maker steps (tree m) (tree n)) (c.deref.ensures.value ∙ c.in_ok-steps.ensures) c.in-Ok.ensures.made in (
+    let made = subst (λ (steps : List Step). AreSteps m.sup c.args.base.now c.args.maker steps (tree m) (tree n)) (c.deref.ensures.value ∙ c.in_ok-steps.ensures) c.in-Ok.ensures.made in (
       sym is.read_only ∙ c.requires.writes,
       subst (λ (left : RegionState). IsMade R o c.args.base.now c.args.items.now c.args.maker left) (sym c.into_memory.ensures)
           (all_left R o m n is c.args.base.now c.args.items.now c.args.maker on c.keeps.ensures made (c.nothing_is_pending.ensures on.can.runs)),
