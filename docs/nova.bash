@@ -9,7 +9,7 @@ _nova() {
             run) words="--image --save --force --strict --help" ;;
             shell) words="--force --help" ;;
             check) words="--workers --summary --only-faults --json --explain --journal --help" ;;
-            mkfs) words="--blocks --cpus --tables --size --force --help" ;;
+            mkfs) words="--blocks --cpus --tables --size --layout --force --help" ;;
             clean) words="--help" ;;
             ls) words="--long --recursive --help" ;;
             stat) words="--help" ;;
@@ -37,7 +37,7 @@ _nova() {
     fi
     # A number is written by hand, and everything else may be a file.
     case $before in
-        --blocks | --cpu | --cpus | --size | --tables | --time | --workers) return ;;
+        --blocks | --cpu | --cpus | --layout | --size | --tables | --time | --workers) return ;;
     esac
     mapfile -t COMPREPLY < <(compgen -W "$words" -- "$word")
     if [ "$COMP_CWORD" -gt 1 ]; then

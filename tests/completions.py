@@ -32,9 +32,9 @@ def commands():
 
 
 def options(command):
-    """The options of a command, and those of them whose value is a number or a size."""
+    """The options of a command, and those of them whose value is a number, a size or a version."""
     found = re.findall(r"^ +(?:-\w, )?(--[a-z-]+)(?: <[a-z-]+>)? +(.*)", said(command, "--help"), re.MULTILINE)
-    return [name for name, _ in found], [name for name, text in found if text.startswith(("The number", "The size"))]
+    return [name for name, _ in found], [name for name, text in found if text.startswith(("The number", "The size", "The version"))]
 
 
 def main():

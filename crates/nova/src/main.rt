@@ -135,10 +135,17 @@ where
             blocks,
             cpus,
             tables,
+            layout,
             force,
         } => {
             let target = Target { path: image, force };
-            mkfs(rt, target, blocks, suiting_areas(blocks, cpus, tables))
+            mkfs(
+                rt,
+                target,
+                blocks,
+                suiting_areas(blocks, cpus, tables),
+                layout,
+            )
         }
         Todo::Clean { image, path } => clean(rt, &mut errors, image, path),
         Todo::Change {

@@ -7,9 +7,10 @@ use Rattle.std.proofs.lemmas.Str.Pattern.{strip_suffix_char}
 use Rattle.std.proofs.lemmas.Bool.{true≢false}
 use Rattle.std.proofs.lemmas.List.{append_cancel_right}
 use Rattle.clap.specs.Walk.{Row, Text, first_of}
+use Rattle.nv_args.specs.declared.todo.LayoutVersion.{LayoutVersion}
 use Rattle.nv_args.specs.declared.todo.Todo.{Todo}
 use Rattle.nv_args.specs.declared.todo.Todo.TheVariants.{Mkfs}
-use Rattle.nv_args.specs.Words.{AreNumbers, Asks, IsNumber, IsSize, MayBeNumber, SizeOf}
+use Rattle.nv_args.specs.Words.{AreNumbers, Asks, IsLayout, IsNumber, IsSize, MayBeNumber, SizeOf, version_number}
 use Rattle.nv_args.proofs.Spelling.{IsBefore}
 
 abbrev is_nil : Text → Bool
@@ -111,5 +112,16 @@ no_numbers values blocks cpus tables size given (inr by_size) none =
 -- and where no numbers are written, no new image is asked for
 pub no_image : (values : List Row) → ((blocks : ℕ) (cpus tables : Option ℕ) → ¬ AreNumbers values blocks cpus tables) → (todo : Todo)
     → ¬ Asks (codes "mkfs") values todo
-no_image values none (Mkfs image blocks cpus tables force) asks = none blocks cpus tables asks.1.1
+no_image values none (Mkfs image blocks cpus tables layout force) asks = none blocks cpus tables asks.1.1
 no_image values none _ asks = search rules
+
+-- nor is one where no layout is written
+pub no_layout : (values : List Row) → ((layout : LayoutVersion) → ¬ IsLayout (first_of (codes "layout") values) layout) → (todo : Todo)
+    → ¬ Asks (codes "mkfs") values todo
+no_layout values none (Mkfs image blocks cpus tables layout force) asks = none layout asks.1.2
+no_layout values none _ asks = search rules
+
+-- what is neither left out nor a number is no layout
+pub no_version : (written : Option Text) → ((number : Option ℕ) → ¬ MayBeNumber written number) → (layout : LayoutVersion) → ¬ IsLayout written layout
+no_version None none layout is = none None refl
+no_version (Some text) none layout is = none (Some (version_number layout)) is

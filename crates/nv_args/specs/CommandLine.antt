@@ -42,6 +42,10 @@ needed_number_rule name = record (needed_rule name) { parser = Some (parsers.Uns
 abbrev pub threads_rule : Text → Rule
 threads_rule name = record (option_rule name) { parser = Some (parsers.Signed (pos 1) (pos 64)) }
 
+-- an option with the number 1 or 2
+abbrev pub version_rule : Text → Rule
+version_rule name = record (option_rule name) { parser = Some (parsers.Signed (pos 1) (pos 2)) }
+
 -- the option `--workers`
 abbrev pub workers_rule : Rule
 workers_rule = threads_rule (codes "workers")
@@ -64,10 +68,10 @@ abbrev pub check_app : App
 check_app = command (codes "check") (several_rule (codes "path") ∷ workers_rule ∷ flag_rule (codes "summary") ∷ flag_rule (codes "only-faults")
     ∷ flag_rule (codes "json") ∷ flag_rule (codes "explain") ∷ flag_rule (codes "journal") ∷ [])
 
--- `mkfs`: an image's file, the numbers of a new region, its size in place of its blocks, and whether the file may be there
+-- `mkfs`: an image's file, the numbers of a new region, its size in place of its blocks, its layout, and whether the file may be there
 abbrev pub mkfs_app : App
 mkfs_app = command (codes "mkfs") (needed_rule (codes "image") ∷ number_rule (codes "blocks") ∷ number_rule (codes "cpus") ∷ number_rule (codes "tables")
-    ∷ option_rule (codes "size") ∷ flag_rule (codes "force") ∷ [])
+    ∷ option_rule (codes "size") ∷ version_rule (codes "layout") ∷ flag_rule (codes "force") ∷ [])
 
 -- a command on one inode of an image, which can be left out: `clean` and `ls`
 abbrev pub may_path_app : Text → App

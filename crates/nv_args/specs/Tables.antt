@@ -5,7 +5,7 @@ use Rattle.clap.specs.Simple.{App}
 use Rattle.clap.specs.declared.builder.arg.Arg.{Arg}
 use Rattle.clap.specs.declared.builder.command.Command.{Command}
 use Rattle.clap.specs.declared.builder.command.Command.TheViews.{out-Command}
-use Rattle.nv_args.specs.CommandLine.{command, place_rule, needed_rule, several_rule, option_rule, number_rule, flag_rule, letter_rule, needed_number_rule, threads_rule}
+use Rattle.nv_args.specs.CommandLine.{command, place_rule, needed_rule, several_rule, option_rule, number_rule, flag_rule, letter_rule, needed_number_rule, threads_rule, version_rule}
 use Rattle.nv_args.specs.declared.arguments.Argument.{Argument}
 use Rattle.nv_args.specs.declared.arguments.Written.{Written}
 use Rattle.nv_args.specs.declared.arguments.Written.TheVariants as ways
@@ -22,6 +22,7 @@ rule_as (ways.LetterFlag letter) name = letter_rule letter name
 rule_as ways.Number name = number_rule name
 rule_as ways.NeededNumber name = needed_number_rule name
 rule_as ways.Workers name = threads_rule name
+rule_as ways.Version name = version_rule name
 
 -- an argument of a table
 abbrev pub rule_by : Argument → Rule

@@ -14,6 +14,8 @@ use Rattle.nv_args.specs.declared.change.NamedChange.TheVariants.{Mkdir, Rm, Rmd
 use Rattle.nv_args.specs.declared.todo.CheckOutput.TheVariants.{Written, Explained, Journal}
 use Rattle.nv_args.specs.declared.todo.Todo.{Todo}
 use Rattle.nv_args.specs.declared.todo.Todo.TheVariants.{Version, Run, Shell, Check, Mkfs, Clean, Change, PutTree, Untar, Recover, Ls, Stat, Cat, Tar, Log, View, Explain, Map}
+use Rattle.nv_args.specs.declared.todo.LayoutVersion.{LayoutVersion}
+use Rattle.nv_args.specs.declared.todo.LayoutVersion.TheVariants.{One, Two}
 use Rattle.nv_args.specs.declared.todo.Which.{Which}
 use Rattle.nv_args.specs.declared.todo.Which.TheVariants.{Path, Number}
 use Rattle.nv_args.specs.declared.views.View.{View as ViewValue}
@@ -105,6 +107,16 @@ AreNumbers values blocks cpus tables = ((first_of (codes "size") values ≡ None
     ⊎ ((first_of (codes "blocks") values ≡ None) × IsSize (first_of (codes "size") values) blocks
     × MayBeNumber (first_of (codes "cpus") values) cpus × MayBeNumber (first_of (codes "tables") values) tables)
 
+-- the number of a version
+abbrev pub version_number : LayoutVersion → ℕ
+version_number One = 1
+version_number Two = 2
+
+-- the layout of a new region has version 1 where none is written, and else the one that is
+abbrev pub IsLayout : Option Text → LayoutVersion → Type 0
+IsLayout None layout = layout ≡ One
+IsLayout (Some text) layout = IsNumber (Some text) (version_number layout)
+
 -- ---- changes
 
 -- the number of a CPU is 0 where none is written
@@ -166,7 +178,7 @@ command_of Version = []
 command_of (Run script image save force strict) = codes "run"
 command_of (Shell image force) = codes "shell"
 command_of (Check paths workers output) = codes "check"
-command_of (Mkfs image blocks cpus tables force) = codes "mkfs"
+command_of (Mkfs image blocks cpus tables layout force) = codes "mkfs"
 command_of (Clean image path) = codes "clean"
 command_of (Change image change cpu time) = change_command change
 command_of (PutTree image host path cpu time) = codes "put"
@@ -214,8 +226,8 @@ HasValues values (Run script image save force strict) = (first_of (codes "script
 HasValues values (Shell image force) = (first_of (codes "image") values ≡ Some image.now) × (IsTrue force ↔ IsGiven (codes "force") values)
 HasValues values (Check paths workers output) = (all_of (codes "path") values ≡ Some (map (λ path. path.now) paths.items))
     × AreWorkers (first_of (codes "workers") values) workers × IsOutput values (length paths.items) output
-HasValues values (Mkfs image blocks cpus tables force) = (first_of (codes "image") values ≡ Some image.now)
-    × AreNumbers values blocks cpus tables × (IsTrue force ↔ IsGiven (codes "force") values)
+HasValues values (Mkfs image blocks cpus tables layout force) = (first_of (codes "image") values ≡ Some image.now)
+    × AreNumbers values blocks cpus tables × IsLayout (first_of (codes "layout") values) layout × (IsTrue force ↔ IsGiven (codes "force") values)
 HasValues values (Clean image path) = (first_of (codes "image") values ≡ Some image.now) × (first_of (codes "path") values ≡ option_map (λ text. text.now) path)
 HasValues values (Change image change cpu time) = (first_of (codes "image") values ≡ Some image.now) × HasChange values change
     × IsCpu (first_of (codes "cpu") values) cpu × MayBeNumber (first_of (codes "time") values) time

@@ -2,7 +2,7 @@
 
 ghost use Rattle.std.specs.Prelude.{◌≡◌, ◌^◌, ◌-◌, false, pos};
 ghost use Rattle.clap.specs.Walk.{rule_of};
-ghost use Rattle.nv_args.specs.CommandLine.{place_rule, needed_rule, several_rule, option_rule, number_rule, flag_rule, letter_rule, needed_number_rule, threads_rule};
+ghost use Rattle.nv_args.specs.CommandLine.{place_rule, needed_rule, several_rule, option_rule, number_rule, flag_rule, letter_rule, needed_number_rule, threads_rule, version_rule};
 ghost use Rattle.nv_args.specs.Tables.{rule_by};
 
 use clap::builder::ValueParser;
@@ -30,6 +30,8 @@ pub(crate) enum Written {
     NeededNumber,
     /// `--NAME N`, where N is a number of threads.
     Workers,
+    /// `--NAME N`, where N is a version of the layout.
+    Version,
 }
 
 /// An argument, and what a user reads of it.
@@ -55,6 +57,7 @@ pub(crate) fn arg_of<'a>(alloc: Global, argument: &Argument<'a>) -> Arg<'a>
         Written::Number => number(alloc, name, help),
         Written::NeededNumber => needed_number(alloc, name, help),
         Written::Workers => workers(alloc, name, help),
+        Written::Version => version(alloc, name, help),
     }
 }
 
@@ -142,6 +145,17 @@ fn workers<'a>(alloc: Global, name: &'a str, help: &'a str) -> Arg<'a>
         .value_parser(workers_parser())
 }
 
+/// `--NAME N`, where N is a version of the layout.
+fn version<'a>(alloc: Global, name: &'a str, help: &'a str) -> Arg<'a>
+    ensures rule { rule_of result ≡ version_rule name.entry.now }
+    ensures local { result.global ≡ false }
+{
+    Arg::new(alloc, name)
+        .long(name)
+        .help(help)
+        .value_parser(version_parser())
+}
+
 fn number_parser<'a>() -> ValueParser<'a>
     ensures { result ≡ ValueParser.Unsigned 0 (2 ^ 64 - 1) }
 {
@@ -152,4 +166,10 @@ fn workers_parser<'a>() -> ValueParser<'a>
     ensures { result ≡ ValueParser.Signed (pos 1) (pos 64) }
 {
     value_parser!(u32).range(1..=64)
+}
+
+fn version_parser<'a>() -> ValueParser<'a>
+    ensures { result ≡ ValueParser.Signed (pos 1) (pos 2) }
+{
+    value_parser!(u32).range(1..=2)
 }

@@ -185,6 +185,11 @@ const COMMANDS: [CommandForm<'static>; 15] = [
                 help: "The size in place of --blocks: bytes, or a number with K, M or G, such as 64M",
             },
             Argument {
+                written: Written::Version,
+                name: "layout",
+                help: "The version of its layout: 1, or 2, in which tables grow; 1 if left out",
+            },
+            Argument {
                 written: Written::Flag,
                 name: "force",
                 help: "Put the image in the place of a file that is there",

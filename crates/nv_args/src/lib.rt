@@ -21,7 +21,7 @@ mod views;
 
 pub use change::NamedChange;
 pub use reading::read_words;
-pub use todo::{CheckOutput, Todo, Which};
+pub use todo::{CheckOutput, LayoutVersion, Todo, Which};
 pub use usage::Usage;
 pub use version::VERSION;
 pub use views::View;

@@ -4,13 +4,13 @@ ghost use Rattle.std.specs.Prelude.{◌≡◌, ◌≢◌, ◌⊎◌, ◌↔◌, 
 ghost use Rattle.clap.specs.Walk.{first_of, all_of, rows_of};
 ghost use Rattle.clap.specs.Simple.{subcommand_rows_of};
 ghost use Rattle.clap.specs.Matches.{found_of};
-ghost use Rattle.nv_args.specs.Words.{AreNumbers, AreWorkers, AskVersion, Asks, CommandSays, IsBetween, IsGiven, IsNumber, IsOutput, IsVersion, MayBeNumber, Names, Says, SizeOf, SpellsNumber};
+ghost use Rattle.nv_args.specs.Words.{AreNumbers, AreWorkers, AskVersion, Asks, CommandSays, IsBetween, IsGiven, IsLayout, IsNumber, IsOutput, IsVersion, MayBeNumber, Names, Says, SizeOf, SpellsNumber};
 ghost use Rattle.nv_args.specs.Words.{WordsSay, WantsMemory};
 
 use crate::changing::{change_of, put_of, recover_of, untar_of};
 use crate::command_line::nova;
 use crate::sizes::size_of;
-use crate::todo::{CheckOutput, Todo, Which};
+use crate::todo::{CheckOutput, LayoutVersion, Todo, Which};
 use crate::usage::{Cause, Usage};
 use crate::views::{block_of, diff_of, du_of, log_of, ls_of};
 use clap::ArgMatches;
@@ -174,14 +174,28 @@ fn mkfs_of<'a>(values: &ArgMatches<'a>) -> Option<Todo<'a>>
         cpus,
         tables,
     } = numbers_of(values)?;
+    let layout = layout_of(text_of(values, "layout"))?;
     let force = is_given(values, "force");
     Some(Todo::Mkfs {
         image,
         blocks,
         cpus,
         tables,
+        layout,
         force,
     })
+}
+
+// The version of the layout that the text writes, where it is 1 or 2.
+fn layout_of(text: Option<&str>) -> Option<LayoutVersion>
+    ensures some { IfSome result (λ layout. IsLayout (option_map (λ text. text.now) text.entry) layout) }
+    ensures none { IsNone result → (layout : LayoutVersion) → ¬ IsLayout (option_map (λ text. text.now) text.entry) layout }
+{
+    match may_be_number(text)? {
+        None | Some(1) => Some(LayoutVersion::One),
+        Some(2) => Some(LayoutVersion::Two),
+        Some(_) => None,
+    }
 }
 
 // The numbers of a new region; what is left out suits the number of blocks.

@@ -32,13 +32,14 @@ pub enum Todo<'a> {
         workers: u32,
         output: CheckOutput,
     },
-    /// Write an image of a formatted region, over a file that is there only by force. What is left out suits the number of
-    /// blocks.
+    /// Write an image of a formatted region of this layout, over a file that is there only by force. What is left out suits the
+    /// number of blocks.
     Mkfs {
         image: &'a str,
         blocks: u64,
         cpus: Option<u64>,
         tables: Option<u64>,
+        layout: LayoutVersion,
         force: bool,
     },
     /// Take the pages out of the logs of an image that they can do without: of the inode that a path leads to, or of all.
@@ -131,6 +132,15 @@ impl<'a> Todo<'a> {
             _ => None,
         }
     }
+}
+
+/// The version of a new region's layout.
+#[derive(Clone, Copy, PartialEq, Eq)]
+pub enum LayoutVersion {
+    /// Tables keep their blocks.
+    One,
+    /// Tables grow.
+    Two,
 }
 
 /// An inode of an image, as a word names it.

@@ -5,7 +5,7 @@ use nv_text::Output;
 use std::alloc::Global;
 use std::process::Abort;
 
-const REFUSED: [&[&str]; 28] = [
+const REFUSED: [&[&str]; 30] = [
     &["--version", "-V"],
     &["version"],
     &["check", "a", "--workers", "65"],
@@ -19,6 +19,8 @@ const REFUSED: [&[&str]; 28] = [
     &["mkfs", "i", "--size", "64MB"],
     &["mkfs", "i", "--size", "M"],
     &["mkfs", "i", "--size", "17179869184G"],
+    &["mkfs", "i", "--size", "64M", "--layout", "3"],
+    &["mkfs", "i", "--layout", "2"],
     &[],
     &["run", "a", "b"],
     &["mkfs", "i", "--blocks", "16", "--cpus", "1"],
@@ -46,7 +48,7 @@ const REFUSED: [&[&str]; 28] = [
 ];
 
 /// Words that ask for something.
-const ASKED: [&[&str]; 31] = [
+const ASKED: [&[&str]; 33] = [
     &["--version"],
     &["-V"],
     &["run"],
@@ -57,6 +59,8 @@ const ASKED: [&[&str]; 31] = [
     &["mkfs", "i", "--size", "64M"],
     &["mkfs", "--size", "1G", "i", "--cpus", "4"],
     &["mkfs", "i", "--size=65536", "--tables", "2"],
+    &["mkfs", "i", "--size", "64M", "--layout", "1"],
+    &["mkfs", "--layout=2", "i", "--size", "64M"],
     &["clean", "i"],
     &["clean", "i", "/a"],
     &["ls", "i"],
