@@ -43,11 +43,11 @@ follows l m n first second = record {
 
 pub goes : (m n : Mount RegionState) (calls : List Call) → CanClean m → has_upgrade calls ≡ false → LeavesTables m n calls → n.faults ≡ m.faults → n.read_only ≡ m.read_only → size n.memory.region ≡ size m.memory.region → n.stopped ≡ false
     → IsTrue (is_steady n.memory) → GoesOn m n
-goes m n calls can none leaves faults mode long runs steady = record {
+goes m n calls can plain leaves faults mode long runs steady = record {
   can = record { runs = runs; writes = mode ∙ can.writes; steady = steady };
   sup = leaves.sup;
   chains = leaves.chains;
-  stays = λ one. leaves.stays (version_1_stays m.sup calls one none);
+  stays = λ one. leaves.stays (version_1_stays m.sup calls one plain);
   faults = faults;
   as_long = long;
 }

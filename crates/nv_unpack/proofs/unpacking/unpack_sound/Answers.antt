@@ -17,3 +17,12 @@ returns-in-Ok c = λ R o is.
       subst (λ (left : RegionState). IsMade R o c.args.base.now c.args.items.now c.args.maker left) (sym c.into_memory.ensures)
           (all_left R o m n is c.args.base.now c.args.items.now c.args.maker on c.keeps.ensures made (c.nothing_is_pending.ensures on.can.runs)),
     )
+
+pub returns : goal.returns
+returns c = λ R o is.
+    let m = c.args.mount in
+    let n = c.make_steps-answer.new.mount in
+    let refuses = subst (λ (steps : List Step). RefusesSteps m.sup c.args.base.now c.args.maker steps (tree m) n c.in-Err-At.item c.in-Err-At.refusal) (c.deref.ensures.value ∙ c.in_ok-steps.ensures) c.in-Err-At.ensures.refused in (
+      sym is.read_only ∙ c.requires.writes,
+      one_refused R o m n is c.args.base.now c.args.items.now c.args.maker c.make_steps-answer.ensures.goes c.keeps.ensures c.in-Err-At.item c.in-Err-At.refusal refuses,
+    )
