@@ -4,10 +4,10 @@
 # done; all were, one of them at its second try, since the first was refused memory and changed nothing; or memory was
 # refused outside of them.
 #
-# It takes five minutes.
+# It takes eight minutes.
 set -u
 source "$(dirname "${BASH_SOURCE[0]}")/refusing.sh"
-runs=150
+runs=255
 refuse_each calls $runs
 
 mapfile -t whole < <(tail -n 2 stdout)
