@@ -1,4 +1,4 @@
-use Rattle.std.proofs.Common.{◌∙◌, List, subst, sym}
+use Rattle.std.proofs.Common.{◌∙◌, List, Result, IfErr, subst, sym}
 use Rattle.nv_region.specs.RegionState.{RegionState}
 use Rattle.nv_unpack.specs.declared.step.Step.{Step}
 use Rattle.nv_unpack.specs.declared.halt.Halt.{Halt}
@@ -24,7 +24,7 @@ returns c = λ R o is.
     let m = c.args.mount in
     let n = c.make_steps-answer.new.mount in
     let refuses = subst (λ (steps : List Step). RefusesSteps m.sup c.args.base.now c.args.maker steps (tree m) n c.in-Err-At.item c.in-Err-At.refusal) (c.deref.ensures.value ∙ c.in_ok-steps.ensures)
-    (subst (λ (halt : Halt). HaltsSteps m.sup c.args.base.now c.args.maker c.deref.result.now (tree m) n halt) c.in-Err-At.field-0-is c.in-Err-At.ensures.refused) in (
+    (subst (λ (r : Result (Unit {0}) Halt). IfErr r (HaltsSteps m.sup c.args.base.now c.args.maker c.deref.result.now (tree m) n)) c.in-Err-At.is c.make_steps-answer.ensures.refused) in (
       sym is.read_only ∙ c.requires.writes,
       one_refused R o m n is c.args.base.now c.args.items.now c.args.maker c.make_steps-answer.ensures.goes c.keeps.ensures c.in-Err-At.item c.in-Err-At.refusal refuses,
     )
