@@ -1,7 +1,8 @@
-use Rattle.std.proofs.Common.{◌∙◌, List, subst, sym}
+use Rattle.std.proofs.Common.{◌∙◌, List, Result, IfErr, subst, sym}
 use Rattle.nv_region.specs.RegionState.{RegionState}
 use Rattle.nv_unpack.specs.declared.step.Step.{Step}
-use Rattle.nv_unpack.specs.Making.{AreSteps, RefusesSteps}
+use Rattle.nv_unpack.specs.declared.halt.Halt.{Halt}
+use Rattle.nv_unpack.specs.Making.{AreSteps, HaltsSteps, RefusesSteps}
 use Rattle.nv_unpack.specs.Unpacking.{IsMade}
 use Rattle.nv_unpack.proofs.Going.{tree}
 use Rattle.nv_unpack.proofs.Made.{all_left, one_refused}
@@ -22,7 +23,8 @@ pub returns : goal.returns
 returns c = λ R o is.
     let m = c.args.mount in
     let n = c.make_steps-answer.new.mount in
-    let refuses = subst (λ (steps : List Step). RefusesSteps m.sup c.args.base.now c.args.maker steps (tree m) n c.in-Err-At.item c.in-Err-At.refusal) (c.deref.ensures.value ∙ c.in_ok-steps.ensures) c.in-Err-At.ensures.refused in (
+    let refuses = subst (λ (steps : List Step). RefusesSteps m.sup c.args.base.now c.args.maker steps (tree m) n c.in-Err-At.item c.in-Err-At.refusal) (c.deref.ensures.value ∙ c.in_ok-steps.ensures)
+    (subst (λ (r : Result (Unit {0}) Halt). IfErr r (HaltsSteps m.sup c.args.base.now c.args.maker c.deref.result.now (tree m) n)) c.in-Err-At.is c.make_steps-answer.ensures.refused) in (
       sym is.read_only ∙ c.requires.writes,
       one_refused R o m n is c.args.base.now c.args.items.now c.args.maker c.make_steps-answer.ensures.goes c.keeps.ensures c.in-Err-At.item c.in-Err-At.refusal refuses,
     )
