@@ -4,7 +4,6 @@ use Rattle.nv_region.specs.Region.{Region, region_of, size}
 use Rattle.nv_region.proofs.Bytes.{size_of_bytes}
 use Rattle.nv_super.proofs.Lengths.{longer_is_refused}
 use Rattle.nv_super.specs.declared.superblock.SuperFault.TheVariants as faults
-use Rattle.nv_recover.specs.declared.errors.RecoverError.TheVariants as errors
 use Rattle.nv_region.specs.declared.memory.RegionRefusal.{RegionRefusal}
 use Rattle.nv_region.specs.declared.memory.RegionRefusal.TheVariants as lengths
 use Rattle.nv_super.specs.declared.superblock.Super.{Super}

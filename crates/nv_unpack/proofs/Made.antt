@@ -1,5 +1,5 @@
 -- What steps leave of a region that was opened, and why unpacking is refused.
-use Rattle.std.proofs.Common.{◌≡◌, ◌∙◌, ℕ, false, List, [], refl, ap, subst}
+use Rattle.std.proofs.Common.{◌≡◌, ◌∙◌, ℕ, false, List, [], refl, ap, subst, sym}
 use Rattle.nv_super.specs.Layout.{Layout}
 use Rattle.nv_super.specs.declared.superblock.Super.{Super}
 use Rattle.nv_history.specs.Making.{ChainsGrow}
@@ -11,7 +11,7 @@ use Rattle.nv_outcome.proofs.Again.{rolled_back, stays}
 use Rattle.nv_tree.specs.Tree.{Tree}
 use Rattle.nv_tree.specs.declared.refusal.Refusal.{Refusal}
 use Rattle.nv_tree.proofs.Same.{same_itself}
-use Rattle.nv_calls.specs.Mount.{IsKept, Mount}
+use Rattle.nv_calls.specs.Mount.{IsKept, Mount, has_faults}
 use Rattle.nv_paths.specs.Seen.{tree_of}
 use Rattle.nv_session.specs.Sessions.{IsSettled}
 use Rattle.nv_session.proofs.Moved.{same_size}
@@ -19,13 +19,15 @@ use Rattle.nv_script.specs.Cleaning.{IsOpenedAs}
 use Rattle.nv_script.proofs.Cleanings.{shows_now}
 use Rattle.nv_changes.specs.Changing.{tree_shown}
 use Rattle.nv_untar.specs.declared.item.Item.{Item}
+use Rattle.nv_unpack.specs.declared.halt.Halt.{Halt}
+use Rattle.nv_unpack.specs.declared.halt.Halt.TheVariants as halts
 use Rattle.nv_unpack.specs.declared.maker.Maker.{Maker}
 use Rattle.nv_unpack.specs.declared.step.Step.{Step}
 use Rattle.nv_unpack.specs.declared.unpacking.Unpacked.{Unpacked}
 use Rattle.nv_unpack.specs.declared.unpacking.Unpacked.TheVariants as unpacked
 use Rattle.nv_unpack.specs.Steps.{steps_of}
-use Rattle.nv_unpack.specs.Making.{AreSteps, GoesOn, RefusesSteps}
-use Rattle.nv_unpack.specs.Unpacking.{IsHalted, IsMade, IsUnpacked, IsUnpackedAs, MayLeave}
+use Rattle.nv_unpack.specs.Making.{AreSteps, GoesOn, HaltsSteps, RefusesSteps}
+use Rattle.nv_unpack.specs.Unpacking.{IsHalted, IsMade, IsRefusalOf, IsUnpacked, IsUnpackedAs, MayLeave}
 use Rattle.nv_unpack.proofs.Going.{tree}
 
 abbrev Keeps : Mount RegionState → Type 0
@@ -81,3 +83,9 @@ module _ (R : Region) (o : Outcome) (m n : Mount RegionState) (is : IsOpenedAs R
     refuses = subst (λ s. RefusesSteps s base maker (steps_of items) (tree_shown R o) n item refusal) is.sup
         (subst (λ (t : Tree). RefusesSteps m.sup base maker (steps_of items) t n item refusal) same_tree refuses);
   }
+
+  -- What is answered where a step is halted.
+  pub one_halted : (halt : Halt) → HaltsSteps m.sup base maker (steps_of items) (tree m) n halt → has_faults o.faults ≡ false → (told : Unpacked) → IsRefusalOf halt told
+      → IsUnpackedAs R o base items maker told
+  one_halted halts.Memory refuses none told is = absurd is
+  one_halted (halts.At item refusal) refuses none told is = subst (λ (x : Unpacked). IsUnpackedAs R o base items maker x) (sym is) (none, one_refused item refusal refuses)

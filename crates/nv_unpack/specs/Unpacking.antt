@@ -19,6 +19,8 @@ use Rattle.nv_image_check.specs.Recovering.{IsSuperRefused}
 use Rattle.nv_changes.specs.Changing.{tree_shown}
 use Rattle.nv_untar.specs.declared.item.Item.{Item}
 use Rattle.nv_untar.specs.Items.{item_of}
+use Rattle.nv_unpack.specs.declared.halt.Halt.{Halt}
+use Rattle.nv_unpack.specs.declared.halt.Halt.TheVariants as halts
 use Rattle.nv_unpack.specs.declared.maker.Maker.{Maker}
 use Rattle.nv_unpack.specs.declared.unpacking.Unpacked.{Unpacked}
 use Rattle.nv_unpack.specs.declared.unpacking.Unpacked.TheVariants as unpacked
@@ -61,6 +63,11 @@ IsUnpacked R base items maker (unpacked.Unrecovered refusal) = IsSuperRefused R 
 IsUnpacked R base items maker (unpacked.Region left) = (o : Outcome) × IsOutcome R o × IsUnpackedAs R o base items maker (unpacked.Region left)
 IsUnpacked R base items maker unpacked.Faulty = (o : Outcome) × IsOutcome R o × IsUnpackedAs R o base items maker unpacked.Faulty
 IsUnpacked R base items maker (unpacked.Refused item refusal) = (o : Outcome) × IsOutcome R o × IsUnpackedAs R o base items maker (unpacked.Refused item refusal)
+
+-- what is answered where a step is halted: its item and the refusal
+abbrev pub IsRefusalOf : Halt → Unpacked → Type 0
+IsRefusalOf halts.Memory told = ⊥
+IsRefusalOf (halts.At item refusal) told = told ≡ unpacked.Refused item refusal
 
 -- ---- what is told
 

@@ -7,7 +7,7 @@ ghost use Rattle.nv_region.specs.Region.{Region};
 ghost use Rattle.nv_outcome.specs.Outcome.{Outcome};
 ghost use Rattle.nv_script.specs.Cleaning.{CanClean, IsOpenedAs};
 ghost use Rattle.nv_region.specs.RegionState.{is_steady};
-ghost use Rattle.nv_unpack.specs.Unpacking.{IsUnpacked, IsUnpackedAs};
+ghost use Rattle.nv_unpack.specs.Unpacking.{IsRefusalOf, IsUnpacked, IsUnpackedAs};
 
 use crate::halt::Halt;
 use crate::maker::Maker;
@@ -132,7 +132,16 @@ fn unpack_sound<'a>(
     mount.nothing_is_pending();
     match answer {
         Ok(()) => Ok(Unpacked::Region(mount.into_memory())),
-        Err(Halt::Memory) => Err(AllocError),
-        Err(Halt::At(item, refusal)) => Ok(Unpacked::Refused(item, refusal)),
+        Err(halt) => halted(halt),
+    }
+}
+
+// Want of memory is told as no refusal.
+fn halted<'a>(halt: Halt<'a>) -> Result<Unpacked<'a>, AllocError>
+    ensures { IfOk result (IsRefusalOf halt.entry) }
+{
+    match halt {
+        Halt::Memory => Err(AllocError),
+        Halt::At(item, refusal) => Ok(Unpacked::Refused(item, refusal)),
     }
 }

@@ -1,11 +1,11 @@
-use Rattle.std.proofs.Common.{◌∙◌, List, Result, IfErr, subst, sym}
+use Rattle.std.proofs.Common.{◌∙◌, List, subst, sym}
+use Rattle.std.proofs.lemmas.Result.{IfOk-weaker}
 use Rattle.nv_region.specs.RegionState.{RegionState}
 use Rattle.nv_unpack.specs.declared.step.Step.{Step}
-use Rattle.nv_unpack.specs.declared.halt.Halt.{Halt}
-use Rattle.nv_unpack.specs.Making.{AreSteps, HaltsSteps, RefusesSteps}
+use Rattle.nv_unpack.specs.Making.{AreSteps, HaltsSteps}
 use Rattle.nv_unpack.specs.Unpacking.{IsMade}
 use Rattle.nv_unpack.proofs.Going.{tree}
-use Rattle.nv_unpack.proofs.Made.{all_left, one_refused}
+use Rattle.nv_unpack.proofs.Made.{all_left, one_halted}
 use Rattle.nv_unpack.proofs.unpacking.unpack_sound.Goals as goal
 
 pub returns-in-Ok : goal.returns-in-Ok
@@ -19,12 +19,11 @@ returns-in-Ok c = λ R o is.
           (all_left R o m n is c.args.base.now c.args.items.now c.args.maker on c.keeps.ensures made (c.nothing_is_pending.ensures on.can.runs)),
     )
 
-pub returns : goal.returns
-returns c = λ R o is.
+pub returns-in-Err : goal.returns-in-Err
+returns-in-Err c = λ R o is.
     let m = c.args.mount in
     let n = c.make_steps-answer.new.mount in
-    let refuses = subst (λ (steps : List Step). RefusesSteps m.sup c.args.base.now c.args.maker steps (tree m) n c.in-Err-At.item c.in-Err-At.refusal) (c.deref.ensures.value ∙ c.in_ok-steps.ensures)
-    (subst (λ (r : Result (Unit {0}) Halt). IfErr r (HaltsSteps m.sup c.args.base.now c.args.maker c.deref.result.now (tree m) n)) c.in-Err-At.is c.make_steps-answer.ensures.refused) in (
-      sym is.read_only ∙ c.requires.writes,
-      one_refused R o m n is c.args.base.now c.args.items.now c.args.maker c.make_steps-answer.ensures.goes c.keeps.ensures c.in-Err-At.item c.in-Err-At.refusal refuses,
-    )
+    let halts = subst (λ (steps : List Step). HaltsSteps m.sup c.args.base.now c.args.maker steps (tree m) n c.in-Err.halt) (c.deref.ensures.value ∙ c.in_ok-steps.ensures) c.in-Err.ensures.refused in
+    IfOk-weaker c.halted.result _ _
+    (one_halted R o m n is c.args.base.now c.args.items.now c.args.maker c.make_steps-answer.ensures.goes c.keeps.ensures c.in-Err.halt halts (sym is.read_only ∙ c.requires.writes))
+    c.halted.ensures

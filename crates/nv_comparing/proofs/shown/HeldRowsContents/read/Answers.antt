@@ -1,4 +1,4 @@
-use Rattle.std.proofs.Common.{◌∙◌, ℕ, length, map, ap, sym, arith}
+use Rattle.std.proofs.Common.{◌∙◌, length, map, ap, arith}
 use Rattle.std.specs.List.{range_with_len}
 use Rattle.nv_tree.specs.Tree.{Node}
 use Rattle.nv_calls.proofs.RowChange.{row_there}
