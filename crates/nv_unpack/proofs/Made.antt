@@ -22,7 +22,6 @@ use Rattle.nv_untar.specs.declared.item.Item.{Item}
 use Rattle.nv_unpack.specs.declared.halt.Halt.{Halt}
 use Rattle.nv_unpack.specs.declared.halt.Halt.TheVariants as halts
 use Rattle.nv_unpack.specs.declared.maker.Maker.{Maker}
-use Rattle.nv_unpack.specs.declared.step.Step.{Step}
 use Rattle.nv_unpack.specs.declared.unpacking.Unpacked.{Unpacked}
 use Rattle.nv_unpack.specs.declared.unpacking.Unpacked.TheVariants as unpacked
 use Rattle.nv_unpack.specs.Steps.{steps_of}

@@ -1,5 +1,5 @@
 -- The steps in which items are unpacked.
-use Rattle.std.specs.Prelude.{ℕ, Bool, true, false, List, ◌++◌, map}
+use Rattle.std.specs.Prelude.{Bool, true, false, List, ◌++◌, map}
 use Rattle.std.specs.List.{filter}
 use Rattle.nv_untar.specs.declared.item.Item.{Item as ItemValue}
 use Rattle.nv_untar.specs.declared.item.ItemKind.{ItemKind}

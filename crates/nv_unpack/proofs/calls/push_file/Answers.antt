@@ -1,4 +1,4 @@
-use Rattle.std.proofs.Common.{List, [], ◌∷◌, ap, refl}
+use Rattle.std.proofs.Common.{[], ◌∷◌, ap}
 use Rattle.nv_paths.specs.Seen.{tree_of}
 use Rattle.nv_untar.specs.Items.{item_of}
 use Rattle.nv_history.specs.Said.{Said, Write, said}

@@ -1,4 +1,4 @@
-use Rattle.std.proofs.Common.{◌≡◌, ◌∙◌, ◌++◌, ℕ, ◌+◌, List, drop, sym, ap}
+use Rattle.std.proofs.Common.{◌∙◌, ◌++◌, ℕ, ◌+◌, List, sym, ap}
 use Rattle.std.proofs.lemmas.List.{take_rest}
 use Rattle.std.proofs.lemmas.Result.{on_ok_weaker}
 use Rattle.nv_unpack.specs.Places.{parts_text}

@@ -1,4 +1,4 @@
-use Rattle.std.proofs.Common.{◌≡◌, ◌≢◌, ◌∙◌, IsTrue, false, refl}
+use Rattle.std.proofs.Common.{◌≢◌, ◌∙◌, IsTrue, refl}
 use Rattle.nv_tree.specs.declared.refusal.Refusal.TheVariants.{Stopped}
 use Rattle.nv_history.proofs.LeftTables.{leaves_tables}
 use Rattle.nv_changes.proofs.Made.{not_on, unstopped}

@@ -1,4 +1,4 @@
-use Rattle.std.proofs.Common.{◌∙◌, ◌<◌, ◌%◌, sym, subst, arith}
+use Rattle.std.proofs.Common.{◌<◌, ◌%◌, sym, subst, arith}
 use Rattle.nv_super.specs.declared.superblock.Super.{Super}
 use Rattle.nv_script.proofs.Cleanings.{layout_here}
 use Rattle.nv_unpack.specs.declared.maker.Maker.{Maker}

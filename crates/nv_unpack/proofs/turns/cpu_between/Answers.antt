@@ -1,4 +1,4 @@
-use Rattle.std.proofs.Common.{arith, sym, ◌∙◌}
+use Rattle.std.proofs.Common.{arith}
 use Rattle.nv_paths.specs.Seen.{tree_of}
 use Rattle.nv_unpack.proofs.Unused.{has_one, none_between}
 use Rattle.nv_unpack.proofs.turns.cpu_between.Goals as goal

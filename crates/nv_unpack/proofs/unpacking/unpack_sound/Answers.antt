@@ -19,8 +19,8 @@ returns-in-Ok c = λ R o is.
           (all_left R o m n is c.args.base.now c.args.items.now c.args.maker on c.keeps.ensures made (c.nothing_is_pending.ensures on.can.runs)),
     )
 
-pub returns-in-Err : goal.returns-in-Err
-returns-in-Err c = λ R o is.
+pub returns : goal.returns
+returns c = λ R o is.
     let m = c.args.mount in
     let n = c.make_steps-answer.new.mount in
     let halts = subst (λ (steps : List Step). HaltsSteps m.sup c.args.base.now c.args.maker steps (tree m) n c.in-Err.halt) (c.deref.ensures.value ∙ c.in_ok-steps.ensures) c.in-Err.ensures.refused in
