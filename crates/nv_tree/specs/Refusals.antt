@@ -50,7 +50,7 @@ IsRefusedBy first e = ((e ≡ Memory) × MayWantMemory first) ⊎ ((e ≡ Stoppe
 abbrev pub IsReadRefusedBy : Option Refusal → Refusal → Type 0
 IsReadRefusedBy first e = ((e ≡ Memory) × (first ≡ None)) ⊎ (first ≡ Some e)
 
--- What stands beside the tree: the CPUs, whether it was mounted with faults, the number of each CPU's lowest unused slot,
+-- What stands beside the tree: the CPUs, whether it was mounted with faults, the number that a new inode of each CPU gets,
 -- and how many blocks are free.
 pub record World : Type 0 where
   pub cpus : ℕ
@@ -134,7 +134,7 @@ passes t (Some names) i = list_any (eqb i) (passed t 1 names)
 abbrev pub is_into_itself : Tree → Path → Path → Bool × Refusal
 is_into_itself t p q = (option_map_or (λ i. is_directory_at t i && passes t q i) (target t p) false, IntoItself)
 
--- the CPU's table has no unused slot
+-- a new inode of the CPU gets no number
 abbrev pub has_no_slot : World → ℕ → Bool × Refusal
 has_no_slot w cpu = (is_none (w.unused cpu), NoInodes)
 
