@@ -47,8 +47,10 @@ pub record SettlesCallBy {P T : Type 0} (Kept : Mount P → Mount P → Type 0) 
   pub open of_path use *
   pub settled : OnOk result (NothingPending (region new.memory) (may_hold new.memory))
 
+-- The same of a call by paths that keeps the tables.
 abbrev pub KeepsPathCall : {P T : Type 0} → (P → Region) → (P → FuseState) → Type 0 → Mount P → Mount P → Result T Refusal → Type 0
 KeepsPathCall region fuse no_path old new result = KeepsPathCallBy KeepsMount region fuse no_path old new result
 
+-- The same, and where the call is done, nothing is pending.
 abbrev pub SettlesCall : {P T : Type 0} → (P → Region) → (P → Choices) → (P → FuseState) → Type 0 → Mount P → Mount P → Result T Refusal → Type 0
 SettlesCall region may_hold fuse no_path old new result = SettlesCallBy KeepsMount region may_hold fuse no_path old new result
