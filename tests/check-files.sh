@@ -204,7 +204,7 @@ same "the numbers of a size and tables" "4 16384 3" "$(numbers_of "$folder/sized
 # The layout of version 2 differs in the version alone: a new region has 0 where links come.
 expect "the layout of version 1" 0 "" "" "$program" mkfs "$folder/sized" --force --size 1M --cpus 2 --layout 1
 expect "the layout of version 2" 0 "" "" "$program" mkfs "$folder/grows" --size 1M --cpus 2 --layout 2
-same "the layouts of both versions" "     9   1   2" "$(cmp -l "$folder/sized" "$folder/grows")"
+same "the layouts of both versions" "9 1 2" "$(cmp -l "$folder/sized" "$folder/grows" | tr -s ' ' | sed 's/^ //')"
 expect "a region of version 2" 0 "region version 2 cpus 2 blocks 256 tables 1 state 0" "" bash -c '"$1" check "$2" | head -n 1' bash "$program" "$folder/grows"
 expect "no region of version 2" 2 "" "refused Cpus${newline}a region has 1 to 64 CPUs" "$program" mkfs "$folder/new" --size 1M --cpus 65 --layout 2
 "$program" mkfs "$folder/new" --size 1M --layout 3 >"$folder/said" 2>"$folder/why"
