@@ -10,8 +10,8 @@ use Rattle.nv_calls.specs.Mount.{Mount}
 use Rattle.nv_calls.specs.Same.{KeepsMount, SameMount}
 
 -- A mount that was stopped before answers so and stays as it was, as does what was mounted with faults. Each refusal but a stop leaves
--- all as it was. The mount is stopped just where the call answers so, and the fuse has burnt then. Something is kept, and how long the
--- region is. A fuse that has burnt stays so, as does a memory that is open up to the region's end.
+-- all as it was. The mount is stopped just where the call answers so, and the fuse has burnt then. What the call keeps of a mount it
+-- has kept, and how long the region is. A fuse that has burnt stays so, as does a memory that is open up to the region's end.
 pub record KeepsCallBy {P T : Type 0} (Kept : Mount P → Mount P → Type 0) (region : P → Region) (fuse : P → FuseState) (old new : Mount P) (result : Result T Refusal) : Type 0 where
   pub stopped_before : IsTrue old.stopped → (result ≡ Err Stopped) × (new ≡ old)
   pub unchanged : IfErr result (λ e. (e ≡ Stopped → ⊥) → SameMount old new)
