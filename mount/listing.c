@@ -11,12 +11,13 @@
 
 #include "mounted.h"
 
-/* An open directory. Its names are as nova_list puts them. */
+/* An open directory. Its names are as nova_list_inode puts them. */
 struct listing {
     uint8_t *names;
     size_t used;
     size_t room;
-    off_t next; /* where the last answer ended */
+    off_t next;       /* where the last answer ended */
+    uint64_t changes; /* how many had been made when it was read */
 };
 
 /* A name of a list, and where the next one begins. Offset 0 is that of `.`, 1 that of `..`, and 2 that of the first name. */
@@ -55,12 +56,10 @@ void on_releasedir(fuse_req_t request, fuse_ino_t id, struct fuse_file_info *fil
 /* Lists a directory, with more room where it needs more. */
 static int list(const struct node *directory, struct listing *listing)
 {
-    static struct path path;
+    uint64_t number = number_of(directory);
     uint32_t status;
-    int error = path_of(directory, &path);
-    if (error)
-        return error;
-    while ((status = nova_list(&fs, PATH(path), listing->names, listing->room, &listing->used)) == NOVA_TOO_SMALL) {
+    listing->changes = changes;
+    while ((status = nova_list_inode(&fs, number, listing->names, listing->room, &listing->used)) == NOVA_TOO_SMALL) {
         uint8_t *more = realloc(listing->names, listing->used + IMAGE_BLOCK);
         if (!more)
             return ENOMEM;
@@ -114,14 +113,21 @@ static size_t add(fuse_req_t request, const struct listed *it, char *at, size_t 
     return fuse_add_direntry(request, at, room, it->name, &told, it->next);
 }
 
+/* Finds a listed name: by its number, unless it may stand for another inode since. */
+static int find_listed(const struct listing *listing, uint64_t directory, const struct listed *it, struct fuse_entry_param *out)
+{
+    return listing->changes == changes ? find_inode(it->number, directory, it->name, out) : find(directory, it->name, out);
+}
+
 /* The same with the numbers of the inode, of which the kernel is told. Of `.` and `..` it isn't, nor of a name that is gone. */
-static size_t add_told(fuse_req_t request, uint64_t directory, off_t offset, const struct listed *it, char *at, size_t room)
+static size_t add_told(fuse_req_t request, const struct listing *listing, uint64_t directory, off_t offset, const struct listed *it,
+                       char *at, size_t room)
 {
     struct fuse_entry_param entry = {.attr = {.st_ino = it->number}};
     size_t needed = fuse_add_direntry_plus(request, NULL, 0, it->name, NULL, 0);
     if (needed > room)
         return needed;
-    if (offset >= FIRST && find(directory, it->name, &entry))
+    if (offset >= FIRST && find_listed(listing, directory, it, &entry))
         entry = (struct fuse_entry_param){.attr = {.st_ino = it->number}};
     return fuse_add_direntry_plus(request, at, room, it->name, &entry, it->next);
 }
@@ -138,7 +144,7 @@ static void reply_names(fuse_req_t request, const struct node *directory, size_t
         return;
     }
     for (; name_at(listing, directory, offset, &it); offset = it.next) {
-        size_t more = is_told ? add_told(request, directory->id, offset, &it, answer + used, room - used)
+        size_t more = is_told ? add_told(request, listing, directory->id, offset, &it, answer + used, room - used)
                               : add(request, &it, answer + used, room - used);
         if (more > room - used)
             break;

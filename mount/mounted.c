@@ -8,6 +8,7 @@ enum { NANOSECONDS = 1000000000 };
 
 nova_fs fs;
 nova_space space;
+uint64_t changes;
 
 int error_of(uint32_t status)
 {
@@ -64,9 +65,4 @@ void tell(struct stat *out, const nova_numbers *n)
     out->st_atim = out->st_ctim = out->st_mtim;
 }
 
-int numbers_of(uint64_t id, nova_numbers *out)
-{
-    static struct path path;
-    int error = path_of(node_of(id), &path);
-    return error ? error : error_of(nova_stat(&fs, PATH(path), out));
-}
+int numbers_of(uint64_t id, nova_numbers *out) { return error_of(nova_stat_inode(&fs, number_of(node_of(id)), out)); }

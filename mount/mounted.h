@@ -30,6 +30,9 @@ uint64_t now(void);
 /* The CPU from whose pool and table a call takes: each in turn. */
 uint64_t cpu(void);
 
+/* How many calls have changed the image. */
+extern uint64_t changes;
+
 /* Tells the numbers of an inode as the system wants them. */
 void tell(struct stat *out, const nova_numbers *n);
 

@@ -25,16 +25,25 @@ static void reply_entry(fuse_req_t request, int error, const struct fuse_entry_p
         forget_node(entry->ino, 1);
 }
 
-static int owned_by_caller(fuse_req_t request, mode_t mode)
+static int owned_by_caller(fuse_req_t request, uint64_t number, mode_t mode)
 {
     const struct fuse_ctx *caller = fuse_req_ctx(request);
     if (!caller->uid && !caller->gid)
         return 0;
-    return error_of(WITH_ROOM(&path, nova_set_attr(&fs, cpu(), PATH(path), mode & 07777, caller->uid, caller->gid, now())));
+    return error_of(WITH_ROOM(&path, nova_set_attr_inode(&fs, cpu(), number, mode & 07777, caller->uid, caller->gid, now())));
 }
 
 typedef uint32_t making(nova_fs *, uint64_t, const uint8_t *, size_t, uint32_t, uint64_t);
 typedef uint32_t removing(nova_fs *, uint64_t, const uint8_t *, size_t, uint64_t);
+
+/* The number of the inode that was made just now: the kernel may have it as that of another. */
+static uint64_t number_made(void)
+{
+    nova_numbers made = {.inode = 0};
+    (void)nova_stat(&fs, PATH(path), &made);
+    renew_number(made.inode);
+    return made.inode;
+}
 
 /* Makes an inode in the table of a CPU that has room, and finds it. It goes again where it can't be given to the caller. */
 static int make(fuse_req_t request, fuse_ino_t directory, const char *name, mode_t mode, making *call, removing *undo,
@@ -49,7 +58,8 @@ static int make(fuse_req_t request, fuse_ino_t directory, const char *name, mode
     error = written(status);
     if (error)
         return error;
-    if ((error = owned_by_caller(request, mode)) || (error = find_made(directory, name, entry)))
+    uint64_t number = number_made();
+    if ((error = owned_by_caller(request, number, mode)) || (error = find_inode(number, directory, name, entry)))
         undo(&fs, cpu(), PATH(path), now());
     return error;
 }
@@ -93,11 +103,12 @@ void on_symlink(fuse_req_t request, const char *to, fuse_ino_t directory, const 
 
 static int link_to(fuse_ino_t id, fuse_ino_t directory, const char *name, struct fuse_entry_param *entry)
 {
-    int error = path_of(node_of(id), &path);
+    const struct node *node = node_of(id);
+    int error = path_of(node, &path);
     if (error || (error = path_in(directory, name, &other_path)))
         return error;
     error = written(WITH_ROOM(&other_path, nova_link(&fs, cpu(), PATH(path), PATH(other_path), now())));
-    if (!error && (error = find(directory, name, entry)))
+    if (!error && (error = find_inode(node->number, directory, name, entry)))
         nova_unlink(&fs, cpu(), PATH(other_path), now());
     return error;
 }

@@ -45,6 +45,8 @@ struct node *node_of_inode(uint64_t number)
     return node;
 }
 
+uint64_t number_of(const struct node *node) { return node && !node->is_gone ? node->number : 0; }
+
 /* An id that no node has. */
 static uint64_t new_id(uint64_t number)
 {

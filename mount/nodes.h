@@ -1,8 +1,9 @@
 /* The inodes that the kernel has, with the names under which it was told of them.
  *
  * The kernel names an inode by an id, which is its number in the image: but where the kernel still has an inode that is gone, the
- * next one of that number gets another id. The calls of nova.h take paths. So each node has names, each of which leads to the node
- * of a directory. A node is kept while the kernel has it, or while names lead to it: what the kernel forgets goes.
+ * next one of that number gets another id. The calls of nova.h on what an inode holds take numbers, and those on names take paths.
+ * So each node has names too, each of which leads to the node of a directory. A node is kept while the kernel has it, or while
+ * names lead to it: what the kernel forgets goes.
  */
 #ifndef NODES_H
 #define NODES_H
@@ -40,6 +41,9 @@ size_t node_count(void);
 /* The node of an id, and that of the inode of a number; or NULL. */
 struct node *node_of(uint64_t id);
 struct node *node_of_inode(uint64_t number);
+
+/* The number of a node's inode; or 0, which no inode has, where there is no node or another inode may have its number. */
+uint64_t number_of(const struct node *node);
 
 /* The node of an inode under a name that the kernel is told of, in a directory that it has. It is made where there is none, and the
  * kernel has it once more. NULL where memory was refused. */

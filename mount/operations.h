@@ -11,9 +11,9 @@
 /* Names of files that were taken away while they were open begin so. The kernel isn't told when one comes or goes. */
 #define HIDDEN ".fuse_hidden"
 
-/* Finds a name in a directory, or one that was made just now, for an answer to the kernel: 0, or an errno. */
+/* Finds a name in a directory, of which the number may be known, for an answer to the kernel: 0, or an errno. */
 int find(fuse_ino_t directory, const char *name, struct fuse_entry_param *out);
-int find_made(fuse_ino_t directory, const char *name, struct fuse_entry_param *out);
+int find_inode(uint64_t number, fuse_ino_t directory, const char *name, struct fuse_entry_param *out);
 
 /* reading.c */
 void on_lookup(fuse_req_t request, fuse_ino_t directory, const char *name);

@@ -18,13 +18,6 @@ static struct {
 
 static double time_of(const char *name) { return strncmp(name, HIDDEN, sizeof HIDDEN - 1) ? FOR_GOOD : 0; }
 
-static int numbers_in(fuse_ino_t directory, const char *name, nova_numbers *out)
-{
-    static struct path path;
-    int error = path_in(directory, name, &path);
-    return error ? error : error_of(nova_stat(&fs, PATH(path), out));
-}
-
 static int tell_entry(const nova_numbers *numbers, fuse_ino_t directory, const char *name, struct fuse_entry_param *out)
 {
     const struct node *node = tell_node(numbers->inode, directory, name);
@@ -37,19 +30,19 @@ static int tell_entry(const nova_numbers *numbers, fuse_ino_t directory, const c
 
 int find(fuse_ino_t directory, const char *name, struct fuse_entry_param *out)
 {
+    static struct path path;
     nova_numbers numbers;
-    int error = numbers_in(directory, name, &numbers);
-    return error ? error : tell_entry(&numbers, directory, name, out);
+    int error = path_in(directory, name, &path);
+    if (error || (error = error_of(nova_stat(&fs, PATH(path), &numbers))))
+        return error;
+    return tell_entry(&numbers, directory, name, out);
 }
 
-int find_made(fuse_ino_t directory, const char *name, struct fuse_entry_param *out)
+int find_inode(uint64_t number, fuse_ino_t directory, const char *name, struct fuse_entry_param *out)
 {
     nova_numbers numbers;
-    int error = numbers_in(directory, name, &numbers);
-    if (error)
-        return error;
-    renew_number(numbers.inode);
-    return tell_entry(&numbers, directory, name, out);
+    int error = error_of(nova_stat_inode(&fs, number, &numbers));
+    return error ? error : tell_entry(&numbers, directory, name, out);
 }
 
 void on_lookup(fuse_req_t request, fuse_ino_t directory, const char *name)
@@ -109,10 +102,11 @@ static bool has_room(size_t count)
 void on_read(fuse_req_t request, fuse_ino_t id, size_t count, off_t offset, struct fuse_file_info *file)
 {
     (void)file;
-    static struct path path;
     size_t done = 0;
-    int error = has_room(count) ? path_of(node_of(id), &path) : ENOMEM;
-    if (error || (error = error_of(nova_read(&fs, PATH(path), (uint64_t)offset, buffer.bytes, count, &done))))
+    int error = ENOMEM;
+    if (has_room(count))
+        error = error_of(nova_read_inode(&fs, number_of(node_of(id)), (uint64_t)offset, buffer.bytes, count, &done));
+    if (error)
         fuse_reply_err(request, error);
     else
         fuse_reply_buf(request, (const char *)buffer.bytes, done);

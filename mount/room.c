@@ -29,9 +29,17 @@ bool has_room_now(uint32_t status, const struct path *path)
     return clean(path->bytes, directory ? directory : 1) || has_freed;
 }
 
+bool has_room_for(uint32_t status, const struct node *node)
+{
+    static struct path path;
+    return status == NOVA_NO_SPACE && !path_of(node, &path) && has_room_now(status, &path);
+}
+
 int written(uint32_t status)
 {
-    if (!status)
+    if (!status) {
         image.is_changed = true;
+        changes++;
+    }
     return error_of(status);
 }

@@ -7,28 +7,25 @@
 #include "mounted.h"
 #include "room.h"
 
-/* The path of the inode of this operation. */
-static struct path path;
-
-static int find_path(fuse_ino_t id) { return path_of(node_of(id), &path); }
-
-static int set_size(uint64_t size) { return written(WITH_ROOM(&path, nova_set_size(&fs, cpu(), PATH(path), size, now()))); }
+static int set_size(const struct node *node, uint64_t size)
+{
+    return written(WITH_ROOM_FOR(node, nova_set_size_inode(&fs, cpu(), number_of(node), size, now())));
+}
 
 /* ---- opening */
 
-static int cut(fuse_ino_t id)
+/* Finds an inode, and cuts it where that is wanted. */
+static int open_inode(fuse_ino_t id, int flags)
 {
     nova_numbers numbers;
     int error = numbers_of(id, &numbers);
-    return error || numbers.size == 0 ? error : set_size(0);
+    return !error && flags & O_TRUNC && numbers.size > 0 ? set_size(node_of(id), 0) : error;
 }
 
 void on_open(fuse_req_t request, fuse_ino_t id, struct fuse_file_info *file)
 {
     struct node *node = node_of(id);
-    int error = find_path(id);
-    if (!error && file->flags & O_TRUNC)
-        error = cut(id);
+    int error = open_inode(id, file->flags);
     if (error) {
         /* It went since it was found: the kernel looks its name up again, since the file may be made by this very call. */
         fuse_reply_err(request, error == ENOENT ? ESTALE : error);
@@ -47,9 +44,9 @@ void on_write(fuse_req_t request, fuse_ino_t id, const char *bytes, size_t count
 {
     (void)file;
     const uint8_t *from = (const uint8_t *)bytes;
-    int error = find_path(id);
-    if (!error)
-        error = written(WITH_ROOM(&path, nova_write(&fs, cpu(), PATH(path), (uint64_t)offset, from, count, now())));
+    const struct node *node = node_of(id);
+    uint64_t number = number_of(node);
+    int error = written(WITH_ROOM_FOR(node, nova_write_inode(&fs, cpu(), number, (uint64_t)offset, from, count, now())));
     if (error)
         fuse_reply_err(request, error);
     else
@@ -84,14 +81,14 @@ static int set_own(fuse_ino_t id, const struct stat *wanted, int which)
         n.group = wanted->st_gid;
     bool is_given = which & FUSE_SET_ATTR_MTIME && !(which & FUSE_SET_ATTR_MTIME_NOW);
     n.time = is_given ? of_time(wanted->st_mtim) : now();
-    return written(WITH_ROOM(&path, nova_set_attr(&fs, cpu(), PATH(path), n.mode, n.owner, n.group, n.time)));
+    return written(WITH_ROOM_FOR(node_of(id), nova_set_attr_inode(&fs, cpu(), n.inode, n.mode, n.owner, n.group, n.time)));
 }
 
 static int set(fuse_ino_t id, const struct stat *wanted, int which)
 {
-    int error = find_path(id);
-    if (!error && which & FUSE_SET_ATTR_SIZE) {
-        error = set_size((uint64_t)wanted->st_size);
+    int error = 0;
+    if (which & FUSE_SET_ATTR_SIZE) {
+        error = set_size(node_of(id), (uint64_t)wanted->st_size);
         /* A new size comes with the time of now. */
         if (which & FUSE_SET_ATTR_MTIME_NOW)
             which &= ~TIMES;

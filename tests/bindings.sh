@@ -49,7 +49,7 @@ holds "Python" $?
 tail -n 1 python.said | grep -qx OK || cat python.said
 calls=$(grep -o '^uint32_t nova_[a-z_]*' "$bindings/c/nova.h" | sed 's/.* nova_//' | grep -vx map | sort)
 same "nova.py has each call but nova_map" "$calls" "$(sed -nE '/^_CALLS = /,/^}/s/^    "([a-z_]*)":.*/\1/p' "$bindings/python/nova.py" | sort)"
-same "nova.py says each status" "$(sed -nE 's/^    NOVA_[A-Z_]* = ([0-9]+),/\1/p' "$bindings/c/nova.h" | grep -vE '^(0|2[0-8])$' | xargs)" \
+same "nova.py says each status" "$(sed -nE 's/^    NOVA_[A-Z0-9_]* = ([0-9]+),/\1/p' "$bindings/c/nova.h" | grep -vE '^(0|2[0-8])$' | xargs)" \
     "$(sed -nE '/^STATUSES = /,/^}/s/^    ([0-9]+):.*/\1/p' "$bindings/python/nova.py" | xargs)"
 same "and the Rust crate" "$calls" "$(grep -o 'pub fn nova_[a-z_]*' "$bindings/rust/src/calls.rs" | sed 's/.* nova_//' | sort)"
 

@@ -241,6 +241,10 @@ exec 7<&-
 left link
 mkdir -p "$at/d/e" && exec 8>"$at/d/e/file" && mv "$at/d" "$at/f" && mv "$at/f/e" "$at/g" && echo moved >&8 && exec 8>&-
 same "a file that is open in a directory that moves" moved "$(cat "$at/g/file")"
+mkdir -p "$at/p/q" && touch "$at/p/q/"{1..300} && exec 8<"$at/p/q" && mv "$at/p" "$at/r"
+same "a directory that is open and moves is listed" 300 "$(ls -l /proc/self/fd/8/ | grep -c '^-')"
+exec 8<&-
+rm -r "$at/r"
 long=$(printf 'n%.0s' {1..200})
 (cd "$at/f" && for _ in {1..20}; do mkdir "$long" && cd "$long" || exit; done && echo deep >file && [ "$(cat file)" = deep ])
 holds "a path of 4,000 bytes" $?
@@ -251,6 +255,12 @@ holds "by ENAMETOOLONG" $?
 mkdir "$at/many" && (cd "$at/many" && touch {1..2000} && [ "$(ls | wc -l)" = 2000 ] && find . -type f -delete && [ -z "$(ls)" ])
 holds "a directory whose names go while it is listed" $?
 rm -r "$at/f" "$at/g" "$at/many"
+left link
+mkdir "$at/links" && echo linked >"$at/file" && for k in {1..999}; do ln "$at/file" "$at/links/$k" || break; done
+unmounted && mounted open.img --mapped && exec 7<"$at/file" && rm "$at/file"
+same "a removed file that is open and has the most links" "linked 999" "$(cat <&7) $(stat -L -c %h /proc/self/fd/7)"
+exec 7<&-
+rm -r "$at/links"
 left link
 sound "open" open.img
 

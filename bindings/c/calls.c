@@ -19,21 +19,25 @@ static uint8_t image[LENGTH], room[1 << 16];
 static uint64_t lent[512];
 static size_t used;
 
-static void stat_of(const char *path)
+static nova_numbers numbers;
+
+/* What a call has told of an inode. */
+static void numbers_told(const char *what, uint32_t status)
 {
-    nova_numbers n;
-    uint32_t status = nova_stat(&fs, BYTES(path), &n);
-    printf("stat %s: %u", path, status);
+    nova_numbers n = numbers;
+    printf("stat %s: %u", what, status);
     if (!status)
         printf(" inode %ju size %ju time %ju directory %u mode %o owner %u group %u links %u", (uintmax_t)n.inode,
                (uintmax_t)n.size, (uintmax_t)n.time, n.is_directory, n.mode, n.owner, n.group, n.links);
     printf("\n");
 }
 
-static void names_of(const char *path)
+static void stat_of(const char *path) { numbers_told(path, nova_stat(&fs, BYTES(path), &numbers)); }
+
+/* The names that a call has put into the room. */
+static void names_told(const char *what, uint32_t status)
 {
-    uint32_t status = nova_list(&fs, BYTES(path), room, sizeof room, &used);
-    printf("list %s: %u", path, status);
+    printf("list %s: %u", what, status);
     for (size_t at = 0; !status && at < used;) {
         uint64_t inode, length;
         memcpy(&inode, room + at, 8);
@@ -43,6 +47,8 @@ static void names_of(const char *path)
     }
     printf("\n");
 }
+
+static void names_of(const char *path) { names_told(path, nova_list(&fs, BYTES(path), room, sizeof room, &used)); }
 
 static void space_of(void)
 {
@@ -55,8 +61,8 @@ static void space_of(void)
 /* A closed handle, and what can't be opened or formatted. */
 static void refusals(void)
 {
-    nova_numbers n;
-    SAYS(nova_stat(&fs, BYTES("/"), &n));
+    SAYS(nova_stat(&fs, BYTES("/"), &numbers));
+    SAYS(nova_stat_inode(&fs, 1, &numbers));
     SAYS(nova_close(&fs));
     SAYS(nova_format(&fs, 7, 1, 1, 0));
     SAYS(nova_format(&fs, BLOCKS, 65, 1, 0));
@@ -114,6 +120,33 @@ static void looks(void)
     space_of();
 }
 
+/* The same by number: 2 is a directory, 3 its file. */
+static void looks_by_number(void)
+{
+    numbers_told("inode 3", nova_stat_inode(&fs, 3, &numbers));
+    numbers_told("inode 9", nova_stat_inode(&fs, 9, &numbers));
+    names_told("inode 2", nova_list_inode(&fs, 2, room, sizeof room, &used));
+    names_told("inode 3", nova_list_inode(&fs, 3, room, sizeof room, &used));
+    SAYS(nova_list_inode(&fs, 1, room, 5, &used));
+    printf("takes %zu\n", used);
+    SAYS(nova_read_inode(&fs, 2, 4, room, 100, &used));
+    SAYS(nova_read_inode(&fs, 3, 4, room, 100, &used));
+    printf("read %.*s\n", (int)used, room);
+}
+
+static void changes_by_number(void)
+{
+    SAYS(nova_write_inode(&fs, 0, 3, 8, BYTES("HERE"), 10));
+    SAYS(nova_write_inode(&fs, 0, 2, 8, BYTES("HERE"), 10));
+    SAYS(nova_set_size_inode(&fs, 1, 3, 10, 11));
+    SAYS(nova_set_size_inode(&fs, 1, 9, 10, 11));
+    SAYS(nova_set_attr_inode(&fs, 0, 3, 0640, 8, 7, 12));
+    SAYS(nova_set_attr_inode(&fs, 2, 3, 0640, 8, 7, 12));
+    stat_of("/d/c");
+    SAYS(nova_read(&fs, BYTES("/d/c"), 4, room, 100, &used));
+    printf("read %.*s\n", (int)used, room);
+}
+
 static bool is_written(const char *path, const uint8_t *bytes, size_t length)
 {
     FILE *file = fopen(path, "wb");
@@ -138,6 +171,8 @@ int main(int count, char **words)
     refusals();
     changes();
     looks();
+    looks_by_number();
+    changes_by_number();
     SAYS(nova_report(&fs, room, sizeof room, &used));
     SAYS(nova_save(&fs, image, LENGTH - 1));
     SAYS(nova_save(&fs, image, LENGTH));

@@ -153,6 +153,24 @@ uint32_t nova_list(nova_fs *fs, const uint8_t *path, size_t path_length, uint8_t
  * the buffer is too small. */
 uint32_t nova_report(nova_fs *fs, uint8_t *text, size_t text_length, size_t *used);
 
+/* The numbers of the inode of this number.
+ * Statuses, the first that applies, with out as before: 16 where the handle is closed, 1 where no inode in
+ * use has the number. */
+uint32_t nova_stat_inode(nova_fs *fs, uint64_t inode, nova_numbers *out);
+
+/* Puts the bytes of the file of this number into a buffer, from an offset on up to its size, as many as fit.
+ * done says how many these are, and the rest of the buffer stays. It takes no memory.
+ * Statuses, the first that applies, with buffer and done as before: 16 where the handle is closed, 1 where no
+ * inode in use has the number, 4 for a directory. */
+uint32_t nova_read_inode(nova_fs *fs, uint64_t inode, uint64_t offset, uint8_t *bytes, size_t bytes_length,
+                         size_t *done);
+
+/* Puts the names of the directory of this number into a buffer, as nova_list does. used says how many bytes
+ * they take, also where there is no room for them.
+ * Statuses, the first that applies, with the buffer as before: 16 where the handle is closed, 1 where no
+ * inode in use has the number, 3 for a file, 14 where memory was refused, 18 where the buffer is too small. */
+uint32_t nova_list_inode(nova_fs *fs, uint64_t inode, uint8_t *names, size_t names_length, size_t *used);
+
 /* Makes a file of this mode, of which the low 12 bits are kept, with one name.
  * Statuses, the first that applies: 16 where the handle is closed, 13 where there is no CPU of that number,
  * 10 where the mount has faults, 6 where the text is no path or /, 1 or 3 for an inode on the way, 2 where
@@ -237,6 +255,28 @@ uint32_t nova_set_size(nova_fs *fs, uint64_t cpu, const uint8_t *path, size_t pa
  * it was. */
 uint32_t nova_set_attr(nova_fs *fs, uint64_t cpu, const uint8_t *path, size_t path_length, uint32_t mode,
                        uint32_t owner, uint32_t group, uint64_t time);
+
+/* Writes bytes into the file of this number, as nova_write does.
+ * Statuses, the first that applies: 16 where the handle is closed, 13 where there is no CPU of that number,
+ * 10 where the mount has faults, 1 where no inode in use has the number, 4 for a directory, 9 where the bytes
+ * would end behind 1,073,741,824, 7 where too few blocks are free. Besides these 14 where memory was refused.
+ * All leave everything as it was. */
+uint32_t nova_write_inode(nova_fs *fs, uint64_t cpu, uint64_t inode, uint64_t offset, const uint8_t *bytes,
+                          size_t bytes_length, uint64_t time);
+
+/* Sets the size of the file of this number, as nova_set_size does.
+ * Statuses, the first that applies: 16 where the handle is closed, 13 where there is no CPU of that number,
+ * 10 where the mount has faults, 1 where no inode in use has the number, 4 for a directory, 9 above
+ * 1,073,741,824 bytes, 7 where too few blocks are free. Besides these 14 where memory was refused. All leave
+ * everything as it was. */
+uint32_t nova_set_size_inode(nova_fs *fs, uint64_t cpu, uint64_t inode, uint64_t size, uint64_t time);
+
+/* Sets the mode, the owner, the group and the time of the inode of this number.
+ * Statuses, the first that applies: 16 where the handle is closed, 13 where there is no CPU of that number,
+ * 10 where the mount has faults, 1 where no inode in use has the number, 7 where too few blocks are free.
+ * Besides these 14 where memory was refused. All leave everything as it was. */
+uint32_t nova_set_attr_inode(nova_fs *fs, uint64_t cpu, uint64_t inode, uint32_t mode, uint32_t owner,
+                             uint32_t group, uint64_t time);
 
 /* Frees the first page that an inode's log can do without. The tree stays.
  * Statuses, the first that applies: 16 where the handle is closed, 10 where the mount has faults, 6 where the

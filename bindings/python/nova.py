@@ -95,6 +95,12 @@ _CALLS = {
     "stat": (*_PATH, POINTER(_Numbers)),
     "read": (*_PATH, c_uint64, *_ROOM, *_USED),
     "list": (*_PATH, *_ROOM, *_USED),
+    "stat_inode": (c_uint64, POINTER(_Numbers)),
+    "read_inode": (c_uint64, c_uint64, *_ROOM, *_USED),
+    "list_inode": (c_uint64, *_ROOM, *_USED),
+    "write_inode": (c_uint64, c_uint64, c_uint64, *_ROOM, c_uint64),
+    "set_size_inode": (c_uint64, c_uint64, c_uint64, c_uint64),
+    "set_attr_inode": (c_uint64, c_uint64, c_uint32, c_uint32, c_uint32, c_uint64),
     "create": (c_uint64, *_PATH, c_uint32, c_uint64),
     "mkdir": (c_uint64, *_PATH, c_uint32, c_uint64),
     "write": (c_uint64, *_PATH, c_uint64, *_ROOM, c_uint64),
@@ -165,25 +171,27 @@ class Nova:
         return self._told("report").decode()
 
     def stat(self, path):
-        out = _Numbers()
-        self._call("stat", *_of_path(path), byref(out))
-        return Stat(*(getattr(out, name) for name in Stat._fields))
+        return self._numbers("stat", *_of_path(path))
 
     def read(self, path, offset=0, count=None):
         """The bytes from an offset on up to the size, at most so many."""
         count = max(self.stat(path).size - offset, 0) if count is None else count
-        room, done = ctypes.create_string_buffer(count), c_size_t()
-        self._call("read", *_of_path(path), offset, room, count, byref(done))
-        return room.raw[: done.value]
+        return self._bytes(count, "read", *_of_path(path), offset)
 
     def list(self, path):
         """The names of a directory, as bytes, with their inodes, rising."""
-        told, names = self._told("list", *_of_path(path)), []
-        while told:
-            inode, length = (int.from_bytes(told[at : at + 8], "little") for at in (0, 8))
-            names.append((told[16 : 16 + length], inode))
-            told = told[16 + length :]
-        return names
+        return _names_of(self._told("list", *_of_path(path)))
+
+    def stat_inode(self, inode):
+        """The same by an inode's number, also of one that no path leads to."""
+        return self._numbers("stat_inode", inode)
+
+    def read_inode(self, inode, offset=0, count=None):
+        count = max(self.stat_inode(inode).size - offset, 0) if count is None else count
+        return self._bytes(count, "read_inode", inode, offset)
+
+    def list_inode(self, inode):
+        return _names_of(self._told("list_inode", inode))
 
     def create(self, path, mode=0o644, cpu=0, time=None):
         self._call("create", cpu, *_of_path(path), mode, _of_time(time))
@@ -200,6 +208,16 @@ class Nova:
 
     def set_attr(self, path, mode, owner, group, cpu=0, time=None):
         self._call("set_attr", cpu, *_of_path(path), mode, owner, group, _of_time(time))
+
+    def write_inode(self, inode, offset, data, cpu=0, time=None):
+        data = bytes(data)
+        self._call("write_inode", cpu, inode, offset, data, len(data), _of_time(time))
+
+    def set_size_inode(self, inode, size, cpu=0, time=None):
+        self._call("set_size_inode", cpu, inode, size, _of_time(time))
+
+    def set_attr_inode(self, inode, mode, owner, group, cpu=0, time=None):
+        self._call("set_attr_inode", cpu, inode, mode, owner, group, _of_time(time))
 
     def link(self, path, other, cpu=0, time=None):
         self._call("link", cpu, *_of_path(path), *_of_path(other), _of_time(time))
@@ -227,6 +245,18 @@ class Nova:
         if status:
             raise Refused(name, status)
 
+    def _numbers(self, name, *words):
+        """What a call says of an inode."""
+        out = _Numbers()
+        self._call(name, *words, byref(out))
+        return Stat(*(getattr(out, field) for field in Stat._fields))
+
+    def _bytes(self, count, name, *words):
+        """At most so many bytes that a call reads."""
+        room, done = ctypes.create_string_buffer(count), c_size_t()
+        self._call(name, *words, room, count, byref(done))
+        return room.raw[: done.value]
+
     def _told(self, name, *words):
         """What a call puts into a buffer, which grows as it has to."""
         room, used = ctypes.create_string_buffer(BLOCK), c_size_t()
@@ -243,6 +273,16 @@ class Nova:
 def _of_path(path):
     path = os.fsencode(path)
     return path, len(path)
+
+
+def _names_of(told):
+    """The names of a listing as it crosses."""
+    names = []
+    while told:
+        inode, length = (int.from_bytes(told[at : at + 8], "little") for at in (0, 8))
+        names.append((told[16 : 16 + length], inode))
+        told = told[16 + length :]
+    return names
 
 
 def _of_time(given):

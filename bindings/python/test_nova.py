@@ -49,6 +49,32 @@ class Calls(unittest.TestCase):
         self.fs.unlink("/b")
         self.assertEqual(self.fs.list("/"), [])
 
+    def test_an_inode_is_read_by_its_number(self):
+        self.fs.mkdir("/d")
+        self.fs.create("/d/a", 0o640)
+        self.fs.write("/d/a", 0, b"hi there", time=4)
+        directory, file = self.fs.stat("/d").inode, self.fs.stat("/d/a").inode
+        self.assertEqual(self.fs.list_inode(directory), [(b"a", file)])
+        self.assertEqual(self.fs.stat_inode(file), self.fs.stat("/d/a"))
+        self.fs.rename("/d/a", "/b")
+        self.assertEqual(self.fs.read_inode(file), b"hi there")
+        self.assertEqual(self.fs.read_inode(file, 3, 3), b"the")
+        self.assertEqual(self.refusal(self.fs.stat_inode, 99), (1, errno.ENOENT))
+        self.assertEqual(self.refusal(self.fs.read_inode, directory), (4, errno.EISDIR))
+        self.assertEqual(self.refusal(self.fs.list_inode, file), (3, errno.ENOTDIR))
+
+    def test_an_inode_is_changed_by_its_number(self):
+        self.fs.create("/a")
+        inode = self.fs.stat("/a").inode
+        self.fs.write_inode(inode, 2, b"hi there", time=4)
+        self.fs.set_size_inode(inode, 7, cpu=1, time=5)
+        self.fs.set_attr_inode(inode, 0o400, 7, 8, time=6)
+        self.assertEqual(self.fs.read("/a"), b"\0\0hi th")
+        self.assertEqual(self.fs.stat("/a"), (inode, 7, 6, 0, 0o400, 7, 8, 1))
+        self.assertEqual(self.refusal(self.fs.write_inode, 1, 0, b"x"), (4, errno.EISDIR))
+        self.assertEqual(self.refusal(self.fs.set_size_inode, 99, 0), (1, errno.ENOENT))
+        self.assertEqual(self.refusal(self.fs.set_attr_inode, inode, 0, 0, 0, cpu=2), (13, errno.EINVAL))
+
     def test_refusals_have_a_status_and_an_errno(self):
         self.assertEqual(self.refusal(self.fs.stat, "/none"), (1, errno.ENOENT))
         self.assertEqual(self.refusal(self.fs.mkdir, "/a/b"), (1, errno.ENOENT))

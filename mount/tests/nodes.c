@@ -3,7 +3,7 @@
  *     nodes STEPS SEED        closes with 'N passed, M failed', and ends with 1 on a failure
  *
  * Each step is one of the kernel, as a lookup, a rename or what it forgets. After each, a path that the table tells of an inode has to
- * lead there, and it has to tell one of each that the kernel found. Once the kernel has forgotten all, the root alone is left.
+ * lead there, and it has to tell one of each that the kernel found, and the number, which one that is gone hasn't. Once the kernel has forgotten all, the root alone is left.
  */
 #include <stdio.h>
 #include <stdlib.h>
@@ -193,6 +193,9 @@ static bool is_told(uint64_t inode)
     return !known[inode].lookups || walk(&path) == inode;
 }
 
+/* Whether an inode has its number, and one that is gone none. */
+static bool is_numbered(const struct known *it, uint64_t number) { return !it->lookups || number_of(node_of(it->id)) == number; }
+
 int main(int count, char **words)
 {
     if (count != 3 || !begin_nodes())
@@ -203,7 +206,9 @@ int main(int count, char **words)
     for (long k = 0; k < steps; k++) {
         step();
         for (uint64_t inode = ROOT; inode <= INODES; inode++)
-            failed += !is_told(inode);
+            failed += !is_told(inode) + !is_numbered(&known[inode], inode);
+        for (int at = 0; at < MOST_GONE; at++)
+            failed += !is_numbered(&gone[at], 0);
     }
     for (uint64_t inode = ROOT + 1; inode <= INODES; inode++)
         forget(inode);

@@ -47,7 +47,7 @@ void rattle_dealloc(void *at)
 }
 
 static nova_fs fs;
-static uint8_t room[ROOM], whole[MOST];
+static uint8_t room[ROOM], other[ROOM], whole[MOST];
 static long failed;
 
 #define PATH(path) (const uint8_t *)(path), strlen(path)
@@ -58,6 +58,15 @@ static void holds(bool is_so, const char *what)
         failed++;
         printf("WRONG: %s\n", what);
     }
+}
+
+/* A file is read by its path and by its number. */
+static void read_twice(const char *path, uint64_t inode, uint64_t offset)
+{
+    size_t done = 0, count = 0;
+    uint32_t status = nova_read(&fs, PATH(path), offset, room, sizeof room, &done);
+    holds(status == nova_read_inode(&fs, inode, offset, other, sizeof other, &count), "another status by number");
+    holds(count == done && !memcmp(other, room, done), "other bytes by number");
 }
 
 /* Walks all names, and reads each file. */
@@ -71,13 +80,13 @@ static void walk(const char *path, int depth)
             memcpy(&count, names + at + 8, 8);
             char below[LONGEST + 1];
             int length = snprintf(below, sizeof below, "%s/%.*s", depth ? path : "", (int)count, (char *)names + at + 16);
-            nova_numbers numbers;
-            size_t done;
+            nova_numbers numbers, again;
             if (length < LONGEST && !nova_stat(&fs, PATH(below), &numbers)) {
+                holds(!nova_stat_inode(&fs, numbers.inode, &again) && again.size == numbers.size, "another size by number");
                 if (numbers.is_directory)
                     walk(below, depth + 1);
                 else
-                    nova_read(&fs, PATH(below), numbers.size / 2, room, sizeof room, &done);
+                    read_twice(below, numbers.inode, numbers.size / 2);
             }
             at += 16 + count;
         }

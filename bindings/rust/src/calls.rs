@@ -70,6 +70,12 @@ unsafe extern "C" {
     pub fn nova_stat(fs: &mut Handle, path: *const u8, path_length: usize, out: &mut Numbers) -> u32;
     pub fn nova_read(fs: &mut Handle, path: *const u8, path_length: usize, offset: u64, bytes: *mut u8, bytes_length: usize, done: &mut usize) -> u32;
     pub fn nova_list(fs: &mut Handle, path: *const u8, path_length: usize, names: *mut u8, names_length: usize, used: &mut usize) -> u32;
+    pub fn nova_stat_inode(fs: &mut Handle, inode: u64, out: &mut Numbers) -> u32;
+    pub fn nova_read_inode(fs: &mut Handle, inode: u64, offset: u64, bytes: *mut u8, bytes_length: usize, done: &mut usize) -> u32;
+    pub fn nova_write_inode(fs: &mut Handle, cpu: u64, inode: u64, offset: u64, bytes: *const u8, bytes_length: usize, time: u64) -> u32;
+    pub fn nova_set_size_inode(fs: &mut Handle, cpu: u64, inode: u64, size: u64, time: u64) -> u32;
+    pub fn nova_set_attr_inode(fs: &mut Handle, cpu: u64, inode: u64, mode: u32, owner: u32, group: u32, time: u64) -> u32;
+    pub fn nova_list_inode(fs: &mut Handle, inode: u64, names: *mut u8, names_length: usize, used: &mut usize) -> u32;
     pub fn nova_create(fs: &mut Handle, cpu: u64, path: *const u8, path_length: usize, mode: u32, time: u64) -> u32;
     pub fn nova_mkdir(fs: &mut Handle, cpu: u64, path: *const u8, path_length: usize, mode: u32, time: u64) -> u32;
     pub fn nova_write(fs: &mut Handle, cpu: u64, path: *const u8, path_length: usize, offset: u64, bytes: *const u8, bytes_length: usize, time: u64) -> u32;

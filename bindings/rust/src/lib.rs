@@ -145,6 +145,42 @@ impl Fs {
         Ok(names_of(&told))
     }
 
+    /// The numbers of the inode of this number, also of one that no path leads to.
+    pub fn stat_inode(&mut self, inode: u64) -> Answer<Numbers> {
+        let mut out = Numbers::default();
+        // SAFETY: as above.
+        check(unsafe { calls::nova_stat_inode(&mut self.0, inode, &mut out) })?;
+        Ok(out)
+    }
+
+    /// Puts the bytes of the file of this number into a buffer, as `read_into` does: how many.
+    pub fn read_inode_into(&mut self, inode: u64, offset: u64, bytes: &mut [u8]) -> Answer<usize> {
+        let mut done = 0;
+        // SAFETY: as above.
+        check(unsafe {
+            calls::nova_read_inode(
+                &mut self.0,
+                inode,
+                offset,
+                bytes.as_mut_ptr(),
+                bytes.len(),
+                &mut done,
+            )
+        })?;
+        Ok(done)
+    }
+
+    /// The names of the directory of this number, rising by bytes.
+    pub fn list_inode(&mut self, inode: u64) -> Answer<Vec<Name>> {
+        let told = growing(|room, used| {
+            // SAFETY: as above.
+            unsafe {
+                calls::nova_list_inode(&mut self.0, inode, room.as_mut_ptr(), room.len(), used)
+            }
+        })?;
+        Ok(names_of(&told))
+    }
+
     /// Makes a file with one name.
     pub fn create(&mut self, cpu: u64, path: &[u8], mode: u32, time: u64) -> Answer<()> {
         // SAFETY: as above, also below.
@@ -209,6 +245,48 @@ impl Fs {
                 group,
                 time,
             )
+        })
+    }
+
+    /// Writes bytes into the file of this number, from an offset on.
+    pub fn write_inode(
+        &mut self,
+        cpu: u64,
+        inode: u64,
+        offset: u64,
+        bytes: &[u8],
+        time: u64,
+    ) -> Answer<()> {
+        check(unsafe {
+            calls::nova_write_inode(
+                &mut self.0,
+                cpu,
+                inode,
+                offset,
+                bytes.as_ptr(),
+                bytes.len(),
+                time,
+            )
+        })
+    }
+
+    /// Sets the size of the file of this number.
+    pub fn set_size_inode(&mut self, cpu: u64, inode: u64, size: u64, time: u64) -> Answer<()> {
+        check(unsafe { calls::nova_set_size_inode(&mut self.0, cpu, inode, size, time) })
+    }
+
+    /// Sets the mode, owner, group and time of the inode of this number.
+    pub fn set_attr_inode(
+        &mut self,
+        cpu: u64,
+        inode: u64,
+        mode: u32,
+        owner: u32,
+        group: u32,
+        time: u64,
+    ) -> Answer<()> {
+        check(unsafe {
+            calls::nova_set_attr_inode(&mut self.0, cpu, inode, mode, owner, group, time)
         })
     }
 

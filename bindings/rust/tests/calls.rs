@@ -62,6 +62,44 @@ fn names_go_and_move() -> Result<(), Refused> {
 }
 
 #[test]
+fn an_inode_is_read_by_its_number() -> Result<(), Refused> {
+    let mut fs = Fs::format(64, 2, 1, 0)?;
+    fs.mkdir(0, b"/d", 0o755, 1)?;
+    fs.create(0, b"/d/a", 0o640, 2)?;
+    fs.write(0, b"/d/a", 0, b"hi there", 3)?;
+    let directory = fs.stat(b"/d")?.inode;
+    let file = fs.list_inode(directory)?[0].inode;
+    assert_eq!(fs.stat_inode(file)?, fs.stat(b"/d/a")?);
+    fs.rename(0, b"/d/a", b"/b", 4)?;
+    let mut bytes = *b"????????";
+    assert_eq!(fs.read_inode_into(file, 3, &mut bytes), Ok(5));
+    assert_eq!(&bytes, b"there???");
+    assert_eq!(fs.stat_inode(99), Err(Refused(1)));
+    assert_eq!(
+        fs.read_inode_into(directory, 0, &mut bytes),
+        Err(Refused(4))
+    );
+    assert_eq!(fs.list_inode(file), Err(Refused(3)));
+    Ok(())
+}
+
+#[test]
+fn an_inode_is_changed_by_its_number() -> Result<(), Refused> {
+    let mut fs = Fs::format(64, 2, 1, 0)?;
+    fs.create(0, b"/a", 0o644, 1)?;
+    let inode = fs.stat(b"/a")?.inode;
+    fs.write_inode(0, inode, 2, b"hi there", 2)?;
+    fs.set_size_inode(1, inode, 7, 3)?;
+    fs.set_attr_inode(0, inode, 0o400, 7, 8, 4)?;
+    assert_eq!(fs.read(b"/a", 0, 100)?, b"\0\0hi th");
+    let found = fs.stat(b"/a")?;
+    assert_eq!((found.mode, found.owner, found.time), (0o400, 7, 4));
+    assert_eq!(fs.write_inode(0, 1, 0, b"x", 5), Err(Refused(4)));
+    assert_eq!(fs.set_size_inode(0, 99, 0, 5), Err(Refused(1)));
+    Ok(())
+}
+
+#[test]
 fn refusals_have_their_status() -> Result<(), Refused> {
     let mut fs = Fs::format(64, 2, 1, 0)?;
     assert_eq!(fs.stat(b"/none"), Err(Refused(1)));

@@ -44,8 +44,19 @@ fn list<R: Print>(rt: &R, fs: &Fs<MemRegion>) -> Result<()> {
 fn read_by_number<R: Print>(rt: &R, fs: &Fs<MemRegion>) -> Result<()> {
     let inode = fs.stat(b"/fourth")?.inode;
     println!(rt; "{}", fs.read_inode(inode, 8, 1)?.escape_ascii())?;
+    let mut buffer = [0; 5];
+    let count = fs.read_inode_into(inode, 3, &mut buffer)?;
+    println!(rt; "{} bytes {}", count, buffer.escape_ascii())?;
     let (links, names) = (fs.stat_inode(inode)?.links, fs.list_inode(1)?.len());
     Ok(println!(rt; "{} link, {} name", links, names)?)
+}
+
+fn write_by_number(fs: &mut Fs<MemRegion>, cpu: Cpu) -> std::result::Result<(), Refusal> {
+    let inode = fs.stat(b"/fourth")?.inode;
+    fs.write_inode(cpu, inode, 9, b"!", Time(13))?;
+    fs.write_data_inode(cpu, inode, 10, Data::Given(b"!"), Time(14))?;
+    fs.set_size_inode(cpu, inode, 9, Time(15))?;
+    fs.set_attr_inode(cpu, inode, 384, 7, 8, Time(16))
 }
 
 fn clean<R: Print>(rt: &R, fs: &mut Fs<MemRegion>) -> Result<()> {
@@ -93,6 +104,7 @@ fn make_calls<R: Print>(rt: &R, fs: &mut Fs<MemRegion>) -> Result<()> {
     clean(rt, fs)?;
     look(rt, fs)?;
     look_at_blocks(rt, fs)?;
+    write_by_number(fs, Cpu(1))?;
     upgrade(rt, fs)
 }
 

@@ -2,9 +2,9 @@
 //!
 //! `run` runs a script, on the region of an image or on none, and saves the region that it leaves. `shell` runs the commands that
 //! are typed. `show` shows what is in an image, `listing` names with the numbers of their inodes and counts of blocks, `logs` the
-//! logs of inodes, `blocks` what a block is, `comparing` what differs between two images, and `views` further looks. `cleaning`
+//! logs of inodes, `blocks` what a block is, `comparing` what differs between two images, and `views` is each look. `cleaning`
 //! shortens logs, `changing` changes an image by the calls of one command, `unpacking` by an archive, `putting` by a tree of the
-//! host, `recovering` rolls its journals back, `names` reads paths in it, and `saving` makes one.
+//! host, `recovering` rolls its journals back, `saving` makes one, and `editing` is each of these. `names` reads paths in images.
 //! Checks and maps of images are those of `nova_check`.
 //!
 //! Behind a bad line, and a region that is refused for its length, a line on standard error says more.
@@ -18,6 +18,7 @@ mod blocks;
 mod changing;
 mod cleaning;
 mod comparing;
+mod editing;
 mod hints;
 mod listing;
 mod logs;
@@ -31,22 +32,12 @@ mod show;
 mod unpacking;
 mod views;
 
-use archiving::archive;
-use changing::{Asked, change};
-use cleaning::clean;
-use listing::{Told, tell};
-use logs::show_log;
-use nv_args::{CheckOutput, Todo, VERSION, read_words};
-use nv_image_check::{Blocks, Output, check_file, check_files, explain_file, map_file};
-use nv_image_files::{Failure, Lock, Target, ended, explain, print_line, refuse_words, words_of};
-use nv_pending::check_journals;
-use nv_script::suiting_areas;
-use putting::put_tree;
-use recovering::{recover, show_pending};
-use run::{Images, run, script_at, script_on};
-use saving::mkfs;
+use editing::edit;
+use nv_args::{Todo, read_words};
+use nv_image_check::Blocks;
+use nv_image_files::{Failure, Lock, Target, ended, refuse_words, words_of};
+use run::{Images, run_named};
 use shell::shell;
-use show::{Shown, show};
 use std::alloc::AllocError;
 use std::env::Env;
 use std::io::{IsTerminal, Read, Write};
@@ -54,8 +45,6 @@ use std::process::ExitCode;
 use std::rt::Files;
 use std::thread::Threads;
 use std::time::Clock;
-use unpacking::{Place, untar};
-use views::show_view;
 
 /// The status of what is refused, and of what failed.
 pub(crate) const REFUSED_STATUS: u8 = 2;
@@ -98,7 +87,6 @@ where
     H::File: Blocks + Lock + Sync,
 {
     match todo {
-        Todo::Version => print_line(rt, VERSION),
         Todo::Run {
             script,
             image,
@@ -112,89 +100,9 @@ where
                 save,
                 strict,
             };
-            match script {
-                None | Some("-") => run(rt, &mut errors, script_on(rt, input), images),
-                Some(path) => run(rt, &mut errors, script_at(rt, path)?, images),
-            }
+            run_named(rt, input, &mut errors, script, images)
         }
         Todo::Shell { image, force } => shell(rt, input, image, force),
-        Todo::Check {
-            paths,
-            workers,
-            output,
-        } => match (paths.as_slice(), output) {
-            ([path], CheckOutput::Written(output)) => check_file(rt, path, workers, output),
-            ([path], CheckOutput::Explained) => explain_file(rt, path, workers),
-            ([path], CheckOutput::Journal) => check_journals(rt, path, workers),
-            (paths, CheckOutput::Written(output)) => check_files(rt, paths, workers, output),
-            // Words ask for the others of one image alone.
-            (paths, _) => check_files(rt, paths, workers, Output::Report),
-        },
-        Todo::Mkfs {
-            image,
-            blocks,
-            cpus,
-            tables,
-            layout,
-            force,
-        } => {
-            let target = Target { path: image, force };
-            mkfs(
-                rt,
-                target,
-                blocks,
-                suiting_areas(blocks, cpus, tables),
-                layout,
-            )
-        }
-        Todo::Clean { image, path } => clean(rt, &mut errors, image, path),
-        Todo::Change {
-            image,
-            change: named,
-            cpu,
-            time,
-        } => {
-            let asked = Asked {
-                change: named,
-                cpu,
-                time,
-            };
-            change(rt, &mut errors, image, asked)
-        }
-        Todo::PutTree {
-            image,
-            host,
-            path,
-            cpu,
-            time,
-        } => put_tree(rt, &mut errors, Place { image, path, cpu }, host, time),
-        Todo::Untar { image, path, cpu } => untar(rt, &mut errors, Place { image, path, cpu }),
-        Todo::Recover {
-            image,
-            dry_run: true,
-        } => show_pending(rt, &mut errors, image),
-        Todo::Recover {
-            image,
-            dry_run: false,
-        } => recover(rt, &mut errors, image),
-        Todo::Ls {
-            image,
-            which,
-            long: false,
-        } => show(rt, &mut errors, image, which, Shown::Names),
-        Todo::Ls {
-            image,
-            which,
-            long: true,
-        } => tell(rt, &mut errors, image, which, Told::Names),
-        Todo::Stat { image, which } => show(rt, &mut errors, image, which, Shown::Attributes),
-        Todo::Cat { image, which } => show(rt, &mut errors, image, which, Shown::Bytes),
-        Todo::Tar { image, which, lost } => archive(rt, &mut errors, image, which, lost),
-        Todo::Map { image, svg, force } => {
-            map_file(rt, image, svg.map(|path| Target { path, force }))
-        }
-        Todo::Log { image, which } => show_log(rt, &mut errors, image, Some(which)),
-        Todo::View(view) => show_view(rt, &mut errors, view),
-        Todo::Explain { class } => explain(rt, class),
+        todo => edit(rt, &mut errors, todo),
     }
 }

@@ -19,9 +19,9 @@ const STANDARD_INPUT: &str = "/dev/stdin";
 
 /// A script, and the stamp of its file where it comes from one.
 #[derive(Drop)]
-pub(crate) struct Script<R: Drop> {
-    pub reader: R,
-    pub stamp: Option<Stamp>,
+struct Script<R: Drop> {
+    reader: R,
+    stamp: Option<Stamp>,
 }
 
 /// What a script begins and ends with.
@@ -35,14 +35,36 @@ pub(crate) struct Images<'a> {
     pub strict: bool,
 }
 
-/// Runs a script, prints what its commands answer on standard output, and answers its exit status. The place of the file that
-/// it is saved to is held from the start. Where that is standard output, the answers go to the errors.
-pub(crate) fn run<
+/// Runs the script in the file of this name, or, without one or by `-`, the one on standard input.
+pub(crate) fn run_named<
     'a,
     H: Files + AllocGlobal + Print + Eprint + Threads + Sync,
     R: Read + Drop,
     E: Write,
->(rt: &H, errors: &mut E, script: Script<R>, images: Images<'a>) -> Result<u8, Failure<'a>>
+>(
+    rt: &H,
+    input: R,
+    errors: &mut E,
+    script: Option<&'a str>,
+    images: Images<'a>,
+) -> Result<u8, Failure<'a>>
+where
+    H::File: Lock,
+{
+    match script {
+        None | Some("-") => run(rt, errors, script_on(rt, input), images),
+        Some(path) => run(rt, errors, script_at(rt, path)?, images),
+    }
+}
+
+// Runs a script, prints what its commands answer on standard output, and answers its exit status. The place of the file that
+// it is saved to is held from the start. Where that is standard output, the answers go to the errors.
+fn run<'a, H: Files + AllocGlobal + Print + Eprint + Threads + Sync, R: Read + Drop, E: Write>(
+    rt: &H,
+    errors: &mut E,
+    script: Script<R>,
+    images: Images<'a>,
+) -> Result<u8, Failure<'a>>
 where
     H::File: Lock,
 {
@@ -126,11 +148,8 @@ fn run_from<H: AllocGlobal + Eprint + Threads + Sync, R: Read + Drop, W: Write>(
     }
 }
 
-/// The script in a file.
-pub(crate) fn script_at<'a, H: Files>(
-    rt: &H,
-    path: &'a str,
-) -> Result<Script<H::File>, Failure<'a>> {
+// The script in a file.
+fn script_at<'a, H: Files>(rt: &H, path: &'a str) -> Result<Script<H::File>, Failure<'a>> {
     match open_at(rt, path) {
         Ok(Opened { file, stamp }) => Ok(Script {
             reader: file,
@@ -140,8 +159,8 @@ pub(crate) fn script_at<'a, H: Files>(
     }
 }
 
-/// The script on standard input, which may come from a file.
-pub(crate) fn script_on<H: Files, R: Read + Drop>(rt: &H, input: R) -> Script<R> {
+// The script on standard input, which may come from a file.
+fn script_on<H: Files, R: Read + Drop>(rt: &H, input: R) -> Script<R> {
     let stamp = match fs::metadata(rt, STANDARD_INPUT) {
         Ok(found) if found.is_file() => Some(Stamp::of(&found)),
         _ => None,

@@ -3,9 +3,10 @@
 use crate::REFUSED_STATUS;
 use nv_args::LayoutVersion;
 use nv_image_files::{Failure, Lock, Target, hold, save_region, see_ready};
-use nv_script::{Areas, Formatted, MemRegion, format_image, format_limits};
+use nv_recover::RecoverError;
+use nv_script::{Areas, CallRefusal, Formatted, MemRegion, format_image, format_limits};
 use nv_session::{Fs, keep_all};
-use std::alloc::{AllocError, Global};
+use std::alloc::AllocError;
 use std::rt::Files;
 
 /// Writes the image of a region of so many blocks, formatted with these areas and this layout, to a file, or says `refused NAME`
@@ -24,7 +25,9 @@ where
     see_ready(rt, &held, None, None)?;
     match format_image(rt.alloc(), areas.cpus, blocks, areas.tables)? {
         Formatted::Region(region) => {
-            let region = laid_out(rt.alloc(), region, layout)?;
+            let Some(region) = laid_out(rt, region, layout)? else {
+                return Ok(REFUSED_STATUS);
+            };
             save_region(rt, &held, &region)?;
             Ok(0)
         }
@@ -35,25 +38,37 @@ where
     }
 }
 
-// A formatted region in this layout.
-fn laid_out(
-    alloc: Global,
+// A formatted region in this layout, or none where it can't be had, which standard error says why.
+fn laid_out<H: AllocGlobal + Eprint>(
+    rt: &H,
     region: MemRegion,
     layout: LayoutVersion,
-) -> Result<MemRegion, AllocError> {
+) -> Result<Option<MemRegion>, AllocError> {
     match layout {
-        LayoutVersion::One => Ok(region),
-        LayoutVersion::Two => upgraded(alloc, region),
+        LayoutVersion::One => Ok(Some(region)),
+        LayoutVersion::Two => upgraded(rt, region),
     }
 }
 
-// A formatted region as one of version 2. It can be mounted, has no faults, and nothing stops it: only memory can be wanting.
-fn upgraded(alloc: Global, region: MemRegion) -> Result<MemRegion, AllocError> {
-    let Ok(mut mount) = Fs::mount(alloc, keep_all(region)) else {
-        return Err(AllocError);
+// The same of version 2.
+fn upgraded<H: AllocGlobal + Eprint>(
+    rt: &H,
+    region: MemRegion,
+) -> Result<Option<MemRegion>, AllocError> {
+    let mut mount = match Fs::mount(rt.alloc(), keep_all(region)) {
+        Ok(mount) => mount,
+        Err((_, RecoverError::Memory)) => return Err(AllocError),
+        Err((_, error)) => return Ok(refuse(rt, error.name())),
     };
     match mount.upgrade() {
-        Ok(()) => Ok(mount.into_memory()),
-        Err(_) => Err(AllocError),
+        Ok(()) => Ok(Some(mount.into_memory())),
+        Err(CallRefusal::Memory) => Err(AllocError),
+        Err(refusal) => Ok(refuse(rt, refusal.name())),
     }
+}
+
+// Says why there is no region.
+fn refuse<H: Eprint>(rt: &H, name: &str) -> Option<MemRegion> {
+    let _ = eprintln!(rt; "refused {name}");
+    None
 }

@@ -8,6 +8,8 @@ use Rattle.nv_tree.specs.declared.refusal.Refusal.{Refusal}
 use Rattle.nv_calls.specs.Mount.{Mount}
 use Rattle.nv_calls.specs.World.{world_of}
 use Rattle.nv_calls.specs.AttributesCall.{attributes_blocks}
+use Rattle.nv_calls.specs.ByNumber.{list_inode_tests, read_inode_tests, stat_inode_tests}
+use Rattle.nv_calls.specs.ChangesByNumber.{attributes_inode_blocks, resized_inode_blocks, set_attr_inode_tests, set_size_inode_tests, write_inode_tests}
 use Rattle.nv_calls.specs.LinkCalls.{link_blocks}
 use Rattle.nv_calls.specs.MoveCalls.{rename_blocks}
 use Rattle.nv_calls.specs.NameCalls.{create_blocks, name_blocks}
@@ -67,3 +69,27 @@ read_refusal m p = first_refusal (read_tests (shown m) p)
 -- of `list`
 abbrev pub list_refusal : Mount Region → Path → Option Refusal
 list_refusal m p = first_refusal (list_tests (shown m) p)
+
+-- of `stat_inode`, by an inode's number
+abbrev pub stat_inode_refusal : Mount Region → ℕ → Option Refusal
+stat_inode_refusal m i = first_refusal (stat_inode_tests (shown m) i)
+
+-- of `read_inode`
+abbrev pub read_inode_refusal : Mount Region → ℕ → Option Refusal
+read_inode_refusal m i = first_refusal (read_inode_tests (shown m) i)
+
+-- of `list_inode`
+abbrev pub list_inode_refusal : Mount Region → ℕ → Option Refusal
+list_inode_refusal m i = first_refusal (list_inode_tests (shown m) i)
+
+-- of `write_inode` up to this end, which takes so many blocks
+abbrev pub write_inode_refusal : Mount Region → ℕ → ℕ → ℕ → ℕ → Option Refusal
+write_inode_refusal m cpu i end blocks = first_refusal (write_inode_tests (world_of m) (shown m) cpu i end blocks)
+
+-- of `set_size_inode`
+abbrev pub set_size_inode_refusal : Mount Region → ℕ → ℕ → ℕ → Option Refusal
+set_size_inode_refusal m cpu i size = first_refusal (set_size_inode_tests (world_of m) (shown m) cpu i size (resized_inode_blocks m.rows i size))
+
+-- of `set_attr_inode`
+abbrev pub set_attr_inode_refusal : Mount Region → ℕ → ℕ → Option Refusal
+set_attr_inode_refusal m cpu i = first_refusal (set_attr_inode_tests (world_of m) (shown m) cpu i (attributes_inode_blocks m.rows i))

@@ -6,9 +6,10 @@ use Rattle.nv_region.specs.Region.{Region}
 use Rattle.nv_super.specs.declared.kind.Kind.{Kind}
 use Rattle.nv_super.specs.declared.kind.Kind.TheVariants as kinds
 use Rattle.nv_tree.specs.Tree.{Tree}
-use Rattle.nv_calls.specs.declared.stating.Stat.{Stat}
+use Rattle.nv_tree.specs.declared.stat.Stat.{Stat}
+use Rattle.nv_calls.specs.ByNumber.{IsInodeStat, ListsInode}
 use Rattle.nv_calls.specs.Listing.{ListsNamesIn}
-use Rattle.nv_calls.specs.Stat.{IsStat}
+use Rattle.nv_tree.specs.Stat.{IsStat}
 use Rattle.nv_calls.specs.Mount.{Mount, told as outcome_told}
 use Rattle.nv_report.specs.Texts.{IsPartText}
 use Rattle.nv_report.specs.declared.part.Part.TheVariants.{Report}
@@ -30,6 +31,12 @@ told s = record { inode = s.inode; size = s.size; time = s.time; is_directory = 
 pub record TellsNumbers (t : Tree) (names : List (List ℕ)) (n : NovaNumbers) : Type 0 where
   pub stat : Stat
   pub is : IsStat t names stat
+  pub crosses : n ≡ told stat
+
+-- These are the numbers of the inode of this number.
+pub record TellsInodeNumbers (t : Tree) (i : ℕ) (n : NovaNumbers) : Type 0 where
+  pub stat : Stat
+  pub is : IsInodeStat t i stat
   pub crosses : n ≡ told stat
 
 -- How much there is of what in a mount.
@@ -68,6 +75,12 @@ names_bytes lines = flat_map line_bytes lines
 pub record TellsNames (t : Tree) (names : List (List ℕ)) (P : List ℕ → Type 0) : Type 0 where
   pub lines : List (List ℕ × ℕ)
   pub lists : ListsNamesIn t names lines
+  pub crosses : P (names_bytes lines)
+
+-- The names of the inode of this number, rising, give these bytes, of which P holds.
+pub record TellsInodeNames (t : Tree) (i : ℕ) (P : List ℕ → Type 0) : Type 0 where
+  pub lines : List (List ℕ × ℕ)
+  pub lists : ListsInode t i lines
   pub crosses : P (names_bytes lines)
 
 -- ---- the report

@@ -7,9 +7,11 @@
 //! What C owes, which nothing checks, stands in docs/MOUNT.md.
 #![tactic(auto)]
 
+mod by_number;
 mod cleaning;
 mod codes;
 mod files;
+mod files_by_number;
 mod handle;
 mod image;
 mod listing;

@@ -35,7 +35,7 @@ fn push_name(out: &mut Vec<u8>, named: &Named<'_>) -> Result<(), AllocError>
     Ok(())
 }
 
-fn names_told(alloc: Global, listed: &[Named<'_>]) -> Result<Vec<u8>, AllocError>
+pub(crate) fn names_told(alloc: Global, listed: &[Named<'_>]) -> Result<Vec<u8>, AllocError>
     ensures { IfOk result (λ told. told.items ≡ names_bytes (map name_and_inode listed.now)) }
 {
     let mut told = Vec::new(alloc);
@@ -46,7 +46,7 @@ fn names_told(alloc: Global, listed: &[Named<'_>]) -> Result<Vec<u8>, AllocError
 }
 
 // Puts bytes into a buffer. `used` says how many there are, also where there is no room for them.
-fn put_bytes(told: &[u8], out: &mut [u8], used: &mut usize) -> u32
+pub(crate) fn put_bytes(told: &[u8], out: &mut [u8], used: &mut usize) -> u32
     ensures put { result ≡ 0 → PutsBytes told.now out.old used.new out.new }
     ensures lacks { result ≢ 0 → (result ≡ 18) × LacksRoom told.now out.old used.new out.new }
 {

@@ -46,7 +46,7 @@ pub struct NovaSpace {
     pub faults: u64,
 }
 
-fn numbers_of(stat: &Stat) -> NovaNumbers
+pub(crate) fn numbers_of(stat: &Stat) -> NovaNumbers
     ensures { result ≡ told stat.now }
 {
     NovaNumbers {

@@ -7,17 +7,15 @@
 //! and output or memory that is refused end it with status 2 and a text on standard error.
 #![tactic(auto)]
 
-use nv_args::{CheckOutput, Todo, VERSION, read_words};
-use nv_image_check::{Blocks, Output, check_file, check_files, explain_file, map_file};
-use nv_image_files::{Failure, Lock, Target, ended, explain, print_line, refuse_words, words_of};
-use nv_pending::check_journals;
+use nv_args::read_words;
+use nv_image_check::Blocks;
+use nv_image_files::{Failure, Lock, ended, refuse_words, words_of};
+use nv_pending::answer_check;
 use std::alloc::AllocError;
 use std::env::Env;
 use std::process::ExitCode;
 use std::rt::Files;
 use std::thread::Threads;
-
-const OTHER_COMMAND: u8 = 2;
 
 fn main(rt: HostRuntime) -> ExitCode {
     match act(&rt) {
@@ -37,57 +35,8 @@ where
     let words = words_of(rt, alloc)?;
     let texts = words.texts(alloc)?;
     Ok(match read_words(alloc, &texts) {
-        Ok(todo) if words.are_utf8 => ended(rt, answer(rt, todo)),
+        Ok(todo) if words.are_utf8 => ended(rt, answer_check(rt, todo)),
         Ok(todo) => ended(rt, Err(Failure::not_utf8(todo.checked_path()))),
         Err(usage) => refuse_words(rt, &usage),
     })
-}
-
-// Does what is asked for, and answers the exit status.
-fn answer<'a, H: Files + AllocGlobal + Print + Eprint + Threads + Sync>(
-    rt: &H,
-    todo: Todo<'a>,
-) -> Result<u8, Failure<'a>>
-where
-    H::File: Blocks + Lock + Sync,
-{
-    match todo {
-        Todo::Version => print_line(rt, VERSION),
-        Todo::Check {
-            paths,
-            workers,
-            output,
-        } => check(rt, &paths, workers, output),
-        Todo::Map { image, svg, force } => map_file(rt, image, target_of(svg, force)),
-        Todo::Explain { class } => explain(rt, class),
-        _ => {
-            let _ = eprintln!(rt; "nova_check has the commands check, map and explain alone");
-            Ok(OTHER_COMMAND)
-        }
-    }
-}
-
-// Checks the images in the files at these paths.
-fn check<'a, H: Files + AllocGlobal + Print + Eprint + Threads + Sync>(
-    rt: &H,
-    paths: &[&'a str],
-    workers: u32,
-    output: CheckOutput,
-) -> Result<u8, Failure<'a>>
-where
-    H::File: Blocks + Sync,
-{
-    match (paths, output) {
-        ([path], CheckOutput::Written(output)) => check_file(rt, path, workers, output),
-        ([path], CheckOutput::Explained) => explain_file(rt, path, workers),
-        ([path], CheckOutput::Journal) => check_journals(rt, path, workers),
-        (paths, CheckOutput::Written(output)) => check_files(rt, paths, workers, output),
-        // Words ask for the others of one image alone.
-        (paths, _) => check_files(rt, paths, workers, Output::Report),
-    }
-}
-
-// The file at a path, where one is written.
-fn target_of(path: Option<&str>, force: bool) -> Option<Target<'_>> {
-    path.map(|path| Target { path, force })
 }

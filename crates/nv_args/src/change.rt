@@ -1,7 +1,7 @@
 //! How an image can be changed by one call.
 
 /// A change of an image, as the words of a command name it. Each path is one in the image, but for that of a file of the host.
-#[derive(Clone, Copy, PartialEq, Eq)]
+#[derive(Clone, Copy)]
 pub enum NamedChange<'a> {
     /// Make a directory.
     Mkdir {

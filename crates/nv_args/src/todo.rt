@@ -5,7 +5,7 @@ use crate::views::View;
 use nv_text::Output;
 
 /// What the program is to do.
-#[derive(Drop, PartialEq, Eq)]
+#[derive(Drop)]
 pub enum Todo<'a> {
     /// Tell the version.
     Version,

@@ -10,7 +10,7 @@ use crate::todo::{Todo, Which};
 use clap::ArgMatches;
 
 /// What is to be shown of an image.
-#[derive(Clone, Copy, PartialEq, Eq)]
+#[derive(Clone, Copy)]
 pub enum View<'a> {
     /// The logs of all inodes in use, entry by entry.
     Logs {

@@ -9,8 +9,8 @@ use Rattle.nv_paths.specs.Seen.{tree_of}
 use Rattle.nv_calls.specs.Alike.{AreAlike}
 use Rattle.nv_calls.specs.Listing.{ListsNamesIn}
 use Rattle.nv_calls.specs.Reading.{IsRead}
-use Rattle.nv_calls.specs.Stat.{IsStat}
-use Rattle.nv_calls.specs.declared.stating.Stat.{Stat}
+use Rattle.nv_tree.specs.Stat.{IsStat}
+use Rattle.nv_tree.specs.declared.stat.Stat.{Stat}
 use Rattle.nv_calls.proofs.OneOutcome.{kind_known, trees_alike}
 use Rattle.nv_calls.proofs.SeenAlike.{lines_one, reads_one, stats_one}
 

@@ -40,10 +40,10 @@ use Rattle.nv_calls.specs.Mount.{Mount}
 use Rattle.nv_calls.specs.NameCalls.{ShowsCreated}
 use Rattle.nv_calls.specs.RemoveCalls.{ShowsRemoved}
 use Rattle.nv_calls.specs.SizeCall.{ShowsResizedLog}
-use Rattle.nv_calls.specs.Stat.{stat_of}
+use Rattle.nv_tree.specs.Stat.{stat_of}
 use Rattle.nv_calls.specs.World.{world_of}
 use Rattle.nv_calls.specs.WriteCall.{ShowsLogWrite}
-use Rattle.nv_calls.specs.declared.stating.Stat.{Stat}
+use Rattle.nv_tree.specs.declared.stat.Stat.{Stat}
 use Rattle.nv_calls.proofs.Allowed.{directory_used, first_passes, leads_passes, named_passes, some_passes, walk_passes, writing_passes}
 use Rattle.nv_calls.proofs.CreatedRows.{not_held}
 use Rattle.nv_calls.proofs.Decided.{both_decided, created_decided, grown_decided, removed_decided, resized_decided, written_decided}

@@ -49,7 +49,7 @@ use Rattle.nv_steps.proofs.TwoLogs.{cut_each, taken_apart}
 use Rattle.nv_calls.specs.Mount.{IsKept}
 use Rattle.nv_calls.specs.ReplaceCalls.{keeps_others}
 use Rattle.nv_calls.specs.ReplaceLogs.{BothLess, ShowsBothLess}
-use Rattle.nv_calls.proofs.GraphPaths.{way_to}
+use Rattle.nv_graph.proofs.Ways.{way_to}
 use Rattle.nv_calls.proofs.HandedRow.{cut_place, given_place, handed_file, handed_told}
 use Rattle.nv_calls.proofs.MoreLogs.{GrewOver, grew_more, lists_gone, none_grew, owns_more, shown_once}
 use Rattle.nv_calls.proofs.Mounts.{bytes_stay, kept_of_mounted, mounted_of_kept, mounted_with}

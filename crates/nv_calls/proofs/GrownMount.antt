@@ -73,11 +73,6 @@ module _ {R S : Region} {l grown : Layout} {free after : FreeLists} {cpu j : ℕ
           };
         }
 
-    -- each byte of a file is where it was
-    pub got_bytes : GotSlot R S l grown free after cpu j → (i : ℕ) (h : Held) → held i ≡ Some h → (x : ℕ) → byte_of S grown h x ≡ byte_of R l h x
-    got_bytes (inl w) i h is x = ap (λ (T : Region). byte_of T grown h x) w.1 ∙ ap (λ (k : Layout). byte_of R k h x) w.2
-    got_bytes (inr g) i h is x = let shown = showing g in shown.bytes i h is x
-
     bytes_by : GotSlot R S l grown free after cpu j → (i : ℕ) (h : Held) → held i ≡ Some h → (x : ℕ) → byte_of S l h x ≡ byte_of R l h x
     bytes_by (inl w) i h is x = ap (λ (T : Region). byte_of T l h x) w.1
     bytes_by (inr g) i h is x = subst (λ (k : Layout). byte_of S k h x ≡ byte_of R l h x) g.layout (let shown = showing g in shown.bytes i h is x)

@@ -27,7 +27,7 @@ use Rattle.nv_steps.specs.Steps.{ShowsRow}
 use Rattle.nv_steps.specs.Takes.{take_entries}
 use Rattle.nv_calls.specs.ReplaceCalls.{keeps_others}
 use Rattle.nv_calls.proofs.BothMounted.{IsRight}
-use Rattle.nv_calls.proofs.GraphPaths.{way_to}
+use Rattle.nv_graph.proofs.Ways.{way_to}
 use Rattle.nv_calls.proofs.LinkedHeld.{counted_file, counted_told}
 use Rattle.nv_calls.proofs.ReplaceAt.{more_links}
 use Rattle.nv_calls.proofs.TakenRow.{first_place, second_place, takes_file, takes_told, third_place}

@@ -112,3 +112,4 @@ pub mod ReplaceAlike
 pub mod CleanAlike
 pub mod AnswersAlike
 pub mod Numbered
+pub mod ByPath

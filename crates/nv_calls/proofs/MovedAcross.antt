@@ -42,7 +42,8 @@ use Rattle.nv_calls.proofs.BothMounted.{IsRight, both_bytes, both_kept, both_log
 use Rattle.nv_calls.proofs.BothTree.{both_tree}
 use Rattle.nv_calls.proofs.CreatedRows.{in_rows, name_absent}
 use Rattle.nv_calls.proofs.CreatedTree.{named_node}
-use Rattle.nv_calls.proofs.GraphPaths.{graph_agrees, passed_there, walked_there, way_to}
+use Rattle.nv_graph.proofs.Ways.{passed_there, walked_there, way_to}
+use Rattle.nv_calls.proofs.GraphPaths.{graph_agrees}
 use Rattle.nv_calls.proofs.Kept.{rows_rise}
 use Rattle.nv_calls.proofs.LinkedHeld.{absent_in}
 use Rattle.nv_steps.proofs.NamedLogs.{lost_told, named_file, named_told}

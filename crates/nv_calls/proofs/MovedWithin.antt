@@ -44,7 +44,8 @@ use Rattle.nv_paths.specs.Seen.{node_of, tree_of}
 use Rattle.nv_steps.specs.Steps.{LogFollows, ShowsRow}
 use Rattle.nv_calls.proofs.CreatedRows.{in_rows, name_absent}
 use Rattle.nv_calls.proofs.CreatedTree.{first_of}
-use Rattle.nv_calls.proofs.GraphPaths.{graph_agrees, passed_there, walked_there, way_to}
+use Rattle.nv_graph.proofs.Ways.{passed_there, walked_there, way_to}
+use Rattle.nv_calls.proofs.GraphPaths.{graph_agrees}
 use Rattle.nv_calls.proofs.LinkedHeld.{absent_in}
 use Rattle.nv_steps.proofs.LogGrows.{can_extend, count_held, extended_bytes, fresh_free, pages_now, pages_once}
 use Rattle.nv_calls.proofs.MovedAcross.{renamed_by}

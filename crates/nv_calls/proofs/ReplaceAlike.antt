@@ -31,7 +31,7 @@ use Rattle.nv_calls.specs.Mount.{Mount}
 use Rattle.nv_calls.specs.RemoveCalls.{ShowsRemoved}
 use Rattle.nv_calls.specs.ReplaceLogs.{ShowsBothLess, ShowsThreeGrew, TakesPlace, has_others}
 use Rattle.nv_calls.specs.World.{world_of}
-use Rattle.nv_calls.specs.declared.stating.Stat.{Stat}
+use Rattle.nv_tree.specs.declared.stat.Stat.{Stat}
 use Rattle.nv_calls.proofs.Allowed.{directory_used, first_passes, found_used, leads_passes, named_passes, walk_passes, writing_passes}
 use Rattle.nv_calls.proofs.CallsAlike.{LeadsThere, alike, by_first, by_held, files, finds, finish, held_there, leads_there, mounted, rename_alike, there, walks}
 use Rattle.nv_calls.proofs.Decided.{both_decided, less_decided, removed_decided, three_decided}

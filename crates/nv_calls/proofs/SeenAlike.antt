@@ -24,10 +24,10 @@ use Rattle.nv_tree.specs.Calls.{bytes_read, links_at}
 use Rattle.nv_tree.proofs.Alike.{read_alike}
 use Rattle.nv_paths.specs.Spots.{new_number, or_next}
 use Rattle.nv_paths.specs.Seen.{node_of, tree_of}
-use Rattle.nv_calls.specs.Stat.{stat_of, IsStat}
+use Rattle.nv_tree.specs.Stat.{stat_of, IsStat}
 use Rattle.nv_calls.specs.Listing.{ListsNamesIn}
 use Rattle.nv_calls.specs.Reading.{IsRead}
-use Rattle.nv_calls.specs.declared.stating.Stat.{Stat}
+use Rattle.nv_tree.specs.declared.stat.Stat.{Stat}
 use Rattle.nv_calls.proofs.SameContents.{SameContents, SameFiles}
 
 -- all that the calls that read, and the tests of those that write, see of a tree

@@ -1,5 +1,5 @@
 -- What `set_attr` answers, and what it leaves.
-use Rattle.std.proofs.Common.{◌≡◌, ℕ, ◌%◌, ◌≤◌, inl, inr, Bool, true, false, IsTrue, List, [], ◌∷◌, refl, ap, sym, ◌∙◌, subst, Option, Some, None, Result, Err, slice_get, set, ◌/◌, length}
+use Rattle.std.proofs.Common.{◌≡◌, ℕ, ◌%◌, ◌≤◌, Bool, true, false, IsTrue, List, [], ◌∷◌, refl, ap, sym, ◌∙◌, subst, Option, Some, None, Result, Err, slice_get, set, ◌/◌, length}
 use Rattle.std.proofs.lemmas.Option.{same_Some}
 use Rattle.nv_region.specs.Region.{Region}
 use Rattle.nv_super.specs.declared.superblock.Super.{Super}
@@ -14,74 +14,60 @@ use Rattle.nv_mounted.specs.Held.{Held, Store}
 use Rattle.nv_mounted.specs.Mounted.{ShowsSound}
 use Rattle.nv_tree.specs.declared.refusal.Refusal.{Refusal}
 use Rattle.nv_tree.specs.declared.refusal.Refusal.TheVariants.{Stopped}
-use Rattle.nv_tree.specs.Path.{IsPath, Says}
-use Rattle.nv_tree.specs.Tree.{Node, SameTree, Tree, found, SameNode}
-use Rattle.nv_tree.specs.Calls.{attributed, edit, on_some, with_attributes}
-use Rattle.nv_tree.specs.Refusals.{Path, Tests, first_refusal, has_no_space, set_attr_tests, stat_tests, writing, IsRefusedBy, MayWantMemory}
+use Rattle.nv_tree.specs.Tree.{Node, SameNode}
+use Rattle.nv_tree.specs.Calls.{with_attributes}
+use Rattle.nv_tree.specs.Refusals.{Tests, first_refusal, has_no_space, writing, IsRefusedBy}
 use Rattle.nv_steps.specs.Attributes.{attributes, HasAttributes}
-use Rattle.nv_calls.specs.AttributesCall.{attributes_blocks}
+use Rattle.nv_calls.specs.ChangesByNumber.{attributes_inode_blocks, logs_inode_attributes, set_attr_inode_tests}
 use Rattle.nv_calls.specs.GrownLogs.{ShowsGrownLog}
 use Rattle.nv_calls.specs.Mount.{IsKept, Mount}
 use Rattle.nv_calls.specs.Same.{SameMount}
-use Rattle.nv_paths.specs.Seen.{LeadsTo, node_of, tree_of}
+use Rattle.nv_paths.specs.Seen.{node_of, tree_of}
 use Rattle.nv_steps.specs.Steps.{LeavesStep, RefusesStep}
 use Rattle.nv_calls.specs.World.{world_of}
 use Rattle.nv_calls.proofs.Mounts.{kept_when_stopped}
 use Rattle.nv_calls.proofs.RowChange.{kept_same}
 use Rattle.nv_steps.proofs.RowsAt.{set_same_rows}
-use Rattle.nv_calls.proofs.Tests.{blocks_there, enough_space, stat_allows, too_few, space_last}
-use Rattle.std.specs.Option.{option_map}
+use Rattle.nv_calls.proofs.Numbered.{there_goes_on}
+use Rattle.nv_calls.proofs.Tests.{space_allows, space_refuses}
+use Rattle.std.specs.Option.{option_map, option_map_or}
 use Rattle.nv_radix.specs.Pages.{block_at}
 use Rattle.nv_names.specs.Names.{Names, name_at}
 use Rattle.nv_mounted.specs.Bytes.{byte_in}
 
 -- ---- why it is refused
 
-module _ {P : Type 0} (region : P → Region) {n m : Mount P} (same : n ≡ m) (cpu : ℕ) (passed : (tests : Tests) → first_refusal (writing (world_of m) cpu tests) ≡ first_refusal tests) (text : List ℕ) (row : Row) (node : Node)
-    (is : row_of n.rows row.inode ≡ Some row) (leads : (names : List (List ℕ)) → IsPath text names → LeadsTo (tree_of (region n.memory) n.rows) names row.inode node) (p : Path) (says : Says text p)
-    (none : first_refusal (stat_tests (tree_of (region n.memory) n.rows) p) ≡ None) where
+module _ {P : Type 0} (region : P → Region) {n m : Mount P} (same : n ≡ m) (cpu : ℕ) (passed : (tests : Tests) → first_refusal (writing (world_of m) cpu tests) ≡ first_refusal tests) (i : ℕ) (row : Row) (is : row_of n.rows i ≡ Some row) where
   abbrev tests : Mount P → Option Refusal
-  tests k = first_refusal (set_attr_tests (world_of k) (tree_of (region k.memory) k.rows) cpu p (attributes_blocks k.rows (tree_of (region k.memory) k.rows) p))
+  tests k = first_refusal (set_attr_inode_tests (world_of k) (tree_of (region k.memory) k.rows) cpu i (attributes_inode_blocks k.rows i))
 
-  at_last : tests n ≡ first_refusal (has_no_space (world_of n) (needed (row.tail % 4096) (attributes row.numbers.size 0 0 0 0)) ∷ [])
+  abbrev blocks : ℕ
+  blocks = needed (row.tail % 4096) (attributes row.numbers.size 0 0 0 0)
+
+  at_last : tests n ≡ first_refusal (has_no_space (world_of n) blocks ∷ [])
   at_last =
-      let passed_here : (ts : Tests) → first_refusal (writing (world_of n) cpu ts) ≡ first_refusal ts = λ ts. subst (λ (k : Mount P). first_refusal (writing (world_of k) cpu ts) ≡ first_refusal ts) (sym same) (passed ts) in
-      stat_allows (world_of n) (tree_of (region n.memory) n.rows) cpu passed_here p (has_no_space (world_of n) (attributes_blocks n.rows (tree_of (region n.memory) n.rows) p) ∷ []) none
-      ∙ ap (λ (count : ℕ). first_refusal (has_no_space (world_of n) count ∷ [])) (blocks_there n.rows (tree_of (region n.memory) n.rows) (λ r. attributes r.numbers.size 0 0 0 0) row node text is leads p says none)
+      there_goes_on region same cpu passed i row is (has_no_space (world_of n) (attributes_inode_blocks n.rows i) ∷ [])
+      ∙ ap (λ (o : Option Row). first_refusal (has_no_space (world_of n) (option_map_or (λ (r : Row). needed (r.tail % 4096) (attributes r.numbers.size 0 0 0 0)) o 0) ∷ [])) is
 
   -- No test refuses it where there are enough blocks.
-  pub attr_allowed : needed (row.tail % 4096) (attributes row.numbers.size 0 0 0 0) ≤ all_blocks n.free.pools → tests m ≡ None
-  attr_allowed enough = subst (λ (k : Mount P). tests k ≡ None) same (at_last ∙ enough_space (world_of n) (needed (row.tail % 4096) (attributes row.numbers.size 0 0 0 0)) enough)
+  pub attr_allowed : blocks ≤ all_blocks n.free.pools → tests m ≡ None
+  attr_allowed enough = space_allows same tests blocks at_last enough
 
   -- Where its step was refused, so is the call.
-  pub attr_refused : (e : Refusal) → RefusesStep e (needed (row.tail % 4096) (attributes row.numbers.size 0 0 0 0)) n.free → IsRefusedBy (tests m) e
-  attr_refused e (inl memory) = inl (memory, subst (λ (k : Mount P). MayWantMemory (tests k)) same (subst MayWantMemory (sym at_last) (space_last (world_of n) (needed (row.tail % 4096) (attributes row.numbers.size 0 0 0 0)))))
-  attr_refused e (inr (inl stopped)) = inr (inl stopped)
-  attr_refused e (inr (inr w)) = inr (inr (subst (λ (k : Mount P). tests k ≡ Some e) same (at_last ∙ too_few (world_of n) (needed (row.tail % 4096) (attributes row.numbers.size 0 0 0 0)) w.1 ∙ ap (λ (r : Refusal). Some r) (sym w.0))))
+  pub attr_refused : (e : Refusal) → RefusesStep e blocks n.free → IsRefusedBy (tests m) e
+  attr_refused e refused = space_refuses same tests blocks at_last e refused
 
 -- ---- what it leaves
 
--- The tree with the inode changed is what the call makes of it.
-pub attr_changed : {P : Type 0} (region : P → Region) {n m : Mount P} → n ≡ m → (names : List (List ℕ)) (i mode owner group time : ℕ) (u : Tree) → found (tree_of (region n.memory) n.rows) names ≡ Some i
-    → SameTree u (edit i (with_attributes mode owner group time) (tree_of (region n.memory) n.rows)) → SameTree u (attributed names mode owner group time (tree_of (region m.memory) m.rows))
-attr_changed {P} region {n} {m} same names i mode owner group time u leads is =
-    let t = tree_of (region n.memory) n.rows in
-    let made : attributed names mode owner group time t ≡ edit i (with_attributes mode owner group time) t = ap (λ (o : Option ℕ). on_some o (λ j. edit j (with_attributes mode owner group time) t) t) leads in
-    subst (λ (k : Mount P). SameTree u (attributed names mode owner group time (tree_of (region k.memory) k.rows))) same (subst (λ (v : Tree). SameTree u v) (sym made) is)
-
--- The log of the inode that the path leads to has grown.
-pub attr_logged : {P : Type 0} (region : P → Region) {n m : Mount P} {cpu : ℕ} → n ≡ m → (S : Region) (names : List (List ℕ)) (row : Row) (mode owner group time i : ℕ) (node : Node) (held : Store) (h : Held)
-    → LeadsTo (tree_of (region n.memory) n.rows) names row.inode (node_of (region n.memory) row) → ((st : Store) (g : Held) → ShowsSound (region n.memory) n.layout st → st row.inode ≡ Some g → ShowsGrownLog S n.layout n.free.pools cpu st row.inode g (attributes row.numbers.size mode owner group time))
-    → LeadsTo (tree_of (region m.memory) m.rows) names i node → ShowsSound (region m.memory) m.layout held → held i ≡ Some h → ShowsGrownLog S m.layout m.free.pools cpu held i h (attributes node.size mode owner group time)
-attr_logged {P} region {n} {m} {cpu} same S names row mode owner group time i node held h own grew led sound is =
-    subst (λ (k : Mount P). LeadsTo (tree_of (region k.memory) k.rows) names i node → ShowsSound (region k.memory) k.layout held → ShowsGrownLog S k.layout k.free.pools cpu held i h (attributes node.size mode owner group time)) same here led sound
-  where
-    here : LeadsTo (tree_of (region n.memory) n.rows) names i node → ShowsSound (region n.memory) n.layout held → ShowsGrownLog S n.layout n.free.pools cpu held i h (attributes node.size mode owner group time)
-    here led sound =
-        let number : row.inode ≡ i = same_Some _ _ (sym own.leads ∙ led.leads) in
-        let node_is : node_of (region n.memory) row ≡ node = same_Some _ _ (sym own.shows ∙ ap (tree_of (region n.memory) n.rows) number ∙ led.shows) in
-        subst (λ (k : ℕ). ShowsGrownLog S n.layout n.free.pools cpu held k h (attributes node.size mode owner group time)) number
-        (subst (λ (nd : Node). ShowsGrownLog S n.layout n.free.pools cpu held row.inode h (attributes nd.size mode owner group time)) node_is (grew held h sound (subst (λ (k : ℕ). held k ≡ Some h) (sym number) is)))
+-- The log of the inode has grown.
+pub attr_logged : {P : Type 0} (region : P → Region) {n m : Mount P} {cpu : ℕ} → n ≡ m → (S : Region) (row : Row) (mode owner group time i : ℕ) → row_of n.rows i ≡ Some row → row.inode ≡ i
+    → ((st : Store) (g : Held) → ShowsSound (region n.memory) n.layout st → st row.inode ≡ Some g → ShowsGrownLog S n.layout n.free.pools cpu st row.inode g (attributes row.numbers.size mode owner group time))
+    → logs_inode_attributes cpu mode owner group time i (region m.memory) m S
+attr_logged {P} region {n} {m} {cpu} same S row mode owner group time i is number grew =
+    subst (λ (k : Mount P). logs_inode_attributes cpu mode owner group time i (region k.memory) k S) same (λ node held h shows sound holds.
+    let one : node_of (region n.memory) row ≡ node = same_Some _ _ (sym (ap (option_map (node_of (region n.memory))) is) ∙ shows) in
+    subst (λ (k : ℕ). ShowsGrownLog S n.layout n.free.pools cpu held k h (attributes node.size mode owner group time)) number
+    (subst (λ (nd : Node). ShowsGrownLog S n.layout n.free.pools cpu held row.inode h (attributes nd.size mode owner group time)) one (grew held h sound (subst (λ (k : ℕ). held k ≡ Some h) (sym number) holds))))
 
 -- ---- a step that was refused
 

@@ -1,6 +1,6 @@
 -- What `set_size` answers, and what it leaves.
-use Rattle.std.proofs.Common.{◌≡◌, ℕ, ◌<◌, ◌≤◌, inl, inr, Bool, true, false, cond, nat_lt, List, [], ◌∷◌, ◌++◌, append_assoc, length, refl, ap, sym, ◌∙◌, subst, Option, Some, None}
-use Rattle.std.specs.Option.{option_and_then, option_map, option_map_or}
+use Rattle.std.proofs.Common.{◌≡◌, ℕ, ◌<◌, ◌≤◌, Bool, true, false, cond, nat_lt, List, [], ◌∷◌, ◌++◌, append_assoc, length, refl, ap, sym, ◌∙◌, subst, Option, Some, None}
+use Rattle.std.specs.Option.{option_map, option_map_or}
 use Rattle.std.proofs.lemmas.Option.{same_Some}
 use Rattle.nv_region.specs.Region.{Region}
 use Rattle.nv_super.specs.declared.kind.Kind.{Kind}
@@ -14,16 +14,18 @@ use Rattle.nv_mounted.specs.Mounted.{ShowsSound}
 use Rattle.nv_tree.specs.declared.refusal.Refusal.{Refusal}
 use Rattle.nv_tree.specs.declared.refusal.Refusal.TheVariants.{IsDirectory, Stopped, TooLarge}
 use Rattle.nv_tree.specs.Path.{IsPath, Says}
-use Rattle.nv_tree.specs.Tree.{Node, SameNode, SameTree, Tree, found, is_directory}
-use Rattle.nv_tree.specs.Calls.{edit, on_some, resized, with_size}
-use Rattle.nv_tree.specs.Refusals.{Path, Tests, first_refusal, has_no_space, is_bad, is_dir, is_directory_at, is_missing, is_too_large, set_size_tests, stat_tests, walk_tests, writing, IsRefusedBy, MayWantMemory}
+use Rattle.nv_tree.specs.Tree.{Node, SameNode, Tree, is_directory}
+use Rattle.nv_tree.specs.Calls.{with_size}
+use Rattle.nv_tree.specs.Refusals.{Path, Tests, first_refusal, has_no_space, is_bad, is_dir, is_directory_at, is_missing, is_too_large, stat_tests, walk_tests, writing, IsRefusedBy}
 use Rattle.nv_calls.specs.Mount.{Mount}
 use Rattle.nv_paths.specs.Seen.{LeadsTo, node_of, tree_of}
 use Rattle.nv_steps.specs.Sizes.{HasSize, SameBytes, sized}
-use Rattle.nv_calls.specs.SizeCall.{ShowsResizedLog, resized_blocks, size_blocks}
+use Rattle.nv_calls.specs.ChangesByNumber.{logs_inode_size, resize_inode_tests, resized_inode_blocks, set_size_inode_tests}
+use Rattle.nv_calls.specs.SizeCall.{ShowsResizedLog, size_blocks}
 use Rattle.nv_steps.specs.Steps.{RefusesStep}
 use Rattle.nv_calls.specs.World.{world_of}
-use Rattle.nv_calls.proofs.Tests.{enough_space, stat_first, stat_goes_on, too_few, space_last}
+use Rattle.nv_calls.proofs.Numbered.{file_allows, file_refuses}
+use Rattle.nv_calls.proofs.Tests.{space_allows, space_refuses, stat_first, stat_goes_on}
 use Rattle.nv_paths.proofs.Refusing.{passed_before, refused_before}
 
 -- ---- the tests before that of the space
@@ -33,10 +35,10 @@ abbrev pub front_tests : Tree → Path → ℕ → Tests
 front_tests t p size = stat_tests t p ++ is_dir t p ∷ is_too_large size ∷ []
 
 -- with that of the space
-abbrev set_tests : Tree → Path → ℕ → Bool × Refusal → Tests
+abbrev pub set_tests : Tree → Path → ℕ → Bool × Refusal → Tests
 set_tests t p size space = is_bad p ∷ walk_tests t p ++ is_missing t p ∷ is_dir t p ∷ is_too_large size ∷ space ∷ []
 
-all_tests : (t : Tree) (p : Path) (size : ℕ) (space : Bool × Refusal) → set_tests t p size space ≡ front_tests t p size ++ space ∷ []
+pub all_tests : (t : Tree) (p : Path) (size : ℕ) (space : Bool × Refusal) → set_tests t p size space ≡ front_tests t p size ++ space ∷ []
 all_tests t p size space = stat_first t p (is_dir t p ∷ is_too_large size ∷ space ∷ []) ∙ sym (append_assoc (stat_tests t p) (is_dir t p ∷ is_too_large size ∷ []) (space ∷ []))
 
 -- whether the inode is a directory, by its row
@@ -73,54 +75,29 @@ front_goes_on t p size e = by (first_refusal (stat_tests t p)) refl where
 
 -- ---- why it is refused
 
-module _ {P : Type 0} (region : P → Region) {n m : Mount P} (same : n ≡ m) (cpu size : ℕ) (passed : (tests : Tests) → first_refusal (writing (world_of m) cpu tests) ≡ first_refusal tests) (p : Path) where
+module _ {P : Type 0} (region : P → Region) {n m : Mount P} (same : n ≡ m) (cpu size : ℕ) (passed : (tests : Tests) → first_refusal (writing (world_of m) cpu tests) ≡ first_refusal tests) (i : ℕ) where
   abbrev tests : Mount P → Option Refusal
-  tests k = first_refusal (set_size_tests (world_of k) (tree_of (region k.memory) k.rows) cpu p size (resized_blocks k.rows (tree_of (region k.memory) k.rows) p size))
-
-  passed_here : (ts : Tests) → first_refusal (writing (world_of n) cpu ts) ≡ first_refusal ts
-  passed_here ts = subst (λ (k : Mount P). first_refusal (writing (world_of k) cpu ts) ≡ first_refusal ts) (sym same) (passed ts)
-
-  abbrev space : Bool × Refusal
-  space = has_no_space (world_of n) (resized_blocks n.rows (tree_of (region n.memory) n.rows) p size)
-
-  by_front : tests n ≡ first_refusal (front_tests (tree_of (region n.memory) n.rows) p size ++ space ∷ [])
-  by_front = passed_here (set_tests (tree_of (region n.memory) n.rows) p size space) ∙ ap first_refusal (all_tests (tree_of (region n.memory) n.rows) p size space)
+  tests k = first_refusal (set_size_inode_tests (world_of k) (tree_of (region k.memory) k.rows) cpu i size (resized_inode_blocks k.rows i size))
 
   -- What refuses the file refuses the call.
-  pub size_front : (e : Refusal) → first_refusal (front_tests (tree_of (region n.memory) n.rows) p size) ≡ Some e → tests m ≡ Some e
-  size_front e h = subst (λ (k : Mount P). tests k ≡ Some e) same (by_front ∙ refused_before (front_tests (tree_of (region n.memory) n.rows) p size) (space ∷ []) e h)
+  pub size_front : (e : Refusal) → first_refusal (resize_inode_tests (tree_of (region n.memory) n.rows) i size) ≡ Some e → tests m ≡ Some e
+  size_front e h = subst (λ (k : Mount P). tests k ≡ Some e) same (file_refuses region same cpu size (resized_inode_blocks n.rows i size) passed i e h)
 
-  module _ (text : List ℕ) (row : Row) (node : Node) (is : row_of n.rows row.inode ≡ Some row) (leads : (names : List (List ℕ)) → IsPath text names → LeadsTo (tree_of (region n.memory) n.rows) names row.inode node) (says : Says text p)
-      (none : first_refusal (front_tests (tree_of (region n.memory) n.rows) p size) ≡ None) where
-    count_is : resized_blocks n.rows (tree_of (region n.memory) n.rows) p size ≡ size_blocks row size
-    count_is = by p says none where
-      by : (q : Path) → Says text q → first_refusal (front_tests (tree_of (region n.memory) n.rows) q size) ≡ None → resized_blocks n.rows (tree_of (region n.memory) n.rows) q size ≡ size_blocks row size
-      by None says none = absurd (cc)
-      by (Some names) says none = (let led = leads names says in
-          ap (λ (o : Option ℕ). option_map_or (λ (r : Row). size_blocks r size) (option_and_then (row_of n.rows) o) 0) led.leads ∙ ap (λ (o : Option Row). option_map_or (λ (r : Row). size_blocks r size) o 0) is)
-
+  module _ (row : Row) (is : row_of n.rows i ≡ Some row) (none : first_refusal (resize_inode_tests (tree_of (region n.memory) n.rows) i size) ≡ None) where
     at_last : tests n ≡ first_refusal (has_no_space (world_of n) (size_blocks row size) ∷ [])
-    at_last = by_front ∙ passed_before (front_tests (tree_of (region n.memory) n.rows) p size) (space ∷ []) none ∙ ap (λ (count : ℕ). first_refusal (has_no_space (world_of n) count ∷ [])) count_is
+    at_last =
+        file_allows region same cpu size (resized_inode_blocks n.rows i size) passed i none
+        ∙ ap (λ (o : Option Row). first_refusal (has_no_space (world_of n) (option_map_or (λ (r : Row). size_blocks r size) o 0) ∷ [])) is
 
     -- No test refuses it where there are enough blocks.
     pub size_allowed : size_blocks row size ≤ all_blocks n.free.pools → tests m ≡ None
-    size_allowed enough = subst (λ (k : Mount P). tests k ≡ None) same (at_last ∙ enough_space (world_of n) (size_blocks row size) enough)
+    size_allowed enough = space_allows same tests (size_blocks row size) at_last enough
 
     -- Where its step was refused, so is the call.
     pub size_refused : (e : Refusal) → RefusesStep e (size_blocks row size) n.free → IsRefusedBy (tests m) e
-    size_refused e (inl memory) = inl (memory, subst (λ (k : Mount P). MayWantMemory (tests k)) same (subst MayWantMemory (sym at_last) (space_last (world_of n) (size_blocks row size))))
-    size_refused e (inr (inl stopped)) = inr (inl stopped)
-    size_refused e (inr (inr w)) = inr (inr (subst (λ (k : Mount P). tests k ≡ Some e) same (at_last ∙ too_few (world_of n) (size_blocks row size) w.1 ∙ ap (λ (r : Refusal). Some r) (sym w.0))))
+    size_refused e refused = space_refuses same tests (size_blocks row size) at_last e refused
 
 -- ---- what it leaves
-
--- The tree with the file changed is what the call makes of it.
-pub size_changed : {P : Type 0} (region : P → Region) {n m : Mount P} → n ≡ m → (names : List (List ℕ)) (i size time : ℕ) (u : Tree) → found (tree_of (region n.memory) n.rows) names ≡ Some i
-    → SameTree u (edit i (with_size size time) (tree_of (region n.memory) n.rows)) → SameTree u (resized names size time (tree_of (region m.memory) m.rows))
-size_changed {P} region {n} {m} same names i size time u leads is =
-    let t = tree_of (region n.memory) n.rows in
-    let made : resized names size time t ≡ edit i (with_size size time) t = ap (λ (o : Option ℕ). on_some o (λ j. edit j (with_size size time) t) t) leads in
-    subst (λ (k : Mount P). SameTree u (resized names size time (tree_of (region k.memory) k.rows))) same (subst (λ (v : Tree). SameTree u v) (sym made) is)
 
 -- The node has the size, and the bytes of before up to it.
 pub resized_node : (R S : Region) {row new : Row} (size time : ℕ) → HasSize row (sized (node_of R row) size time) new → SameBytes R S row new size → SameNode (node_of S new) (with_size size time (node_of R row))
@@ -137,17 +114,12 @@ resized_node R S {row} {new} size time has bytes = record {
   bytes = λ x below. bytes x (subst (λ (z : ℕ). x < z) has.size below);
 }
 
--- The log of the inode that the path leads to has grown.
-pub size_logged : {P : Type 0} (region : P → Region) {n m : Mount P} {cpu : ℕ} → n ≡ m → (S : Region) (names : List (List ℕ)) (row : Row) (size time i : ℕ) (node : Node) (held : Store) (h : Held)
-    → LeadsTo (tree_of (region n.memory) n.rows) names row.inode (node_of (region n.memory) row)
+-- The log of the file has grown.
+pub size_logged : {P : Type 0} (region : P → Region) {n m : Mount P} {cpu : ℕ} → n ≡ m → (S : Region) (row : Row) (size time i : ℕ) → row_of n.rows i ≡ Some row → row.inode ≡ i
     → ((st : Store) (g : Held) → ShowsSound (region n.memory) n.layout st → st row.inode ≡ Some g → ShowsResizedLog S n.layout n.free.pools cpu st row.inode g (node_of (region n.memory) row) size time)
-    → LeadsTo (tree_of (region m.memory) m.rows) names i node → ShowsSound (region m.memory) m.layout held → held i ≡ Some h → ShowsResizedLog S m.layout m.free.pools cpu held i h node size time
-size_logged {P} region {n} {m} {cpu} same S names row size time i node held h own grew led sound is =
-    subst (λ (k : Mount P). LeadsTo (tree_of (region k.memory) k.rows) names i node → ShowsSound (region k.memory) k.layout held → ShowsResizedLog S k.layout k.free.pools cpu held i h node size time) same here led sound
-  where
-    here : LeadsTo (tree_of (region n.memory) n.rows) names i node → ShowsSound (region n.memory) n.layout held → ShowsResizedLog S n.layout n.free.pools cpu held i h node size time
-    here led sound =
-        let number : row.inode ≡ i = same_Some _ _ (sym own.leads ∙ led.leads) in
-        let node_is : node_of (region n.memory) row ≡ node = same_Some _ _ (sym own.shows ∙ ap (tree_of (region n.memory) n.rows) number ∙ led.shows) in
-        subst (λ (k : ℕ). ShowsResizedLog S n.layout n.free.pools cpu held k h node size time) number
-        (subst (λ (nd : Node). ShowsResizedLog S n.layout n.free.pools cpu held row.inode h nd size time) node_is (grew held h sound (subst (λ (k : ℕ). held k ≡ Some h) (sym number) is)))
+    → logs_inode_size cpu size time i (region m.memory) m S
+size_logged {P} region {n} {m} {cpu} same S row size time i is number grew =
+    subst (λ (k : Mount P). logs_inode_size cpu size time i (region k.memory) k S) same (λ node held h shows sound holds.
+    let one : node_of (region n.memory) row ≡ node = same_Some _ _ (sym (ap (option_map (node_of (region n.memory))) is) ∙ shows) in
+    subst (λ (k : ℕ). ShowsResizedLog S n.layout n.free.pools cpu held k h node size time) number
+    (subst (λ (nd : Node). ShowsResizedLog S n.layout n.free.pools cpu held row.inode h nd size time) one (grew held h sound (subst (λ (k : ℕ). held k ≡ Some h) (sym number) holds))))

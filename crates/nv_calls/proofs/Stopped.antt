@@ -23,18 +23,20 @@ use Rattle.nv_commit.specs.Stopped.{CanRecover, LeavesEither, RollsBackTo}
 use Rattle.nv_commit.proofs.Left.{itself_recovers, left_same}
 use Rattle.nv_tree.specs.declared.refusal.Refusal.{Refusal}
 use Rattle.nv_tree.specs.declared.refusal.Refusal.TheVariants.{Stopped}
-use Rattle.nv_tree.specs.Tree.{SameTree, Tree, found}
-use Rattle.nv_tree.specs.Calls.{attributed, edit, on_some, with_attributes}
-use Rattle.nv_paths.specs.Seen.{LeadsTo, node_of, tree_of}
+use Rattle.nv_tree.specs.Tree.{Tree}
+use Rattle.nv_tree.specs.Calls.{edit, with_attributes}
+use Rattle.nv_paths.specs.Seen.{tree_of}
 use Rattle.nv_steps.specs.Attributes.{attributes}
 use Rattle.nv_steps.specs.Steps.{ShowsRow}
 use Rattle.nv_steps.specs.Stopped.{Attributed}
 use Rattle.nv_calls.specs.Mount.{IsKept, Mount}
-use Rattle.nv_calls.specs.Effects.{Logs, Makes, logs_attributes, makes_attributes}
+use Rattle.nv_calls.specs.ChangesByNumber.{logs_inode_attributes}
+use Rattle.nv_calls.specs.Effects.{Logs, Makes}
 use Rattle.nv_calls.specs.Stopped.{IsAsMade, IsAsMounted, LeavesCall, RecoversTo, StopLeaves}
 use Rattle.nv_calls.proofs.Mounts.{mounted_of_kept}
 use Rattle.nv_calls.proofs.OneRow.{shows_row}
 use Rattle.nv_calls.proofs.RowChange.{log_grew, mounted_after, row_bytes, tree_after, unchanged}
+use Rattle.nv_calls.proofs.Numbered.{inode_changed}
 use Rattle.nv_calls.proofs.SetAttr.{attr_logged, attributed_node}
 
 -- What is recovered is what is mounted once the journals are rolled back.
@@ -90,14 +92,8 @@ left_made {l = l} A B f left (inr w) = inr (w.0, f (undone l.sup left) w.1)
 
 -- ---- `set_attr`
 
--- The tree with the attributes changed is what the call makes of it.
-pub attributed_by : (t : Tree) (names : List (List ℕ)) (i mode owner group time : ℕ) → found t names ≡ Some i → (u : Tree) → SameTree u (edit i (with_attributes mode owner group time) t) → SameTree u (attributed names mode owner group time t)
-attributed_by t names i mode owner group time leads u is =
-    let made : attributed names mode owner group time t ≡ edit i (with_attributes mode owner group time) t = ap (λ (o : Option ℕ). on_some o (λ j. edit j (with_attributes mode owner group time) t) t) leads in
-    subst (λ (v : Tree). SameTree u v) (sym made) is
-
 module _ {P : Type 0} (region : P → Region) {n m : Mount P} (same : n ≡ m) (kept : IsKept (region n.memory) n.sup n.layout n.rows n.free n.faults n.read_only n.stopped) (runs : n.stopped ≡ false) (writes : n.read_only ≡ false)
-    (place : ℕ) (row : Row) (at : slice_get n.rows place ≡ Some row) (cpu mode owner group time : ℕ) (names : List (List ℕ)) (leads : LeadsTo (tree_of (region n.memory) n.rows) names row.inode (node_of (region n.memory) row)) where
+    (place : ℕ) (row : Row) (at : slice_get n.rows place ≡ Some row) (cpu mode owner group time i : ℕ) (is : row_of n.rows i ≡ Some row) (number : row.inode ≡ i) where
   abbrev R : Region
   R = region n.memory
 
@@ -114,7 +110,7 @@ module _ {P : Type 0} (region : P → Region) {n m : Mount P} (same : n ≡ m) (
   x = record { mode = mode % 4096; size = row.numbers.size; time = time; owner = owner; group = group }
 
   attributes_by : (left : Region) (held : Store) (mounted : IsMounted R l held rows free.pools) → LeavesEither R l held (Attributed R l free cpu row x) left
-      → IsAsMounted R l rows free.pools left ⊎ IsAsMade l (attributed names mode owner group time (tree_of R rows)) (logs_attributes cpu mode owner group time R n names) left
+      → IsAsMounted R l rows free.pools left ⊎ IsAsMade l (edit i (with_attributes mode owner group time) (tree_of R rows)) (logs_inode_attributes cpu mode owner group time i R n) left
   attributes_by left held mounted (inl as_before) = inl (still_mounted mounted as_before)
   attributes_by left held mounted (inr w) =
       let step = w.1 in
@@ -127,19 +123,19 @@ module _ {P : Type 0} (region : P → Region) {n m : Mount P} (same : n ≡ m) (
         rows = set rows place new;
         free = (step.0).pools;
         recovers = recovers_to w.0 then.1;
-        tree = attributed_by (tree_of R rows) names row.inode mode owner group time leads.leads (tree_of (undone l.sup left) (set rows place new))
+        tree = inode_changed region {n = n} {m = n} refl (with_attributes mode owner group time) (tree_of (undone l.sup left) (set rows place new)) number
             (tree_after kept runs writes place row new at entries follows (with_attributes mode owner group time) has.inode
             (attributed_node R (undone l.sup left) mode owner group time row.numbers.size has
             (λ y. row_bytes kept runs writes place row new at entries follows row (stands rows place row at) y)));
-        logs = λ i node st h led sound is. attr_logged region {n = n} {m = n} refl (undone l.sup left) names row mode owner group time i node st h leads (log_grew kept runs writes place row new at entries follows) led sound is;
+        logs = attr_logged region {n = n} {m = n} refl (undone l.sup left) row mode owner group time i is number (log_grew kept runs writes place row new at entries follows);
       })
 
   -- What a stop within the call leaves.
   pub attributes_left : (S : Region) (old new : Choices)
       → ((held : Store) (h : Held) → ShowsRow R l held h row free → NothingPending R old → LeavesOnly S new (LeavesEither R l held (Attributed R l free cpu row x))) → NothingPending R old
-      → LeavesOnly S new (LeavesCall (makes_attributes mode owner group time) (logs_attributes cpu mode owner group time) (region m.memory) m names)
+      → LeavesOnly S new (StopLeaves (region m.memory) m.layout m.rows m.free.pools (edit i (with_attributes mode owner group time) (tree_of (region m.memory) m.rows)) (logs_inode_attributes cpu mode owner group time i (region m.memory) m))
   attributes_left S old new step settled =
-      subst (λ (k : Mount P). LeavesOnly S new (LeavesCall (makes_attributes mode owner group time) (logs_attributes cpu mode owner group time) (region k.memory) k names)) same
+      subst (λ (k : Mount P). LeavesOnly S new (StopLeaves (region k.memory) k.layout k.rows k.free.pools (edit i (with_attributes mode owner group time) (tree_of (region k.memory) k.rows)) (logs_inode_attributes cpu mode owner group time i (region k.memory) k))) same
       (λ left may. ∥∥₁_map (mounted_of_kept kept runs writes) (λ w.
       let v = shows_row w.1 kept.lists row (stands rows place row at) in
       attributes_by left w.0 w.1 (step w.0 v.0 v.1 settled left may)))

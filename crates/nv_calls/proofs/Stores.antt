@@ -20,7 +20,7 @@ use Rattle.nv_mounted.specs.Mounted.{IsMounted, ShowsSound}
 use Rattle.nv_steps.specs.Steps.{ShowsRow}
 use Rattle.nv_steps.specs.Stores.{Places, StoresIn, one_log, one_page_less}
 use Rattle.nv_tree.specs.Tree.{Node}
-use Rattle.nv_paths.specs.Seen.{LeadsTo, node_of, tree_of}
+use Rattle.nv_paths.specs.Seen.{LeadsTo, tree_of}
 use Rattle.nv_calls.specs.Mount.{IsKept, Mount}
 use Rattle.nv_calls.proofs.Mounts.{mounted_with}
 use Rattle.nv_calls.proofs.OneRow.{shows_row}
@@ -51,13 +51,12 @@ module _ {P : Type 0} (region : P → Region) {n m : Mount P} (same : n ≡ m) (
   log_stores : ((held : Store) (h : Held) → ShowsRow R n.layout held h row n.free → StoresIn n.layout held (one_log n.layout row.inode) R S) → (held : Store) → ShowsSound R n.layout held → StoresIn n.layout held (one_log n.layout row.inode) R S
   log_stores step held sound = row_stores kept still_runs S row there (one_log n.layout row.inode) held sound (λ m g shown. step held g shown)
 
-  -- The log of the inode that a path leads to, which is that of the row.
-  pub path_stores : (names : List (List ℕ)) (own : Row) → row_of n.rows j ≡ Some own → LeadsTo (tree_of R n.rows) names own.inode (node_of R own) → ((held : Store) (h : Held) → ShowsRow R n.layout held h row n.free → StoresIn n.layout held (one_log n.layout row.inode) R S)
-      → (i : ℕ) (node : Node) (held : Store) → LeadsTo (tree_of (region m.memory) m.rows) names i node → ShowsSound (region m.memory) m.layout held → StoresIn m.layout held (one_log m.layout i) (region m.memory) S
-  path_stores names own own_at leads step i node held =
-      subst (λ (q : Mount P). LeadsTo (tree_of (region q.memory) q.rows) names i node → ShowsSound (region q.memory) q.layout held → StoresIn q.layout held (one_log q.layout i) (region q.memory) S) same (λ led sound.
-      let one : row.inode ≡ i = ap (λ (r : Row). r.inode) (same_Some _ _ (sym at ∙ own_at)) ∙ same_Some _ _ (sym leads.leads ∙ led.leads) in
-      subst (λ (k : ℕ). StoresIn n.layout held (one_log n.layout k) R S) one (log_stores step held sound))
+  -- The log of the inode of this number, which is that of the row.
+  pub inode_stores : ((held : Store) (h : Held) → ShowsRow R n.layout held h row n.free → StoresIn n.layout held (one_log n.layout row.inode) R S)
+      → (held : Store) → ShowsSound (region m.memory) m.layout held → StoresIn m.layout held (one_log m.layout j) (region m.memory) S
+  inode_stores step held =
+      subst (λ (q : Mount P). ShowsSound (region q.memory) q.layout held → StoresIn q.layout held (one_log q.layout j) (region q.memory) S) same (λ sound.
+      subst (λ (k : ℕ). StoresIn n.layout held (one_log n.layout k) R S) (numbered n.rows j row at) (log_stores step held sound))
 
   -- A page that goes from the log of the inode of this number.
   pub page_less_stores : ((held : Store) (h : Held) (o : Option ℕ) → ShowsRow R n.layout held h row n.free → IsFirstDead n.layout.sup h.kind row.inode h.created h.entries h.pages o → StoresIn n.layout held (one_page_less n.layout row.inode h.pages o) R S)

@@ -39,7 +39,7 @@ use Rattle.nv_calls.specs.AtPlaces.{CanGo}
 use Rattle.nv_calls.specs.Mount.{IsKept}
 use Rattle.nv_calls.specs.RemoveCalls.{ShowsRemoved, WasRemoved}
 use Rattle.nv_calls.specs.ReplaceCalls.{keeps_others}
-use Rattle.nv_calls.proofs.GraphPaths.{way_to}
+use Rattle.nv_graph.proofs.Ways.{way_to}
 use Rattle.nv_calls.proofs.Mounts.{bytes_stay, kept_of_mounted, mounted_of_kept, mounted_with}
 use Rattle.nv_calls.proofs.OneRow.{shows_row}
 use Rattle.nv_calls.proofs.TakenHeld.{takes_apart, takes_free, takes_lists, takes_sound}

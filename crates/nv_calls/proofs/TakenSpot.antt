@@ -28,7 +28,8 @@ use Rattle.nv_steps.proofs.RowOf.{row_at}
 use Rattle.nv_calls.specs.AtPlaces.{CanGo}
 use Rattle.nv_calls.specs.ReplaceCalls.{keeps_others}
 use Rattle.nv_calls.proofs.CreatedRows.{in_rows}
-use Rattle.nv_calls.proofs.GraphPaths.{graph_agrees, passed_there, walked_there, way_to}
+use Rattle.nv_graph.proofs.Ways.{passed_there, walked_there, way_to}
+use Rattle.nv_calls.proofs.GraphPaths.{graph_agrees}
 
 -- what can go by its row can go by what is held
 pub held_goes : {R : Region} {l : Layout} {held : Store} {f : Held} {gone : Row} {free : FreeLists} → ShowsRow R l held f gone free → CanGo gone → held_names.CanGo l held gone.inode f

@@ -1,20 +1,12 @@
 -- The tests of writing calls on one path, by those of `stat` and by what is needed.
-use Rattle.std.proofs.Common.{◌≡◌, inl, inr, ℕ, ◌%◌, ◌<◌, ◌≤◌, nat_lt, Bool, true, false, cond, List, [], ◌∷◌, ◌++◌, append_assoc, refl, ap, sym, ◌∙◌, subst, arith, Option, Some, None, Result, Ok, Err, IfErr, IsTrue, is_none, not}
-use Rattle.std.specs.Option.{option_and_then, option_map_or}
+use Rattle.std.proofs.Common.{◌≡◌, inl, inr, ℕ, ◌<◌, ◌≤◌, nat_lt, Bool, true, false, cond, [], ◌∷◌, ◌++◌, append_assoc, refl, ap, sym, ◌∙◌, subst, arith, Option, Some, None, Result, Ok, Err, IfErr, IsTrue, is_none, not}
 use Rattle.std.proofs.lemmas.Bool.Decides.{nat_tests}
 use Rattle.nv_alloc.specs.Taking.{all_blocks}
-use Rattle.nv_entry.specs.declared.entry.Entry.{Entry}
-use Rattle.nv_logpage.specs.Append.{needed}
-use Rattle.nv_scan.specs.declared.piece.Row.{Row}
-use Rattle.nv_graph.specs.Read.{row_of}
 use Rattle.nv_tree.specs.declared.refusal.Refusal.{Refusal}
 use Rattle.nv_tree.specs.declared.refusal.Refusal.TheVariants.{BadCpu, NoSpace, NotFound, ReadOnly, Stopped}
-use Rattle.nv_tree.specs.Path.{IsPath, Says}
-use Rattle.nv_tree.specs.Tree.{Node, Tree, found, walk}
+use Rattle.nv_tree.specs.Tree.{Tree, found, walk}
 use Rattle.nv_tree.specs.Refusals.{Path, Tests, World, first_refusal, has_no_space, is_bad, is_missing, refused_walk, stat_tests, walk_tests, writing, IsRefusedBy, MayWantMemory}
-use Rattle.nv_calls.specs.GrownLogs.{log_blocks}
 use Rattle.nv_calls.specs.Mount.{Mount}
-use Rattle.nv_paths.specs.Seen.{LeadsTo}
 use Rattle.nv_steps.specs.Steps.{RefusesStep}
 use Rattle.nv_calls.specs.World.{world_of}
 use Rattle.nv_paths.proofs.Refusing.{passed_before, refused_before, walk_goes_on}
@@ -49,14 +41,6 @@ space_last w count = by (nat_lt w.free count) where
   by : (b : Bool) → MayWantMemory (cond b (Some NoSpace) None)
   by true = inr refl
   by false = inl refl
-
--- What a log needs of the row that a path leads to.
-pub blocks_there : (rows : List Row) (t : Tree) (entries : Row → List Entry) (row : Row) (node : Node) (text : List ℕ) → row_of rows row.inode ≡ Some row → ((names : List (List ℕ)) → IsPath text names → LeadsTo t names row.inode node)
-    → (p : Path) → Says text p → first_refusal (stat_tests t p) ≡ None → log_blocks rows t p entries ≡ needed (row.tail % 4096) (entries row)
-blocks_there rows t entries row node text is leads None says none = absurd (cc)
-blocks_there rows t entries row node text is leads (Some names) says none =
-    let led = leads names says in
-    ap (λ (o : Option ℕ). option_map_or (λ (r : Row). needed (r.tail % 4096) (entries r)) (option_and_then (row_of rows) o) 0) led.leads ∙ ap (λ (o : Option Row). option_map_or (λ (r : Row). needed (r.tail % 4096) (entries r)) o 0) is
 
 -- ---- no test answers `Stopped`
 

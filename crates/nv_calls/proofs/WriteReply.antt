@@ -1,7 +1,7 @@
 -- What `write` answers, and what it leaves.
-use Rattle.std.proofs.Common.{◌≡◌, ℕ, ◌+◌, ◌/◌, ◌<◌, ◌≤◌, inl, inr, min, Bool, true, false, nat_lt, List, [], ◌∷◌, ◌++◌, append_assoc, length, ap, sym, ◌∙◌, subst, arith, Option, Some, None, slice_get}
+use Rattle.std.proofs.Common.{◌≡◌, ℕ, ◌+◌, ◌/◌, ◌<◌, ◌≤◌, inl, inr, min, Bool, true, false, nat_lt, List, [], ◌∷◌, ◌++◌, length, ap, sym, ◌∙◌, subst, arith, Option, Some, None, slice_get}
 use Rattle.std.specs.List.{Contains}
-use Rattle.std.specs.Option.{option_and_then, option_map}
+use Rattle.std.specs.Option.{option_map}
 use Rattle.std.proofs.Math.Logic.{∥∥₁_elim, ∥∥₁_map}
 use Rattle.std.proofs.Math.Nat.{ℕ_set}
 use Rattle.std.proofs.Props.{props}
@@ -24,27 +24,29 @@ use Rattle.nv_graph.specs.Read.{row_of}
 use Rattle.nv_mounted.specs.Held.{Held, Store, good_in}
 use Rattle.nv_mounted.specs.Mounted.{ShowsSound}
 use Rattle.nv_tree.specs.declared.refusal.Refusal.{Refusal}
-use Rattle.nv_tree.specs.Path.{IsPath, Says}
-use Rattle.nv_tree.specs.Tree.{Node, SameNode, SameTree, Tree, found}
-use Rattle.nv_tree.specs.Calls.{edit, on_some, with_bytes, written}
-use Rattle.nv_tree.specs.Refusals.{Path, Tests, first_refusal, has_no_space, is_bad, is_dir, is_missing, is_too_large, stat_tests, target, walk_tests, write_tests, writing, IsRefusedBy, MayWantMemory}
+use Rattle.nv_tree.specs.declared.refusal.Refusal.TheVariants.{IsDirectory}
+use Rattle.nv_tree.specs.Tree.{Node, SameNode, SameTree, Tree}
+use Rattle.nv_tree.specs.Calls.{edit, with_bytes}
+use Rattle.nv_tree.specs.Refusals.{Path, Tests, first_refusal, has_no_space, is_dir, is_directory_at, is_too_large, stat_tests, writing, IsRefusedBy, MayWantMemory}
 use Rattle.nv_tree.proofs.Same.{same_itself}
 use Rattle.nv_calls.specs.GrownLogs.{LogGrew}
 use Rattle.nv_calls.specs.Mount.{IsKept, Mount}
-use Rattle.nv_paths.specs.Seen.{LeadsTo, node_of, tree_of}
+use Rattle.nv_paths.specs.Seen.{node_of, tree_of}
 use Rattle.nv_calls.specs.World.{world_of}
 use Rattle.nv_steps.specs.Writes.{NeedsBlocks, data_blocks, data_entries, plan_of}
 use Rattle.nv_steps.specs.Zeros.{ZerosFrom}
 use Rattle.nv_steps.specs.Written.{RefusesWrite, WritesFile}
-use Rattle.nv_calls.specs.WriteCall.{ShowsLogWrite, WriteNeeds}
+use Rattle.nv_calls.specs.ByNumber.{is_unused}
+use Rattle.nv_calls.specs.ChangesByNumber.{WriteInodeNeeds, resize_inode_tests, write_inode_tests, written_inode}
+use Rattle.nv_calls.specs.WriteCall.{ShowsLogWrite}
 use Rattle.nv_steps.specs.declared.planning.Plan.{Plan}
 use Rattle.nv_calls.proofs.Mounts.{mounted_of_kept, mounted_with}
 use Rattle.nv_calls.proofs.OneRow.{shows_row}
 use Rattle.nv_super.proofs.Members.{stands}
 use Rattle.nv_calls.proofs.RowChange.{log_grew}
 use Rattle.nv_calls.proofs.SetSize.{front_tests}
-use Rattle.nv_calls.proofs.Tests.{enough_space, stat_first, too_few, space_last}
-use Rattle.nv_paths.proofs.Refusing.{passed_before, refused_before}
+use Rattle.nv_calls.proofs.Numbered.{file_allows, file_refuses}
+use Rattle.nv_calls.proofs.Tests.{enough_space, space_allows, too_few, space_last}
 
 -- ---- the tests
 
@@ -60,47 +62,39 @@ large_test sum given is = elim (cases_lt 1073741824 sum) [
   is_small : (n : ℕ) → n ≤ 1073741824 → nat_lt 1073741824 n ≡ false
   is_small n small = grind (arith, nat_tests)
 
+pub large_of_inode : (offset count given : ℕ) → given ≡ min (offset + count) 18446744073709551615 → (t : Tree) (i : ℕ) → first_refusal (resize_inode_tests t i (offset + count)) ≡ first_refusal (resize_inode_tests t i given)
+large_of_inode offset count given is t i = ap (λ (b : Bool). first_refusal (is_unused t i ∷ (is_directory_at t i, IsDirectory) ∷ (b, (is_too_large 0).1) ∷ [])) (large_test (offset + count) given is)
+
+-- the same of the file that a path leads to
 pub large_same : (offset count given : ℕ) → given ≡ min (offset + count) 18446744073709551615 → (t : Tree) (p : Path) → first_refusal (front_tests t p (offset + count)) ≡ first_refusal (front_tests t p given)
 large_same offset count given is t p = ap (λ (b : Bool). first_refusal (stat_tests t p ++ is_dir t p ∷ (b, (is_too_large 0).1) ∷ [])) (large_test (offset + count) given is)
 
-module _ {P : Type 0} (region : P → Region) {n m : Mount P} (same : n ≡ m) (cpu end count : ℕ) (passed : (tests : Tests) → first_refusal (writing (world_of m) cpu tests) ≡ first_refusal tests) (p : Path) where
+module _ {P : Type 0} (region : P → Region) {n m : Mount P} (same : n ≡ m) (cpu end count : ℕ) (passed : (tests : Tests) → first_refusal (writing (world_of m) cpu tests) ≡ first_refusal tests) (i : ℕ) where
   abbrev tests : Mount P → Option Refusal
-  tests k = first_refusal (write_tests (world_of k) (tree_of (region k.memory) k.rows) cpu p end count)
-
-  abbrev tree : Tree
-  tree = tree_of (region n.memory) n.rows
-
-  by_front : tests n ≡ first_refusal (front_tests tree p end ++ has_no_space (world_of n) count ∷ [])
-  by_front =
-      subst (λ (k : Mount P). first_refusal (writing (world_of k) cpu (is_bad p ∷ walk_tests tree p ++ is_missing tree p ∷ is_dir tree p ∷ is_too_large end ∷ has_no_space (world_of n) count ∷ [])) ≡ first_refusal (is_bad p ∷ walk_tests tree p ++ is_missing tree p ∷ is_dir tree p ∷ is_too_large end ∷ has_no_space (world_of n) count ∷ [])) (sym same) (passed (is_bad p ∷ walk_tests tree p ++ is_missing tree p ∷ is_dir tree p ∷ is_too_large end ∷ has_no_space (world_of n) count ∷ []))
-      ∙ ap first_refusal (stat_first tree p (is_dir tree p ∷ is_too_large end ∷ has_no_space (world_of n) count ∷ []) ∙ sym (append_assoc (stat_tests tree p) (is_dir tree p ∷ is_too_large end ∷ []) (has_no_space (world_of n) count ∷ [])))
+  tests k = first_refusal (write_inode_tests (world_of k) (tree_of (region k.memory) k.rows) cpu i end count)
 
   -- What refuses the file refuses the call.
-  pub write_front : (e : Refusal) → first_refusal (front_tests tree p end) ≡ Some e → tests m ≡ Some e
-  write_front e h = subst (λ (k : Mount P). tests k ≡ Some e) same (by_front ∙ refused_before (front_tests tree p end) (has_no_space (world_of n) count ∷ []) e h)
+  pub write_front : (e : Refusal) → first_refusal (resize_inode_tests (tree_of (region n.memory) n.rows) i end) ≡ Some e → tests m ≡ Some e
+  write_front e h = subst (λ (k : Mount P). tests k ≡ Some e) same (file_refuses region same cpu end count passed i e h)
 
-  module _ (none : first_refusal (front_tests tree p end) ≡ None) where
+  module _ (none : first_refusal (resize_inode_tests (tree_of (region n.memory) n.rows) i end) ≡ None) where
     at_last : tests n ≡ first_refusal (has_no_space (world_of n) count ∷ [])
-    at_last = by_front ∙ passed_before (front_tests tree p end) (has_no_space (world_of n) count ∷ []) none
+    at_last = file_allows region same cpu end count passed i none
 
     -- Where nothing is needed no test refuses it.
     pub write_none : count ≡ 0 → tests m ≡ None
     write_none nothing = subst (λ (k : Mount P). tests k ≡ None) same (at_last ∙ enough_space (world_of n) count (omega (arith, nothing)))
 
-    module _ (text : List ℕ) (row : Row) (node : Node) (is : row_of n.rows row.inode ≡ Some row) (leads : (names : List (List ℕ)) → IsPath text names → LeadsTo tree names row.inode node) (says : Says text p) (offset bytes time : ℕ) (some : 0 < bytes)
-        (needs : WriteNeeds (region m.memory) m cpu p offset bytes time count) where
+    module _ (row : Row) (is : row_of n.rows i ≡ Some row) (offset bytes time : ℕ) (some : 0 < bytes) (needs : WriteInodeNeeds m cpu i offset bytes time count) where
       abbrev plan : Plan
       plan = plan_of (block_at row.index) row.numbers.size offset bytes time
 
       needed_here : NeedsBlocks n.free.pools cpu row.tail plan count
-      needed_here = (subst (λ (k : Mount P). WriteNeeds (region k.memory) k cpu p offset bytes time count) (sym same) needs).some some row (by p says none) where
-        by : (q : Path) → Says text q → first_refusal (front_tests tree q end) ≡ None → option_and_then (row_of n.rows) (target tree q) ≡ Some row
-        by None says none = absurd (cc)
-        by (Some names) says none = (let led = leads names says in ap (option_and_then (row_of n.rows)) led.leads ∙ is)
+      needed_here = (subst (λ (k : Mount P). WriteInodeNeeds k cpu i offset bytes time count) (sym same) needs).some some row is
 
       -- No test refuses it where there are enough blocks.
       pub write_allowed : ((k : ℕ) → NeedsBlocks n.free.pools cpu row.tail plan k → k ≤ all_blocks n.free.pools) → tests m ≡ None
-      write_allowed enough = subst (λ (k : Mount P). tests k ≡ None) same (at_last ∙ enough_space (world_of n) count (enough count needed_here))
+      write_allowed enough = space_allows same tests count at_last (enough count needed_here)
 
       -- Where its step was refused, so is the call.
       pub write_refused : (e : Refusal) → RefusesWrite e n.free cpu row.tail plan → IsRefusedBy (tests m) e
@@ -111,18 +105,14 @@ module _ {P : Type 0} (region : P → Region) {n m : Mount P} (same : n ≡ m) (
 -- ---- what it leaves
 
 -- no bytes change nothing
-pub none_written : (names : List (List ℕ)) (offset : ℕ) (new : List ℕ) (time : ℕ) (t : Tree) → length new ≡ 0 → SameTree t (written names offset new time t)
-none_written names offset [] time t none = same_itself t
-none_written names offset (b ∷ new) time t none = absurd (omega (arith, none))
+pub none_written : (i offset : ℕ) (new : List ℕ) (time : ℕ) (t : Tree) → length new ≡ 0 → SameTree t (written_inode i offset new time t)
+none_written i offset [] time t none = same_itself t
+none_written i offset (b ∷ new) time t none = absurd (omega (arith, none))
 
 -- The tree with the file changed is what the call makes of it.
-pub write_changed : {P : Type 0} (region : P → Region) {n m : Mount P} → n ≡ m → (names : List (List ℕ)) (i offset : ℕ) (new : List ℕ) (time : ℕ) → 0 < length new → (u : Tree) → found (tree_of (region n.memory) n.rows) names ≡ Some i
-    → SameTree u (edit i (with_bytes offset new time) (tree_of (region n.memory) n.rows)) → SameTree u (written names offset new time (tree_of (region m.memory) m.rows))
-write_changed {P} region {n} {m} same names i offset [] time some u leads is = absurd (omega (arith, some))
-write_changed {P} region {n} {m} same names i offset (b ∷ new) time some u leads is =
-    let t = tree_of (region n.memory) n.rows in
-    let made : written names offset (b ∷ new) time t ≡ edit i (with_bytes offset (b ∷ new) time) t = ap (λ (o : Option ℕ). on_some o (λ j. edit j (with_bytes offset (b ∷ new) time) t) t) leads in
-    subst (λ (k : Mount P). SameTree u (written names offset (b ∷ new) time (tree_of (region k.memory) k.rows))) same (subst (λ (v : Tree). SameTree u v) (sym made) is)
+pub some_written : (i offset : ℕ) (new : List ℕ) (time : ℕ) (t u : Tree) → 0 < length new → SameTree u (edit i (with_bytes offset new time) t) → SameTree u (written_inode i offset new time t)
+some_written i offset [] time t u some is = absurd (omega (arith, some))
+some_written i offset (b ∷ new) time t u some is = is
 
 module _ {R S : Region} {s : Super} {l : Layout} {rows : List Row} {free after : FreeLists} {faults : List Fault} {read_only stopped : Bool} (kept : IsKept R s l rows free faults read_only stopped) (runs : stopped ≡ false) (writes : read_only ≡ false)
     (place : ℕ) (row : Row) (at : slice_get rows place ≡ Some row) {cpu : ℕ} {plan : Plan} {offset : ℕ} {new : List ℕ} {now : Row} (w : WritesFile R S l free after cpu plan offset new row now) where
@@ -156,20 +146,19 @@ written_node R S time w planned bytes = record {
 plan_same : (f g : ℕ → Option ℕ) (size offset count time : ℕ) → f (size / 4096) ≡ g (size / 4096) → plan_of f size offset count time ≡ plan_of g size offset count time
 plan_same f g size offset count time same = ap (λ (o : Option ℕ). plan_of (λ q. o) size offset count time) same
 
--- The log of the inode that the path leads to has grown.
-pub write_logged : {P : Type 0} (region : P → Region) {n m : Mount P} → n ≡ m → {S : Region} {after : FreeLists} {cpu : ℕ} {plan : Plan} {offset : ℕ} {new : List ℕ} {row now : Row} (names : List (List ℕ)) (time i : ℕ) (node : Node) (held : Store) (h : Held)
-    → IsKept (region n.memory) n.sup n.layout n.rows n.free n.faults n.read_only n.stopped → n.stopped ≡ false → Contains n.rows row → LeadsTo (tree_of (region n.memory) n.rows) names row.inode (node_of (region n.memory) row)
+-- The log of the file has grown.
+pub write_logged : {P : Type 0} (region : P → Region) {n m : Mount P} → n ≡ m → {S : Region} {after : FreeLists} {cpu : ℕ} {plan : Plan} {offset : ℕ} {new : List ℕ} {row now : Row} (time i : ℕ) (node : Node) (held : Store) (h : Held)
+    → IsKept (region n.memory) n.sup n.layout n.rows n.free n.faults n.read_only n.stopped → n.stopped ≡ false → Contains n.rows row → row_of n.rows i ≡ Some row → row.inode ≡ i
     → (w : WritesFile (region n.memory) S n.layout n.free after cpu plan offset new row now) → plan ≡ plan_of (block_at row.index) row.numbers.size offset (length new) time
     → ((st : Store) (g : Held) → ShowsSound (region n.memory) n.layout st → st row.inode ≡ Some g → ∥ (LogGrew S n.layout w.rest cpu st row.inode g (data_entries plan w.runs)) ∥₁)
-    → LeadsTo (tree_of (region m.memory) m.rows) names i node → ShowsSound (region m.memory) m.layout held → held i ≡ Some h
+    → tree_of (region m.memory) m.rows i ≡ Some node → ShowsSound (region m.memory) m.layout held → held i ≡ Some h
     → ShowsLogWrite S m cpu held i h (plan_of (block_of (good_in m.layout h)) node.size offset (length new) time)
-write_logged {P} region {n} {m} same {S} {after} {cpu} {plan} {offset} {new} {row} {now} names time i node held h kept runs there own w planned grew led sound is =
-    subst (λ (k : Mount P). LeadsTo (tree_of (region k.memory) k.rows) names i node → ShowsSound (region k.memory) k.layout held → ShowsLogWrite S k cpu held i h (plan_of (block_of (good_in k.layout h)) node.size offset (length new) time)) same here led sound
+write_logged {P} region {n} {m} same {S} {after} {cpu} {plan} {offset} {new} {row} {now} time i node held h kept runs there at number w planned grew shows sound is =
+    subst (λ (k : Mount P). tree_of (region k.memory) k.rows i ≡ Some node → ShowsSound (region k.memory) k.layout held → ShowsLogWrite S k cpu held i h (plan_of (block_of (good_in k.layout h)) node.size offset (length new) time)) same here shows sound
   where
-    here : LeadsTo (tree_of (region n.memory) n.rows) names i node → ShowsSound (region n.memory) n.layout held → ShowsLogWrite S n cpu held i h (plan_of (block_of (good_in n.layout h)) node.size offset (length new) time)
-    here led sound =
-        let number : row.inode ≡ i = same_Some _ _ (sym own.leads ∙ led.leads) in
-        let node_is : node_of (region n.memory) row ≡ node = same_Some _ _ (sym own.shows ∙ ap (tree_of (region n.memory) n.rows) number ∙ led.shows) in
+    here : tree_of (region n.memory) n.rows i ≡ Some node → ShowsSound (region n.memory) n.layout held → ShowsLogWrite S n cpu held i h (plan_of (block_of (good_in n.layout h)) node.size offset (length new) time)
+    here shows sound =
+        let node_is : node_of (region n.memory) row ≡ node = same_Some _ _ (sym (ap (option_map (node_of (region n.memory))) at) ∙ shows) in
         let size_is : row.numbers.size ≡ node.size = ap (λ (x : Node). x.size) node_is in
         ∥∥₁_map (mounted_with kept runs held sound) (λ mounted. (
         let shown = shows_row {free = n.free} mounted kept.lists row there in

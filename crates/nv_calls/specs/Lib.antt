@@ -4,7 +4,6 @@ pub mod Same
 pub mod Keeping
 pub mod Storing
 pub mod AttributesCall
-pub mod Stat
 pub mod Listing
 pub mod Reading
 pub mod WriteCall
@@ -31,5 +30,6 @@ pub mod Stopped
 pub mod Mounting
 pub mod InOrder
 pub mod ByNumber
+pub mod ChangesByNumber
 pub mod Upgrading
 pub mod Growing

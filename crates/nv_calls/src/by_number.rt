@@ -1,21 +1,21 @@
 //! The calls that read, for an inode's number in place of a path: also of one that no path leads to.
 
-ghost use Rattle.std.specs.Prelude.{◌≡◌, map, IsTrue, IfOk, IfErr, OnOk, Option, Result, false};
+ghost use Rattle.std.specs.Prelude.{◌≡◌, map, IsTrue, IfOk, IfErr, OnOk, OnErr, Option, Result, false};
 ghost use Rattle.std.specs.List.{Contains};
 ghost use Rattle.nv_tree.specs.Refusals.{first_refusal, IsReadRefusedBy};
 ghost use Rattle.nv_tree.specs.declared.refusal.Refusal.{Refusal};
 ghost use Rattle.nv_paths.specs.Seen.{node_of};
-ghost use Rattle.nv_calls.specs.ByNumber.{IsInodeRead, IsInodeStat, ListsInode, list_inode_tests, read_inode_tests, stat_inode_tests};
+ghost use Rattle.nv_calls.specs.ByNumber.{IsInodeRead, IsInodeReadInto, IsInodeStat, ListsInode, list_inode_tests, read_inode_tests, stat_inode_tests};
 ghost use Rattle.nv_calls.specs.Listing.{name_and_inode};
 ghost use Rattle.nv_calls.specs.Mount.{shown};
 
 use crate::Fs;
-use crate::stating::Stat;
 use nv_names::Named;
 use nv_region::Pmem;
+use nv_rows::stat_of;
 use nv_scan::Row;
 use nv_super::Kind;
-use nv_tree::Refusal;
+use nv_tree::{Refusal, Stat};
 
 impl<P: Pmem + Drop> Fs<P> {
     /// The numbers of the inode of this number. It takes no memory.
@@ -27,7 +27,7 @@ impl<P: Pmem + Drop> Fs<P> {
         ensures allowed { OnOk result (first_refusal (stat_inode_tests (shown P.region self.now) inode) ≡ Option.None) }
         ensures refused { self.now.stopped ≡ false → IfErr result (λ e. first_refusal (stat_inode_tests (shown P.region self.now) inode) ≡ Option.Some e) }
     {
-        Ok(Stat::of(self.row_of(inode)?))
+        Ok(stat_of(self.row_of(inode)?))
     }
 
     /// The bytes of the file of this number, from an offset on up to its size, at most so many.
@@ -47,6 +47,30 @@ impl<P: Pmem + Drop> Fs<P> {
         match self.bytes_of(row, offset, count) {
             Ok(bytes) => Ok(bytes),
             Err(_) => Err(Refusal::Memory),
+        }
+    }
+
+    /// Puts the bytes of the file of this number into a buffer, from an offset on up to its size, as many as fit, and answers how
+    /// many these are. The rest of the buffer stays. It takes no memory.
+    ///
+    /// Errors, the first that applies, with the buffer as before: `Stopped` after a stop, `NotFound` where no inode in use has
+    /// the number, `IsDirectory` for a directory.
+    pub fn read_inode_into(
+        &self,
+        inode: u64,
+        offset: u64,
+        buffer: &mut [u8],
+    ) -> Result<usize, Refusal>
+        ensures stopped { IsTrue self.now.stopped → result ≡ Result.Err Refusal.Stopped }
+        ensures ok { IfOk result (λ count. IsInodeReadInto (shown P.region self.now) inode offset buffer.old count buffer.new) }
+        ensures allowed { OnOk result (first_refusal (read_inode_tests (shown P.region self.now) inode) ≡ Option.None) }
+        ensures refused { self.now.stopped ≡ false → IfErr result (λ e. first_refusal (read_inode_tests (shown P.region self.now) inode) ≡ Option.Some e) }
+        ensures unchanged { OnErr result (buffer.new ≡ buffer.old) }
+    {
+        let row = self.row_of(inode)?;
+        match row.kind {
+            Kind::File => Ok(self.fill_from(row, offset, buffer)),
+            Kind::Directory => Err(Refusal::IsDirectory),
         }
     }
 

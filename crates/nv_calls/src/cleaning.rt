@@ -181,8 +181,8 @@ impl<P: Pmem + Drop> Fs<P> {
         }
     }
 
-    // `NotFound` where no inode in use has this number.
-    fn in_use(&self, inode: u64) -> Result<(), Refusal>
+    /// `NotFound` where no inode in use has this number.
+    pub(crate) fn in_use(&self, inode: u64) -> Result<(), Refusal>
         ensures found { OnOk result (IsInUse self.now.rows inode) }
         ensures missing { IfErr result (λ e. (e ≡ RefusalValue.NotFound) × (row_of self.now.rows inode ≡ Option.None)) }
     {

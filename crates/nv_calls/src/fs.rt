@@ -57,7 +57,16 @@ impl<P: Pmem + Drop> Model for Fs<P> {
 
     ghost Value = { Mount P };
 
-    ghost view = { λ a. record { memory = a.memory; sup = a.tables.layout.sup; layout = a.tables.layout; rows = a.rows.items; free = a.free; faults = a.faults.items; read_only = a.read_only; stopped = a.stopped } };
+    ghost view = { λ a. record {
+      memory = a.memory;
+      sup = a.tables.layout.sup;
+      layout = a.tables.layout;
+      rows = a.rows.items;
+      free = a.free;
+      faults = a.faults.items;
+      read_only = a.read_only;
+      stopped = a.stopped;
+    } };
 
     ghost invariant = { λ a. IsKept (P.region a.memory) a.tables.layout.sup a.tables.layout a.rows.items a.free a.faults.items a.read_only a.stopped × HasNumbersOf a.tables.layout a.rows
         × (a.stopped ≡ false → NothingPending (P.region a.memory) (P.may_hold a.memory)) };

@@ -31,10 +31,10 @@ ghost use Rattle.nv_calls.specs.Reading.{IsRead};
 ghost use Rattle.nv_calls.specs.RemoveCalls.{ShowsRemoved};
 ghost use Rattle.nv_calls.specs.ReplaceLogs.{ShowsBothLess, ShowsThreeGrew};
 ghost use Rattle.nv_calls.specs.SizeCall.{ShowsResizedLog};
-ghost use Rattle.nv_calls.specs.Stat.{IsStat};
+ghost use Rattle.nv_tree.specs.Stat.{IsStat};
 ghost use Rattle.nv_calls.specs.World.{world_of};
 ghost use Rattle.nv_calls.specs.WriteCall.{ShowsLogWrite};
-ghost use Rattle.nv_calls.specs.declared.stating.Stat.{Stat};
+ghost use Rattle.nv_tree.specs.declared.stat.Stat.{Stat};
 
 /// What a writing call leaves is decided by what was held, the free pools, the CPU and the arguments: two regions of which its
 /// clause on logs holds show the same. So their rows, free lists and trees are the same too.

@@ -35,5 +35,5 @@ pub use laws::{
 pub use nv_bytes::Data;
 pub use nv_format::{FormatRefusal, format};
 pub use nv_recover::RecoverError;
-pub use stating::Stat;
+pub use nv_tree::Stat;
 pub use stops::{stopped_format, stopped_recoveries_change_nothing};

@@ -86,7 +86,8 @@ fn link_at<P: Pmem>(
     ensures in_order { (file directory : RowValue) (held : Store) (f h : Held) → row_of rows.old.items named.now.target ≡ Option.Some file
         → row_of rows.old.items named.now.directory ≡ Option.Some directory → ShowsRow (P.region memory.old) tables.now.layout held f file free.old
         → ShowsRow (P.region memory.old) tables.now.layout held h directory free.old
-        → TailIsFirst (P.region memory.old) (P.region memory.new) tables.now.layout free.old.pools cpu file.inode file.tail (links_entries (file.numbers.links + 1) time) (tail_address tables.now.layout directory.inode) }
+        → TailIsFirst (P.region memory.old) (P.region memory.new) tables.now.layout free.old.pools cpu file.inode file.tail
+        (links_entries (file.numbers.links + 1) time) (tail_address tables.now.layout directory.inode) }
     // Whatever a stop leaves: recovery finds what is held, or it with the link and the name, without faults.
     ensures any_stop { (file directory : RowValue) (held : Store) (f h : Held) → row_of rows.old.items named.now.target ≡ Option.Some file
         → row_of rows.old.items named.now.directory ≡ Option.Some directory → ShowsRow (P.region memory.old) tables.now.layout held f file free.old

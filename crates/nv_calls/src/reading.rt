@@ -65,7 +65,7 @@ impl<P: Pmem + Drop> Fs<P> {
     }
 
     /// Puts the bytes of an inode, by its row, into a buffer, and answers how many these are.
-    fn fill_from(&self, row: &Row, offset: u64, buffer: &mut [u8]) -> usize
+    pub(crate) fn fill_from(&self, row: &Row, offset: u64, buffer: &mut [u8]) -> usize
         requires held { Contains self.now.rows row.now }
         requires runs { self.now.stopped ≡ false }
         ensures count { result ≡ length (bytes_read offset (length buffer.old) (node_of (P.region self.now.memory) row.now)) }

@@ -56,7 +56,8 @@ pub(crate) fn remove_named<P: Pmem>(
         → CanName (P.region memory.old) tables.now.layout cpu gone.inode row × (row.inode ≢ gone.inode) }
     requires owns { (gone : RowValue) → row_of rows.old.items named.now.target ≡ Option.Some gone → OwnsBlocks free.old gone }
     requires name { IsName named.now.name.now }
-    ensures removed { OnOk result (RemovesAt (P.region memory.old) (P.region memory.new) tables.now.layout free.old free.new cpu rows.old.items rows.new.items (place_in rows.old.items named.now.directory)
+    ensures removed { OnOk result (RemovesAt (P.region memory.old) (P.region memory.new) tables.now.layout free.old free.new cpu rows.old.items rows.new.items
+        (place_in rows.old.items named.now.directory)
         (place_in rows.old.items named.now.target) named.now.name.now time) }
     ensures enough { (row gone : RowValue) → row_of rows.old.items named.now.directory ≡ Option.Some row → row_of rows.old.items named.now.target ≡ Option.Some gone
         → OnOk result (needed (row.tail % 4096) (name_entries OperationValue.Remove gone.inode named.now.name.now time) ≤ all_blocks free.old.pools) }
@@ -70,11 +71,13 @@ pub(crate) fn remove_named<P: Pmem>(
     // The directory's tail is stored first.
     ensures in_order { (row gone : RowValue) (held : Store) (h : Held) → row_of rows.old.items named.now.directory ≡ Option.Some row
         → row_of rows.old.items named.now.target ≡ Option.Some gone → ShowsRow (P.region memory.old) tables.now.layout held h row free.old
-        → TailIsFirst (P.region memory.old) (P.region memory.new) tables.now.layout free.old.pools cpu row.inode row.tail (name_entries OperationValue.Remove gone.inode named.now.name.now time) (slot_in
+        → TailIsFirst (P.region memory.old) (P.region memory.new) tables.now.layout free.old.pools cpu row.inode row.tail
+        (name_entries OperationValue.Remove gone.inode named.now.name.now time) (slot_in
         tables.now.layout gone.inode) }
     // Whatever a stop leaves: recovery finds what is held, or it without the name and the inode, without faults.
     ensures any_stop { (row gone : RowValue) (held : Store) (h : Held) → row_of rows.old.items named.now.directory ≡ Option.Some row
-        → row_of rows.old.items named.now.target ≡ Option.Some gone → ShowsRow (P.region memory.old) tables.now.layout held h row free.old → NothingPending (P.region memory.old) (P.may_hold memory.old)
+        → row_of rows.old.items named.now.target ≡ Option.Some gone → ShowsRow (P.region memory.old) tables.now.layout held h row free.old
+        → NothingPending (P.region memory.old) (P.may_hold memory.old)
         → LeavesOnly (P.region memory.new) (P.may_hold memory.new) (LeavesEither (P.region memory.old) tables.now.layout held
         (Cut (P.region memory.old) tables.now.layout free.old cpu row gone.inode time named.now.name.now)) }
 {

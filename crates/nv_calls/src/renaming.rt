@@ -71,7 +71,8 @@ fn move_across<P: Pmem>(
         → StandsRight (P.region memory.old) tables.now.layout free.old row × CanName (P.region memory.old) tables.now.layout cpu row.inode row }
     requires name { IsName moved.now.from.name.now }
     requires other { IsName moved.now.name.now }
-    ensures moved { OnOk result (MovesAcross (P.region memory.old) (P.region memory.new) tables.now.layout free.old free.new cpu rows.old.items rows.new.items (place_in rows.old.items moved.now.from.directory)
+    ensures moved { OnOk result (MovesAcross (P.region memory.old) (P.region memory.new) tables.now.layout free.old free.new cpu rows.old.items rows.new.items
+        (place_in rows.old.items moved.now.from.directory)
         (place_in rows.old.items moved.now.from.target) (place_in rows.old.items moved.now.directory) moved.now.from.name.now moved.now.name.now time) }
     ensures enough { (from to inode : RowValue) → row_of rows.old.items moved.now.from.directory ≡ Option.Some from → row_of rows.old.items moved.now.directory ≡ Option.Some to
         → row_of rows.old.items moved.now.from.target ≡ Option.Some inode
@@ -91,12 +92,14 @@ fn move_across<P: Pmem>(
     ensures in_order { (from to inode : RowValue) (held : Store) (h k : Held) → row_of rows.old.items moved.now.from.directory ≡ Option.Some from
         → row_of rows.old.items moved.now.directory ≡ Option.Some to → row_of rows.old.items moved.now.from.target ≡ Option.Some inode
         → ShowsRow (P.region memory.old) tables.now.layout held h from free.old → ShowsRow (P.region memory.old) tables.now.layout held k to free.old
-        → TailIsFirst (P.region memory.old) (P.region memory.new) tables.now.layout free.old.pools cpu from.inode from.tail (name_entries Remove inode.inode moved.now.from.name.now time) (tail_address tables.now.layout
+        → TailIsFirst (P.region memory.old) (P.region memory.new) tables.now.layout free.old.pools cpu from.inode from.tail
+        (name_entries Remove inode.inode moved.now.from.name.now time) (tail_address tables.now.layout
         to.inode) }
     // Whatever a stop leaves: recovery finds what is held, or it with the other name, without faults.
     ensures any_stop { (from to inode : RowValue) (held : Store) (h k : Held) → row_of rows.old.items moved.now.from.directory ≡ Option.Some from
         → row_of rows.old.items moved.now.directory ≡ Option.Some to → row_of rows.old.items moved.now.from.target ≡ Option.Some inode
-        → ShowsRow (P.region memory.old) tables.now.layout held h from free.old → ShowsRow (P.region memory.old) tables.now.layout held k to free.old → name_at to.names moved.now.name.now ≡ Option.None
+        → ShowsRow (P.region memory.old) tables.now.layout held h from free.old → ShowsRow (P.region memory.old) tables.now.layout held k to free.old
+        → name_at to.names moved.now.name.now ≡ Option.None
         → NothingPending (P.region memory.old) (P.may_hold memory.old)
         → LeavesOnly (P.region memory.new) (P.may_hold memory.new) (LeavesEither (P.region memory.old) tables.now.layout held
         (MovedOver (P.region memory.old) tables.now.layout free.old cpu from to inode.inode moved.now.from.name.now moved.now.name.now time)) }
@@ -149,7 +152,8 @@ pub(crate) fn move_at<P: Pmem>(
         → StandsRight (P.region memory.old) tables.now.layout free.old row × CanName (P.region memory.old) tables.now.layout cpu row.inode row }
     requires name { IsName moved.now.from.name.now }
     requires other { IsName moved.now.name.now }
-    ensures moved { OnOk result (MovesAt (P.region memory.old) (P.region memory.new) tables.now.layout free.old free.new cpu rows.old.items rows.new.items (place_in rows.old.items moved.now.from.directory)
+    ensures moved { OnOk result (MovesAt (P.region memory.old) (P.region memory.new) tables.now.layout free.old free.new cpu rows.old.items rows.new.items
+        (place_in rows.old.items moved.now.from.directory)
         (place_in rows.old.items moved.now.from.target) (place_in rows.old.items moved.now.directory) moved.now.from.name.now moved.now.name.now time) }
     ensures enough { (from to inode : RowValue) → row_of rows.old.items moved.now.from.directory ≡ Option.Some from → row_of rows.old.items moved.now.directory ≡ Option.Some to
         → row_of rows.old.items moved.now.from.target ≡ Option.Some inode
@@ -175,12 +179,14 @@ pub(crate) fn move_at<P: Pmem>(
         → row_of rows.old.items moved.now.directory ≡ Option.Some to → row_of rows.old.items moved.now.from.target ≡ Option.Some inode
         → ShowsRow (P.region memory.old) tables.now.layout held h from free.old → ShowsRow (P.region memory.old) tables.now.layout held k to free.old
         → place_in rows.old.items moved.now.from.directory ≢ place_in rows.old.items moved.now.directory
-        → TailIsFirst (P.region memory.old) (P.region memory.new) tables.now.layout free.old.pools cpu from.inode from.tail (name_entries Remove inode.inode moved.now.from.name.now time) (tail_address tables.now.layout
+        → TailIsFirst (P.region memory.old) (P.region memory.new) tables.now.layout free.old.pools cpu from.inode from.tail
+        (name_entries Remove inode.inode moved.now.from.name.now time) (tail_address tables.now.layout
         to.inode) }
     // Whatever a stop leaves: recovery finds what is held, or it with the other name, without faults.
     ensures any_stop { (from to inode : RowValue) (held : Store) (h k : Held) → row_of rows.old.items moved.now.from.directory ≡ Option.Some from
         → row_of rows.old.items moved.now.directory ≡ Option.Some to → row_of rows.old.items moved.now.from.target ≡ Option.Some inode
-        → ShowsRow (P.region memory.old) tables.now.layout held h from free.old → ShowsRow (P.region memory.old) tables.now.layout held k to free.old → name_at to.names moved.now.name.now ≡ Option.None
+        → ShowsRow (P.region memory.old) tables.now.layout held h from free.old → ShowsRow (P.region memory.old) tables.now.layout held k to free.old
+        → name_at to.names moved.now.name.now ≡ Option.None
         → NothingPending (P.region memory.old) (P.may_hold memory.old)
         → LeavesOnly (P.region memory.new) (P.may_hold memory.new) (LeavesEither (P.region memory.old) tables.now.layout held
         (Renamed (P.region memory.old) tables.now.layout free.old cpu (place_in rows.old.items moved.now.from.directory)

@@ -95,7 +95,8 @@ fn replace_at<P: Pmem>(
     ensures wrote { (from to : RowValue) (held : Store) (h k : Held) → row_of rows.old.items moved.now.from.directory ≡ Option.Some from → row_of rows.old.items moved.now.directory ≡ Option.Some to
         → ShowsRow (P.region memory.old) tables.now.layout held h from free.old → ShowsRow (P.region memory.old) tables.now.layout held k to free.old
         → ((i : ℕ) (row : RowValue) → had ≡ Option.Some i → row_of rows.old.items i ≡ Option.Some row → (f : Held) × ShowsRow (P.region memory.old) tables.now.layout held f row free.old)
-        → StoresIn tables.now.layout held (replace_places tables.now.layout cpu from.inode to.inode moved.now.from.target had (keeps_others_at rows.old.items had)) (P.region memory.old) (P.region memory.new) }
+        → StoresIn tables.now.layout held (replace_places tables.now.layout cpu from.inode to.inode moved.now.from.target had
+        (keeps_others_at rows.old.items had)) (P.region memory.old) (P.region memory.new) }
     // Where the new name is free and in another directory, the old one's tail is stored first.
     ensures free_in_order { (from to : RowValue) (held : Store) (h k : Held) → row_of rows.old.items moved.now.from.directory ≡ Option.Some from
         → row_of rows.old.items moved.now.directory ≡ Option.Some to
@@ -107,7 +108,8 @@ fn replace_at<P: Pmem>(
     ensures within_in_order { (row file : RowValue) (i : ℕ) (held : Store) (h f : Held) → row_of rows.old.items moved.now.directory ≡ Option.Some row → row_of rows.old.items i ≡ Option.Some file
         → ShowsRow (P.region memory.old) tables.now.layout held h row free.old → ShowsRow (P.region memory.old) tables.now.layout held f file free.old
         → had ≡ Option.Some i → i ≢ moved.now.from.target → moved.now.from.directory ≡ moved.now.directory
-        → TailIsFirst (P.region memory.old) (P.region memory.new) tables.now.layout free.old.pools cpu row.inode row.tail (take_entries moved.now.from.target i moved.now.from.name.now moved.now.name.now time)
+        → TailIsFirst (P.region memory.old) (P.region memory.new) tables.now.layout free.old.pools cpu row.inode row.tail
+        (take_entries moved.now.from.target i moved.now.from.name.now moved.now.name.now time)
         (last_word tables.now.layout i (keeps_others file)) }
     // Where another inode has it in another directory, both tails are stored before such a word, that of the old one first.
     ensures in_order { (from to file : RowValue) (i : ℕ) (held : Store) (h k f : Held) → row_of rows.old.items moved.now.from.directory ≡ Option.Some from
@@ -122,7 +124,8 @@ fn replace_at<P: Pmem>(
         → (had ≡ Option.None → name_at to.names moved.now.name.now ≡ Option.None)
         → ((i : ℕ) (row : RowValue) → had ≡ Option.Some i → row_of rows.old.items i ≡ Option.Some row → (f : Held) × ShowsRow (P.region memory.old) tables.now.layout held f row free.old)
         → LeavesOnly (P.region memory.new) (P.may_hold memory.new) (LeavesEither (P.region memory.old) tables.now.layout held
-        (ReplacedAt (P.region memory.old) tables.now.layout free.old cpu (place_in rows.old.items moved.now.from.directory) (place_in rows.old.items moved.now.directory) from to (option_and_then (row_of
+        (ReplacedAt (P.region memory.old) tables.now.layout free.old cpu (place_in rows.old.items moved.now.from.directory)
+        (place_in rows.old.items moved.now.directory) from to (option_and_then (row_of
         rows.old.items) had) moved.now.from.target moved.now.from.name.now moved.now.name.now time)) }
 {
     let Some(there) = had else {

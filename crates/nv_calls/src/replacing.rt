@@ -130,7 +130,8 @@ fn lessen_at<P: Pmem>(
         → StandsRight (P.region memory.old) tables.now.layout free.old file × CanName (P.region memory.old) tables.now.layout cpu file.inode file }
     requires name { IsName moved.now.from.name.now }
     requires other { IsName moved.now.name.now }
-    ensures lessened { OnOk result (LessensAt (P.region memory.old) (P.region memory.new) tables.now.layout free.old free.new cpu rows.old.items rows.new.items (place_in rows.old.items moved.now.directory)
+    ensures lessened { OnOk result (LessensAt (P.region memory.old) (P.region memory.new) tables.now.layout free.old free.new cpu rows.old.items rows.new.items
+        (place_in rows.old.items moved.now.directory)
         (place_in rows.old.items there) moved.now.from.target moved.now.from.name.now moved.now.name.now time) }
     ensures enough { (row file : RowValue) → row_of rows.old.items moved.now.directory ≡ Option.Some row → row_of rows.old.items there ≡ Option.Some file
         → OnOk result (needed (row.tail % 4096) (take_entries moved.now.from.target file.inode moved.now.from.name.now moved.now.name.now time)
@@ -151,7 +152,8 @@ fn lessen_at<P: Pmem>(
     // Whatever a stop leaves: nothing is wrong with the journals, and recovery finds what is held, or it with the name given and a
     // link less.
     ensures any_stop { (row file : RowValue) (held : Store) (h f : Held) → row_of rows.old.items moved.now.directory ≡ Option.Some row → row_of rows.old.items there ≡ Option.Some file
-        → ShowsRow (P.region memory.old) tables.now.layout held h row free.old → ShowsRow (P.region memory.old) tables.now.layout held f file free.old → NothingPending (P.region memory.old) (P.may_hold memory.old)
+        → ShowsRow (P.region memory.old) tables.now.layout held h row free.old → ShowsRow (P.region memory.old) tables.now.layout held f file free.old
+        → NothingPending (P.region memory.old) (P.may_hold memory.old)
         → LeavesOnly (P.region memory.new) (P.may_hold memory.new) (LeavesEither (P.region memory.old) tables.now.layout held
         (Lessened (P.region memory.old) tables.now.layout free.old cpu row file moved.now.from.target moved.now.from.name.now moved.now.name.now time)) }
 {
@@ -205,7 +207,8 @@ pub(crate) fn replace_within<P: Pmem>(
     requires owns { (file : RowValue) → row_of rows.old.items there ≡ Option.Some file → OwnsBlocks free.old file }
     requires name { IsName moved.now.from.name.now }
     requires other { IsName moved.now.name.now }
-    ensures replaced { OnOk result (ReplacesHere (P.region memory.old) (P.region memory.new) tables.now.layout free.old free.new cpu rows.old.items rows.new.items (place_in rows.old.items moved.now.directory)
+    ensures replaced { OnOk result (ReplacesHere (P.region memory.old)
+        (P.region memory.new) tables.now.layout free.old free.new cpu rows.old.items rows.new.items (place_in rows.old.items moved.now.directory)
         (place_in rows.old.items there) moved.now.from.target moved.now.from.name.now moved.now.name.now time) }
     ensures enough { (row file : RowValue) → row_of rows.old.items moved.now.directory ≡ Option.Some row → row_of rows.old.items there ≡ Option.Some file
         → OnOk result (replace_here_blocks row file moved.now.from.target moved.now.from.name.now moved.now.name.now time ≤ all_blocks free.old.pools) }
@@ -231,7 +234,8 @@ pub(crate) fn replace_within<P: Pmem>(
         moved.now.name.now time) (slot_in tables.now.layout file.inode) }
     // Whatever a stop leaves: nothing is wrong with the journals, and recovery finds what is held, or it with the name given.
     ensures any_stop { (row file : RowValue) (held : Store) (h f : Held) → row_of rows.old.items moved.now.directory ≡ Option.Some row → row_of rows.old.items there ≡ Option.Some file
-        → ShowsRow (P.region memory.old) tables.now.layout held h row free.old → ShowsRow (P.region memory.old) tables.now.layout held f file free.old → NothingPending (P.region memory.old) (P.may_hold memory.old)
+        → ShowsRow (P.region memory.old) tables.now.layout held h row free.old → ShowsRow (P.region memory.old) tables.now.layout held f file free.old
+        → NothingPending (P.region memory.old) (P.may_hold memory.old)
         → LeavesOnly (P.region memory.new) (P.may_hold memory.new) (LeavesEither (P.region memory.old) tables.now.layout held
         (ReplacedHere (P.region memory.old) tables.now.layout free.old cpu row file moved.now.from.target moved.now.from.name.now moved.now.name.now time)) }
 {

@@ -90,7 +90,8 @@ fn take_over<P: Pmem>(
     ensures any_stop { (from to gone : RowValue) (held : Store) (h g : Held) → row_of rows.old.items moved.now.from.directory ≡ Option.Some from
         → row_of rows.old.items moved.now.directory ≡ Option.Some to
         → row_of rows.old.items there ≡ Option.Some gone
-        → ShowsRow (P.region memory.old) tables.now.layout held h from free.old → ShowsRow (P.region memory.old) tables.now.layout held g to free.old → NothingPending (P.region memory.old) (P.may_hold memory.old)
+        → ShowsRow (P.region memory.old) tables.now.layout held h from free.old → ShowsRow (P.region memory.old) tables.now.layout held g to free.old
+        → NothingPending (P.region memory.old) (P.may_hold memory.old)
         → LeavesOnly (P.region memory.new) (P.may_hold memory.new) (LeavesEither (P.region memory.old) tables.now.layout held
         (TookAcross (P.region memory.old) tables.now.layout free.old cpu from to moved.now.from.target gone.inode moved.now.from.name.now moved.now.name.now time)) }
 {

@@ -3,7 +3,7 @@
 ghost use Rattle.std.specs.Prelude.{◌≡◌, ◌<◌, ◌≤◌, ◌∷◌, ◌++◌, [], ℕ, List, Option, Result, IfOk, IfErr, OnOk, false};
 ghost use Rattle.std.specs.Result.{result_err};
 ghost use Rattle.nv_region.specs.Region.{Region};
-ghost use Rattle.nv_region.specs.Stops.{LeavesOnly};
+ghost use Rattle.nv_region.specs.Stops.{LeavesOnly, NothingPending};
 ghost use Rattle.nv_super.specs.Layout.{most_size};
 ghost use Rattle.nv_super.specs.declared.kind.Kind.TheVariants.{File};
 ghost use Rattle.nv_rows.specs.Rows.{row_of};
@@ -11,17 +11,18 @@ ghost use Rattle.nv_mounted.specs.Held.{Held, Store};
 ghost use Rattle.nv_mounted.specs.Mounted.{ShowsSound};
 ghost use Rattle.nv_tree.specs.Path.{IsPath, Says};
 ghost use Rattle.nv_tree.specs.Tree.{Node, SameTree, is_directory};
-ghost use Rattle.nv_tree.specs.Calls.{resized};
+ghost use Rattle.nv_tree.specs.Calls.{edit, resized, with_size};
 ghost use Rattle.nv_tree.specs.Refusals.{Path, first_refusal, is_dir, is_too_large, set_size_tests, stat_tests, IsRefusedBy};
 ghost use Rattle.nv_tree.specs.declared.refusal.Refusal.{Refusal as RefusalValue};
+ghost use Rattle.nv_calls.specs.ChangesByNumber.{logs_inode_size, resize_inode_tests, resized_inode_blocks, set_size_inode_tests};
 ghost use Rattle.nv_calls.specs.Effects.{logs_size, makes_size};
-ghost use Rattle.nv_calls.specs.Stopped.{LeavesCall};
+ghost use Rattle.nv_calls.specs.Stopped.{LeavesCall, StopLeaves};
 ghost use Rattle.nv_paths.specs.Seen.{LeadsTo, node_of, tree_of};
 ghost use Rattle.nv_calls.specs.SizeCall.{ShowsResizedLog, resized_blocks};
 ghost use Rattle.nv_calls.specs.World.{world_of};
 ghost use Rattle.nv_steps.specs.Stores.{StoresIn, one_log};
 ghost use Rattle.nv_calls.specs.Mount.{shown};
-ghost use Rattle.nv_calls.specs.Keeping.{IsNoPath, SettlesCall};
+ghost use Rattle.nv_calls.specs.Keeping.{IsNoPath, KeepsCall, SettlesCall};
 
 use crate::Fs;
 use crate::arguments::{Cpu, Time};
@@ -73,6 +74,50 @@ impl<P: Pmem + Drop> Fs<P> {
     {
         self.writable(cpu.0)?;
         let inode = resizable_at(&self.rows, path, size)?.inode;
+        self.set_size_inode(cpu, inode, size, time)
+    }
+
+    /// Does what `set_size` does, for the file of this number.
+    ///
+    /// Errors, the first that applies:
+    /// - `Stopped` after a stop
+    /// - `BadCpu` where there is no CPU of that number
+    /// - `ReadOnly` where the region was mounted with faults
+    /// - `NotFound` where no inode in use has the number
+    /// - `IsDirectory` for a directory
+    /// - `TooLarge` for more bytes than a file can have
+    /// - `NoSpace` where fewer blocks are free than it needs
+    ///
+    /// Besides these `Memory` where a growth was refused, and `Stopped` where the fuse burns. All but `Stopped` leave
+    /// everything as it was.
+    pub fn set_size_inode(
+        &mut self,
+        cpu: Cpu,
+        inode: u64,
+        size: u64,
+        time: Time,
+    ) -> Result<(), Refusal>
+        ensures allowed { OnOk result (first_refusal (set_size_inode_tests (world_of self.old) (shown P.region self.old) cpu inode size
+            (resized_inode_blocks self.old.rows inode size)) ≡ Option.None) }
+        ensures refused { self.old.stopped ≡ false
+            → IfErr result (IsRefusedBy (first_refusal (set_size_inode_tests (world_of self.old) (shown P.region self.old) cpu inode size (resized_inode_blocks self.old.rows inode size)))) }
+        ensures changed { OnOk result (SameTree (shown P.region self.new) (edit inode (with_size size time) (shown P.region self.old))) }
+        // The log of the file has the entries for its size, and no other log has changed.
+        ensures log { (node : Node) (held : Store) (h : Held) → shown P.region self.old inode ≡ Option.Some node → ShowsSound (P.region self.old.memory) self.old.layout held
+            → held inode ≡ Option.Some h → OnOk result (ShowsResizedLog (P.region self.new.memory) self.old.layout self.old.free.pools cpu held inode h node size time) }
+        // What every call that writes keeps.
+        ensures call { KeepsCall P.region P.fuse self.old self.new result }
+        ensures settled { OnOk result (NothingPending (P.region self.new.memory) (P.may_hold self.new.memory)) }
+        // Every word outside these places is as it was.
+        ensures wrote { (held : Store) → ShowsSound (P.region self.old.memory) self.old.layout held
+            → StoresIn self.old.layout held (one_log self.old.layout inode) (P.region self.old.memory) (P.region self.new.memory) }
+        // Whatever a stop leaves, at any exit: recovery finds what was mounted, or what the call makes, without faults.
+        ensures any_stop { self.old.stopped ≡ false → self.old.read_only ≡ false
+            → LeavesOnly (P.region self.new.memory) (P.may_hold self.new.memory) (StopLeaves (P.region self.old.memory) self.old.layout self.old.rows self.old.free.pools
+            (edit inode (with_size size time) (shown P.region self.old)) (logs_inode_size cpu size time inode (P.region self.old.memory) self.old)) }
+    {
+        self.writable(cpu.0)?;
+        resizable_inode(&self.rows, inode, size)?;
         let mut row = self.rows.lend(self.alloc, inode);
         let attributes = AttrEntry {
             mode: row.numbers.mode,
@@ -114,6 +159,29 @@ pub(crate) fn resizable_at<'a>(rows: &'a Rows, path: &[u8], size: u64) -> Result
     let row = row_at(rows, path)?;
     can_have_size(row, size)?;
     Ok(row)
+}
+
+/// The row of the file of this number, where it can get a size: `NotFound` where no inode in use has the number, and then what
+/// `can_have_size` refuses.
+pub(crate) fn resizable_inode(rows: &Rows, inode: u64, size: u64) -> Result<&Row, Refusal>
+    ensures row { IfOk result (λ r. row_of rows.now.items inode ≡ Option.Some r.now) }
+    ensures file { IfOk result (λ r. r.now.kind ≡ File) }
+    ensures most { OnOk result (size ≤ most_size) }
+    ensures refused { (region : Region) → first_refusal (resize_inode_tests (tree_of region rows.now.items) inode size) ≡ result_err result }
+{
+    let row = row_in_use(rows, inode)?;
+    can_have_size(row, size)?;
+    Ok(row)
+}
+
+fn row_in_use(rows: &Rows, inode: u64) -> Result<&Row, Refusal>
+    ensures row { IfOk result (λ r. row_of rows.now.items inode ≡ Option.Some r.now) }
+    ensures missing { IfErr result (λ e. (e ≡ RefusalValue.NotFound) × (row_of rows.now.items inode ≡ Option.None)) }
+{
+    match rows.get(inode) {
+        Some(row) => Ok(row),
+        None => Err(Refusal::NotFound),
+    }
 }
 
 /// Whether an inode can get a size: `IsDirectory` for a directory, `TooLarge` for more bytes than a file can have.

@@ -1,49 +1,16 @@
 //! `stat`: the numbers of an inode.
 
 ghost use Rattle.std.specs.Prelude.{◌≡◌, ℕ, List, IsTrue, IfOk, IfErr, OnOk, Option, Result, false};
-ghost use Rattle.nv_region.specs.Region.{Region};
 ghost use Rattle.nv_tree.specs.Path.{IsPath, Says};
 ghost use Rattle.nv_tree.specs.Refusals.{Path, first_refusal, stat_tests};
 ghost use Rattle.nv_tree.specs.declared.refusal.Refusal.{Refusal};
-ghost use Rattle.nv_paths.specs.Seen.{node_of};
-ghost use Rattle.nv_calls.specs.Stat.{stat_of, IsStat};
+ghost use Rattle.nv_tree.specs.Stat.{IsStat};
 ghost use Rattle.nv_calls.specs.Mount.{shown};
 
 use crate::Fs;
 use nv_region::Pmem;
-use nv_scan::Row;
-use nv_super::Kind;
-use nv_tree::Refusal;
-
-/// An inode's number, kind, mode, owner, group, size in bytes, link count and time.
-#[derive(Clone, Copy, Debug, PartialEq, Eq)]
-pub struct Stat {
-    pub inode: u64,
-    pub kind: Kind,
-    pub mode: u32,
-    pub owner: u32,
-    pub group: u32,
-    pub size: u64,
-    pub links: u32,
-    pub time: u64,
-}
-
-impl Stat {
-    pub(crate) fn of(row: &Row) -> Stat
-        ensures { (region : Region) → result ≡ stat_of row.now.inode (node_of region row.now) }
-    {
-        Stat {
-            inode: row.inode,
-            kind: row.kind,
-            mode: row.numbers.mode,
-            owner: row.numbers.owner,
-            group: row.numbers.group,
-            size: row.numbers.size,
-            links: row.numbers.links,
-            time: row.numbers.time,
-        }
-    }
-}
+use nv_rows::stat_of;
+use nv_tree::{Refusal, Stat};
 
 impl<P: Pmem + Drop> Fs<P> {
     /// The numbers of the inode that a path leads to. It takes no memory.
@@ -57,6 +24,6 @@ impl<P: Pmem + Drop> Fs<P> {
         ensures refused { self.now.stopped ≡ false → (p : Path) → Says path.now p
             → IfErr result (λ e. first_refusal (stat_tests (shown P.region self.now) p) ≡ Option.Some e) }
     {
-        Ok(Stat::of(self.target(path)?))
+        Ok(stat_of(self.target(path)?))
     }
 }

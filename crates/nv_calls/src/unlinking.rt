@@ -75,7 +75,8 @@ fn unlink_at<P: Pmem>(
     requires file_stands { (file : RowValue) → row_of rows.old.items named.now.target ≡ Option.Some file
         → StandsRight (P.region memory.old) tables.now.layout free.old file × CanName (P.region memory.old) tables.now.layout cpu file.inode file }
     requires name { IsName named.now.name.now }
-    ensures unlinked { OnOk result (UnlinksAt (P.region memory.old) (P.region memory.new) tables.now.layout free.old free.new cpu rows.old.items rows.new.items (place_in rows.old.items named.now.directory)
+    ensures unlinked { OnOk result (UnlinksAt (P.region memory.old) (P.region memory.new) tables.now.layout free.old free.new cpu rows.old.items rows.new.items
+        (place_in rows.old.items named.now.directory)
         (place_in rows.old.items named.now.target) named.now.name.now time) }
     ensures enough { (row file : RowValue) → row_of rows.old.items named.now.directory ≡ Option.Some row → row_of rows.old.items named.now.target ≡ Option.Some file
         → OnOk result (needed (row.tail % 4096) (name_entries Remove file.inode named.now.name.now time)
@@ -86,12 +87,15 @@ fn unlink_at<P: Pmem>(
         free.old) }
     // Every word outside these places is as it was.
     ensures wrote { (row file : RowValue) (held : Store) (h f : Held) → row_of rows.old.items named.now.directory ≡ Option.Some row
-        → row_of rows.old.items named.now.target ≡ Option.Some file → ShowsRow (P.region memory.old) tables.now.layout held h row free.old → ShowsRow (P.region memory.old) tables.now.layout held f file free.old
+        → row_of rows.old.items named.now.target ≡ Option.Some file → ShowsRow (P.region memory.old) tables.now.layout held h row free.old
+        → ShowsRow (P.region memory.old) tables.now.layout held f file free.old
         → StoresIn tables.now.layout held (two_logs tables.now.layout cpu row.inode file.inode) (P.region memory.old) (P.region memory.new) }
     // The directory's tail is stored first.
     ensures in_order { (row file : RowValue) (held : Store) (h f : Held) → row_of rows.old.items named.now.directory ≡ Option.Some row
-        → row_of rows.old.items named.now.target ≡ Option.Some file → ShowsRow (P.region memory.old) tables.now.layout held h row free.old → ShowsRow (P.region memory.old) tables.now.layout held f file free.old
-        → TailIsFirst (P.region memory.old) (P.region memory.new) tables.now.layout free.old.pools cpu row.inode row.tail (name_entries Remove file.inode named.now.name.now time) (tail_address tables.now.layout
+        → row_of rows.old.items named.now.target ≡ Option.Some file → ShowsRow (P.region memory.old) tables.now.layout held h row free.old
+        → ShowsRow (P.region memory.old) tables.now.layout held f file free.old
+        → TailIsFirst (P.region memory.old) (P.region memory.new) tables.now.layout free.old.pools cpu row.inode row.tail
+        (name_entries Remove file.inode named.now.name.now time) (tail_address tables.now.layout
         file.inode) }
     // Whatever a stop leaves: recovery finds what is held, or it without the name and the link, without faults.
     ensures any_stop { (row file : RowValue) (held : Store) (h f : Held) → row_of rows.old.items named.now.directory ≡ Option.Some row
@@ -148,7 +152,8 @@ fn release_at<P: Pmem>(
         → CanName (P.region memory.old) tables.now.layout cpu file.inode row × (row.inode ≢ file.inode) }
     requires owns { (file : RowValue) → row_of rows.old.items named.now.target ≡ Option.Some file → OwnsBlocks free.old file }
     requires name { IsName named.now.name.now }
-    ensures released { OnOk result (Releases (P.region memory.old) (P.region memory.new) tables.now.layout free.old free.new cpu rows.old.items rows.new.items (place_in rows.old.items named.now.directory)
+    ensures released { OnOk result (Releases (P.region memory.old) (P.region memory.new) tables.now.layout free.old free.new cpu rows.old.items rows.new.items
+        (place_in rows.old.items named.now.directory)
         (place_in rows.old.items named.now.target) named.now.name.now time) }
     ensures enough { (row file : RowValue) → row_of rows.old.items named.now.directory ≡ Option.Some row → row_of rows.old.items named.now.target ≡ Option.Some file
         → OnOk result (release_blocks row file named.now.name.now time ≤ all_blocks free.old.pools) }
@@ -168,12 +173,14 @@ fn release_at<P: Pmem>(
     ensures in_order { (row file : RowValue) (held : Store) (h f : Held) → row_of rows.old.items named.now.directory ≡ Option.Some row
         → row_of rows.old.items named.now.target ≡ Option.Some file → ShowsRow (P.region memory.old) tables.now.layout held h row free.old
         → ShowsRow (P.region memory.old) tables.now.layout held f file free.old → 1 < file.numbers.links
-        → TailIsFirst (P.region memory.old) (P.region memory.new) tables.now.layout free.old.pools cpu row.inode row.tail (name_entries Remove file.inode named.now.name.now time) (tail_address tables.now.layout
+        → TailIsFirst (P.region memory.old) (P.region memory.new) tables.now.layout free.old.pools cpu row.inode row.tail
+        (name_entries Remove file.inode named.now.name.now time) (tail_address tables.now.layout
         file.inode) }
     ensures last_in_order { (row file : RowValue) (held : Store) (h f : Held) → row_of rows.old.items named.now.directory ≡ Option.Some row
         → row_of rows.old.items named.now.target ≡ Option.Some file → ShowsRow (P.region memory.old) tables.now.layout held h row free.old
         → ShowsRow (P.region memory.old) tables.now.layout held f file free.old → file.numbers.links ≤ 1
-        → TailIsFirst (P.region memory.old) (P.region memory.new) tables.now.layout free.old.pools cpu row.inode row.tail (name_entries Remove file.inode named.now.name.now time) (slot_in tables.now.layout
+        → TailIsFirst (P.region memory.old) (P.region memory.new) tables.now.layout free.old.pools cpu row.inode row.tail
+        (name_entries Remove file.inode named.now.name.now time) (slot_in tables.now.layout
         file.inode) }
     // Whatever a stop leaves: recovery finds what is held, or it without the name and the link or the file, without faults.
     ensures any_stop { (row file : RowValue) (held : Store) (h f : Held) → row_of rows.old.items named.now.directory ≡ Option.Some row

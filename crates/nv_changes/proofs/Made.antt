@@ -1,5 +1,5 @@
 -- What the calls of a change leave of a region that was opened, and why a change is refused.
-use Rattle.std.proofs.Common.{◌≡◌, ◌≢◌, ◌∙◌, ℕ, Bool, true, false, IsTrue, ◌||◌, List, [], ◌∷◌, refl, sym, ap, subst, inl, inr}
+use Rattle.std.proofs.Common.{◌≡◌, ◌≢◌, ◌∙◌, ℕ, Bool, true, false, IsTrue, ◌||◌, List, [], refl, sym, ap, subst, inl, inr, take}
 use Rattle.nv_super.specs.Layout.{Layout}
 use Rattle.nv_super.specs.declared.superblock.Super.{Super}
 use Rattle.nv_region.specs.Region.{Region, size}
@@ -14,10 +14,9 @@ use Rattle.nv_tree.specs.declared.refusal.Refusal.TheVariants.{Memory, Stopped}
 use Rattle.nv_mounted.specs.Mounted.{outcome_layout}
 use Rattle.nv_calls.specs.Mount.{IsKept, Mount, has_faults}
 use Rattle.nv_paths.specs.Seen.{tree_of}
-use Rattle.nv_session.specs.Calls.{LeavesTreeBy, mounted_as}
 use Rattle.nv_session.specs.Sessions.{IsSettled}
 use Rattle.nv_session.proofs.Moved.{same_size}
-use Rattle.nv_history.specs.Making.{AreMade, ChainsGrow, grow_tables, has_upgrade, is_upgrade}
+use Rattle.nv_history.specs.Making.{AreMade, ChainsGrow, MayHaveGrown, grow_tables, has_upgrade, is_upgrade}
 use Rattle.nv_history.specs.Said.{said}
 use Rattle.nv_history.specs.Halting.{HaltsAt}
 use Rattle.nv_history.specs.declared.calls.Call.{Call}
@@ -26,7 +25,7 @@ use Rattle.nv_history.proofs.LeftTables.{LeavesTables}
 use Rattle.nv_script.specs.Cleaning.{CanClean, IsOpenedAs}
 use Rattle.nv_script.proofs.Cleanings.{shows_now}
 use Rattle.nv_changes.specs.Calls.{AreCallsOf, IsFirstCall, next_calls}
-use Rattle.nv_changes.specs.Changing.{IsChanged, IsChangedAs, IsHalted, IsMade, IsRefusal, MayLeave, tree_shown}
+use Rattle.nv_changes.specs.Changing.{IsChanged, IsChangedAs, IsHalted, IsMade, IsRefusal, tree_shown}
 use Rattle.nv_changes.specs.declared.change.Change.{Change}
 use Rattle.nv_changes.specs.declared.change.Change.TheVariants.{MakeDirectory, Remove, RemoveDirectory, Rename, Link, SetSize, SetMode, SetOwner, Put}
 use Rattle.nv_changes.specs.declared.changing.Changed.{Changed}
@@ -108,8 +107,11 @@ module _ (R : Region) (o : Outcome) (m n : Mount RegionState) (is : IsOpenedAs R
   made_here : (u : Tree) → AreMade m.sup calls (tree m) u → AreMade o.sup calls (tree_shown R o) u
   made_here u made = subst (λ (s : Super). AreMade s calls (tree_shown R o) u) is.sup (subst (λ (t : Tree). AreMade m.sup calls t u) same_tree made)
 
-  may_leave : LeavesTables m n calls → MayLeave o calls n.layout
-  may_leave ran = (subst (λ (l : Layout). ChainsGrow l n.layout) is.layout ran.chains, λ fixed. ran.stays (ap (λ (s : Super). grow_tables s calls) is.sup ∙ fixed) ∙ ap (λ (l : Layout). l.chains) is.layout)
+  tables_by : (begun : List Call) → LeavesTables m n begun → MayHaveGrown o.sup begun (outcome_layout o) n.layout
+  tables_by begun ran = (
+    subst (λ (l : Layout). ChainsGrow l n.layout) is.layout ran.chains,
+    λ fixed. ran.stays (ap (λ (s : Super). grow_tables s begun) is.sup ∙ fixed) ∙ ap (λ (l : Layout). l.chains) is.layout,
+  )
 
   -- The region that is left shows what the calls make.
   pub all_made : CanClean n → LeavesTables m n calls → size n.memory.region ≡ size m.memory.region → AreCallsOf (tree m) change cpu time calls → AreMade m.sup calls (tree m) (tree n) → Keeps n → IsSettled n.memory
@@ -127,7 +129,7 @@ module _ (R : Region) (o : Outcome) (m n : Mount RegionState) (is : IsOpenedAs R
           shown = own.1;
           own = kept.own can.runs;
           sup = kept.tables ∙ ran.sup ∙ is.sup;
-          layout = may_leave ran;
+          layout = tables_by calls ran;
           faultless = refl;
           tree = same_itself (tree n);
         };
@@ -135,7 +137,7 @@ module _ (R : Region) (o : Outcome) (m n : Mount RegionState) (is : IsOpenedAs R
       }
 
   -- A call is refused by its tests.
-  pub one_refused : (halted : Halted) → n.stopped ≡ false → n.read_only ≡ false → LeavesTables m n calls → AreCallsOf (tree m) change cpu time calls → Keeps n → halted.refusal ≢ Stopped
+  pub one_refused : (halted : Halted) → n.stopped ≡ false → n.read_only ≡ false → LeavesTables m n (take halted.made calls) → AreCallsOf (tree m) change cpu time calls → Keeps n → halted.refusal ≢ Stopped
       → HaltsAt m.sup (tree m) calls halted n.memory.region n → (refusal : Refusal) → refusal ≡ halted.refusal → halted.refusal ≢ Memory → IsHalted R o change cpu time refusal
   one_refused halted runs writes ran are kept no_stop halts refusal same no_memory = record {
     calls = calls;
@@ -145,7 +147,7 @@ module _ (R : Region) (o : Outcome) (m n : Mount RegionState) (is : IsOpenedAs R
     kept = kept;
     runs = runs;
     sup = ran.sup ∙ is.sup;
-    tables = may_leave ran;
+    tables = tables_by (take halted.made calls) ran;
     writes = writes;
     halts = subst (λ (s : Super). HaltsAt s (tree_shown R o) calls halted n.memory.region n) is.sup (subst (λ (t : Tree). HaltsAt m.sup t calls halted n.memory.region n) same_tree halts);
     is = sym same;

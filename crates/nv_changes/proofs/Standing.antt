@@ -1,16 +1,15 @@
 -- What `stat` tells of a path: where it leads to, and with which mode, owner and group.
-use Rattle.std.proofs.Common.{◌≡◌, ◌∙◌, ◌↔◌, ℕ, true, false, IsTrue, List, [], ◌∷◌, Option, Some, None, Result, Ok, Err, refl, sym, ap}
+use Rattle.std.proofs.Common.{◌≡◌, ◌∙◌, ℕ, List, [], ◌∷◌, Some, None, Result, Ok, Err, refl, sym, ap}
 use Rattle.std.specs.Option.{option_map}
 use Rattle.nv_tree.specs.declared.refusal.Refusal.{Refusal}
 use Rattle.nv_tree.specs.declared.refusal.Refusal.TheVariants.{BadName}
 use Rattle.nv_tree.specs.Path.{IsPath, Says}
-use Rattle.nv_tree.specs.Tree.{Node, Tree, found, in_use, last_in, walk}
+use Rattle.nv_tree.specs.Tree.{Tree, found, in_use, last_in, walk}
 use Rattle.nv_tree.specs.Refusals.{Path, first_refusal, stat_tests}
 use Rattle.nv_tree.proofs.Texts.{text_says}
-use Rattle.nv_paths.specs.Seen.{LeadsTo}
 use Rattle.nv_paths.proofs.Targets.{allowed_by}
-use Rattle.nv_calls.specs.Stat.{IsStat, stat_of}
-use Rattle.nv_calls.specs.declared.stating.Stat.{Stat}
+use Rattle.nv_tree.specs.Stat.{IsStat, stat_of}
+use Rattle.nv_tree.specs.declared.stat.Stat.{Stat}
 use Rattle.nv_changes.specs.Calls.{HasAttributes, IsThere}
 
 some_same : {A : Type 0} (a b : A) → Some a ≡ Some b → a ≡ b

@@ -1,5 +1,5 @@
 -- What a change makes of a region, or why it is refused.
-use Rattle.std.specs.Prelude.{◌≡◌, ◌≢◌, ◌⊎◌, ℕ, Bool, true, false, List, [], Option, Some, None}
+use Rattle.std.specs.Prelude.{◌≡◌, ◌≢◌, ◌⊎◌, ℕ, true, false, List, [], take}
 use Rattle.nv_region.specs.Region.{Region}
 use Rattle.nv_region.specs.RegionState.{RegionState}
 use Rattle.nv_journal.specs.Undo.{undone}
@@ -12,12 +12,11 @@ use Rattle.nv_text.specs.Answers.{refused_line}
 use Rattle.nv_text.specs.Refusals.{refusal_name}
 use Rattle.nv_session.specs.Calls.{LeavesTreeBy, mounted_as}
 use Rattle.nv_session.specs.Sessions.{IsSettled}
-use Rattle.nv_super.specs.Layout.{Layout}
 use Rattle.nv_mounted.specs.Mounted.{outcome_layout}
 use Rattle.nv_calls.specs.Mount.{IsKept, Mount, has_faults}
 use Rattle.nv_paths.specs.Seen.{tree_of}
 use Rattle.nv_image_check.specs.Recovering.{IsSuperRefused}
-use Rattle.nv_history.specs.Making.{AreMade, ChainsGrow, grow_tables}
+use Rattle.nv_history.specs.Making.{AreMade, MayHaveGrown}
 use Rattle.nv_history.specs.Halting.{HaltsAt}
 use Rattle.nv_history.specs.declared.calls.Call.{Call}
 use Rattle.nv_history.specs.declared.runs.Halted.{Halted}
@@ -30,10 +29,6 @@ use Rattle.nv_changes.specs.declared.changing.Changed.TheVariants as changed
 abbrev pub tree_shown : Region → Outcome → Tree
 tree_shown R o = tree_of (undone o.sup R) o.rows
 
--- the tables that calls may leave: chains only grow, and none does where no call lets a table grow
-abbrev pub MayLeave : Outcome → List Call → Layout → Type 0
-MayLeave o calls l = ChainsGrow (outcome_layout o) l × (grow_tables o.sup calls ≡ false → l.chains ≡ o.tables)
-
 -- All calls of the change were made. The region that is left is as long as the one that came, its own undone region, and has no
 -- fault; it shows the tree that the calls make, in such tables. Nothing is pending in it.
 pub record IsMade (R : Region) (o : Outcome) (change : Change) (cpu time : ℕ) (left : RegionState) : Type 0 where
@@ -41,7 +36,7 @@ pub record IsMade (R : Region) (o : Outcome) (change : Change) (cpu time : ℕ) 
   pub are : AreCallsOf (tree_shown R o) change cpu time calls
   pub tree : Tree
   pub made : AreMade o.sup calls (tree_shown R o) tree
-  pub leaves : LeavesTreeBy (MayLeave o calls) R left.region (mounted_as o false) tree
+  pub leaves : LeavesTreeBy (MayHaveGrown o.sup calls (outcome_layout o)) R left.region (mounted_as o false) tree
   pub settled : IsSettled left
 
 -- A call of the change is refused, by what the calls in front of it have made of what is mounted: by its first test that holds,
@@ -54,7 +49,7 @@ pub record IsHalted (R : Region) (o : Outcome) (change : Change) (cpu time : ℕ
   pub kept : IsKept left.memory.region left.sup left.layout left.rows left.free left.faults left.read_only left.stopped
   pub runs : left.stopped ≡ false
   pub sup : left.sup ≡ o.sup
-  pub tables : MayLeave o calls left.layout
+  pub tables : MayHaveGrown o.sup (take halted.made calls) (outcome_layout o) left.layout
   pub writes : left.read_only ≡ false
   pub halts : HaltsAt o.sup (tree_shown R o) calls halted left.memory.region left
   pub is : halted.refusal ≡ refusal

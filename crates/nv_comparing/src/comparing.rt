@@ -14,7 +14,7 @@ ghost use Rattle.nv_comparing.specs.Comparing.{IsImagesDifference, IsNamedRefusa
 
 use crate::shown::shown;
 use nv_difference::{Contents, difference_text};
-use nv_image_check::{Image, recover_image};
+use nv_image_check::{Image, let_go, recover_image};
 use nv_region::ImageRegion;
 use nv_report::{Recovered, refused_text};
 use nv_text::Refusal;
@@ -48,7 +48,11 @@ pub(crate) fn look_at_images(alloc: Global, a: &[u8], b: &[u8]) -> Result<Look, 
 {
     let image = recover_image(alloc, a)?;
     match image {
-        Image::Recovered(memory, found) => look_beside(alloc, &memory, &found, b),
+        Image::Recovered(memory, found) => {
+            let look = look_beside(alloc, &memory, &found, b);
+            let_go(memory, found);
+            look
+        }
         Image::Refused(refusal) => refused_look(alloc, "A", refusal),
     }
 }
@@ -70,7 +74,9 @@ fn look_beside(
             let first = shown(memory, &found.rows);
             let second = shown(&other, &others.rows);
             let faults = (found.faults.len(), others.faults.len());
-            compared_look(alloc, &first, &second, faults)
+            let look = compared_look(alloc, &first, &second, faults);
+            let_go(other, others);
+            look
         }
         Image::Refused(refusal) => refused_look(alloc, "B", refusal),
     }

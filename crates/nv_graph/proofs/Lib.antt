@@ -12,6 +12,11 @@ pub mod GoodEntries
 pub mod MoreEntries
 pub mod SameWords
 pub mod AfterCalls
+pub mod Ways
+pub mod Passed
+pub mod TreeGraphs
+pub mod TreeCalls
+pub mod TreeReplaces
 pub use Rattle.nv_outcome.proofs as nv_outcome
 pub use Rattle.nv_outcome.proofs.nv_cross_check
 pub use Rattle.nv_outcome.proofs.nv_scan

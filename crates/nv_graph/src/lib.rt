@@ -7,6 +7,7 @@
 mod faultless_calls;
 mod laws;
 mod steps;
+mod trees;
 
 pub use faultless_calls::{
     changes_follow, create_keeps, link_keeps, rename_keeps, renamed_into_itself, replace_keeps,
@@ -18,3 +19,4 @@ pub use steps::{
     create_leaves_none, link_leaves_none, rename_leaves_none, rmdir_leaves_none,
     same_words_same_inode, touch_leaves_none, unlink_leaves_none,
 };
+pub use trees::{bytes_leave_the_graph, no_call_makes_a_fault};

@@ -1,5 +1,5 @@
 -- What calls make of trees that nobody can tell apart, and one call more.
-use Rattle.std.proofs.Common.{◌≡◌, ℕ, Bool, true, false, not, nat_eq, ◌==◌, ◌&&◌, ◌||◌, is_none, List, [], ◌∷◌, ◌++◌, take, length, get_or, ◌<◌, zero, suc, refl, ◌∙◌, ap, subst, arith, Option, Some, None}
+use Rattle.std.proofs.Common.{◌≡◌, ℕ, Bool, true, false, not, nat_eq, ◌==◌, ◌&&◌, ◌||◌, is_none, List, [], ◌∷◌, ◌++◌, take, zero, suc, refl, ◌∙◌, ap, subst, Option, Some, None}
 use Rattle.std.specs.List.{find}
 use Rattle.nv_super.specs.declared.superblock.Super.{Super}
 use Rattle.nv_super.specs.declared.kind.Kind.{Kind}
@@ -158,17 +158,29 @@ none_grow s (call ∷ calls) fixed off =
 pub version_1_stays : (s : Super) (calls : List Call) → s.version ≡ 1 → has_upgrade calls ≡ false → grow_tables s calls ≡ false
 version_1_stays s calls one off = none_grow s calls (ap (λ (v : ℕ). v == 2) one) off
 
--- where none of several is `upgrade`, no one is
-pub one_keeps : (calls : List Call) (place : ℕ) (d : Call) → place < length calls → has_upgrade calls ≡ false → is_upgrade (said (get_or calls place d)) ≡ false
-one_keeps [] place d inside off = absurd (omega (arith, inside))
-one_keeps (call ∷ calls) zero d inside off = (either_off (is_upgrade (said call)) (has_upgrade calls) off).0
-one_keeps (call ∷ calls) (suc place) d inside off = one_keeps calls place d (omega (arith, inside)) (either_off (is_upgrade (said call)) (has_upgrade calls) off).1
+-- where none of several is `upgrade`, neither is one of those in front of the last, nor the last
+pub plain_more : (calls : List Call) (call : Call) → has_upgrade (calls ++ call ∷ []) ≡ false → (has_upgrade calls ≡ false) × (is_upgrade (said call) ≡ false)
+plain_more [] call off = (refl, (either_off (is_upgrade (said call)) false off).0)
+plain_more (first ∷ calls) call off =
+    let parts = either_off (is_upgrade (said first)) (has_upgrade (calls ++ call ∷ [])) off in
+    let rest = plain_more calls call parts.1 in
+    (both_off (is_upgrade (said first)) (has_upgrade calls) parts.0 rest.0, rest.1)
 
--- where none of several lets a table grow, no one does by the superblock that those in front of it leave
-pub one_fixed : (s : Super) (calls : List Call) (place : ℕ) (d : Call) → place < length calls → grow_tables s calls ≡ false → grows_tables (supers_behind s (take place calls)) (said (get_or calls place d)) ≡ false
-one_fixed s [] place d inside off = absurd (omega (arith, inside))
-one_fixed s (call ∷ calls) zero d inside off = (either_off (grows_tables s (said call)) (grow_tables (super_behind s (said call)) calls) off).0
-one_fixed s (call ∷ calls) (suc place) d inside off = one_fixed (super_behind s (said call)) calls place d (omega (arith, inside)) (either_off (grows_tables s (said call)) (grow_tables (super_behind s (said call)) calls) off).1
+-- where none of several lets a table grow, neither does one of those in front of the last, nor the last by the superblock that they leave
+pub fixed_more : (s : Super) (calls : List Call) (call : Call) → grow_tables s (calls ++ call ∷ []) ≡ false → (grow_tables s calls ≡ false) × (grows_tables (supers_behind s calls) (said call) ≡ false)
+fixed_more s [] call off = (refl, (either_off (grows_tables s (said call)) false off).0)
+fixed_more s (first ∷ calls) call off =
+    let parts = either_off (grows_tables s (said first)) (grow_tables (super_behind s (said first)) (calls ++ call ∷ [])) off in
+    let rest = fixed_more (super_behind s (said first)) calls call parts.1 in
+    (both_off (grows_tables s (said first)) (grow_tables (super_behind s (said first)) calls) parts.0 rest.0, rest.1)
+
+-- where none of several lets a table grow, no front of them does
+pub front_fixed : (s : Super) (calls : List Call) (n : ℕ) → grow_tables s calls ≡ false → grow_tables s (take n calls) ≡ false
+front_fixed s calls zero off = refl
+front_fixed s [] (suc n) off = refl
+front_fixed s (call ∷ calls) (suc n) off =
+    let parts = either_off (grows_tables s (said call)) (grow_tables (super_behind s (said call)) calls) off in
+    both_off (grows_tables s (said call)) (grow_tables (super_behind s (said call)) (take n calls)) parts.0 (front_fixed (super_behind s (said call)) calls n parts.1)
 
 -- one call more
 pub behind_more : (s : Super) (calls : List Call) (call : Call) → supers_behind s (calls ++ call ∷ []) ≡ super_behind (supers_behind s calls) (said call)

@@ -19,20 +19,14 @@ use Rattle.nv_tree.specs.Calls.{created}
 use Rattle.nv_tree.specs.Path.{IsPath, Says}
 use Rattle.nv_tree.specs.Tree.{SameTree, Tree}
 use Rattle.nv_tree.specs.Refusals.{Path, Tests, World, first_refusal, is_bad_name, writing}
-use Rattle.nv_tree.specs.Refusals.{clean_tests, create_tests, link_tests, rename_tests, rmdir_tests, set_attr_tests, set_size_tests, stat_tests, unlink_tests, upgrade_tests, write_tests}
+use Rattle.nv_tree.specs.Refusals.{stat_tests, write_tests}
 use Rattle.nv_tree.proofs.Texts.{says_one, text_says}
 use Rattle.nv_paths.specs.Seen.{tree_of}
-use Rattle.nv_calls.specs.AttributesCall.{attributes_blocks}
 use Rattle.nv_calls.specs.Effects.{LogsBytes, LogsUnlink, logs_attributes, logs_inode, logs_link, logs_page_less, logs_removal, logs_rename, logs_size}
 use Rattle.nv_calls.specs.Effects.{makes_inode}
-use Rattle.nv_calls.specs.LinkCalls.{link_blocks}
 use Rattle.nv_calls.specs.Mount.{IsKept, Mount}
-use Rattle.nv_calls.specs.MoveCalls.{rename_blocks}
-use Rattle.nv_calls.specs.NameCalls.{create_blocks, name_blocks}
-use Rattle.nv_calls.specs.SizeCall.{resized_blocks}
 use Rattle.nv_calls.specs.Same.{GrowsWhereFull}
 use Rattle.nv_calls.specs.Stopped.{IsAsMade, IsAsMounted, MayHaveGrown, RecoversTo, StopLeaves}
-use Rattle.nv_calls.specs.UnlinkCalls.{unlink_blocks}
 use Rattle.nv_calls.specs.World.{world_of}
 use Rattle.nv_calls.proofs.Allowed.{first_passes}
 use Rattle.nv_calls.proofs.NeedsExist.{write_needs}
@@ -41,7 +35,7 @@ use Rattle.nv_history.specs.declared.calls.Call.TheVariants as calls
 use Rattle.nv_history.specs.Said.{Said, said, Create, MakeDirectory, Write, SetSize, SetAttributes, Link, Unlink, RemoveDirectory, Rename, Clean, Upgrade}
 use Rattle.nv_history.specs.Making.{IsMadeBy, lowest_unused, super_behind}
 use Rattle.nv_history.specs.Keeping.{MayBeLaid}
-use Rattle.nv_history.specs.Asking.{AreTestsOf, AskedBy, AskedByBoth}
+use Rattle.nv_history.specs.Asking.{AreTestsOf, AskedBy, AskedByBoth, attributes_asked, clean_asked, create_asked, link_asked, removal_asked, rename_asked, size_asked, unlink_asked, upgrade_asked}
 use Rattle.nv_history.specs.Called.{AreNames, AreTwoPaths, IsOnePath, call_makes, call_stops}
 use Rattle.nv_history.proofs.Growing.{MayHave, before_laid, made_laid}
 use Rattle.nv_history.proofs.NewNumbers.{number_given, numbers_same}
@@ -169,70 +163,46 @@ module _ {P : Type 0} (R : Region) (m : Mount P) where
   abbrev w : World
   w = world_of m
 
-  abbrev create_asked : ℕ → Path → Tests
-  create_asked cpu p = create_tests w t cpu p (create_blocks m.layout m.rows cpu t p)
-
-  abbrev size_asked : ℕ → ℕ → Path → Tests
-  size_asked cpu size p = set_size_tests w t cpu p size (resized_blocks m.rows t p size)
-
-  abbrev attributes_asked : ℕ → Path → Tests
-  attributes_asked cpu p = set_attr_tests w t cpu p (attributes_blocks m.rows t p)
-
-  abbrev link_asked : ℕ → Path → Path → Tests
-  link_asked cpu p q = link_tests w t cpu p q (link_blocks m.rows t p q)
-
-  abbrev unlink_asked : ℕ → Path → Tests
-  unlink_asked cpu p = unlink_tests w t cpu p (unlink_blocks m.rows t p)
-
-  abbrev removal_asked : ℕ → Path → Tests
-  removal_asked cpu p = rmdir_tests w t cpu p (name_blocks m.rows t p)
-
-  abbrev rename_asked : ℕ → Path → Path → Tests
-  rename_asked cpu p q = rename_tests w t cpu p q (rename_blocks m.rows t p q)
-
-  abbrev clean_asked : Path → Tests
-  clean_asked p = clean_tests w t p
-
-  write_asked : (cpu : ℕ) (path : List ℕ) (offset : ℕ) (bytes : List ℕ) (time : ℕ) → (tests : Tests) × AreTestsOf R m (Write cpu path offset bytes time) tests
-  write_asked cpu path offset bytes time = (let p = text_says path in let n = write_needs R m cpu p.0 offset (length bytes) time in (write_tests w t cpu p.0 (offset + length bytes) n.0, (p.0, n.0, p.1, n.1, refl)))
+  write_exists : (cpu : ℕ) (path : List ℕ) (offset : ℕ) (bytes : List ℕ) (time : ℕ) → (tests : Tests) × AreTestsOf R m (Write cpu path offset bytes time) tests
+  write_exists cpu path offset bytes time = (let p = text_says path in let n = write_needs R m cpu p.0 offset (length bytes) time in (write_tests w t cpu p.0 (offset + length bytes) n.0, (p.0, p.1, (n.0, n.1, refl))))
 
   -- each call is asked something
   pub tests_exist : (call : Said) → (tests : Tests) × AreTestsOf R m call tests
-  tests_exist (Create cpu path mode time) = one_asked path (create_asked cpu)
-  tests_exist (MakeDirectory cpu path mode time) = one_asked path (create_asked cpu)
-  tests_exist (Write cpu path offset bytes time) = write_asked cpu path offset bytes time
-  tests_exist (SetSize cpu path size time) = one_asked path (size_asked cpu size)
-  tests_exist (SetAttributes cpu path mode owner group time) = one_asked path (attributes_asked cpu)
-  tests_exist (Link cpu old new time) = two_asked old new (link_asked cpu)
-  tests_exist (Unlink cpu path time) = one_asked path (unlink_asked cpu)
-  tests_exist (RemoveDirectory cpu path time) = one_asked path (removal_asked cpu)
-  tests_exist (Rename cpu old new time) = two_asked old new (rename_asked cpu)
-  tests_exist (Clean path) = one_asked path clean_asked
-  tests_exist Upgrade = (upgrade_tests w m.sup.version, refl)
+  tests_exist (Create cpu path mode time) = one_asked path (create_asked R m cpu)
+  tests_exist (MakeDirectory cpu path mode time) = one_asked path (create_asked R m cpu)
+  tests_exist (Write cpu path offset bytes time) = write_exists cpu path offset bytes time
+  tests_exist (SetSize cpu path size time) = one_asked path (size_asked R m cpu size)
+  tests_exist (SetAttributes cpu path mode owner group time) = one_asked path (attributes_asked R m cpu)
+  tests_exist (Link cpu old new time) = two_asked old new (link_asked R m cpu)
+  tests_exist (Unlink cpu path time) = one_asked path (unlink_asked R m cpu)
+  tests_exist (RemoveDirectory cpu path time) = one_asked path (removal_asked R m cpu)
+  tests_exist (Rename cpu old new time) = two_asked old new (rename_asked R m cpu)
+  tests_exist (Clean path) = one_asked path (clean_asked R m)
+  tests_exist Upgrade = (upgrade_asked m, refl)
 
   write_named : (cpu : ℕ) (path : List ℕ) (offset : ℕ) (bytes : List ℕ) (time : ℕ) (tests : Tests) → AreTestsOf R m (Write cpu path offset bytes time) tests → first_refusal tests ≡ None → (names : List (List ℕ)) × (others : List (List ℕ)) × IsOnePath path names others
-  write_named cpu path offset bytes time tests (None, count, says, needs, is) none = absurd (refuses_bad w cpu (ap first_refusal (sym is) ∙ none))
-  write_named cpu path offset bytes time tests (Some names, count, says, needs, is) none = (names, [], (says, refl))
+  write_named cpu path offset bytes time tests (None, says, (count, needs, is)) none = absurd (refuses_bad w cpu (ap first_refusal (sym is) ∙ none))
+  write_named cpu path offset bytes time tests (Some names, says, (count, needs, is)) none = (names, [], (says, refl))
 
   -- where no test refuses it, its texts are paths
   pub tests_named : (call : Said) (tests : Tests) → AreTestsOf R m call tests → first_refusal tests ≡ None → HasNames call
-  tests_named (Create cpu path mode time) tests asked none = one_named path (create_asked cpu) tests (refuses_bad w cpu) asked none
-  tests_named (MakeDirectory cpu path mode time) tests asked none = one_named path (create_asked cpu) tests (refuses_bad w cpu) asked none
+  tests_named (Create cpu path mode time) tests asked none = one_named path (create_asked R m cpu) tests (refuses_bad w cpu) asked none
+  tests_named (MakeDirectory cpu path mode time) tests asked none = one_named path (create_asked R m cpu) tests (refuses_bad w cpu) asked none
   tests_named (Write cpu path offset bytes time) tests asked none = write_named cpu path offset bytes time tests asked none
-  tests_named (SetSize cpu path size time) tests asked none = one_named path (size_asked cpu size) tests (refuses_bad w cpu) asked none
-  tests_named (SetAttributes cpu path mode owner group time) tests asked none = one_named path (attributes_asked cpu) tests (refuses_bad w cpu) asked none
-  tests_named (Link cpu old new time) tests asked none = two_named old new (link_asked cpu) tests (λ q. refuses_bad w cpu) (λ names. refuses_bad w cpu) asked none
-  tests_named (Unlink cpu path time) tests asked none = one_named path (unlink_asked cpu) tests (refuses_bad w cpu) asked none
-  tests_named (RemoveDirectory cpu path time) tests asked none = one_named path (removal_asked cpu) tests (refuses_bad w cpu) asked none
-  tests_named (Rename cpu old new time) tests asked none = two_named old new (rename_asked cpu) tests (λ q. refuses_bad w cpu) (refuses_second w cpu) asked none
-  tests_named (Clean path) tests asked none = one_named path clean_asked tests (refuses_clean w) asked none
+  tests_named (SetSize cpu path size time) tests asked none = one_named path (size_asked R m cpu size) tests (refuses_bad w cpu) asked none
+  tests_named (SetAttributes cpu path mode owner group time) tests asked none = one_named path (attributes_asked R m cpu) tests (refuses_bad w cpu) asked none
+  tests_named (Link cpu old new time) tests asked none = two_named old new (link_asked R m cpu) tests (λ q. refuses_bad w cpu) (λ names. refuses_bad w cpu) asked none
+  tests_named (Unlink cpu path time) tests asked none = one_named path (unlink_asked R m cpu) tests (refuses_bad w cpu) asked none
+  tests_named (RemoveDirectory cpu path time) tests asked none = one_named path (removal_asked R m cpu) tests (refuses_bad w cpu) asked none
+  tests_named (Rename cpu old new time) tests asked none = two_named old new (rename_asked R m cpu) tests (λ q. refuses_bad w cpu) (refuses_second w cpu) asked none
+  tests_named (Clean path) tests asked none = one_named path (clean_asked R m) tests (refuses_clean w) asked none
   tests_named Upgrade tests asked none = ([], [], (refl, refl))
 
   -- and what is mounted may be written
   pub tests_write : (call : Said) (tests : Tests) → AreTestsOf R m call tests → first_refusal tests ≡ None → m.read_only ≡ false
   tests_write (Create cpu path mode time) tests asked none = can_write w cpu _ tests asked.2 none
   tests_write (MakeDirectory cpu path mode time) tests asked none = can_write w cpu _ tests asked.2 none
-  tests_write (Write cpu path offset bytes time) tests asked none = can_write w cpu _ tests asked.4 none
+  tests_write (Write cpu path offset bytes time) tests asked none = can_write w cpu _ tests asked.2.2 none
   tests_write (SetSize cpu path size time) tests asked none = can_write w cpu _ tests asked.2 none
   tests_write (SetAttributes cpu path mode owner group time) tests asked none = can_write w cpu _ tests asked.2 none
   tests_write (Link cpu old new time) tests asked none = can_write w cpu _ tests asked.4 none

@@ -1,5 +1,5 @@
 -- What a call keeps of a mounted file system, and what a run of calls does, and when they stop it.
-use Rattle.std.specs.Prelude.{◌≡◌, ◌≤◌, ◌↔◌, false, List, [], take, Result, Err, IsTrue, IfErr, OnOk, MatchResult}
+use Rattle.std.specs.Prelude.{◌≡◌, ◌≢◌, ◌⊎◌, ◌+◌, ◌≤◌, ◌↔◌, false, List, [], take, Result, Ok, Err, IsTrue, IfErr, OnOk, MatchResult}
 use Rattle.nv_region.specs.Region.{Region, size}
 use Rattle.nv_region.specs.Fuses.{FuseState, KeepsFuse}
 use Rattle.nv_super.specs.Layout.{Layout}
@@ -50,19 +50,26 @@ pub record KeepsCalled {P T : Type 0} (region : P → Region) (fuse : P → Fuse
   pub keeps_fuse : KeepsFuse (λ limit. size (region old.memory) ≤ limit) (fuse old.memory) (fuse new.memory)
   pub read_only : IsTrue old.read_only → SameMount old new
 
+-- ---- runs
+
+-- The calls of a run that may have changed something, by its answer: those that were made, and with them the one that was stopped.
+abbrev pub AreBegun : {T : Type 0} → List Call → Result T Halted → List Call → Type 0
+AreBegun calls (Ok made) begun = begun ≡ calls
+AreBegun calls (Err halted) begun = ((halted.refusal ≡ Stopped) × (begun ≡ take (halted.made + 1) calls)) ⊎ ((halted.refusal ≢ Stopped) × (begun ≡ take halted.made calls))
+
 -- A mount that was stopped before stays as it was, and no call is made. One that runs is stopped just where a call answers so, and
 -- the fuse has burnt then. What no call changes stays. The superblock is the one that the calls leave that were made. Chains only grow,
--- and none does where no call lets a table grow. Where a call is refused, those in front of it make a tree.
+-- and none does where no call that was begun lets a table grow. Where a call is refused, those in front of it make a tree.
 pub record KeepsRun {P T : Type 0} (region : P → Region) (fuse : P → FuseState) (calls : List Call) (old new : Mount P) (result : Result T Halted) : Type 0 where
   pub stopped_before : IsTrue old.stopped → new ≡ old
   pub none_made : IsTrue old.stopped → MatchResult result (λ _. calls ≡ []) (λ halted. halted.made ≡ 0)
   pub runs : OnOk result (new.stopped ≡ old.stopped)
   pub stopped : IfErr result (λ halted. (halted.refusal ≡ Stopped) ↔ IsTrue new.stopped)
   pub burnt : old.stopped ≡ false → IsTrue new.stopped → IsTrue (fuse new.memory).has_burnt
-  pub keeps : has_upgrade calls ≡ false → grow_tables old.sup calls ≡ false → KeepsMount old new
+  pub keeps : (begun : List Call) → AreBegun calls result begun → has_upgrade begun ≡ false → grow_tables old.sup begun ≡ false → KeepsMount old new
   pub sup : MatchResult result (λ _. new.sup ≡ supers_behind old.sup calls) (λ halted. new.sup ≡ supers_behind old.sup (take halted.made calls))
   pub chains : ChainsGrow old.layout new.layout
-  pub stays : grow_tables old.sup calls ≡ false → new.layout.chains ≡ old.layout.chains
+  pub stays : (begun : List Call) → AreBegun calls result begun → grow_tables old.sup begun ≡ false → new.layout.chains ≡ old.layout.chains
   pub faults : new.faults ≡ old.faults
   pub mode : new.read_only ≡ old.read_only
   pub front : IfErr result (λ halted. (t : Tree) × AreMade old.sup (take halted.made calls) (shown region old) t)

@@ -94,6 +94,10 @@ grow_tables s (call ∷ calls) = grows_tables s (said call) || grow_tables (supe
 abbrev pub ChainsGrow : Layout → Layout → Type 0
 ChainsGrow old new = (cpu k block : ℕ) → slice_get (chain_of old cpu) k ≡ Some block → slice_get (chain_of new cpu) k ≡ Some block
 
+-- the tables that calls may leave: chains only grow, and none does where no call lets a table grow
+abbrev pub MayHaveGrown : Super → List Call → Layout → Layout → Type 0
+MayHaveGrown s calls old new = ChainsGrow old new × (grow_tables s calls ≡ false → new.chains ≡ old.chains)
+
 -- ---- runs
 
 -- The second tree is what calls make of the first, one after the other, each by the superblock that the one before it leaves. With no

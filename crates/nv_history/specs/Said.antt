@@ -1,5 +1,5 @@
 -- What calls say, by the bytes of their texts.
-use Rattle.std.specs.Prelude.{ℕ, List}
+use Rattle.std.specs.Prelude.{ℕ, Bool, true, false, List}
 use Rattle.nv_bytes.specs.Data.{data_bytes}
 use Rattle.nv_history.specs.declared.calls.Call.{Call}
 use Rattle.nv_history.specs.declared.calls.Call.TheVariants as calls
@@ -31,3 +31,13 @@ said (calls.RemoveDirectory cpu path time) = RemoveDirectory cpu path.now time
 said (calls.Rename cpu old new time) = Rename cpu old.now new.now time
 said (calls.Clean path) = Clean path.now
 said calls.Upgrade = Upgrade
+
+-- whether a call gives names or takes them away
+abbrev pub changes_names : Said → Bool
+changes_names (Create cpu path mode time) = true
+changes_names (MakeDirectory cpu path mode time) = true
+changes_names (Link cpu old new time) = true
+changes_names (Unlink cpu path time) = true
+changes_names (RemoveDirectory cpu path time) = true
+changes_names (Rename cpu old new time) = true
+changes_names _ = false

@@ -1,5 +1,5 @@
 -- What recoveries find in a region that a power cut has left.
-use Rattle.std.specs.Prelude.{◌≡◌, ◌⊎◌, ◌+◌, false, List, take, Result, Ok, Err, ⊤}
+use Rattle.std.specs.Prelude.{◌≡◌, ◌⊎◌, ◌+◌, List, take, Result, Ok, Err, ⊤}
 use Rattle.nv_region.specs.Region.{Region}
 use Rattle.nv_super.specs.declared.owners.Run.{Run}
 use Rattle.nv_super.specs.Super.{IsSuper}
@@ -16,7 +16,8 @@ use Rattle.nv_calls.specs.Mount.{Mount, shown}
 use Rattle.nv_calls.specs.Stopped.{RecoversTo}
 use Rattle.nv_history.specs.declared.calls.Call.{Call}
 use Rattle.nv_history.specs.declared.runs.Halted.{Halted}
-use Rattle.nv_history.specs.Making.{AreMade, ChainsGrow, grow_tables, supers_behind}
+use Rattle.nv_history.specs.Making.{AreMade, MayHaveGrown, supers_behind}
+use Rattle.nv_history.specs.Keeping.{AreBegun}
 
 -- ---- recoveries
 
@@ -41,17 +42,16 @@ MayBeDone calls (Ok made) done = done ≡ calls
 MayBeDone calls (Err halted) done = (done ≡ take halted.made calls) ⊎ ((halted.refusal ≡ Stopped) × (done ≡ take (halted.made + 1) calls))
 
 -- These calls of a run make the tree of the rows that recovery finds, and the superblock, however often it is stopped and begun again.
--- The chains are those that were mounted, and may have grown where the run lets a table grow.
-pub record RecoversMade {P : Type 0} (region : P → Region) (old : Mount P) (calls done : List Call) (left : Region) : Type 0 where
+-- The chains are those that were mounted, and may have grown where a call that was begun lets a table grow.
+pub record RecoversMade {P : Type 0} (region : P → Region) (old : Mount P) (begun done : List Call) (left : Region) : Type 0 where
   pub layout : Layout
   pub rows : List Row
   pub free : List (List Run)
   pub recovers : AlwaysRecoversTo left layout rows free
   pub sup : layout.sup ≡ supers_behind old.sup done
-  pub chains : ChainsGrow old.layout layout
-  pub stays : grow_tables old.sup calls ≡ false → layout.chains ≡ old.layout.chains
+  pub tables : MayHaveGrown old.sup begun old.layout layout
   pub made : AreMade old.sup done (shown region old) (tree_of (undone layout.sup left) rows)
 
 -- whatever a stop leaves of a run: recovery finds what such calls make
 abbrev pub RunLeaves : {P : Type 0} → (P → Region) → Mount P → List Call → Result ⊤ Halted → Region → Type 0
-RunLeaves region old calls answer left = ∥ ((done : List Call) × MayBeDone calls answer done × RecoversMade region old calls done left) ∥₁
+RunLeaves region old calls answer left = ∥ ((begun done : List Call) × AreBegun calls answer begun × MayBeDone calls answer done × RecoversMade region old begun done left) ∥₁

@@ -1,8 +1,8 @@
 //! The calls that write, as values.
 
-ghost use Rattle.std.specs.Prelude.{◌≡◌};
+ghost use Rattle.std.specs.Prelude.{◌≡◌, false};
 ghost use Rattle.nv_history.specs.Called.{Called, answered_by};
-ghost use Rattle.nv_history.specs.Said.{said};
+ghost use Rattle.nv_history.specs.Said.{changes_names, said};
 ghost use Rattle.nv_history.specs.declared.calls.Answer.TheVariants as answers;
 
 use nv_calls::{Cpu, Data, Fs, Time};
@@ -99,8 +99,6 @@ pub enum Answer {
 pub fn make_call<P: Pmem + Drop>(mount: &mut Fs<P>, call: &Call<'_>) -> Result<Answer, Refusal>
     ensures { Called P.region P.may_hold P.fuse (said call.now) mount.old mount.new result }
 {
-    // Which page can go, and which version there is, is said by what the mount keeps before the call.
-    mount.keeps();
     match *call {
         Call::Create {
             cpu,
@@ -114,6 +112,32 @@ pub fn make_call<P: Pmem + Drop>(mount: &mut Fs<P>, call: &Call<'_>) -> Result<A
             mode,
             time,
         } => done(mount.mkdir(Cpu(cpu), path, mode, Time(time))),
+        Call::Link {
+            cpu,
+            old,
+            new,
+            time,
+        } => done(mount.link(Cpu(cpu), old, new, Time(time))),
+        Call::Unlink { cpu, path, time } => done(mount.unlink(Cpu(cpu), path, Time(time))),
+        Call::RemoveDirectory { cpu, path, time } => done(mount.rmdir(Cpu(cpu), path, Time(time))),
+        Call::Rename {
+            cpu,
+            old,
+            new,
+            time,
+        } => done(mount.rename(Cpu(cpu), old, new, Time(time))),
+        _ => make_within(mount, call),
+    }
+}
+
+// Makes a call that leaves the names as they are.
+fn make_within<P: Pmem + Drop>(mount: &mut Fs<P>, call: &Call<'_>) -> Result<Answer, Refusal>
+    requires { changes_names (said call.now) ≡ false }
+    ensures { Called P.region P.may_hold P.fuse (said call.now) mount.old mount.new result }
+{
+    // Which page can go, and which version there is, is said by what the mount keeps before the call.
+    mount.keeps();
+    match *call {
         Call::Write {
             cpu,
             path,
@@ -135,22 +159,9 @@ pub fn make_call<P: Pmem + Drop>(mount: &mut Fs<P>, call: &Call<'_>) -> Result<A
             group,
             time,
         } => done(mount.set_attr(Cpu(cpu), path, mode, owner, group, Time(time))),
-        Call::Link {
-            cpu,
-            old,
-            new,
-            time,
-        } => done(mount.link(Cpu(cpu), old, new, Time(time))),
-        Call::Unlink { cpu, path, time } => done(mount.unlink(Cpu(cpu), path, Time(time))),
-        Call::RemoveDirectory { cpu, path, time } => done(mount.rmdir(Cpu(cpu), path, Time(time))),
-        Call::Rename {
-            cpu,
-            old,
-            new,
-            time,
-        } => done(mount.rename(Cpu(cpu), old, new, Time(time))),
         Call::Clean { path } => cleaned(mount.clean(path)),
         Call::Upgrade => done(mount.upgrade()),
+        _ => unreachable!(),
     }
 }
 

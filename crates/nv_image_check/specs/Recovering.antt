@@ -18,5 +18,6 @@ IsSuperRefused R refusal = (fault : SuperFault) × IsRefused R fault × (refusal
 
 -- the region with its journals rolled back, and its outcome; or why it has none
 abbrev pub IsRecovered : Region → Image → Type 0
-IsRecovered R (images.Recovered memory found) = IsOutcome R (outcome_of found) × (memory.region ≡ undone found.sup R) × (found.free.sup ≡ found.sup) × HasNumbersOf found.tables.layout found.rows × (found.tables.layout.sup ≡ found.sup)
+IsRecovered R (images.Recovered memory found) = IsOutcome R (outcome_of found) × (memory.region ≡ undone found.sup R) × (found.free.sup ≡ found.sup)
+    × HasNumbersOf found.tables.layout found.rows × (found.tables.layout.sup ≡ found.sup)
 IsRecovered R (images.Refused refusal) = IsSuperRefused R refusal

@@ -12,6 +12,7 @@ ghost use Rattle.nv_report.specs.Last.{how_it_went, status_of};
 ghost use Rattle.nv_image_check.specs.Workers.{is_worker_count};
 ghost use Rattle.nv_image_check.specs.Checking.{IsCheckAs, IsRefusal, WritesCheck, EndsCheck, FailsCheck, WritesCheckAs, EndsCheckAs, FailsCheckAs};
 
+use crate::gone::let_found_go;
 use crate::output::output_text;
 use crate::recovering::recover_region;
 use crate::recovery::Answer;
@@ -120,10 +121,13 @@ pub(crate) fn check_memory<P: Pmem + Sync, H: Threads + Sync>(
 {
     let answer = recover_region(rt, alloc, memory, workers)?;
     match answer {
-        Answer::Recovered(recovered) => Ok(Checked {
-            text: output_text(rt, alloc, &recovered, output, workers)?,
-            status: status_of(&recovered.faults),
-        }),
+        Answer::Recovered(recovered) => {
+            let made = output_text(rt, alloc, &recovered, output, workers);
+            let status = status_of(&recovered.faults);
+            let_found_go(recovered);
+            let text = made?;
+            Ok(Checked { text, status })
+        }
         Answer::Refused(refusal) => refused(alloc, refusal),
     }
 }

@@ -9,6 +9,7 @@ ghost use Rattle.nv_image_check.specs.Explained.{IsExplained, IsExplainedText, W
 
 use crate::checking::{Checked, is_worker_count, open_system, refused, status_of};
 use crate::gathered::write_checked;
+use crate::gone::let_found_go;
 use crate::recovering::recover_region;
 use crate::recovery::Answer;
 use crate::sentences::push_sentences;
@@ -70,10 +71,13 @@ fn explain_memory<P: Pmem + Sync, H: Threads + Sync>(
 {
     let answer = recover_region(rt, alloc, memory, workers)?;
     match answer {
-        Answer::Recovered(recovered) => Ok(Checked {
-            text: explained_text(alloc, memory, &recovered)?,
-            status: status_of(&recovered.faults),
-        }),
+        Answer::Recovered(recovered) => {
+            let made = explained_text(alloc, memory, &recovered);
+            let status = status_of(&recovered.faults);
+            let_found_go(recovered);
+            let text = made?;
+            Ok(Checked { text, status })
+        }
         Answer::Refused(refusal) => refused(alloc, refusal),
     }
 }

@@ -180,8 +180,23 @@ where
     let path = file.path;
     let held = hold_drawing(rt, svg, file.opened.stamp)?;
     let mapped = map_open(rt, file)?;
-    let status = tell_map(rt, path, &mapped, held.is_output())?;
-    draw(rt, &mapped, &held)?;
+    show_and_draw(rt, path, &mapped, &held)
+}
+
+// Prints a map, unless its drawing goes to standard output, and draws it.
+fn show_and_draw<'a, H: Files + AllocGlobal + Print + Eprint>(
+    rt: &H,
+    path: &'a str,
+    mapped: &Mapped,
+    held: &Held<'a, H::File>,
+) -> Result<u8, Failure<'a>>
+where
+    H::File: Lock,
+    ensures status { IfOk result (λ status. (status ≡ 0) ⊎ (status ≡ 2)) }
+    ensures error { IfErr result (IsUnmapped path.entry (Some held.now.target)) }
+{
+    let status = tell_map(rt, path, mapped, held.is_output())?;
+    draw(rt, mapped, held)?;
     Ok(status)
 }
 

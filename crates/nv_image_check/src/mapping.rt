@@ -7,6 +7,7 @@ ghost use Rattle.nv_image_check.specs.Mapping.{IsMapped, mapped_text, mapped_ans
 
 use crate::answered::Answered;
 use crate::gathered_image::{GatheredImage, recover_gathered};
+use crate::gone::let_go;
 use crate::imaging::{Image, recover_image};
 use nv_map::{Cells, cells_of, cells_text};
 use nv_metadata::{Blocks, GatherError, Gathered, gather};
@@ -33,12 +34,12 @@ pub fn map_cells(alloc: Global, bytes: &[u8], most: u64) -> Result<Mapped, Alloc
 {
     let image = recover_image(alloc, bytes)?;
     match image {
-        Image::Recovered(_memory, recovered) => {
-            let cells = cells_of(alloc, &recovered, most)?;
-            Ok(Mapped::Cells {
-                cells,
-                faults: recovered.faults.len(),
-            })
+        Image::Recovered(memory, recovered) => {
+            let made = cells_of(alloc, &recovered, most);
+            let faults = recovered.faults.len();
+            let_go(memory, recovered);
+            let cells = made?;
+            Ok(Mapped::Cells { cells, faults })
         }
         Image::Refused(refusal) => Ok(Mapped::Refused(refusal)),
     }
@@ -65,12 +66,12 @@ pub fn map_gathered(alloc: Global, gathered: Gathered, most: u64) -> Result<Mapp
 {
     let image = recover_gathered(alloc, gathered)?;
     match image {
-        GatheredImage::Recovered(_memory, found) => {
-            let cells = cells_of(alloc, &found, most)?;
-            Ok(Mapped::Cells {
-                cells,
-                faults: found.faults.len(),
-            })
+        GatheredImage::Recovered(memory, found) => {
+            let made = cells_of(alloc, &found, most);
+            let faults = found.faults.len();
+            let_go(memory, found);
+            let cells = made?;
+            Ok(Mapped::Cells { cells, faults })
         }
         GatheredImage::Refused(refusal) => Ok(Mapped::Refused(refusal)),
     }

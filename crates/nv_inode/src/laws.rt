@@ -67,7 +67,8 @@ pub fn linked_slots_are_unused()
 /// With one block more at the end of a CPU's chain, a layout is still one that a region can have. The CPU's table has 31
 /// slots more, the first of which is that of its first number that had none. The chain's last link isn't in the block.
 pub fn tables_grow()
-    ensures laid { (l : Layout) (c b : ℕ) → IsLaid l → l.sup.version ≡ 2 → c < l.sup.cpus → system_blocks l.sup ≤ b → b < l.sup.blocks → list_any (eqb b) (chain_of l c) ≡ false → IsLaid (with_block l c b) }
+    ensures laid { (l : Layout) (c b : ℕ) → IsLaid l → l.sup.version ≡ 2 → c < l.sup.cpus → system_blocks l.sup ≤ b → b < l.sup.blocks
+        → list_any (eqb b) (chain_of l c) ≡ false → IsLaid (with_block l c b) }
     ensures sizes { (l : Layout) (c b : ℕ) → IsLaid l → c < l.sup.cpus → sizes_of (with_block l c b) ≡ set (sizes_of l) c (table_size l c + 31) }
     ensures before { (l : Layout) (c : ℕ) → IsLaid l → c < l.sup.cpus → slot_of l (next_number l c) ≡ None }
     ensures slot { (l : Layout) (c b : ℕ) → IsLaid l → c < l.sup.cpus → slot_of (with_block l c b) (next_number l c) ≡ Some (4096 * b + 128) }

@@ -68,7 +68,8 @@ impl HeldNames {
         takers: &mut [Option<u64>],
     ) -> Result<(), AllocError>
         requires { IsName e.now.name }
-        ensures names { OnOk result ((q : List ℕ) → Says by (name_in q at (Entry.Name e.now)) (name_at self.old.targets q) (name_holder self.old q) (name_at self.new.targets q) (name_holder self.new q)) }
+        ensures names { OnOk result ((q : List ℕ) → Says by (name_in q at (Entry.Name e.now)) (name_at self.old.targets q) (name_holder self.old q)
+            (name_at self.new.targets q) (name_holder self.new q)) }
         ensures marks { OnOk result (Marks by (λ (k : ℕ). (q : List ℕ) × Loses (name_in q at (Entry.Name e.now)) (name_holder self.old q) k) takers.old takers.new) }
     {
         let name = e.name.as_slice();

@@ -91,7 +91,8 @@ pub(crate) fn cut_pages(
     by: u64,
     takers: &mut [Option<u64>],
 ) -> Result<(), AllocError>
-    ensures pages { OnOk result ((p : ℕ) → Says by (cuts size p) (block_held pieces.old.entries p) (page_holder pieces.old.entries p) (block_held pieces.new.entries p) (page_holder pieces.new.entries p)) }
+    ensures pages { OnOk result ((p : ℕ) → Says by (cuts size p) (block_held pieces.old.entries p) (page_holder pieces.old.entries p)
+        (block_held pieces.new.entries p) (page_holder pieces.new.entries p)) }
     ensures marks { Marks by (λ (k : ℕ). (p : ℕ) × Loses (cuts size p) (page_holder pieces.old.entries p) k) takers.old takers.new }
 {
     take(pieces, first_page_past(size), None, None, by, takers)?;
@@ -110,7 +111,8 @@ pub(crate) fn write_pages(
 ) -> Result<(), AllocError>
     requires areas { HasAreas _sup.now }
     requires good { is_write_out_of_range _sup.now e.now ≡ false }
-    ensures pages { OnOk result ((p : ℕ) → Says by (block_in p (Entry.Write e.now)) (block_held pieces.old.entries p) (page_holder pieces.old.entries p) (block_held pieces.new.entries p) (page_holder pieces.new.entries p)) }
+    ensures pages { OnOk result ((p : ℕ) → Says by (block_in p (Entry.Write e.now)) (block_held pieces.old.entries p) (page_holder pieces.old.entries p)
+        (block_held pieces.new.entries p) (page_holder pieces.new.entries p)) }
     ensures marks { OnOk result (Marks by (λ (k : ℕ). (p : ℕ) × Loses (block_in p (Entry.Write e.now)) (page_holder pieces.old.entries p) k) takers.old takers.new) }
 {
     let end = e.offset + e.count as u64;

@@ -3,7 +3,7 @@
 use nv_region::{Fuse, Keep};
 
 /// A command of a script.
-#[derive(Debug, Drop)]
+#[derive(Drop)]
 pub enum Command<'a> {
     /// Make a region of `blocks` blocks, with `cpus` CPUs and `table_blocks` table blocks for each.
     Format {
@@ -128,7 +128,7 @@ pub enum Command<'a> {
 }
 
 /// What a line is to a script.
-#[derive(Debug, Drop)]
+#[derive(Drop)]
 pub enum Line<'a> {
     /// Empty, or a comment.
     Skipped,

@@ -26,4 +26,5 @@ TellsBlock R l bytes b hex text status = ((b < l.sup.blocks) × IsShown R l byte
 -- rolled back.
 abbrev pub IsBlockLook : List ℕ → ℕ → Bool → List ℕ → Answered → Type 0
 IsBlockLook bytes b hex text answered = (IsSuperRefusal (region_of bytes) text answered.status × (answered.faults ≡ 0))
-    ⊎ ((o : Outcome) × IsOutcome (region_of bytes) o × TellsBlock (undone o.sup (region_of bytes)) (layout_of o.sup (undone o.sup (region_of bytes))) bytes b hex text answered.status × (answered.faults ≡ length o.faults))
+    ⊎ ((o : Outcome) × IsOutcome (region_of bytes) o × TellsBlock (undone o.sup (region_of bytes))
+    (layout_of o.sup (undone o.sup (region_of bytes))) bytes b hex text answered.status × (answered.faults ≡ length o.faults))

@@ -11,7 +11,7 @@ ghost use Rattle.nv_logs.specs.Writing.{WritesTold, FailsTold};
 
 use crate::looking::{Look, unaccepted_look};
 use crate::writing::write_look;
-use nv_image_check::{Answered, GatheredImage, Image, recover_gathered, recover_image};
+use nv_image_check::{Answered, GatheredImage, Image, let_go, recover_gathered, recover_image};
 use nv_inode::{Tables, read_tables};
 use nv_inspect::push_log;
 use nv_metadata::Gathered;
@@ -63,7 +63,11 @@ fn look_at_image(alloc: Global, bytes: &[u8]) -> Result<Look, AllocError>
 {
     let image = recover_image(alloc, bytes)?;
     match image {
-        Image::Recovered(memory, found) => look_in(alloc, &memory, &found),
+        Image::Recovered(memory, found) => {
+            let look = look_in(alloc, &memory, &found);
+            let_go(memory, found);
+            look
+        }
         Image::Refused(refusal) => unaccepted_look(alloc, refusal),
     }
 }
@@ -74,7 +78,11 @@ fn look_at_gathered(alloc: Global, gathered: Gathered) -> Result<Look, AllocErro
 {
     let image = recover_gathered(alloc, gathered)?;
     match image {
-        GatheredImage::Recovered(memory, found) => look_in(alloc, &memory, &found),
+        GatheredImage::Recovered(memory, found) => {
+            let look = look_in(alloc, &memory, &found);
+            let_go(memory, found);
+            look
+        }
         GatheredImage::Refused(refusal) => unaccepted_look(alloc, refusal),
     }
 }

@@ -9,7 +9,7 @@ ghost use Rattle.nv_logs.specs.Writing.{WritesTold, FailsTold};
 use crate::looking::{Look, refused_look, unaccepted_look};
 use crate::writing::write_look;
 use nv_block::{block_bytes, push_block, push_hex_rows};
-use nv_image_check::{Answered, Image, recover_image};
+use nv_image_check::{Answered, Image, let_go, recover_image};
 use nv_report::{Last, Recovered};
 use nv_stream::ScriptError;
 use nv_super::BLOCK_SIZE;
@@ -43,7 +43,11 @@ fn look_at_block(alloc: Global, bytes: &[u8], block: u64, hex: bool) -> Result<L
 {
     let image = recover_image(alloc, bytes)?;
     match image {
-        Image::Recovered(_memory, found) => look_in(alloc, bytes, &found, block, hex),
+        Image::Recovered(memory, found) => {
+            let look = look_in(alloc, bytes, &found, block, hex);
+            let_go(memory, found);
+            look
+        }
         Image::Refused(refusal) => unaccepted_look(alloc, refusal),
     }
 }

@@ -16,7 +16,7 @@ ghost use Rattle.nv_logs.specs.Looking.{IsLogLook, TellsLog};
 
 use crate::asking::row_asked;
 use crate::inode::Inode;
-use nv_image_check::{Answered, GatheredImage, Image, recover_gathered, recover_image};
+use nv_image_check::{Answered, GatheredImage, Image, let_go, recover_gathered, recover_image};
 use nv_inode::read_tables;
 use nv_inspect::push_log;
 use nv_metadata::Gathered;
@@ -40,7 +40,11 @@ pub(crate) fn look_at_image(alloc: Global, bytes: &[u8], inode: &Inode) -> Resul
 {
     let image = recover_image(alloc, bytes)?;
     match image {
-        Image::Recovered(memory, found) => look_in(alloc, &memory, &found, inode),
+        Image::Recovered(memory, found) => {
+            let look = look_in(alloc, &memory, &found, inode);
+            let_go(memory, found);
+            look
+        }
         Image::Refused(refusal) => unaccepted_look(alloc, refusal),
     }
 }
@@ -56,7 +60,11 @@ pub(crate) fn look_at_gathered(
 {
     let image = recover_gathered(alloc, gathered)?;
     match image {
-        GatheredImage::Recovered(memory, found) => look_in(alloc, &memory, &found, inode),
+        GatheredImage::Recovered(memory, found) => {
+            let look = look_in(alloc, &memory, &found, inode);
+            let_go(memory, found);
+            look
+        }
         GatheredImage::Refused(refusal) => unaccepted_look(alloc, refusal),
     }
 }

@@ -9,7 +9,7 @@ ghost use Rattle.nv_logs.specs.Writing.{WritesTold, FailsTold};
 
 use crate::looking::{Look, unaccepted_look};
 use crate::writing::write_look;
-use nv_image_check::{Answered, GatheredImage, Image, recover_gathered, recover_image};
+use nv_image_check::{Answered, GatheredImage, Image, let_go, recover_gathered, recover_image};
 use nv_metadata::Gathered;
 use nv_report::Recovered;
 use nv_stream::ScriptError;
@@ -70,7 +70,11 @@ fn look_at_image<T: Teller>(alloc: Global, bytes: &[u8], teller: &T) -> Result<L
 {
     let image = recover_image(alloc, bytes)?;
     match image {
-        Image::Recovered(_memory, found) => teller.look(alloc, &found),
+        Image::Recovered(memory, found) => {
+            let look = teller.look(alloc, &found);
+            let_go(memory, found);
+            look
+        }
         Image::Refused(refusal) => unaccepted_look(alloc, refusal),
     }
 }
@@ -85,7 +89,11 @@ fn look_at_gathered<T: Teller>(
 {
     let image = recover_gathered(alloc, gathered)?;
     match image {
-        GatheredImage::Recovered(_memory, found) => teller.look(alloc, &found),
+        GatheredImage::Recovered(memory, found) => {
+            let look = teller.look(alloc, &found);
+            let_go(memory, found);
+            look
+        }
         GatheredImage::Refused(refusal) => unaccepted_look(alloc, refusal),
     }
 }

@@ -10,7 +10,7 @@ use Rattle.nv_tree.specs.Tree.{Node, Tree, walk, found, as_directory, and_then, 
 use Rattle.nv_tree.specs.Refusals.{Path, first_refusal, is_directory_at, list_tests, stat_tests}
 use Rattle.nv_tree.specs.declared.refusal.Refusal.{Refusal}
 use Rattle.nv_paths.specs.Seen.{node_of, tree_of}
-use Rattle.nv_calls.specs.Stat.{stat_of, IsStat}
+use Rattle.nv_tree.specs.Stat.{stat_of, IsStat}
 use Rattle.nv_calls.specs.Listing.{ListsNamesIn}
 use Rattle.nv_session.specs.Machine.{TellsStat, TellsNames}
 use Rattle.nv_looks.specs.Looking.{ListsNames, TellsNumbers, call_status}

@@ -4,15 +4,16 @@
 ghost use Rattle.std.specs.Prelude.{◌≡◌, ℕ, List, Some, IfOk, IfErr};
 ghost use Rattle.nv_region.specs.Region.{Region, region_of};
 ghost use Rattle.nv_metadata.specs.Gathered.{AreGathered, IsOpen};
+ghost use Rattle.nv_metadata.specs.declared.gathering.Gathered.{Gathered as GatheredValue};
 ghost use Rattle.nv_archive.specs.Shown.{AreKnown, AreSmallRows, shown_tree};
 ghost use Rattle.nv_looks.specs.Sent.{written};
 ghost use Rattle.nv_looks.specs.Looking.{WritesLook};
-ghost use Rattle.nv_looks.specs.Gathered.{FailsBlocksCat};
+ghost use Rattle.nv_looks.specs.Gathered.{FailsBlocksCat, IsOpenedOf, is_whole};
 ghost use Rattle.nv_looks.specs.Archiving.{FailsTold, GivesArchive, WritesTold, archive_status};
 ghost use Rattle.nv_looks.specs.Catting.{AreReadFrom};
 ghost use Rattle.nv_paths.specs.Seen.{tree_of};
 
-use crate::gathered::{OpenedMetadata, is_whole, open_gathered};
+use crate::gathered::{OpenedMetadata, close_metadata, is_whole, open_gathered};
 use crate::looking::{refused_look, write_refusal};
 use nv_archive::{Chosen, inode_of, write_archive};
 use nv_image_check::{Answered, BlocksError};
@@ -68,16 +69,39 @@ pub fn tar_gathered<B: Blocks, W: Write, E: Write>(
 {
     let whole = is_whole(&gathered);
     let opened = open_gathered(alloc, gathered)?;
+    let answered = tar_opened(alloc, source, &opened, whole, chosen, all, writer, errors);
+    close_metadata(opened);
+    answered
+}
+
+fn tar_opened<B: Blocks, W: Write, E: Write>(
+    alloc: Global,
+    source: &B,
+    opened: &OpenedMetadata,
+    whole: bool,
+    chosen: Chosen<'_>,
+    all: bool,
+    writer: &mut W,
+    errors: &mut E,
+) -> Result<Answered, BlocksError>
+    requires { (of : GatheredValue) × IsOpenedOf of opened.now }
+    ensures ok { (of : GatheredValue) (bytes : List ℕ) → IsOpenedOf of opened.now → whole ≡ is_whole of → B.bytes source.now ≡ Some bytes → AreGathered (region_of bytes) of
+        → IfOk result (λ answered. WritesLook (GivesArchive chosen.entry all) bytes (written (W.contents writer.old) (E.contents errors.old))
+        (written (W.contents writer.new) (E.contents errors.new)) answered) }
+    ensures err { (of : GatheredValue) (bytes : List ℕ) → IsOpenedOf of opened.now → whole ≡ is_whole of → B.bytes source.now ≡ Some bytes → AreGathered (region_of bytes) of
+        → IfErr result (λ e. FailsBlocksCat (GivesArchive chosen.entry all) bytes e (written (W.contents writer.old) (E.contents errors.old))
+        (written (W.contents writer.new) (E.contents errors.new))) }
+{
     match opened {
         OpenedMetadata::Mounted(mount) => {
-            let status = tar_mounted(alloc, source, &mount, whole, chosen, all, writer, errors)?;
+            let status = tar_mounted(alloc, source, mount, whole, chosen, all, writer, errors)?;
             Ok(Answered {
                 status,
                 faults: mount.faults().len(),
             })
         }
         OpenedMetadata::Refused(refusal) => {
-            let look = refused_look(alloc, refusal)?;
+            let look = refused_look(alloc, *refusal)?;
             write_text(errors, look.text.as_bytes())?;
             Ok(look.answered)
         }

@@ -5,17 +5,18 @@ ghost use Rattle.std.specs.Io.KnownBytes.{Keeps};
 ghost use Rattle.nv_region.specs.Region.{Region, region_of};
 ghost use Rattle.nv_rows.specs.Rows.{row_of};
 ghost use Rattle.nv_metadata.specs.Gathered.{AreGathered, IsOpen};
+ghost use Rattle.nv_metadata.specs.declared.gathering.Gathered.{Gathered as GatheredValue};
 ghost use Rattle.nv_tree.specs.Path.{IsPath, Says};
 ghost use Rattle.nv_tree.specs.Tree.{Tree};
 ghost use Rattle.nv_tree.specs.Refusals.{Path, first_refusal, read_tests};
 ghost use Rattle.nv_paths.specs.Seen.{node_of, tree_of, LeadsTo};
 ghost use Rattle.nv_looks.specs.Sent.{written};
 ghost use Rattle.nv_looks.specs.Looking.{GivesBytes, WritesLook, WritesFile, WritesCall};
-ghost use Rattle.nv_looks.specs.Gathered.{FailsBlocksCat};
+ghost use Rattle.nv_looks.specs.Gathered.{FailsBlocksCat, IsOpenedOf, is_whole};
 ghost use Rattle.nv_archive.specs.Shown.{AreSmallRows, IsSmallRow};
 ghost use Rattle.nv_looks.specs.Catting.{IsFileOf, AreReadFrom, AreShownAs, FailsBlocksCall, FailsBlocksFile};
 
-use crate::gathered::{OpenedMetadata, is_whole, open_gathered};
+use crate::gathered::{OpenedMetadata, close_metadata, is_whole, open_gathered};
 use crate::looking::{refused_look, status_of, write_refusal};
 use nv_image_check::{Answered, BlocksError};
 use nv_metadata::{Blocks, Gathered, HeldBytes, MetadataRegion, gather};
@@ -72,16 +73,38 @@ pub fn cat_gathered<B: Blocks, W: Write, E: Write>(
 {
     let whole = is_whole(&gathered);
     let opened = open_gathered(alloc, gathered)?;
+    let answered = cat_opened(alloc, source, &opened, whole, path, writer, errors);
+    close_metadata(opened);
+    answered
+}
+
+fn cat_opened<B: Blocks, W: Write, E: Write>(
+    alloc: Global,
+    source: &B,
+    opened: &OpenedMetadata,
+    whole: bool,
+    path: &[u8],
+    writer: &mut W,
+    errors: &mut E,
+) -> Result<Answered, BlocksError>
+    requires { (of : GatheredValue) × IsOpenedOf of opened.now }
+    ensures ok { (of : GatheredValue) (bytes : List ℕ) → IsOpenedOf of opened.now → whole ≡ is_whole of → B.bytes source.now ≡ Some bytes → AreGathered (region_of bytes) of
+        → IfOk result (λ answered. WritesLook (GivesBytes path.now) bytes (written (W.contents writer.old) (E.contents errors.old))
+        (written (W.contents writer.new) (E.contents errors.new)) answered) }
+    ensures err { (of : GatheredValue) (bytes : List ℕ) → IsOpenedOf of opened.now → whole ≡ is_whole of → B.bytes source.now ≡ Some bytes → AreGathered (region_of bytes) of
+        → IfErr result (λ e. FailsBlocksCat (GivesBytes path.now) bytes e (written (W.contents writer.old) (E.contents errors.old))
+        (written (W.contents writer.new) (E.contents errors.new))) }
+{
     match opened {
         OpenedMetadata::Mounted(mount) => {
-            let status = cat_mounted(alloc, source, &mount, whole, path, writer, errors)?;
+            let status = cat_mounted(alloc, source, mount, whole, path, writer, errors)?;
             Ok(Answered {
                 status,
                 faults: mount.faults().len(),
             })
         }
         OpenedMetadata::Refused(refusal) => {
-            let look = refused_look(alloc, refusal)?;
+            let look = refused_look(alloc, *refusal)?;
             write_text(errors, look.text.as_bytes())?;
             Ok(look.answered)
         }

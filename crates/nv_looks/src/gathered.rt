@@ -5,6 +5,7 @@
 ghost use Rattle.std.specs.Prelude.{◌≡◌, ◌≢◌, ℕ, List, Some, IfOk, IfErr, string_bytes};
 ghost use Rattle.nv_region.specs.Region.{Region, region_of};
 ghost use Rattle.nv_metadata.specs.Gathered.{AreGathered, IsOpen};
+ghost use Rattle.nv_metadata.specs.declared.gathering.Gathered.{Gathered as GatheredValue};
 ghost use Rattle.nv_looks.specs.Sent.{written};
 ghost use Rattle.nv_looks.specs.Looking.{IsLook, ListsNames, TellsNumbers, WritesLook, FailsLook};
 ghost use Rattle.nv_looks.specs.Gathered.{IsOpenedOf, FailsBlocksLook, KeepsBothUnread, is_whole};
@@ -120,12 +121,20 @@ fn look_at_names(alloc: Global, gathered: Gathered, path: &[u8]) -> Result<Look,
     ensures { (R : Region) → AreGathered R gathered → IfOk result (λ look. IsLook (ListsNames path.now) R (string_bytes look.text) look.answered) }
 {
     let opened = open_gathered(alloc, gathered)?;
+    let look = names_in(alloc, &opened, path);
+    close_metadata(opened);
+    look
+}
+
+fn names_in(alloc: Global, opened: &OpenedMetadata, path: &[u8]) -> Result<Look, AllocError>
+    ensures { (of : GatheredValue) (R : Region) → IsOpenedOf of opened.now → AreGathered R of → IfOk result (λ look. IsLook (ListsNames path.now) R (string_bytes look.text) look.answered) }
+{
     match opened {
         OpenedMetadata::Mounted(mount) => {
-            let told = list_text(alloc, &mount, path)?;
+            let told = list_text(alloc, mount, path)?;
             Ok(told_look(told, mount.faults().len()))
         }
-        OpenedMetadata::Refused(refusal) => refused_look(alloc, refusal),
+        OpenedMetadata::Refused(refusal) => refused_look(alloc, *refusal),
     }
 }
 
@@ -134,12 +143,30 @@ fn look_at_numbers(alloc: Global, gathered: Gathered, path: &[u8]) -> Result<Loo
     ensures { (R : Region) → AreGathered R gathered → IfOk result (λ look. IsLook (TellsNumbers path.now) R (string_bytes look.text) look.answered) }
 {
     let opened = open_gathered(alloc, gathered)?;
+    let look = numbers_in(alloc, &opened, path);
+    close_metadata(opened);
+    look
+}
+
+fn numbers_in(alloc: Global, opened: &OpenedMetadata, path: &[u8]) -> Result<Look, AllocError>
+    ensures { (of : GatheredValue) (R : Region) → IsOpenedOf of opened.now → AreGathered R of → IfOk result (λ look. IsLook (TellsNumbers path.now) R (string_bytes look.text) look.answered) }
+{
     match opened {
         OpenedMetadata::Mounted(mount) => {
-            let told = stat_text(alloc, &mount, path)?;
+            let told = stat_text(alloc, mount, path)?;
             Ok(told_look(told, mount.faults().len()))
         }
-        OpenedMetadata::Refused(refusal) => refused_look(alloc, refusal),
+        OpenedMetadata::Refused(refusal) => refused_look(alloc, *refusal),
+    }
+}
+
+// Lets go of what was opened. A mount drops what it holds where it gives its memory back.
+pub(crate) fn close_metadata(opened: OpenedMetadata) {
+    match opened {
+        OpenedMetadata::Mounted(mount) => {
+            let _memory = mount.into_memory();
+        }
+        OpenedMetadata::Refused(_) => {}
     }
 }
 

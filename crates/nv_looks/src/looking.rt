@@ -3,7 +3,7 @@
 //! What is found wrong doesn't keep the calls from being made; the answer tells of it.
 
 ghost use Rattle.std.specs.Prelude.{◌≡◌, ℕ, false, if◌then◌else◌, IfOk, IfErr, OnOk, OnErr, List, string_bytes};
-ghost use Rattle.nv_region.specs.Region.{region_of};
+ghost use Rattle.nv_region.specs.Region.{Region, region_of};
 ghost use Rattle.nv_text.specs.Refusals.{refusal_name};
 ghost use Rattle.nv_tree.specs.Path.{IsPath, Says};
 ghost use Rattle.nv_tree.specs.Refusals.{Path};
@@ -97,16 +97,34 @@ pub fn cat_image<W: Write, E: Write>(
     ensures err { IfErr result (λ e. FailsCat (GivesBytes path.now) bytes.now e (written (W.contents writer.old) (E.contents errors.old)) (written (W.contents writer.new) (E.contents errors.new))) }
 {
     let opened = open_image(alloc, bytes)?;
+    let answered = cat_opened(alloc, &opened, path, writer, errors);
+    close(opened);
+    answered
+}
+
+fn cat_opened<W: Write, E: Write>(
+    alloc: Global,
+    opened: &Opened<'_>,
+    path: &[u8],
+    writer: &mut W,
+    errors: &mut E,
+) -> Result<Answered, ScriptError>
+    requires { (bytes : List ℕ) × IsOpened (region_of bytes) opened.now }
+    ensures ok { (bytes : List ℕ) → IsOpened (region_of bytes) opened.now → IfOk result (λ answered. WritesLook (GivesBytes path.now) bytes (written (W.contents writer.old) (E.contents errors.old))
+        (written (W.contents writer.new) (E.contents errors.new)) answered) }
+    ensures err { (bytes : List ℕ) → IsOpened (region_of bytes) opened.now → IfErr result (λ e. FailsCat (GivesBytes path.now) bytes e (written (W.contents writer.old) (E.contents errors.old))
+        (written (W.contents writer.new) (E.contents errors.new))) }
+{
     match opened {
         Opened::Mounted(mount) => {
-            let status = cat_file(alloc, &mount, path, writer, errors)?;
+            let status = cat_file(alloc, mount, path, writer, errors)?;
             Ok(Answered {
                 status,
                 faults: mount.faults().len(),
             })
         }
         Opened::Refused(refusal) => {
-            let look = refused_look(alloc, refusal)?;
+            let look = refused_look(alloc, *refusal)?;
             write_text(errors, look.text.as_bytes())?;
             Ok(look.answered)
         }
@@ -136,12 +154,20 @@ fn look_at_names(alloc: Global, bytes: &[u8], path: &[u8]) -> Result<Look, Alloc
     ensures { IfOk result (λ look. IsLook (ListsNames path.now) (region_of bytes.now) (string_bytes look.text) look.answered) }
 {
     let opened = open_image(alloc, bytes)?;
+    let look = names_in(alloc, &opened, path);
+    close(opened);
+    look
+}
+
+fn names_in(alloc: Global, opened: &Opened<'_>, path: &[u8]) -> Result<Look, AllocError>
+    ensures { (R : Region) → IsOpened R opened.now → IfOk result (λ look. IsLook (ListsNames path.now) R (string_bytes look.text) look.answered) }
+{
     match opened {
         Opened::Mounted(mount) => {
-            let told = list_text(alloc, &mount, path)?;
+            let told = list_text(alloc, mount, path)?;
             Ok(told_look(told, mount.faults().len()))
         }
-        Opened::Refused(refusal) => refused_look(alloc, refusal),
+        Opened::Refused(refusal) => refused_look(alloc, *refusal),
     }
 }
 
@@ -149,12 +175,20 @@ fn look_at_numbers(alloc: Global, bytes: &[u8], path: &[u8]) -> Result<Look, All
     ensures { IfOk result (λ look. IsLook (TellsNumbers path.now) (region_of bytes.now) (string_bytes look.text) look.answered) }
 {
     let opened = open_image(alloc, bytes)?;
+    let look = numbers_in(alloc, &opened, path);
+    close(opened);
+    look
+}
+
+fn numbers_in(alloc: Global, opened: &Opened<'_>, path: &[u8]) -> Result<Look, AllocError>
+    ensures { (R : Region) → IsOpened R opened.now → IfOk result (λ look. IsLook (TellsNumbers path.now) R (string_bytes look.text) look.answered) }
+{
     match opened {
         Opened::Mounted(mount) => {
-            let told = stat_text(alloc, &mount, path)?;
+            let told = stat_text(alloc, mount, path)?;
             Ok(told_look(told, mount.faults().len()))
         }
-        Opened::Refused(refusal) => refused_look(alloc, refusal),
+        Opened::Refused(refusal) => refused_look(alloc, *refusal),
     }
 }
 
@@ -168,6 +202,16 @@ pub(crate) fn open_image(alloc: Global, bytes: &[u8]) -> Result<Opened<'_>, Allo
             Ok(Opened::Mounted(Fs::open(alloc, memory, recovered)))
         }
         Image::Refused(refusal) => Ok(Opened::Refused(refusal)),
+    }
+}
+
+// Lets go of what was opened. A mount drops what it holds where it gives its memory back.
+pub(crate) fn close(opened: Opened<'_>) {
+    match opened {
+        Opened::Mounted(mount) => {
+            let _memory = mount.into_memory();
+        }
+        Opened::Refused(_) => {}
     }
 }
 

@@ -1,15 +1,16 @@
 //! Looking into a region that is given as bytes, at an inode that its number names: also at one that no path leads to.
 
-ghost use Rattle.std.specs.Prelude.{◌≡◌, false, IfOk, IfErr, OnOk, string_bytes};
-ghost use Rattle.nv_region.specs.Region.{region_of};
+ghost use Rattle.std.specs.Prelude.{◌≡◌, ℕ, List, false, IfOk, IfErr, OnOk, string_bytes};
+ghost use Rattle.nv_region.specs.Region.{Region, region_of};
 ghost use Rattle.nv_calls.specs.ByNumber.{IsInodeRead};
 ghost use Rattle.nv_looks.specs.Sent.{written};
-ghost use Rattle.nv_looks.specs.Looking.{IsLook, WritesLook, FailsLook, FailsCat};
+ghost use Rattle.nv_looks.specs.Looking.{IsLook, IsOpened, WritesLook, FailsLook, FailsCat};
 ghost use Rattle.nv_looks.specs.LookingByNumber.{ListsInodeNames, TellsInodeNumbers, GivesInodeBytes, IsInodeSized, WritesInode, FailsInode, WritesInodeCall, FailsInodeCall};
 ghost use Rattle.nv_calls.specs.Mount.{shown};
 
 use crate::looking::{
-    Look, Opened, PIECE, open_image, refused_look, status_of, told_look, write_look, write_refusal,
+    Look, Opened, PIECE, close, open_image, refused_look, status_of, told_look, write_look,
+    write_refusal,
 };
 use nv_image_check::Answered;
 use nv_region::Pmem;
@@ -70,16 +71,34 @@ pub fn cat_inode_image<W: Write, E: Write>(
     ensures err { IfErr result (λ e. FailsCat (GivesInodeBytes inode) bytes.now e (written (W.contents writer.old) (E.contents errors.old)) (written (W.contents writer.new) (E.contents errors.new))) }
 {
     let opened = open_image(alloc, bytes)?;
+    let answered = cat_inode_opened(alloc, &opened, inode, writer, errors);
+    close(opened);
+    answered
+}
+
+fn cat_inode_opened<W: Write, E: Write>(
+    alloc: Global,
+    opened: &Opened<'_>,
+    inode: u64,
+    writer: &mut W,
+    errors: &mut E,
+) -> Result<Answered, ScriptError>
+    requires { (bytes : List ℕ) × IsOpened (region_of bytes) opened.now }
+    ensures ok { (bytes : List ℕ) → IsOpened (region_of bytes) opened.now → IfOk result (λ answered. WritesLook (GivesInodeBytes inode) bytes (written (W.contents writer.old) (E.contents errors.old))
+        (written (W.contents writer.new) (E.contents errors.new)) answered) }
+    ensures err { (bytes : List ℕ) → IsOpened (region_of bytes) opened.now → IfErr result (λ e. FailsCat (GivesInodeBytes inode) bytes e (written (W.contents writer.old) (E.contents errors.old))
+        (written (W.contents writer.new) (E.contents errors.new))) }
+{
     match opened {
         Opened::Mounted(mount) => {
-            let status = cat_inode(alloc, &mount, inode, writer, errors)?;
+            let status = cat_inode(alloc, mount, inode, writer, errors)?;
             Ok(Answered {
                 status,
                 faults: mount.faults().len(),
             })
         }
         Opened::Refused(refusal) => {
-            let look = refused_look(alloc, refusal)?;
+            let look = refused_look(alloc, *refusal)?;
             write_text(errors, look.text.as_bytes())?;
             Ok(look.answered)
         }
@@ -90,12 +109,20 @@ fn look_at_inode_names(alloc: Global, bytes: &[u8], inode: u64) -> Result<Look, 
     ensures { IfOk result (λ look. IsLook (ListsInodeNames inode) (region_of bytes.now) (string_bytes look.text) look.answered) }
 {
     let opened = open_image(alloc, bytes)?;
+    let look = inode_names_in(alloc, &opened, inode);
+    close(opened);
+    look
+}
+
+fn inode_names_in(alloc: Global, opened: &Opened<'_>, inode: u64) -> Result<Look, AllocError>
+    ensures { (R : Region) → IsOpened R opened.now → IfOk result (λ look. IsLook (ListsInodeNames inode) R (string_bytes look.text) look.answered) }
+{
     match opened {
         Opened::Mounted(mount) => {
-            let told = list_inode_text(alloc, &mount, inode)?;
+            let told = list_inode_text(alloc, mount, inode)?;
             Ok(told_look(told, mount.faults().len()))
         }
-        Opened::Refused(refusal) => refused_look(alloc, refusal),
+        Opened::Refused(refusal) => refused_look(alloc, *refusal),
     }
 }
 
@@ -103,12 +130,20 @@ fn look_at_inode_numbers(alloc: Global, bytes: &[u8], inode: u64) -> Result<Look
     ensures { IfOk result (λ look. IsLook (TellsInodeNumbers inode) (region_of bytes.now) (string_bytes look.text) look.answered) }
 {
     let opened = open_image(alloc, bytes)?;
+    let look = inode_numbers_in(alloc, &opened, inode);
+    close(opened);
+    look
+}
+
+fn inode_numbers_in(alloc: Global, opened: &Opened<'_>, inode: u64) -> Result<Look, AllocError>
+    ensures { (R : Region) → IsOpened R opened.now → IfOk result (λ look. IsLook (TellsInodeNumbers inode) R (string_bytes look.text) look.answered) }
+{
     match opened {
         Opened::Mounted(mount) => {
-            let told = stat_inode_text(alloc, &mount, inode)?;
+            let told = stat_inode_text(alloc, mount, inode)?;
             Ok(told_look(told, mount.faults().len()))
         }
-        Opened::Refused(refusal) => refused_look(alloc, refusal),
+        Opened::Refused(refusal) => refused_look(alloc, *refusal),
     }
 }
 

@@ -221,7 +221,8 @@ fn read_bytes<B: Blocks>(
 fn hold_whole(alloc: Global, sup: &Super, bytes: Vec<u8>) -> Result<MetadataRegion, AllocError>
     requires layout { IsLayout sup.now }
     requires whole { IsWhole sup.now bytes.items }
-    ensures gathered { (image : List ℕ) → length image ≡ 4096 * sup.now.blocks → AreBytesAt image 0 bytes.items → IfOk result (λ m. IsSuper (region_of image) sup.now × IsGathered sup.now (region_of image) m.memory.region) }
+    ensures gathered { (image : List ℕ) → length image ≡ 4096 * sup.now.blocks → AreBytesAt image 0 bytes.items
+        → IfOk result (λ m. IsSuper (region_of image) sup.now × IsGathered sup.now (region_of image) m.memory.region) }
     ensures ready { IfOk result (IsReady sup.now) }
 {
     let memory = MetadataRegion::of_front(alloc, sup.blocks, bytes, 0)?;

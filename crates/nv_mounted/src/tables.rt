@@ -47,7 +47,8 @@ pub fn chain_grows()
 /// without the block. Its rows say what they said, and each byte of a file is where it was. What a stop leaves is sound by
 /// the layout of before, or by that with the block.
 pub fn mounted_tables_grow()
-    ensures mounted { (R Q : Region) (l : Layout) (held : Store) (rows : List RowValue) (free without : List (List Run)) (cpu block : ℕ) → IsMounted R l held rows free → l.sup.version ≡ 2 → cpu < l.sup.cpus
+    ensures mounted { (R Q : Region) (l : Layout) (held : Store) (rows : List RowValue) (free without : List (List Run)) (cpu block : ℕ)
+        → IsMounted R l held rows free → l.sup.version ≡ 2 → cpu < l.sup.cpus
         → IsUnowned l held block → size Q ≡ size R → IsLinked R (link_behind (first_link cpu) (chain_of l cpu)) block Q → ArePoolRuns l (λ b. IsUnowned l held b × (b ≢ block)) without
         → IsMounted Q (with_block l cpu block) held rows without }
     ensures row { (l : Layout) (cpu block : ℕ) (h : Held) (row : RowValue) → KeepsRow l h row → KeepsRow (with_block l cpu block) h row }

@@ -24,7 +24,7 @@ const FAULTY: u8 = 1;
 /// records of its journals. For this the image is read whole.
 ///
 /// Errors: a file that can't be read, and want of memory or of a place to write to.
-pub fn check_journals<'a, H: Files + AllocGlobal + Print + Eprint + Threads + Sync>(
+pub(crate) fn check_journals<'a, H: Files + AllocGlobal + Print + Eprint + Threads + Sync>(
     rt: &H,
     path: &'a str,
     workers: u32,

@@ -103,6 +103,20 @@ impl ExtentMap {
         self.set_run(page, block, count)
     }
 
+    /// `write_run` of one page, where that page stands in the leaf and nothing is cut, which takes no memory. Elsewhere it answers
+    /// false, and changes nothing.
+    #[inline(always)]
+    pub fn write_page(&mut self, end: u64, page: u64, block: u64) -> bool
+        ensures wrote { IsTrue result → (p : ℕ) → block_by self.new p ≡ (if in_run page 1 p then Some (block + (p - page)) else (if nat_le end p then None else block_by self.old p)) }
+        ensures same { result ≡ false → self.new ≡ self.old }
+    {
+        if self.front.is_ready(page) && self.ends_by(end) {
+            self.front.set_page(page, block);
+            return true;
+        }
+        false
+    }
+
     /// The block of a page, which may be any number, if it is mapped. It costs the logarithm of the number of runs.
     pub fn get(&self, page: u64) -> Option<u64>
         ensures { result ≡ block_by self.now page }
@@ -118,7 +132,7 @@ impl ExtentMap {
 
     /// Whether no page from `end` on is mapped, told without a search: `false` says nothing.
     #[inline(always)]
-    fn ends_by(&self, end: u64) -> bool
+    pub fn ends_by(&self, end: u64) -> bool
         ensures { IsTrue result → (p : ℕ) → end ≤ p → block_by self.now p ≡ None }
     {
         end >= self.runs.end() && self.front.ends_by(end)

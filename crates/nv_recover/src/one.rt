@@ -24,7 +24,8 @@ use nv_numbered::Chunks;
 use nv_outcome::{Recovered, cross_faults};
 use nv_region::Pmem;
 use nv_scan::{
-    Inodes, ListedInodes, Scanner, push_heads, room_for_ticket, scan_slots, ticket_count,
+    Gate, Inodes, ListedInodes, NoGate, Scanner, push_heads, room_for_ticket, scan_slots,
+    ticket_count,
 };
 use std::alloc::{AllocError, Global};
 
@@ -54,17 +55,23 @@ pub fn recover_one<P: Pmem>(alloc: Global, memory: &mut P) -> Result<Recovered, 
     ensures kept { KeepsRecovering P.region P.may_hold P.fuse memory.old memory.new result }
 {
     let started = start(alloc, memory)?;
-    let scanned = scan_all(alloc, &*memory, &started.tables)?;
+    let scanned = scan_all(alloc, &*memory, &started.tables, &NoGate)?;
     Ok(finish(alloc, started, scanned)?)
 }
 
-// Scans all inodes. No list of all their claims is kept.
-fn scan_all<P: Pmem>(alloc: Global, memory: &P, tables: &Tables) -> Result<Scanned, AllocError>
+/// Scans all inodes by the one worker that there is, of number 0, on this thread. It shares nothing: no list of all claims is
+/// kept, and none is made by an atomic step.
+pub(crate) fn scan_all<P: Pmem, G: Gate>(
+    alloc: Global,
+    memory: &P,
+    tables: &Tables,
+    gate: &G,
+) -> Result<Scanned, AllocError>
     requires { HasBlocks (P.region memory.now) tables.now.layout.sup.blocks }
     ensures { IfOk result (IsScanned (P.region memory.now) tables.now.layout) }
 {
     tables.are_laid();
-    let (inodes, sets) = scan_tickets(alloc, memory, tables)?;
+    let (inodes, sets) = scan_tickets(alloc, memory, tables, gate)?;
     let owned = sets.owned(alloc, tables, inodes.rows.as_rows())?;
     let cross = cross_faults(alloc, tables, &inodes.rows)?;
     Ok(Scanned {
@@ -74,11 +81,13 @@ fn scan_all<P: Pmem>(alloc: Global, memory: &P, tables: &Tables) -> Result<Scann
     })
 }
 
-// Scans the inodes of one ticket after another, and puts the blocks that they claim into the sets.
-fn scan_tickets<P: Pmem>(
+// Scans the inodes of one ticket after another, with each of which the gate is entered, and puts the blocks that they claim into
+// the sets.
+fn scan_tickets<P: Pmem, G: Gate>(
     alloc: Global,
     memory: &P,
     tables: &Tables,
+    gate: &G,
 ) -> Result<(ListedInodes, Sets), AllocError>
     requires { HasBlocks (P.region memory.now) tables.now.layout.sup.blocks }
     ensures { IfOk result (λ r. (pieces drawn : List Piece) × AreInodes (P.region memory.now) tables.now.layout pieces r.0 × IsPermutation (claims_in pieces) (claims_in drawn)
@@ -91,6 +100,7 @@ fn scan_tickets<P: Pmem>(
     let mut each = room_for_ticket(alloc)?;
     let mut sets = Sets::new(alloc, tables.sup())?;
     for ticket in 0..ticket_count(tables) {
+        gate.enter(0, ticket);
         let count = scan_slots(memory, tables, &mut scanner, &mut inodes, &mut each, ticket)?;
         push_heads(&mut heads, &inodes.rows)?;
         sets.claim_each(&each[..count]);

@@ -13,6 +13,7 @@ ghost use Rattle.nv_recover.specs.Scanned.{IsScanned};
 
 use crate::errors::RecoverError;
 use crate::finishing::finish;
+use crate::one::scan_all;
 use crate::scanned::Scanned;
 use crate::sets::owned_of;
 use crate::starting::{is_worker_count, start};
@@ -59,7 +60,7 @@ pub fn recover<P: Pmem + Sync, G: Gate + Sync, H: Threads + Sync>(
     Ok(finish(alloc, started, scanned)?)
 }
 
-// Scans all inodes by workers.
+// Scans all inodes by workers. One alone shares nothing.
 fn scan_on_threads<P: Pmem + Sync, G: Gate + Sync, H: Threads + Sync>(
     rt: &H,
     alloc: Global,
@@ -72,6 +73,9 @@ fn scan_on_threads<P: Pmem + Sync, G: Gate + Sync, H: Threads + Sync>(
     requires workers { (0 < workers) × (workers ≤ 64) }
     ensures { IfOk result (IsScanned (P.region memory.now) tables.now.layout) }
 {
+    if workers == 1 {
+        return scan_all(alloc, memory, tables, gate);
+    }
     tables.are_laid();
     let (inodes, claimed) = scan_by_workers(rt, alloc, memory, tables, workers, gate)?;
     let owned = owned_of(alloc, claimed)?;

@@ -7,13 +7,13 @@ use Rattle.nv_radix.specs.Pages.{Pages}
 use Rattle.nv_radix.specs.Extents.{AreExtents}
 use Rattle.nv_radix.specs.declared.extent.Extent.{Extent}
 use Rattle.nv_names.specs.Names.{Names, ListsNames}
+use Rattle.nv_rows.specs.Stat.{row_stat}
 use Rattle.nv_scan.specs.declared.piece.Row.{Row}
 use Rattle.nv_text.specs.Answers.{recovered_line}
 use Rattle.nv_text.specs.Report.{region_line, inode_line, log_line, page_line}
 use Rattle.nv_text.specs.Names.{name_line}
 use Rattle.nv_text.specs.Free.{free_lines}
 use Rattle.nv_text.specs.Faults.{faults_text}
-use Rattle.nv_text.specs.declared.inodes.Attributes.{Attributes}
 use Rattle.nv_outcome.specs.Outcome.{Outcome}
 use Rattle.nv_report.specs.declared.part.Part.{Part}
 use Rattle.nv_report.specs.declared.part.Part.TheVariants.{Tree, Free, Faults, Report}
@@ -22,22 +22,9 @@ use Rattle.nv_report.specs.declared.part.Part.TheVariants.{Tree, Free, Faults, R
 abbrev pub recovered_text : Outcome → List ℕ
 recovered_text o = recovered_line (length o.rows) (all_blocks o.free) (length o.faults)
 
--- a row's inode, kind and numbers
-abbrev pub attributes_of : Row → Attributes
-attributes_of row = record {
-  inode = row.inode;
-  kind = row.kind;
-  mode = row.numbers.mode;
-  owner = row.numbers.owner;
-  group = row.numbers.group;
-  size = row.numbers.size;
-  links = row.numbers.links;
-  time = row.numbers.time;
-}
-
--- the line of an inode's attributes, and that of its log
+-- the line of an inode's numbers, and that of its log
 abbrev pub row_head : Row → List ℕ
-row_head row = inode_line (attributes_of row) ++ log_line row.pages.items row.tail
+row_head row = inode_line (row_stat row) ++ log_line row.pages.items row.tail
 
 -- a line for each name, with the name's inode
 abbrev pub names_text : List (List ℕ × ℕ × ℕ) → List ℕ

@@ -1,16 +1,17 @@
-//! The texts of the inodes in use: for each its attributes, its log, and its names or the extents of its pages.
+//! The texts of the inodes in use: for each its numbers, its log, and its names or the extents of its pages.
 
 ghost use Rattle.std.specs.Prelude.{◌≡◌, ◌++◌, OnOk, map, string_bytes};
 ghost use Rattle.nv_names.specs.Names.{line_of};
 ghost use Rattle.nv_super.specs.declared.kind.Kind.TheVariants as kinds;
-ghost use Rattle.nv_report.specs.Texts.{attributes_of, row_head, names_text, extents_text, IsContentText, IsRowText, IsTreeText, AddsText};
+ghost use Rattle.nv_report.specs.Texts.{row_head, names_text, extents_text, IsContentText, IsRowText, IsTreeText, AddsText};
 
 use nv_names::Named;
 use nv_outcome::Rows;
 use nv_radix::Extent;
+use nv_rows::stat_of;
 use nv_scan::Row;
 use nv_super::Kind;
-use nv_text::{Attributes, push_inode_line, push_log_line, push_name_line, push_page_line};
+use nv_text::{push_inode_line, push_log_line, push_name_line, push_page_line};
 use std::alloc::AllocError;
 
 /// The texts of the inodes, one after another.
@@ -33,24 +34,8 @@ pub(crate) fn push_row(out: &mut String, row: &Row) -> Result<(), AllocError>
 fn push_row_head(out: &mut String, row: &Row) -> Result<(), AllocError>
     ensures { OnOk result (string_bytes out.new ≡ string_bytes out.old ++ row_head row.now) }
 {
-    push_inode_line(out, &attributes_of(row))?;
+    push_inode_line(out, &stat_of(row))?;
     push_log_line(out, &row.pages, row.tail)
-}
-
-fn attributes_of(row: &Row) -> Attributes
-    ensures { result ≡ attributes_of row.now }
-{
-    let numbers = row.numbers;
-    Attributes {
-        inode: row.inode,
-        kind: row.kind,
-        mode: numbers.mode,
-        owner: numbers.owner,
-        group: numbers.group,
-        size: numbers.size,
-        links: numbers.links,
-        time: numbers.time,
-    }
 }
 
 fn push_content(out: &mut String, row: &Row) -> Result<(), AllocError>

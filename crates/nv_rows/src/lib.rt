@@ -3,7 +3,9 @@
 
 mod laws;
 mod rows;
+mod stat;
 mod used;
 
 pub use laws::grown_tables_have_an_unused_number;
 pub use rows::Rows;
+pub use stat::stat_of;

@@ -8,6 +8,7 @@ pub mod ChainBlocks
 pub mod Only
 pub mod Alone
 pub mod InUse
+pub mod InARow
 pub mod Blocks
 pub mod Sizes
 pub mod Pieces

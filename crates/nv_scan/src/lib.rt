@@ -11,6 +11,7 @@ mod chain_block;
 mod claiming;
 mod claims;
 mod fold;
+mod in_a_row;
 mod in_use;
 mod inodes;
 mod laws;

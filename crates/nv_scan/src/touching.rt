@@ -6,12 +6,15 @@ ghost use Rattle.nv_super.specs.Layout.{IsLayout};
 ghost use Rattle.nv_inode.specs.SlotBlocks.{IsSmallBlock};
 
 use crate::tickets::SLOTS;
-use nv_inode::{SlotBlock, read_slot_at};
+use nv_inode::SlotBlock;
 use nv_region::Pmem;
 use nv_super::{SLOT_SIZE, Super};
 
 // The memory hands over so many bytes at once.
 const LINE_SIZE: u64 = 64;
+
+// The offset in a slot of the word that says where its log begins.
+const HEAD: u64 = 16;
 
 /// The logs of the inodes whose slots stand in a block of slots. First it is seen where all of them begin, so that the
 /// loads of their words, which wait for nothing then, are under way together. The slot of number 0 is never read.
@@ -22,8 +25,14 @@ pub(crate) fn touch_block<P: Pmem>(memory: &P, sup: &Super, block: &SlotBlock) -
 {
     let mut heads = [0; SLOTS as usize];
     let some = if block.first == 0 { 1 } else { 0 };
+    let mut any = 0;
     for slot in some..block.slots {
-        heads[slot as usize] = read_slot_at(memory, block.start + SLOT_SIZE * slot).head;
+        let head = memory.load(block.start + SLOT_SIZE * slot + HEAD);
+        heads[slot as usize] = head;
+        any |= head;
+    }
+    if any == 0 {
+        return 0;
     }
     let mut words = 0;
     for head in heads {

@@ -43,7 +43,7 @@ use Rattle.nv_calls.specs.World.{world_of}
 use Rattle.nv_calls.proofs.DeadPages.{turns_prop}
 use Rattle.nv_calls.proofs.Mounts.{faultless, mounted_of_kept, mounted_with}
 use Rattle.nv_paths.specs.Seen.{node_of, tree_of}
-use Rattle.nv_session.proofs.Cleaned.{row_there}
+use Rattle.nv_history.proofs.Cleaned.{row_there}
 use Rattle.nv_session.proofs.Settled.{settled}
 use Rattle.nv_script.specs.declared.cleaning.Logs.TheVariants as which
 use Rattle.nv_script.specs.Cleaning.{AreShort, CameBack, CanClean, HasAtMost, HasDeadPages, HasFewer, HasTurns, IsOneOf, IsPageOf, LosesPages, NeedsPages}

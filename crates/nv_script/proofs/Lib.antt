@@ -11,3 +11,4 @@ pub mod FileAnswers
 pub mod FreedPages
 pub mod Cleanings
 pub mod CleanedImage
+pub mod EndOfRun

@@ -111,14 +111,18 @@ fn clean_mount(
 {
     match logs_at(&mount, path) {
         Ok(logs) => {
-            let pages = clean_logs(alloc, &mut mount, logs)?;
+            let gone = clean_logs(alloc, &mut mount, logs);
             // What it keeps is asked for below.
             mount.keeps();
             mount.nothing_is_pending();
             let region = mount.into_memory();
+            let pages = gone?;
             Ok(Cleaned::Region { region, pages })
         }
-        Err(refusal) => Ok(Cleaned::Refused(refusal)),
+        Err(refusal) => {
+            let _region = mount.into_memory();
+            Ok(Cleaned::Refused(refusal))
+        }
     }
 }
 

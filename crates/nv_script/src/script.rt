@@ -3,7 +3,7 @@
 //! Each line's whole text is made before a byte of it is written, or all room for it is there. So a line for which memory is wanted
 //! prints nothing.
 
-ghost use Rattle.std.specs.Prelude.{◌≡◌, ◌≢◌, ℕ, List, IfOk, IfErr, IfSome, OnErr, MatchBool, option_map, bytes_eq, string_bytes};
+ghost use Rattle.std.specs.Prelude.{◌≡◌, ◌≢◌, ℕ, List, Ok, Err, IfOk, IfErr, IfSome, OnErr, MatchBool, option_map, bytes_eq, string_bytes};
 ghost use Rattle.std.specs.Io.KnownBytes.{Appends};
 ghost use Rattle.nv_super.specs.declared.superblock.SuperFault.TheVariants as SuperFault;
 ghost use Rattle.nv_text.specs.Answers.{bad_line, refused_line};
@@ -96,7 +96,7 @@ pub fn run_script_with_hints<H: Threads + Sync, R: Read + Drop, W: Write, N: Hin
     ensures first_hints { OnErr result (WritesWhole HintsScript (R.remaining reader) (N.told hints.old) (N.told hints.new)) }
 {
     let mut session = Session::new();
-    run_in(
+    let status = run_in(
         rt,
         alloc,
         Rule::Lenient,
@@ -104,7 +104,9 @@ pub fn run_script_with_hints<H: Threads + Sync, R: Read + Drop, W: Write, N: Hin
         reader,
         writer,
         hints,
-    )
+    );
+    let _region = session.into_region();
+    status
 }
 
 /// How a script has ended: its exit status, and the region that there is then, if there is one.
@@ -136,7 +138,7 @@ pub fn run_script_on<H: Threads + Sync, R: Read + Drop, W: Write, N: Hints>(
     ensures first_hints { OnErr result (WritesWhole (HintsFrom (state_with region.region)) (R.remaining reader) (N.told hints.old) (N.told hints.new)) }
 {
     let mut session = Session::with_region(region);
-    let status = run_in(
+    let ran = run_in(
         rt,
         alloc,
         Rule::Lenient,
@@ -144,11 +146,22 @@ pub fn run_script_on<H: Threads + Sync, R: Read + Drop, W: Write, N: Hints>(
         reader,
         writer,
         hints,
-    )?;
-    Ok(Ended {
-        status,
-        region: session.into_region(),
-    })
+    );
+    end_of(session, ran)
+}
+
+// How a session has ended whose lines ran so. A session is let go here alone.
+pub(crate) fn end_of(session: Session, ran: Result<u8, ScriptError>) -> Result<Ended, ScriptError>
+    ensures status { IfOk result (λ ended. ran ≡ Ok ended.status) }
+    ensures region { IfOk result (λ ended. option_map (λ memory. memory.region) ended.region ≡ region_in session.store) }
+    ensures settled { IfOk result (λ ended. IfSome ended.region (λ memory. IsSettled memory)) }
+    ensures err { IfErr result (λ e. ran ≡ Err e) }
+{
+    let region = session.into_region();
+    match ran {
+        Ok(status) => Ok(Ended { status, region }),
+        Err(error) => Err(error),
+    }
 }
 
 // Runs a script in a session, from what that has made so far.
@@ -334,7 +347,7 @@ pub fn run_script_to_end<H: Threads + Sync, R: Read + Drop, W: Write, N: Hints>(
     ensures first_hints { OnErr result (WritesWhole HintsScript (R.remaining reader) (N.told hints.old) (N.told hints.new)) }
 {
     let mut session = Session::new();
-    let status = run_in(
+    let ran = run_in(
         rt,
         alloc,
         Rule::Lenient,
@@ -342,11 +355,8 @@ pub fn run_script_to_end<H: Threads + Sync, R: Read + Drop, W: Write, N: Hints>(
         reader,
         writer,
         hints,
-    )?;
-    Ok(Ended {
-        status,
-        region: session.into_region(),
-    })
+    );
+    end_of(session, ran)
 }
 
 /// `run_script_with_hints`, where a region may be there from the start, and which ends at the first command that is refused:
@@ -370,11 +380,8 @@ pub fn run_script_strictly<H: Threads + Sync, R: Read + Drop, W: Write, N: Hints
     ensures first_hints { OnErr result (WritesWhole (HintsStrictFrom (state_from (option_map (λ memory. memory.region) region))) (R.remaining reader) (N.told hints.old) (N.told hints.new)) }
 {
     let mut session = session_with(region);
-    let status = run_in(rt, alloc, Rule::Strict, &mut session, reader, writer, hints)?;
-    Ok(Ended {
-        status,
-        region: session.into_region(),
-    })
+    let ran = run_in(rt, alloc, Rule::Strict, &mut session, reader, writer, hints);
+    end_of(session, ran)
 }
 
 fn session_with(region: Option<MemRegion>) -> Session

@@ -3,7 +3,9 @@
 //! As in a script, a line's whole text is made, or all room for it is there, before a byte of it is written.
 
 ghost use Rattle.std.specs.Prelude.{◌≡◌, ◌≢◌, ◌++◌, ℕ, IfOk, IfErr, IfSome, IfNone, OnErr, List, Option, None, [], option_map, string_bytes};
-ghost use Rattle.nv_session.specs.Sessions.{IsSettled, Leads, Moves, region_in};
+ghost use Rattle.nv_region.specs.Region.{Region};
+ghost use Rattle.nv_session.specs.Machine.{state_with};
+ghost use Rattle.nv_session.specs.Sessions.{IsSettled, Leads, Moves, StandsFor, region_in};
 ghost use Rattle.nv_session.specs.Printed.{Prints};
 ghost use Rattle.nv_session.specs.declared.printed.Printed.TheVariants as printeds;
 ghost use Rattle.nv_script.specs.declared.shell.Answer.TheVariants as answers;
@@ -13,7 +15,7 @@ ghost use Rattle.nv_script.specs.Shell.{KnownAnswers, help_text};
 ghost use Rattle.nv_script.specs.Transcript.{WritesAll, FailsScript};
 
 use crate::hinting::Hint;
-use crate::script::{Ended, bad_line_text};
+use crate::script::{Ended, bad_line_text, end_of};
 use nv_line::{Command, Line, Reason, classify, why_bad};
 use nv_region::MemRegion;
 use nv_session::{Printed, Session};
@@ -77,13 +79,28 @@ pub fn run_shell<H: Threads + Sync, R: Read + Drop, W: Write, P: Host>(
         (W.contents writer.new))) }
 {
     let mut session = Session::with_region(region);
+    let ran = run_recovered(rt, alloc, workers, &mut session, reader, writer, host);
+    end_of(session, ran)
+}
+
+// Recovers the region of a session by so many workers, prints the answer, and runs the lines of a shell.
+fn run_recovered<H: Threads + Sync, R: Read + Drop, W: Write, P: Host>(
+    rt: &H,
+    alloc: Global,
+    workers: u64,
+    session: &mut Session,
+    reader: R,
+    writer: &mut W,
+    host: &mut P,
+) -> Result<u8, ScriptError>
+    ensures ok { (begin : Region) → StandsFor session.old (state_with begin) → IfOk result (λ status. GrowsBy (P.kept host.old) (P.kept host.new)
+        (λ kept. WritesAll (ShowsShell begin workers kept (region_in session.new.store)) (R.remaining reader) (W.contents writer.old) (W.contents writer.new) status)) }
+    ensures err { (begin : Region) → StandsFor session.old (state_with begin) → IfErr result (λ e. GrowsBy (P.kept host.old) (P.kept host.new)
+        (λ kept. FailsShell begin workers kept e (R.remaining reader) (W.contents writer.old) (W.contents writer.new))) }
+{
     let text = session.execute(rt, alloc, Command::Recover { workers })?;
     write_text(writer, text.as_bytes())?;
-    let status = run_in(rt, alloc, &mut session, reader, writer, host)?;
-    Ok(Ended {
-        status,
-        region: session.into_region(),
-    })
+    run_in(rt, alloc, session, reader, writer, host)
 }
 
 // Runs the lines of a shell in a session, from what that has made so far.

@@ -6,12 +6,12 @@ use Rattle.nv_tree.specs.declared.refusal.Refusal.{Refusal}
 use Rattle.nv_text.specs.Answers.{refused_line}
 use Rattle.nv_text.specs.Report.{stat_line}
 use Rattle.nv_text.specs.Names.{data_line}
-use Rattle.nv_calls.specs.Stat.{IsStat}
+use Rattle.nv_tree.specs.Stat.{IsStat}
 use Rattle.nv_calls.specs.Listing.{ListsNamesIn}
 use Rattle.nv_calls.specs.Reading.{IsRead}
-use Rattle.nv_calls.specs.declared.stating.Stat.{Stat}
+use Rattle.nv_tree.specs.declared.stat.Stat.{Stat}
 use Rattle.nv_calls.proofs.SeenAlike.{Alike, directory_alike, found_alike, lines_one, reads_one, stats_one, walk_alike}
-use Rattle.nv_session.specs.Machine.{attributes_of, list_lines, TellsRefusal, TellsStat, TellsNames, TellsBytes}
+use Rattle.nv_session.specs.Machine.{list_lines, TellsRefusal, TellsStat, TellsNames, TellsBytes}
 
 module _ (t u : Tree) (alike : Alike t u) where
   stat_tests_alike : (p : Path) → first_refusal (stat_tests u p) ≡ first_refusal (stat_tests t p)
@@ -42,7 +42,7 @@ module _ (t u : Tree) (alike : Alike t u) where
   stat_one p text other (inr a) (inl b) = absurd (not_refused (stat_tests u p) (stat_tests t p) other (sym (stat_tests_alike p)) b a.2)
   stat_one p text other (inr a) (inr b) =
       let e : a.0 ≡ b.0 = (let s : Some a.0 ≡ Some b.0 = sym a.1 ∙ b.1 in cc) in
-      a.5 ∙ ap (λ (s : Stat). stat_line (attributes_of s)) (stats_one t u alike a.0 a.3 b.3 a.4 (subst (λ names. IsStat u names b.3) (sym e) b.4)) ∙ sym b.5
+      a.5 ∙ ap stat_line (stats_one t u alike a.0 a.3 b.3 a.4 (subst (λ names. IsStat u names b.3) (sym e) b.4)) ∙ sym b.5
 
   pub names_one : (p : Path) (text other : List ℕ) → TellsNames t p text → TellsNames u p other → text ≡ other
   names_one p text other (inl a) (inl b) = refusals_one (list_tests t p) (list_tests u p) text other (list_tests_alike p) a b

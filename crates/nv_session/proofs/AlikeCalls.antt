@@ -39,9 +39,10 @@ use Rattle.nv_calls.proofs.CleanAlike.{cleans_answer, cleans_leave}
 use Rattle.nv_calls.proofs.OneOutcome.{alike_faultless, faultless_bare, second_faultless}
 use Rattle.nv_calls.proofs.SeenAlike.{Alike}
 use Rattle.nv_session.specs.Alike.{AlikeStates, IsLeftOf, SeemSame}
-use Rattle.nv_session.specs.Calls.{Asked, Asks, FindsPage, LeavesTables, LeavesTreeBy, asks_attributes, asks_clean, asks_create, asks_link, asks_remove, asks_rename, asks_size, asks_unlink, asks_write, finds_page, mounted_as, seen_in}
+use Rattle.nv_history.specs.Called.{FindsPage, finds_page}
+use Rattle.nv_session.specs.Calls.{Asked, Asks, LeavesTables, LeavesTreeBy, asks_attributes, asks_clean, asks_create, asks_link, asks_remove, asks_rename, asks_size, asks_unlink, asks_write, mounted_as, seen_in}
 use Rattle.nv_session.specs.Machine.{State, Calls, CallsByTwo, CallsMounted, CallsTelling, DoesCall, MayStop, RefusesCall}
-use Rattle.nv_session.proofs.Calling.{can_write}
+use Rattle.nv_history.proofs.OneCall.{can_write}
 use Rattle.nv_session.proofs.OneCall.{AskedOnce, SameSeen}
 use Rattle.nv_session.proofs.SeemSame.{seen_one, sound_alike, trees_seem}
 

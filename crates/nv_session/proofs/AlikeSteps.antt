@@ -34,7 +34,8 @@ use Rattle.nv_paths.specs.Seen.{tree_of}
 use Rattle.nv_calls.specs.Effects.{logs_page_less, Makes, Logs, LogsBytes, LogsUnlink, makes_inode, makes_bytes, makes_size, makes_attributes, makes_link, makes_unlink, makes_removal, makes_rename, makes_no_change, logs_inode, logs_size, logs_attributes, logs_link, logs_removal, logs_rename}
 use Rattle.nv_calls.proofs.SeenAlike.{Alike}
 use Rattle.nv_session.specs.Alike.{AlikeStates, IsLeftOf, SeemSame, handles_words}
-use Rattle.nv_session.specs.Calls.{Asks, asks_create, asks_write, asks_size, asks_attributes, asks_link, asks_unlink, asks_remove, asks_rename, asks_clean, finds_page}
+use Rattle.nv_history.specs.Called.{finds_page}
+use Rattle.nv_session.specs.Calls.{Asks, asks_create, asks_write, asks_size, asks_attributes, asks_link, asks_unlink, asks_remove, asks_rename, asks_clean}
 use Rattle.nv_session.specs.Machine.{State, Step, Does, first_state, zeros, front, has_word, CutsRegion, IsRefusedAs, PokesRegion, Replaces, Unmounts, MayStop, StopsFormat, StopsRecovery, Recovers, Replays, ReadsMounted, TellsNames, TellsStat, TellsBytes, RefusesSuper, Mounts, RecoversRegion, ShowsMounted, Formats, Calls, CallsBy, CallsByTwo, file_mode, directory_mode}
 use Rattle.nv_session.proofs.Alike.{stat_one, names_one, bytes_one}
 use Rattle.nv_session.proofs.OneCall.{AskedOnce, clean_one, create_one, write_one, size_one, attributes_one, link_one, unlink_one, remove_one, rename_one}

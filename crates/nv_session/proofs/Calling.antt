@@ -4,23 +4,27 @@ use Rattle.std.specs.Prelude.{⊤, codes}
 use Rattle.std.specs.List.{filter}
 use Rattle.nv_super.specs.Layout.{Layout}
 use Rattle.nv_region.specs.Region.{Region, size}
-use Rattle.nv_region.specs.RegionState.{RegionState, fenced_or_last, is_off, is_steady, steady_unburnt}
+use Rattle.nv_region.specs.RegionState.{RegionState, fenced_or_last, fuse_state, is_off, is_steady, steady_unburnt}
 use Rattle.nv_region.specs.Stops.{LeavesOnly, MayBeLeft}
 use Rattle.nv_region.specs.declared.memory.Fuse.{Fuse}
 use Rattle.nv_region.specs.declared.memory.Fuse.TheVariants as fuses
 use Rattle.nv_outcome.specs.Same.{is_lasting, lasting_outcome}
 use Rattle.nv_tree.specs.Path.{IsPath, Says}
 use Rattle.nv_tree.specs.Tree.{SameTree}
-use Rattle.nv_tree.specs.Refusals.{Path, Tests, World, first_refusal, refusal_word, writing, IsRefusedBy}
+use Rattle.nv_tree.specs.Refusals.{Path, Tests, first_refusal, refusal_word, IsRefusedBy}
 use Rattle.nv_tree.specs.declared.refusal.Refusal.{Refusal}
-use Rattle.nv_tree.specs.declared.refusal.Refusal.TheVariants.{BadCpu, ReadOnly, Memory, Stopped}
+use Rattle.nv_tree.specs.declared.refusal.Refusal.TheVariants.{Memory, Stopped}
 use Rattle.nv_tree.proofs.Texts.{text_says}
 use Rattle.nv_text.specs.Answers.{ok_line, refused_line, stopped_line}
 use Rattle.nv_calls.specs.Mount.{IsKept, Mount, has_faults, told}
-use Rattle.nv_calls.specs.Same.{GrowsMount, KeepsMount, GrowsWhereFull, SameMount}
+use Rattle.nv_paths.specs.Spots.{new_number}
+use Rattle.nv_calls.specs.Same.{GrowsMount, IsLaidFor, KeepsMount, GrowsWhereFull, SameMount}
 use Rattle.nv_paths.specs.Seen.{tree_of}
 use Rattle.nv_calls.proofs.Mounts.{faultless}
 use Rattle.nv_calls.specs.Effects.{Makes, Logs}
+use Rattle.nv_history.specs.Called as history
+use Rattle.nv_history.specs.Said.{Said}
+use Rattle.nv_history.specs.declared.calls.Answer.{Answer}
 use Rattle.nv_session.specs.Calls.{Asks, Asked, LeavesStopped, LeavesTables, LeavesTreeBy}
 use Rattle.nv_session.specs.Machine.{State, Calls, CallsBy, CallsByTwo, CallsMounted, CallsTelling, DoesCall, StopsCall, StopsMounted}
 use Rattle.nv_session.specs.Sessions.{StandsFor, Moves, ShowsOutcome, IsMountOf, IsSettled, SettlesCall, TakesMount, PutsMount, mount_in, memory_in, with_fuse}
@@ -51,6 +55,11 @@ abbrev pub KeepsBy : Option ℕ → Mount RegionState → Mount RegionState → 
 KeepsBy None m n = KeepsMount m n
 KeepsBy (Some cpu) m n = GrowsMount cpu m n
 
+-- How the tables are laid out where it was made.
+abbrev pub LaidBy : {A : Type 0} → Option ℕ → Mount RegionState → Layout → Result A Refusal → Type 0
+LaidBy None m after answer = ⊤
+LaidBy (Some cpu) m after answer = OnOk answer (IsLaidFor m.layout cpu (new_number m.layout m.rows cpu) after)
+
 keeps_sup : (grows : Option ℕ) (m n : Mount RegionState) → KeepsBy grows m n → n.sup ≡ m.sup
 keeps_sup None m n keeps = keeps.sup
 keeps_sup (Some cpu) m n keeps = keeps.sup
@@ -79,6 +88,7 @@ pub record Called {A : Type 0} (grows : Option ℕ) (asks : Asks) (makes : Makes
   pub unchanged : IfErr answer (λ e. (e ≡ Stopped → ⊥) → SameMount m n)
   pub stopped : m.stopped ≡ false → (IsTrue n.stopped → (answer ≡ Err Stopped) × IsTrue n.memory.burnt) × (answer ≡ Err Stopped → IsTrue n.stopped)
   pub keeps : KeepsBy grows m n
+  pub laid : LaidBy grows m n.layout answer
   pub as_long : size n.memory.region ≡ size m.memory.region
   pub steady : IsTrue (is_steady m.memory) → IsTrue (is_steady n.memory)
   pub read_only : IsTrue m.read_only → SameMount m n
@@ -87,15 +97,11 @@ pub record Called {A : Type 0} (grows : Option ℕ) (asks : Asks) (makes : Makes
   pub settled : n.stopped ≡ false → IsSettled n.memory
   pub kept : IsKept n.memory.region n.sup n.layout n.rows n.free n.faults n.read_only n.stopped
 
--- ---- the mount before and after a call
+-- the same as nv_history says it
+abbrev pub MakesCall : Said → Mount RegionState → Mount RegionState → Result Answer Refusal → Type 0
+MakesCall call m n r = history.Called (λ (memory : RegionState). memory.region) fenced_or_last fuse_state call m n r
 
--- the first test of a writing call
-pub can_write : (w : World) (cpu : ℕ) (tests all : Tests) → all ≡ writing w cpu tests → first_refusal all ≡ None → w.read_only ≡ false
-can_write w cpu tests all is none = by (not (nat_lt cpu w.cpus)) w.read_only (ap first_refusal (sym is) ∙ none) where
-  by : (bad read_only : Bool) → first_refusal ((bad, BadCpu) ∷ (read_only, ReadOnly) ∷ tests) ≡ None → read_only ≡ false
-  by true read_only none = absurd (cc)
-  by false true none = absurd (cc)
-  by false false none = refl
+-- ---- the mount before and after a call
 
 module _ {A : Type 0} (grows : Option ℕ) (line : A → List ℕ) (asks : ℕ → Asks) (makes : ℕ → Makes ⊤) (logs : ℕ → A → Logs ⊤) (stops : ℕ → Logs ⊤) (path : List ℕ) where
   -- the call in a state
@@ -150,9 +156,9 @@ module _ {A : Type 0} (grows : Option ℕ) (line : A → List ℕ) (asks : ℕ �
         are = subst (λ (k : Mount ⊤). asks state.time m.memory.region k p answers.tests) same_seen answers.are;
       })
 
-      tables : (g : Option ℕ) → KeepsBy g m n → LeavesTables g seen_here n.layout
-      tables None keeps = keeps.layout
-      tables (Some cpu) keeps = keeps.tables
+      tables : (g : Option ℕ) (x : A) → answer ≡ Ok x → KeepsBy g m n → LaidBy g m n.layout answer → LeavesTables g seen_here n.layout
+      tables None x is keeps laid = keeps.layout
+      tables (Some cpu) x is keeps laid = (keeps.tables, subst (λ r. OnOk r (IsLaidFor m.layout cpu (new_number m.layout m.rows cpu) n.layout)) is laid)
 
       -- what the call leaves, where it was done
       leaves : (x : A) → answer ≡ Ok x → n.stopped ≡ false → n.faults ≡ [] → (names : List (List ℕ)) → IsPath path names → LeavesTreeBy (LeavesTables grows seen_here) m.memory.region n.memory.region seen_here (makes state.time m.memory.region seen_here names)
@@ -162,7 +168,7 @@ module _ {A : Type 0} (grows : Option ℕ) (line : A → List ℕ) (asks : ℕ �
         shown = own.shown;
         own = called.kept.own runs;
         sup = keeps_sup_there grows m n called.keeps;
-        layout = tables grows called.keeps;
+        layout = tables grows x is called.keeps called.laid;
         faultless = clear;
         tree = subst (λ (k : Mount ⊤). SameTree (tree_of n.memory.region n.rows) (makes state.time m.memory.region k names)) same_seen
             (subst (λ r. OnOk r (SameTree (tree_of n.memory.region n.rows) (makes state.time m.memory.region (seen m) names))) is (called.changed names says));
@@ -302,17 +308,10 @@ module _ {A : Type 0} (grows : Option ℕ) (line : A → List ℕ) (asks : ℕ �
       by_answer fuse old mid new m n takes state stands answer
       (subst (λ (time : ℕ). Called grows (asks time) (makes time) (logs time) (stops time) path m n answer) (at_time fuse old mid new m n takes state stands) called) answer refl text settles
 
--- A call that answers `ok`.
-module _ (grows : Option ℕ) (asks : ℕ → Asks) (makes : ℕ → Makes ⊤) (logs : ℕ → Logs ⊤) (path : List ℕ) where
-  abbrev CallsSo : Bool → State → List ℕ → State → Type 0
-  CallsSo armed state text next = CallsBy grows armed (asks state.time) (makes state.time) (logs state.time) path state text next
-
-  pub uncalled_moves : (armed : Bool) (fuse : Fuse) (old new : Session) (text : List ℕ) → TakesMount fuse old None new → text ≡ refused_line (codes "NotMounted") → Moves (CallsSo armed) old text new
-  uncalled_moves = untold_moves grows (λ (done : Unit {0}). ok_line) asks makes (λ time done. logs time) logs path
-
-  pub called_moves : (fuse : Fuse) (old mid new : Session) (m n : Mount RegionState) (answer : Result (Unit {0}) Refusal) (text : List ℕ) → TakesMount fuse old (Some m) mid → Called grows (asks mid.time) (makes mid.time) (λ done. logs mid.time) (logs mid.time) path m n answer
-      → SettlesCall (λ done. ok_line) n answer mid text new → Moves (CallsSo (not (is_off fuse))) old text new
-  called_moves = telling_moves grows (λ (done : Unit {0}). ok_line) asks makes (λ time done. logs time) logs path
+-- Where nothing is mounted, a call that answers `ok` is refused too.
+pub uncalled_moves : (grows : Option ℕ) (asks : ℕ → Asks) (makes : ℕ → Makes ⊤) (logs : ℕ → Logs ⊤) (path : List ℕ) (armed : Bool) (fuse : Fuse) (old new : Session) (text : List ℕ) → TakesMount fuse old None new → text ≡ refused_line (codes "NotMounted")
+    → Moves (λ state said next. CallsBy grows armed (asks state.time) (makes state.time) (logs state.time) path state said next) old text new
+uncalled_moves grows asks makes logs path = untold_moves grows (λ (done : Unit {0}). ok_line) asks makes (λ time done. logs time) logs path
 
 -- A call by two paths, where it is one by the first for whatever the second says.
 pub two_moves : (asks : Path → Asks) (makes : ℕ → Path → Makes ⊤) (logs : ℕ → Path → Logs ⊤) (path other : List ℕ) (armed : Bool) (old new : Session) (text : List ℕ)

@@ -18,8 +18,8 @@ use Rattle.nv_tree.proofs.Texts.{text_says, says_one}
 use Rattle.nv_paths.specs.Seen.{LeadsTo, tree_of}
 use Rattle.nv_calls.specs.Mount.{Mount}
 use Rattle.nv_calls.specs.Reading.{IsRead, IsReadInto}
-use Rattle.nv_calls.specs.Stat.{IsStat, stat_of}
-use Rattle.nv_calls.specs.declared.stating.Stat.{Stat}
+use Rattle.nv_tree.specs.Stat.{IsStat, stat_of}
+use Rattle.nv_tree.specs.declared.stat.Stat.{Stat}
 use Rattle.nv_text.specs.Names.{hex_byte, data_line}
 use Rattle.nv_stream.specs.Streams.{AppendsShort}
 use Rattle.nv_stream.proofs.StreamLemmas.{appends_both, appends_short}

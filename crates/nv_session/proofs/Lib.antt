@@ -9,8 +9,7 @@ mod Standing
 mod Calling
 mod Upgrading
 pub mod UpgradesOnce
-mod Asking
-pub mod Cleaned
+mod MadeCalls
 mod OneCall
 mod OneClean
 mod WriteTests

@@ -43,6 +43,7 @@ use Rattle.nv_steps.specs.Writes.{NeedsBlocks, data_blocks, data_entries, plan_o
 use Rattle.nv_steps.proofs.Takes.{takes_less}
 use Rattle.nv_logpage.specs.Append.{needed}
 use Rattle.nv_calls.specs.Effects.{Makes, Logs}
+use Rattle.nv_history.proofs.Cleaned.{target_there}
 use Rattle.nv_session.specs.Calls.{Asks, Asked, asks_create, asks_write, asks_size, asks_attributes, asks_link, asks_unlink, asks_remove, asks_rename, asks_clean, seen_in}
 use Rattle.nv_session.specs.Machine.{State, CallsMounted}
 use Rattle.nv_calls.proofs.Allowed.{first_passes, later_passes}
@@ -288,18 +289,6 @@ needs_one pools cpu tail mapped size offset bytes time a b inside (inr p) (inl q
 needs_one pools cpu tail mapped size offset bytes time a b inside (inr p) (inr q) =
     let runs : p.0 ≡ q.0 = (takes_once pools cpu _ p.0 q.0 p.1 q.1 p.2 q.2).0 in
     p.3 ∙ ap (λ (r : List Run). data_blocks (plan_of mapped size offset bytes time) + needed (tail % 4096) (data_entries (plan_of mapped size offset bytes time) r)) runs ∙ sym q.3
-
-in_use_there : (t : Tree) (o : Option ℕ) (i : ℕ) → in_use t o ≡ Some i → is_some (t i) ≡ true
-in_use_there t None i is = absurd (cc)
-in_use_there t (Some j) i is = by (is_some (t j)) refl is where
-  by : (b : Bool) → is_some (t j) ≡ b → cond b (Some j) None ≡ Some i → is_some (t i) ≡ true
-  by true used is = (let same : j ≡ i = cc in subst (λ (n : ℕ). is_some (t n) ≡ true) same used)
-  by false used is = absurd (cc)
-
-pub target_there : (t : Tree) (p : Path) (i : ℕ) → target t p ≡ Some i → is_some (t i) ≡ true
-target_there t None i is = absurd (cc)
-target_there t (Some []) i is = in_use_there t (Some 1) i is
-target_there t (Some (name ∷ names)) i is = in_use_there t (last_in t (walk t 1 (name ∷ names)) (name ∷ names)) i is
 
 -- how many blocks a write needs is decided, where the tests in front pass
 write_counts : (S : Region) (m : Mount ⊤) (cpu : ℕ) (p : Path) (offset bytes time a b : ℕ) → cpu < length m.free.pools → is_none (target (tree_of S m.rows) p) ≡ false → WriteNeeds S m cpu p offset bytes time a → WriteNeeds S m cpu p offset bytes time b → a ≡ b

@@ -15,7 +15,7 @@ use Rattle.nv_calls.specs.CleanCall.{ShowsCleaned}
 use Rattle.nv_calls.specs.Mount.{Mount}
 use Rattle.nv_paths.specs.Seen.{tree_of}
 use Rattle.nv_text.specs.Answers.{cleaned_line}
-use Rattle.nv_session.specs.Calls.{FindsPage, finds_page}
+use Rattle.nv_history.specs.Called.{FindsPage, finds_page}
 use Rattle.nv_calls.proofs.CleanAlike.{went_one}
 use Rattle.nv_calls.proofs.SeenAlike.{alike_here, found_alike}
 use Rattle.nv_session.proofs.OneCall.{AnsweredOnce, SameSeen}

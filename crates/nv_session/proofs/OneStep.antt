@@ -34,7 +34,8 @@ use Rattle.nv_report.specs.declared.part.Part.TheVariants as parts
 use Rattle.nv_report.proofs.OneText.{recovered_one, part_one}
 use Rattle.nv_session.specs.Machine.{State, Step, Does, IsRefusedAs, Replaces, Unmounts, front, MayStop, has_word, StopsRegion, StopsFormat, StopsRecovery, Recovers, Replays, ReadsMounted, TellsNames, TellsStat, TellsBytes, RefusesSuper, Mounts, RecoversRegion, ShowsMounted, PokesRegion, CutsRegion, Formats, Calls, CallsBy, CallsByTwo, CallsMounted, CallsTelling, StopsMounted, file_mode, directory_mode, writes}
 use Rattle.nv_calls.specs.Effects.{logs_page_less, Makes, Logs, LogsBytes, LogsUnlink, makes_inode, makes_bytes, makes_size, makes_attributes, makes_link, makes_unlink, makes_removal, makes_rename, makes_no_change, logs_inode, logs_size, logs_attributes, logs_link, logs_removal, logs_rename}
-use Rattle.nv_session.specs.Calls.{Asks, asks_create, asks_write, asks_size, asks_attributes, asks_link, asks_unlink, asks_remove, asks_rename, asks_clean, finds_page}
+use Rattle.nv_history.specs.Called.{finds_page}
+use Rattle.nv_session.specs.Calls.{Asks, asks_create, asks_write, asks_size, asks_attributes, asks_link, asks_unlink, asks_remove, asks_rename, asks_clean}
 
 -- one text and one state are told
 abbrev pub IsOne : (List ℕ → State → Type 0) → Type 0

@@ -8,11 +8,11 @@ use Rattle.nv_tree.specs.declared.refusal.Refusal.TheVariants.{BadName, Memory}
 use Rattle.nv_text.specs.Answers.{refused_line}
 use Rattle.nv_text.specs.Report.{stat_line}
 use Rattle.nv_text.specs.Names.{data_line}
-use Rattle.nv_calls.specs.Stat.{IsStat}
+use Rattle.nv_tree.specs.Stat.{IsStat}
 use Rattle.nv_calls.specs.Listing.{ListsNamesIn}
 use Rattle.nv_calls.specs.Reading.{IsRead}
-use Rattle.nv_calls.specs.declared.stating.Stat.{Stat}
-use Rattle.nv_session.specs.Machine.{attributes_of, list_lines, TellsRefusal, TellsNames, TellsStat, TellsBytes}
+use Rattle.nv_tree.specs.declared.stat.Stat.{Stat}
+use Rattle.nv_session.specs.Machine.{list_lines, TellsRefusal, TellsNames, TellsStat, TellsBytes}
 
 -- a refusal that isn't want of memory
 pub refusal_told : (tests : Tests) (e : Refusal) (text : List ℕ) → e ≢ Memory → IsReadRefusedBy (first_refusal tests) e → text ≡ refused_line (refusal_word e) → TellsRefusal tests text
@@ -31,7 +31,7 @@ module _ (t : Tree) (path : List ℕ) (text : List ℕ) where
   names_told lines lists allowed said (Some names) says = inr (names, refl, allowed (Some names) says, lines, lists names says, said)
 
   pub stat_told : (s : Stat) → ((names : List (List ℕ)) → IsPath path names → IsStat t names s) → ((p : Path) → Says path p → first_refusal (stat_tests t p) ≡ None)
-      → text ≡ stat_line (attributes_of s) → (p : Path) → Says path p → TellsStat t p text
+      → text ≡ stat_line s → (p : Path) → Says path p → TellsStat t p text
   stat_told s shows allowed said None says = absurd (let bad : Some BadName ≡ None = allowed None says in cc)
   stat_told s shows allowed said (Some names) says = inr (names, refl, allowed (Some names) says, s, shows names says, said)
 

@@ -22,7 +22,7 @@ use Rattle.nv_calls.proofs.Tests.{enough_space, space_last, stat_first, too_few}
 use Rattle.nv_paths.proofs.Refusing.{passed_before, refused_before}
 use Rattle.nv_calls.proofs.WriteReply.{large_same}
 use Rattle.nv_calls.proofs.Allowed.{first_passes, later_passes}
-use Rattle.nv_session.proofs.OneCall.{target_there}
+use Rattle.nv_history.proofs.Cleaned.{target_there}
 
 -- ---- tests in front of one that passes
 

@@ -1,5 +1,6 @@
 pub mod Calls
 pub mod Machine
+pub mod Commands
 pub mod Sessions
 pub mod Made
 pub mod Printed

@@ -18,24 +18,25 @@ use Rattle.nv_super.specs.declared.kind.Kind.TheVariants.{File, Directory}
 use Rattle.nv_inode.specs.Upgraded.{IsUpgraded, upgraded, upgraded_layout}
 use Rattle.nv_calls.specs.Mount.{Mount, has_faults}
 use Rattle.nv_calls.specs.Upgrading.{LeavesUpgrade}
-use Rattle.nv_calls.specs.World.{world_of}
 use Rattle.nv_calls.specs.Effects.{logs_page_less, Makes, Logs, LogsBytes, LogsUnlink, makes_inode, makes_bytes, makes_size, makes_attributes, makes_link, makes_unlink, makes_removal, makes_rename}
 use Rattle.nv_calls.specs.Effects.{makes_no_change, logs_inode, logs_size, logs_attributes, logs_link, logs_removal, logs_rename}
-use Rattle.nv_session.specs.Calls.{Asks, Asked, LeavesStopped, LeavesTables, LeavesTree, LeavesTreeBy, mounted_as, seen_in, asks_create, asks_write, asks_size, asks_attributes, asks_link, asks_unlink, asks_remove, asks_rename, asks_clean, finds_page}
+use Rattle.nv_history.specs.Asking as asking
+use Rattle.nv_history.specs.Called.{finds_page}
+use Rattle.nv_session.specs.Calls.{Asks, Asked, LeavesStopped, LeavesTables, LeavesTree, LeavesTreeBy, mounted_as, seen_in}
+use Rattle.nv_session.specs.Calls.{asks_create, asks_write, asks_size, asks_attributes, asks_link, asks_unlink, asks_remove, asks_rename, asks_clean}
 use Rattle.nv_super.specs.FaultText.{super_fault_name}
 use Rattle.nv_tree.specs.Path.{Says}
 use Rattle.nv_tree.specs.Tree as trees
-use Rattle.nv_tree.specs.Refusals.{Path, Tests, first_refusal, refusal_word, list_tests, stat_tests, read_tests, upgrade_tests}
+use Rattle.nv_tree.specs.Refusals.{Path, Tests, first_refusal, refusal_word, list_tests, stat_tests, read_tests}
 use Rattle.nv_tree.specs.declared.refusal.Refusal.{Refusal}
 use Rattle.nv_paths.specs.Seen.{tree_of}
-use Rattle.nv_calls.specs.Stat.{IsStat}
+use Rattle.nv_tree.specs.Stat.{IsStat}
 use Rattle.nv_calls.specs.Reading.{IsRead}
 use Rattle.nv_calls.specs.Listing.{ListsNamesIn}
-use Rattle.nv_calls.specs.declared.stating.Stat as stats
+use Rattle.nv_tree.specs.declared.stat.Stat as stats
 use Rattle.nv_text.specs.Answers.{ok_line, refused_line, stopped_line, word_line, cleaned_line}
 use Rattle.nv_text.specs.Names.{list_line, data_line}
 use Rattle.nv_text.specs.Report.{stat_line}
-use Rattle.nv_text.specs.declared.inodes.Attributes.{Attributes}
 use Rattle.nv_report.specs.Texts.{recovered_text, IsPartText}
 use Rattle.nv_recover.specs.Errors.{UndoesAsBefore}
 use Rattle.nv_image_check.specs.Workers.{is_worker_count, names_stranger}
@@ -204,14 +205,10 @@ StopsRecovery workers schedule old text new = StopsRegion old.region workers sch
 abbrev pub TellsRefusal : Tests → List ℕ → Type 0
 TellsRefusal tests text = (refusal : Refusal) × (first_refusal tests ≡ Some refusal) × (text ≡ refused_line (refusal_word refusal))
 
--- the numbers of an inode, as they are printed
-abbrev pub attributes_of : stats.Stat → Attributes
-attributes_of s = record { inode = s.inode; kind = s.kind; mode = s.mode; owner = s.owner; group = s.group; size = s.size; links = s.links; time = s.time }
-
 -- `stat` is refused, or tells the numbers of the inode that the path leads to
 abbrev pub TellsStat : trees.Tree → Path → List ℕ → Type 0
 TellsStat t p text = TellsRefusal (stat_tests t p) text
-    ⊎ ((names : List (List ℕ)) × (p ≡ Some names) × (first_refusal (stat_tests t p) ≡ None) × (s : stats.Stat) × IsStat t names s × (text ≡ stat_line (attributes_of s)))
+    ⊎ ((names : List (List ℕ)) × (p ≡ Some names) × (first_refusal (stat_tests t p) ≡ None) × (s : stats.Stat) × IsStat t names s × (text ≡ stat_line s))
 
 -- a line for each name
 abbrev pub list_lines : List (List ℕ × ℕ) → List ℕ
@@ -289,55 +286,13 @@ Calls armed asks makes logs path old text new = CallsBy None armed asks makes lo
 abbrev pub CallsByTwo : Bool → (Path → Asks) → (Path → Makes ⊤) → (Path → Logs ⊤) → List ℕ → List ℕ → State → List ℕ → State → Type 0
 CallsByTwo armed asks makes logs path other old text new = (q : Path) × Says other q × Calls armed (asks q) (makes q) (logs q) path old text new
 
--- the modes of what `create` and `mkdir` make
+-- the mode of what `create` makes
 abbrev pub file_mode : ℕ
 file_mode = 420
 
 -- the mode of what `mkdir` makes
 abbrev pub directory_mode : ℕ
 directory_mode = 493
-
--- `create` makes a file. In version 2 the table of the CPU may grow for it.
-abbrev pub Creates : Bool → ℕ → List ℕ → State → List ℕ → State → Type 0
-Creates armed cpu path old text new = CallsBy (Some cpu) armed (asks_create cpu) (makes_inode File cpu file_mode old.time) (logs_inode File cpu file_mode old.time) path old text new
-
--- `mkdir` makes a directory, as `create` makes a file
-abbrev pub MakesDirectory : Bool → ℕ → List ℕ → State → List ℕ → State → Type 0
-MakesDirectory armed cpu path old text new = CallsBy (Some cpu) armed (asks_create cpu) (makes_inode Directory cpu directory_mode old.time) (logs_inode Directory cpu directory_mode old.time) path old text new
-
--- `write` writes so many copies of a byte
-abbrev pub Writes : Bool → ℕ → List ℕ → ℕ → ℕ → ℕ → State → List ℕ → State → Type 0
-Writes armed cpu path offset count byte old text new = Calls armed (asks_write cpu offset count old.time) (makes_bytes offset
-    (replicate count byte) old.time) (LogsBytes cpu offset count old.time) path old text new
-
--- `size` cuts a file, or lengthens it
-abbrev pub SetsSize : Bool → ℕ → List ℕ → ℕ → State → List ℕ → State → Type 0
-SetsSize armed cpu path bytes old text new = Calls armed (asks_size cpu bytes) (makes_size bytes old.time) (logs_size cpu bytes old.time) path old text new
-
--- `attr` sets mode, owner and group
-abbrev pub SetsAttributes : Bool → ℕ → List ℕ → ℕ → ℕ → ℕ → State → List ℕ → State → Type 0
-SetsAttributes armed cpu path mode owner group old text new = Calls armed (asks_attributes cpu) (makes_attributes mode owner group old.time) (logs_attributes cpu mode owner group
-    old.time) path old text new
-
--- `link` gives a file one more name
-abbrev pub Links : Bool → ℕ → List ℕ → List ℕ → State → List ℕ → State → Type 0
-Links armed cpu path other old text new = CallsByTwo armed (asks_link cpu) (makes_link old.time) (logs_link cpu old.time) path other old text new
-
--- `unlink` takes a name of a file away, and the file with its last one
-abbrev pub Unlinks : Bool → ℕ → List ℕ → State → List ℕ → State → Type 0
-Unlinks armed cpu path old text new = Calls armed (asks_unlink cpu) (makes_unlink old.time) (LogsUnlink cpu old.time) path old text new
-
--- `rmdir` takes a directory without names away
-abbrev pub RemovesDirectory : Bool → ℕ → List ℕ → State → List ℕ → State → Type 0
-RemovesDirectory armed cpu path old text new = Calls armed (asks_remove cpu) (makes_removal old.time) (logs_removal cpu old.time) path old text new
-
--- `rename` gives an inode another name in place of one
-abbrev pub Renames : Bool → ℕ → List ℕ → List ℕ → State → List ℕ → State → Type 0
-Renames armed cpu path other old text new = CallsByTwo armed (asks_rename cpu) (makes_rename old.time) (logs_rename cpu old.time) path other old text new
-
--- `clean` takes the first page out of an inode's log that the log can do without, and tells which, or that it needs each
-abbrev pub Cleans : Bool → List ℕ → State → List ℕ → State → Type 0
-Cleans armed path old text new = CallsTelling None cleaned_line armed asks_clean makes_no_change finds_page logs_page_less path old text new
 
 -- ---- the upgrade
 
@@ -354,7 +309,7 @@ upgrade_in a = mounted_as a.here (has_faults a.shown.faults)
 
 -- and its tests
 abbrev pub upgrade_asked : {R S : Region} → AskedUpgrade R S → Tests
-upgrade_asked a = upgrade_tests (world_of (upgrade_in a)) a.here.sup.version
+upgrade_asked a = asking.upgrade_asked (upgrade_in a)
 
 -- it is refused by the first of its tests that holds, and leaves all as it was
 abbrev pub RefusesUpgrade : Region → Region → State → List ℕ → State → Type 0
@@ -391,7 +346,8 @@ Upgrades armed old text new = MayStop armed
 
 -- ---- commands
 
--- What a command may print and leave, where it may be stopped or not.
+-- What a command may print and leave, where it may be stopped or not. For each call that writes: what it asks, what it makes of the
+-- tree, and what it leaves of the logs.
 abbrev pub Does : Bool → Request → State → List ℕ → State → Type 0
 Does armed (Format cpus blocks tables) old text new = MayStop armed (Formats cpus blocks tables) (StopsFormat cpus blocks tables) old text new
 Does armed (Time time) old text new = SetsTime time old text new
@@ -402,16 +358,21 @@ Does armed (Replay workers schedule) old text new = MayStop armed (Replays worke
 Does armed (ListNames path) old text new = Reads TellsNames path old text new
 Does armed (Stat path) old text new = Reads TellsStat path old text new
 Does armed (Read path offset count) old text new = Reads (TellsBytes offset count) path old text new
-Does armed (Create cpu path) old text new = Creates armed cpu path old text new
-Does armed (MakeDirectory cpu path) old text new = MakesDirectory armed cpu path old text new
-Does armed (Write cpu path offset count byte) old text new = Writes armed cpu path offset count byte old text new
-Does armed (SetSize cpu path bytes) old text new = SetsSize armed cpu path bytes old text new
-Does armed (SetAttributes cpu path mode owner group) old text new = SetsAttributes armed cpu path mode owner group old text new
-Does armed (Link cpu path other) old text new = Links armed cpu path other old text new
-Does armed (Unlink cpu path) old text new = Unlinks armed cpu path old text new
-Does armed (RemoveDirectory cpu path) old text new = RemovesDirectory armed cpu path old text new
-Does armed (Rename cpu path other) old text new = Renames armed cpu path other old text new
-Does armed (Clean path) old text new = Cleans armed path old text new
+-- In version 2 the table of the CPU may grow for what `create` and `mkdir` make.
+Does armed (Create cpu path) old text new = CallsBy (Some cpu) armed (asks_create cpu) (makes_inode File cpu file_mode old.time) (logs_inode File cpu file_mode old.time) path old text new
+Does armed (MakeDirectory cpu path) old text new = CallsBy (Some cpu) armed (asks_create cpu) (makes_inode Directory cpu directory_mode old.time)
+    (logs_inode Directory cpu directory_mode old.time) path old text new
+Does armed (Write cpu path offset count byte) old text new = Calls armed (asks_write cpu offset count old.time) (makes_bytes offset (replicate count byte) old.time)
+    (LogsBytes cpu offset count old.time) path old text new
+Does armed (SetSize cpu path bytes) old text new = Calls armed (asks_size cpu bytes) (makes_size bytes old.time) (logs_size cpu bytes old.time) path old text new
+Does armed (SetAttributes cpu path mode owner group) old text new = Calls armed (asks_attributes cpu) (makes_attributes mode owner group old.time)
+    (logs_attributes cpu mode owner group old.time) path old text new
+Does armed (Link cpu path other) old text new = CallsByTwo armed (asks_link cpu) (makes_link old.time) (logs_link cpu old.time) path other old text new
+Does armed (Unlink cpu path) old text new = Calls armed (asks_unlink cpu) (makes_unlink old.time) (LogsUnlink cpu old.time) path old text new
+Does armed (RemoveDirectory cpu path) old text new = Calls armed (asks_remove cpu) (makes_removal old.time) (logs_removal cpu old.time) path old text new
+Does armed (Rename cpu path other) old text new = CallsByTwo armed (asks_rename cpu) (makes_rename old.time) (logs_rename cpu old.time) path other old text new
+-- `clean` tells which page went, the first that the inode's log can do without, or that the log needs each.
+Does armed (Clean path) old text new = CallsTelling None cleaned_line armed asks_clean makes_no_change finds_page logs_page_less path old text new
 Does armed Upgrade old text new = Upgrades armed old text new
 Does armed Tree old text new = ShowsPart parts.Tree old text new
 Does armed Free old text new = ShowsPart parts.Free old text new

@@ -95,7 +95,8 @@ Moves step old text new = Leads (λ state next. step state text next) old new
 abbrev pub CanMount : Region → Option Answer → Type 0
 CanMount R None = ⊤
 CanMount R (Some (answers.Refused refusal)) = ⊤
-CanMount R (Some (answers.Recovered r)) = IsOutcome R (lasting_outcome (outcome_of r)) × (undone r.sup R ≡ R) × (r.free.sup ≡ r.sup) × HasNumbersOf r.tables.layout r.rows × (r.tables.layout.sup ≡ r.sup)
+CanMount R (Some (answers.Recovered r)) = IsOutcome R (lasting_outcome (outcome_of r)) × (undone r.sup R ≡ R) × (r.free.sup ≡ r.sup)
+    × HasNumbersOf r.tables.layout r.rows × (r.tables.layout.sup ≡ r.sup)
 
 -- ---- calls that write
 

@@ -9,14 +9,14 @@ ghost use Rattle.nv_tree.specs.Refusals.{Path, first_refusal, list_tests, stat_t
 ghost use Rattle.nv_tree.specs.declared.refusal.Refusal.TheVariants as refusals;
 ghost use Rattle.nv_paths.specs.Seen.{tree_of};
 ghost use Rattle.nv_calls.specs.Listing.{name_and_inode};
-ghost use Rattle.nv_session.specs.Machine.{attributes_of, list_lines, TellsNames, TellsStat, TellsBytes};
+ghost use Rattle.nv_session.specs.Machine.{list_lines, TellsNames, TellsStat, TellsBytes};
 ghost use Rattle.nv_calls.specs.Mount.{shown};
 
 use nv_calls::{Fs, Stat};
 use nv_names::Named;
 use nv_region::{MemRegion, Pmem};
 use nv_report::refused_text;
-use nv_text::{Attributes, push_data_line, push_list_line, push_stat_line};
+use nv_text::{push_data_line, push_list_line, push_stat_line};
 use nv_tree::Refusal;
 use std::alloc::{AllocError, Global};
 
@@ -136,19 +136,9 @@ fn push_lines(out: &mut String, listed: &[Named<'_>]) -> Result<(), AllocError>
 }
 
 pub(crate) fn numbers_text(alloc: Global, stat: Stat) -> Result<String, AllocError>
-    ensures { IfOk result (λ text. string_bytes text ≡ stat_line (attributes_of stat)) }
+    ensures { IfOk result (λ text. string_bytes text ≡ stat_line stat) }
 {
-    let attributes = Attributes {
-        inode: stat.inode,
-        kind: stat.kind,
-        mode: stat.mode,
-        owner: stat.owner,
-        group: stat.group,
-        size: stat.size,
-        links: stat.links,
-        time: stat.time,
-    };
     let mut text = String::new(alloc);
-    push_stat_line(&mut text, &attributes)?;
+    push_stat_line(&mut text, &stat)?;
     Ok(text)
 }

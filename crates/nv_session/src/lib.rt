@@ -1,7 +1,7 @@
 //! Sessions: what the commands of a script have made so far.
 //!
-//! `session` has a method for each command, which answers the text that the command prints; those of the file calls that write
-//! stand in `calls`. `making` makes a region, `store` keeps it, alone or mounted, and `stop` is a stop that is set for the next
+//! `session` runs each command and answers the text that it prints. `calls` makes those that are calls of nv_history, and `commands`
+//! says which these are. `making` makes a region, `store` keeps it, alone or mounted, and `stop` is a stop that is set for the next
 //! command. `files` has what the file calls that read print, `by_number` the same of an inode that its number names, and `texts`
 //! the answers that tell of no recovery. `printed` is what a command prints, and `parts` writes long parts of files a piece at a
 //! time.
@@ -9,6 +9,7 @@
 
 mod by_number;
 mod calls;
+mod commands;
 mod files;
 mod laws;
 mod making;

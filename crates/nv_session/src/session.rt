@@ -1,4 +1,4 @@
-//! A session: what the commands of a script have made so far, and a method for each command.
+//! A session: what the commands of a script have made so far, and a method for each command that is no call.
 //!
 //! A method answers the text that its command prints, whole, and leaves what the command leaves. Only `answer` leaves the text of
 //! a long part of a file to `print`. After want of memory the script ends, and what the session holds is of no use.
@@ -8,6 +8,7 @@ ghost use Rattle.std.specs.Io.KnownBytes.{Appends};
 ghost use Rattle.nv_calls.specs.Mount.{told};
 ghost use Rattle.nv_report.specs.Shown.{shown_of};
 
+use crate::commands::call_of;
 use crate::files::{list_text, read_text, stat_text};
 use crate::making::{Made, new_region};
 use crate::parts::{long_part, write_part};
@@ -211,35 +212,17 @@ impl Session {
                 offset,
                 count,
             } => self.read(alloc, path, offset, count),
-            Command::Create { cpu, path } => self.create(alloc, cpu, path, stop),
-            Command::MakeDirectory { cpu, path } => self.make_directory(alloc, cpu, path, stop),
-            Command::Write {
-                cpu,
-                path,
-                offset,
-                count,
-                byte,
-            } => self.write(alloc, cpu, path, offset, count, byte, stop),
-            Command::SetSize { cpu, path, size } => self.set_size(alloc, cpu, path, size, stop),
-            Command::SetAttributes {
-                cpu,
-                path,
-                mode,
-                owner,
-                group,
-            } => self.set_attributes(alloc, cpu, path, mode, owner, group, stop),
-            Command::Link { cpu, old, new } => self.link(alloc, cpu, old, new, stop),
-            Command::Unlink { cpu, path } => self.unlink(alloc, cpu, path, stop),
-            Command::RemoveDirectory { cpu, path } => self.remove_directory(alloc, cpu, path, stop),
-            Command::Rename { cpu, old, new } => self.rename(alloc, cpu, old, new, stop),
-            Command::Clean { path } => self.clean(alloc, path, stop),
-            Command::Upgrade => self.upgrade(alloc, stop),
             Command::Tree => self.show(alloc, Part::Tree),
             Command::Free => self.show(alloc, Part::Free),
             Command::Faults => self.show(alloc, Part::Faults),
             Command::Report => self.show(alloc, Part::Report),
             Command::Peek { at } => self.peek(alloc, at),
             Command::Stop { fuse, keep } => self.arm(alloc, Stop { fuse, keep }),
+            command => match call_of(&command, self.time) {
+                Some(call) => self.make(alloc, &call, stop),
+                // Each command that is no call stands above.
+                None => unreachable!(),
+            },
         }
     }
 

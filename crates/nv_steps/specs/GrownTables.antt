@@ -102,7 +102,8 @@ pub record GrowsAndNames (R S : Region) (l grown : Layout) (free after : FreeLis
 -- What a stop leaves of it: what was there, in tables as before or in grown ones, or that with the new inode.
 abbrev pub LeavesGrown : Region → Layout → Store → FreeLists → ℕ → Row → Kind → ℕ → ℕ → ℕ → List ℕ → Region → Type 0
 LeavesGrown R l held free cpu old kind mode time j name left = RollsBackTo R l held held left
-    ⊎ ((middle : Region) × (grown : Layout) × (mid : FreeLists) × GrowsTable R middle l grown free mid cpu j × LeavesEither middle grown held (Named middle grown mid cpu old kind mode time j name) left)
+    ⊎ ((middle : Region) × (grown : Layout) × (mid : FreeLists) × GrowsTable R middle l grown free mid cpu j
+    × LeavesEither middle grown held (Named middle grown mid cpu old kind mode time j name) left)
 
 -- Where it stores beside free blocks: the new slot stands in one of them.
 abbrev pub grown_more : Layout → ℕ → ℕ → Places

@@ -58,7 +58,8 @@ pub fn take_across<P: Pmem>(
     requires to_differs { to.old.inode ≢ gone.inode }
     requires name { IsName moved.now.name.now }
     requires other { IsName moved.now.other.now }
-    ensures taken { OnOk result (TakesAcross (P.region memory.old) (P.region memory.new) tables.now.layout free.old free.new cpu from.old from.new to.old to.new moved.now.inode gone.inode moved.now.name.now
+    ensures taken { OnOk result (TakesAcross (P.region memory.old) (P.region memory.new) tables.now.layout free.old free.new cpu from.old from.new to.old to.new
+        moved.now.inode gone.inode moved.now.name.now
         moved.now.other.now moved.now.time) }
     ensures room { OnOk result (gone.blocks ≤ free.new.room) }
     ensures needs { NeedsFree (needed (from.old.tail % 4096) (name_entries Remove moved.now.inode moved.now.name.now moved.now.time)
@@ -141,7 +142,8 @@ pub fn lessen_across<P: Pmem>(
         → ShowsRow (P.region memory.old) tables.now.layout held f file.old free.old
         → StoresIn tables.now.layout held (three_logs tables.now.layout cpu from.old.inode to.old.inode file.old.inode) (P.region memory.old) (P.region memory.new) }
     // The old directory's tail is stored first, then that of the new one, and then that of the file.
-    ensures in_order { (held : Store) (h g f : Held) → ShowsRow (P.region memory.old) tables.now.layout held h from.old free.old → ShowsRow (P.region memory.old) tables.now.layout held g to.old free.old
+    ensures in_order { (held : Store) (h g f : Held) → ShowsRow (P.region memory.old) tables.now.layout held h from.old free.old
+        → ShowsRow (P.region memory.old) tables.now.layout held g to.old free.old
         → ShowsRow (P.region memory.old) tables.now.layout held f file.old free.old
         → TailIsFirst (P.region memory.old) (P.region memory.new) tables.now.layout free.old.pools cpu from.old.inode from.old.tail (name_entries Remove moved.now.inode moved.now.name.now
         moved.now.time) (tail_address tables.now.layout to.old.inode)
@@ -149,7 +151,8 @@ pub fn lessen_across<P: Pmem>(
         (name_entries Remove moved.now.inode moved.now.name.now moved.now.time)) to.old.inode to.old.tail (handed_entries moved.now.inode file.old.inode moved.now.other.now moved.now.time)
         (tail_address tables.now.layout file.old.inode) }
     // Whatever a stop leaves: recovery finds what is held, or it with the name given and the link less, without faults.
-    ensures any_stop { (held : Store) (h g f : Held) → ShowsRow (P.region memory.old) tables.now.layout held h from.old free.old → ShowsRow (P.region memory.old) tables.now.layout held g to.old free.old
+    ensures any_stop { (held : Store) (h g f : Held) → ShowsRow (P.region memory.old) tables.now.layout held h from.old free.old
+        → ShowsRow (P.region memory.old) tables.now.layout held g to.old free.old
         → ShowsRow (P.region memory.old) tables.now.layout held f file.old free.old
         → NothingPending (P.region memory.old) (P.may_hold memory.old)
         → LeavesOnly (P.region memory.new) (P.may_hold memory.new) (LeavesEither (P.region memory.old) tables.now.layout held

@@ -82,7 +82,8 @@ pub fn clean_log<P: Pmem>(
     requires inside { EndBy row.old.pages.items (size (P.region memory.old)) }
     requires own { AreOwn free.old row.old.pages.items }
     requires before_last { IfSome known (λ k. k + 1 < length row.old.pages.items) }
-    ensures log { (held : Store) (h : Held) → ShowsRow (P.region memory.old) tables.now.layout held h row.old free.old → IsKnownDead tables.now.layout.sup h.kind row.old.inode h.created h.entries h.pages known
+    ensures log { (held : Store) (h : Held) → ShowsRow (P.region memory.old) tables.now.layout held h row.old free.old
+        → IsKnownDead tables.now.layout.sup h.kind row.old.inode h.created h.entries h.pages known
         → IfOk result (Cleans (P.region memory.old) (P.region memory.new) tables.now.layout held h row.old row.new free.old free.new) }
     ensures settled { NothingPending (P.region memory.old) (P.may_hold memory.old) → OnOk result (NothingPending (P.region memory.new) (P.may_hold memory.new)) }
     ensures refused { IfErr result (λ e. (e ≡ RefusalValue.Memory) ⊎ (e ≡ RefusalValue.Stopped)) }

@@ -75,10 +75,13 @@ pub(crate) fn append_logs<P: Pmem>(
     ensures wrote { (held : Store) (h g : Held) → ShowsRow (P.region memory.old) tables.now.layout held h row.old free.old → ShowsRow (P.region memory.old) tables.now.layout held g other.old free.old
         → StoresIn tables.now.layout held (two_logs tables.now.layout cpu row.old.inode other.old.inode) (P.region memory.old) (P.region memory.new) }
     // The first log's tail is stored first.
-    ensures in_order { (held : Store) (h g : Held) → ShowsRow (P.region memory.old) tables.now.layout held h row.old free.old → ShowsRow (P.region memory.old) tables.now.layout held g other.old free.old
-        → TailIsFirst (P.region memory.old) (P.region memory.new) tables.now.layout free.old.pools cpu row.old.inode row.old.tail first.now.entries.now (tail_address tables.now.layout other.old.inode) }
+    ensures in_order { (held : Store) (h g : Held) → ShowsRow (P.region memory.old) tables.now.layout held h row.old free.old
+        → ShowsRow (P.region memory.old) tables.now.layout held g other.old free.old
+        → TailIsFirst (P.region memory.old) (P.region memory.new) tables.now.layout free.old.pools cpu row.old.inode row.old.tail first.now.entries.now
+        (tail_address tables.now.layout other.old.inode) }
     // Whatever a stop leaves: recovery finds what is held, or it with both logs grown, without faults.
-    ensures any_stop { (held : Store) (h g : Held) → ShowsRow (P.region memory.old) tables.now.layout held h row.old free.old → ShowsRow (P.region memory.old) tables.now.layout held g other.old free.old
+    ensures any_stop { (held : Store) (h g : Held) → ShowsRow (P.region memory.old) tables.now.layout held h row.old free.old
+        → ShowsRow (P.region memory.old) tables.now.layout held g other.old free.old
         → NothingPending (P.region memory.old) (P.may_hold memory.old)
         → LeavesOnly (P.region memory.new) (P.may_hold memory.new) (LeavesEither (P.region memory.old) tables.now.layout held
         (AppendedBoth (P.region memory.old) tables.now.layout free.old cpu row.old first.now.entries.now other.old second.now.entries.now)) }

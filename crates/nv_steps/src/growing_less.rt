@@ -68,12 +68,14 @@ pub(crate) fn append_logs_less<P: Pmem>(
     ensures wrote { (held : Store) (h g : Held) → ShowsRow (P.region memory.old) tables.now.layout held h row.old free.old → ShowsRow (P.region memory.old) tables.now.layout held g other.old free.old
         → StoresIn tables.now.layout held (two_less tables.now.layout cpu row.old.inode other.old.inode gone.inode) (P.region memory.old) (P.region memory.new) }
     // The tails are stored in their order, and then the valid word.
-    ensures in_order { (held : Store) (h g : Held) → ShowsRow (P.region memory.old) tables.now.layout held h row.old free.old → ShowsRow (P.region memory.old) tables.now.layout held g other.old free.old
+    ensures in_order { (held : Store) (h g : Held) → ShowsRow (P.region memory.old) tables.now.layout held h row.old free.old
+        → ShowsRow (P.region memory.old) tables.now.layout held g other.old free.old
         → TailIsFirst (P.region memory.old) (P.region memory.new) tables.now.layout free.old.pools cpu row.old.inode row.old.tail first.now.entries.now (tail_address tables.now.layout other.old.inode)
         × TailIsNext (P.region memory.old) (P.region memory.new) tables.now.layout free.old.pools cpu (needed
         (row.old.tail % 4096) first.now.entries.now) other.old.inode other.old.tail second.now.entries.now (slot_in tables.now.layout gone.inode) }
     // Whatever a stop leaves: recovery finds what is held, or it with both logs grown and without the inode, without faults.
-    ensures any_stop { (held : Store) (h g : Held) → ShowsRow (P.region memory.old) tables.now.layout held h row.old free.old → ShowsRow (P.region memory.old) tables.now.layout held g other.old free.old
+    ensures any_stop { (held : Store) (h g : Held) → ShowsRow (P.region memory.old) tables.now.layout held h row.old free.old
+        → ShowsRow (P.region memory.old) tables.now.layout held g other.old free.old
         → NothingPending (P.region memory.old) (P.may_hold memory.old)
         → LeavesOnly (P.region memory.new) (P.may_hold memory.new) (LeavesEither (P.region memory.old) tables.now.layout held
         (AppendedLogsLess (P.region memory.old) tables.now.layout free.old cpu row.old first.now.entries.now other.old second.now.entries.now gone.inode)) }

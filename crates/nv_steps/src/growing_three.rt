@@ -63,17 +63,20 @@ pub(crate) fn append_three_logs<P: Pmem>(
         × SameRow last.old last.new) }
     ensures inodes { (row.new.inode ≡ row.old.inode) × (other.new.inode ≡ other.old.inode) × (last.new.inode ≡ last.old.inode) }
     // Every word outside these places is as it was.
-    ensures wrote { (held : Store) (h g f : Held) → ShowsRow (P.region memory.old) tables.now.layout held h row.old free.old → ShowsRow (P.region memory.old) tables.now.layout held g other.old free.old
+    ensures wrote { (held : Store) (h g f : Held) → ShowsRow (P.region memory.old) tables.now.layout held h row.old free.old
+        → ShowsRow (P.region memory.old) tables.now.layout held g other.old free.old
         → ShowsRow (P.region memory.old) tables.now.layout held f last.old free.old
         → StoresIn tables.now.layout held (three_logs tables.now.layout cpu row.old.inode other.old.inode last.old.inode) (P.region memory.old) (P.region memory.new) }
     // The tails are stored in their order.
-    ensures in_order { (held : Store) (h g f : Held) → ShowsRow (P.region memory.old) tables.now.layout held h row.old free.old → ShowsRow (P.region memory.old) tables.now.layout held g other.old free.old
+    ensures in_order { (held : Store) (h g f : Held) → ShowsRow (P.region memory.old) tables.now.layout held h row.old free.old
+        → ShowsRow (P.region memory.old) tables.now.layout held g other.old free.old
         → ShowsRow (P.region memory.old) tables.now.layout held f last.old free.old
         → TailIsFirst (P.region memory.old) (P.region memory.new) tables.now.layout free.old.pools cpu row.old.inode row.old.tail first.now.entries.now (tail_address tables.now.layout other.old.inode)
         × TailIsNext (P.region memory.old) (P.region memory.new) tables.now.layout free.old.pools cpu (needed
         (row.old.tail % 4096) first.now.entries.now) other.old.inode other.old.tail second.now.entries.now (tail_address tables.now.layout last.old.inode) }
     // Whatever a stop leaves: recovery finds what is held, or it with all logs grown, without faults.
-    ensures any_stop { (held : Store) (h g f : Held) → ShowsRow (P.region memory.old) tables.now.layout held h row.old free.old → ShowsRow (P.region memory.old) tables.now.layout held g other.old free.old
+    ensures any_stop { (held : Store) (h g f : Held) → ShowsRow (P.region memory.old) tables.now.layout held h row.old free.old
+        → ShowsRow (P.region memory.old) tables.now.layout held g other.old free.old
         → ShowsRow (P.region memory.old) tables.now.layout held f last.old free.old
         → NothingPending (P.region memory.old) (P.may_hold memory.old)
         → LeavesOnly (P.region memory.new) (P.may_hold memory.new) (LeavesEither (P.region memory.old) tables.now.layout held

@@ -51,7 +51,8 @@ pub fn link_both<P: Pmem>(
     requires directory_stands { StandsRight (P.region memory.old) tables.now.layout free.old directory.old × CanName (P.region memory.old) tables.now.layout cpu directory.old.inode directory.old }
     requires few { file.old.numbers.links < most_links }
     requires name { IsName name.now }
-    ensures linked { OnOk result (LinksAt (P.region memory.old) (P.region memory.new) tables.now.layout free.old free.new cpu (file.old ∷ directory.old ∷ []) (file.new ∷ directory.new ∷ []) 0 1 name.now time) }
+    ensures linked { OnOk result (LinksAt (P.region memory.old) (P.region memory.new) tables.now.layout free.old free.new cpu (file.old ∷ directory.old ∷ [])
+        (file.new ∷ directory.new ∷ []) 0 1 name.now time) }
     ensures needs { NeedsFree (needed (file.old.tail % 4096) (links_entries (file.old.numbers.links + 1) time)
         + needed (directory.old.tail % 4096) (name_entries Add file.old.inode name.now time)) free.old result }
     ensures kept { SettlesStep P.region P.may_hold P.fuse memory.old memory.new free.old free.new result }
@@ -59,14 +60,17 @@ pub fn link_both<P: Pmem>(
     ensures inode { file.new.inode ≡ file.old.inode }
     ensures directory_inode { directory.new.inode ≡ directory.old.inode }
     // Every word outside these places is as it was.
-    ensures wrote { (held : Store) (h g : Held) → ShowsRow (P.region memory.old) tables.now.layout held h file.old free.old → ShowsRow (P.region memory.old) tables.now.layout held g directory.old free.old
+    ensures wrote { (held : Store) (h g : Held) → ShowsRow (P.region memory.old) tables.now.layout held h file.old free.old
+        → ShowsRow (P.region memory.old) tables.now.layout held g directory.old free.old
         → StoresIn tables.now.layout held (two_logs tables.now.layout cpu file.old.inode directory.old.inode) (P.region memory.old) (P.region memory.new) }
     // The file's tail is stored first.
-    ensures in_order { (held : Store) (h g : Held) → ShowsRow (P.region memory.old) tables.now.layout held h file.old free.old → ShowsRow (P.region memory.old) tables.now.layout held g directory.old free.old
+    ensures in_order { (held : Store) (h g : Held) → ShowsRow (P.region memory.old) tables.now.layout held h file.old free.old
+        → ShowsRow (P.region memory.old) tables.now.layout held g directory.old free.old
         → TailIsFirst (P.region memory.old) (P.region memory.new) tables.now.layout free.old.pools cpu file.old.inode file.old.tail (links_entries
         (file.old.numbers.links + 1) time) (tail_address tables.now.layout directory.old.inode) }
     // Whatever a stop leaves: recovery finds what is held, or it with the link and the name, without faults.
-    ensures any_stop { (held : Store) (h g : Held) → ShowsRow (P.region memory.old) tables.now.layout held h file.old free.old → ShowsRow (P.region memory.old) tables.now.layout held g directory.old free.old
+    ensures any_stop { (held : Store) (h g : Held) → ShowsRow (P.region memory.old) tables.now.layout held h file.old free.old
+        → ShowsRow (P.region memory.old) tables.now.layout held g directory.old free.old
         → name_at directory.old.names name.now ≡ Option.None → NothingPending (P.region memory.old) (P.may_hold memory.old)
         → LeavesOnly (P.region memory.new) (P.may_hold memory.new) (LeavesEither (P.region memory.old) tables.now.layout held
         (Linked (P.region memory.old) tables.now.layout free.old cpu file.old directory.old name.now time)) }

@@ -57,7 +57,8 @@ pub fn cut_name<P: Pmem>(
     requires can { CanName (P.region memory.old) tables.now.layout cpu gone.now.inode directory.old }
     requires differ { directory.old.inode ≢ gone.now.inode }
     requires name { IsName gone.now.name.now }
-    ensures cut { OnOk result (CutsName (P.region memory.old) (P.region memory.new) tables.now.layout free.old free.new cpu directory.old directory.new gone.now.inode gone.now.time gone.now.name.now) }
+    ensures cut { OnOk result (CutsName (P.region memory.old) (P.region memory.new) tables.now.layout free.old free.new cpu directory.old directory.new
+        gone.now.inode gone.now.time gone.now.name.now) }
     ensures room { OnOk result (gone.now.blocks ≤ free.new.room) }
     ensures needs { NeedsFree (needed (directory.old.tail % 4096) (name_entries OperationValue.Remove gone.now.inode gone.now.name.now gone.now.time)) free.old result }
     ensures kept { SettlesStep P.region P.may_hold P.fuse memory.old memory.new free.old free.new result }
@@ -68,7 +69,8 @@ pub fn cut_name<P: Pmem>(
         → StoresIn tables.now.layout held (one_less tables.now.layout cpu directory.old.inode gone.now.inode) (P.region memory.old) (P.region memory.new) }
     // The directory's tail is stored first.
     ensures in_order { (held : Store) (h : Held) → ShowsRow (P.region memory.old) tables.now.layout held h directory.old free.old
-        → TailIsFirst (P.region memory.old) (P.region memory.new) tables.now.layout free.old.pools cpu directory.old.inode directory.old.tail (name_entries OperationValue.Remove gone.now.inode gone.now.name.now
+        → TailIsFirst (P.region memory.old) (P.region memory.new) tables.now.layout free.old.pools cpu directory.old.inode directory.old.tail
+        (name_entries OperationValue.Remove gone.now.inode gone.now.name.now
         gone.now.time) (slot_in tables.now.layout gone.now.inode) }
     // Whatever a stop leaves: recovery finds what is held, or it without the name and the inode, without faults.
     ensures any_stop { (held : Store) (h : Held) → ShowsRow (P.region memory.old) tables.now.layout held h directory.old free.old → NothingPending (P.region memory.old) (P.may_hold memory.old)

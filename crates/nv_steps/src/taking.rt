@@ -60,7 +60,8 @@ pub fn take_within<P: Pmem>(
     requires differ { directory.old.inode ≢ gone.inode }
     requires name { IsName moved.now.name.now }
     requires other { IsName moved.now.other.now }
-    ensures taken { OnOk result (TakesWithin (P.region memory.old) (P.region memory.new) tables.now.layout free.old free.new cpu directory.old directory.new moved.now.inode gone.inode moved.now.name.now
+    ensures taken { OnOk result (TakesWithin (P.region memory.old) (P.region memory.new) tables.now.layout free.old free.new cpu directory.old directory.new
+        moved.now.inode gone.inode moved.now.name.now
         moved.now.other.now moved.now.time) }
     ensures room { OnOk result (gone.blocks ≤ free.new.room) }
     ensures needs { NeedsFree (needed (directory.old.tail % 4096) (take_entries moved.now.inode gone.inode moved.now.name.now moved.now.other.now moved.now.time)) free.old result }
@@ -72,7 +73,8 @@ pub fn take_within<P: Pmem>(
         → StoresIn tables.now.layout held (one_less tables.now.layout cpu directory.old.inode gone.inode) (P.region memory.old) (P.region memory.new) }
     // The directory's tail is stored first.
     ensures in_order { (held : Store) (h : Held) → ShowsRow (P.region memory.old) tables.now.layout held h directory.old free.old
-        → TailIsFirst (P.region memory.old) (P.region memory.new) tables.now.layout free.old.pools cpu directory.old.inode directory.old.tail (take_entries moved.now.inode gone.inode moved.now.name.now
+        → TailIsFirst (P.region memory.old) (P.region memory.new) tables.now.layout free.old.pools cpu directory.old.inode directory.old.tail
+        (take_entries moved.now.inode gone.inode moved.now.name.now
         moved.now.other.now moved.now.time) (slot_in tables.now.layout gone.inode) }
     // Whatever a stop leaves: recovery finds what is held, or it with the name given and without the inode, without faults.
     ensures any_stop { (held : Store) (h : Held) → ShowsRow (P.region memory.old) tables.now.layout held h directory.old free.old → NothingPending (P.region memory.old) (P.may_hold memory.old)
@@ -136,14 +138,18 @@ pub fn lessen_within<P: Pmem>(
     ensures inode { directory.new.inode ≡ directory.old.inode }
     ensures file_inode { file.new.inode ≡ file.old.inode }
     // Every word outside these places is as it was.
-    ensures wrote { (held : Store) (h f : Held) → ShowsRow (P.region memory.old) tables.now.layout held h directory.old free.old → ShowsRow (P.region memory.old) tables.now.layout held f file.old free.old
+    ensures wrote { (held : Store) (h f : Held) → ShowsRow (P.region memory.old) tables.now.layout held h directory.old free.old
+        → ShowsRow (P.region memory.old) tables.now.layout held f file.old free.old
         → StoresIn tables.now.layout held (two_logs tables.now.layout cpu directory.old.inode file.old.inode) (P.region memory.old) (P.region memory.new) }
     // The directory's tail is stored first.
-    ensures in_order { (held : Store) (h f : Held) → ShowsRow (P.region memory.old) tables.now.layout held h directory.old free.old → ShowsRow (P.region memory.old) tables.now.layout held f file.old free.old
-        → TailIsFirst (P.region memory.old) (P.region memory.new) tables.now.layout free.old.pools cpu directory.old.inode directory.old.tail (take_entries moved.now.inode file.old.inode moved.now.name.now
+    ensures in_order { (held : Store) (h f : Held) → ShowsRow (P.region memory.old) tables.now.layout held h directory.old free.old
+        → ShowsRow (P.region memory.old) tables.now.layout held f file.old free.old
+        → TailIsFirst (P.region memory.old) (P.region memory.new) tables.now.layout free.old.pools cpu directory.old.inode directory.old.tail
+        (take_entries moved.now.inode file.old.inode moved.now.name.now
         moved.now.other.now moved.now.time) (tail_address tables.now.layout file.old.inode) }
     // Whatever a stop leaves: recovery finds what is held, or it with the name given and a link less, without faults.
-    ensures any_stop { (held : Store) (h f : Held) → ShowsRow (P.region memory.old) tables.now.layout held h directory.old free.old → ShowsRow (P.region memory.old) tables.now.layout held f file.old free.old
+    ensures any_stop { (held : Store) (h f : Held) → ShowsRow (P.region memory.old) tables.now.layout held h directory.old free.old
+        → ShowsRow (P.region memory.old) tables.now.layout held f file.old free.old
         → NothingPending (P.region memory.old) (P.may_hold memory.old)
         → LeavesOnly (P.region memory.new) (P.may_hold memory.new) (LeavesEither (P.region memory.old) tables.now.layout held
         (Lessened (P.region memory.old) tables.now.layout free.old cpu directory.old file.old moved.now.inode moved.now.name.now moved.now.other.now moved.now.time)) }

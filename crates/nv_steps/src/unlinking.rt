@@ -60,14 +60,18 @@ pub fn unlink_both<P: Pmem>(
     ensures inode { directory.new.inode ≡ directory.old.inode }
     ensures file_inode { file.new.inode ≡ file.old.inode }
     // Every word outside these places is as it was.
-    ensures wrote { (held : Store) (h g : Held) → ShowsRow (P.region memory.old) tables.now.layout held h directory.old free.old → ShowsRow (P.region memory.old) tables.now.layout held g file.old free.old
+    ensures wrote { (held : Store) (h g : Held) → ShowsRow (P.region memory.old) tables.now.layout held h directory.old free.old
+        → ShowsRow (P.region memory.old) tables.now.layout held g file.old free.old
         → StoresIn tables.now.layout held (two_logs tables.now.layout cpu directory.old.inode file.old.inode) (P.region memory.old) (P.region memory.new) }
     // The directory's tail is stored first.
-    ensures in_order { (held : Store) (h f : Held) → ShowsRow (P.region memory.old) tables.now.layout held h directory.old free.old → ShowsRow (P.region memory.old) tables.now.layout held f file.old free.old
-        → TailIsFirst (P.region memory.old) (P.region memory.new) tables.now.layout free.old.pools cpu directory.old.inode directory.old.tail (name_entries Remove file.old.inode name.now time) (tail_address
+    ensures in_order { (held : Store) (h f : Held) → ShowsRow (P.region memory.old) tables.now.layout held h directory.old free.old
+        → ShowsRow (P.region memory.old) tables.now.layout held f file.old free.old
+        → TailIsFirst (P.region memory.old) (P.region memory.new) tables.now.layout free.old.pools cpu directory.old.inode directory.old.tail
+        (name_entries Remove file.old.inode name.now time) (tail_address
         tables.now.layout file.old.inode) }
     // Whatever a stop leaves: recovery finds what is held, or it without the name and the link, without faults.
-    ensures any_stop { (held : Store) (h f : Held) → ShowsRow (P.region memory.old) tables.now.layout held h directory.old free.old → ShowsRow (P.region memory.old) tables.now.layout held f file.old free.old
+    ensures any_stop { (held : Store) (h f : Held) → ShowsRow (P.region memory.old) tables.now.layout held h directory.old free.old
+        → ShowsRow (P.region memory.old) tables.now.layout held f file.old free.old
         → NothingPending (P.region memory.old) (P.may_hold memory.old)
         → LeavesOnly (P.region memory.new) (P.may_hold memory.new) (LeavesEither (P.region memory.old) tables.now.layout held
         (Unlinked (P.region memory.old) tables.now.layout free.old cpu directory.old file.old name.now time)) }

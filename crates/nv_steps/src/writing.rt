@@ -56,7 +56,8 @@ pub fn change_bytes<P: Pmem>(
     requires fits { change.now.offset + length (data_bytes change.now.content) ≤ most_size }
     requires size { change.now.size ≡ row.old.numbers.size }
     requires plan { plan.now ≡ plan_of (block_at row.old.index) row.old.numbers.size change.now.offset (length (data_bytes change.now.content)) plan.now.time }
-    ensures writes { OnOk result (WritesFile (P.region memory.old) (P.region memory.new) tables.now.layout free.old free.new cpu plan.now change.now.offset (data_bytes change.now.content) row.old row.new) }
+    ensures writes { OnOk result (WritesFile (P.region memory.old) (P.region memory.new) tables.now.layout free.old free.new cpu plan.now change.now.offset
+        (data_bytes change.now.content) row.old row.new) }
     ensures enough { OnOk result ((count : ℕ) → NeedsBlocks free.old.pools cpu row.old.tail plan.now count → count ≤ all_blocks free.old.pools) }
     ensures kept { SettlesStep P.region P.may_hold P.fuse memory.old memory.new free.old free.new result }
     ensures refused { IfErr result (λ e. RefusesWrite e free.old cpu row.old.tail plan.now) }

@@ -1,37 +1,24 @@
-//! The lines of an inode: its attributes, its log, and the extents of a file.
+//! The lines of an inode: its numbers, its log, and the extents of a file.
 
 ghost use Rattle.std.specs.Prelude.{◌≡◌, ◌++◌, OnOk, string_bytes, flat_map, codes, decimal};
 ghost use Rattle.nv_text.specs.Report.{inode_head, inode_tail, inode_line, stat_line, log_line, page_line};
 
 use crate::fields::push_field;
-use nv_super::Kind;
+use nv_tree::Stat;
 use std::alloc::AllocError;
 use std::fmt::Write;
 
-/// What the first line of an inode shows. The size is in bytes.
-#[derive(Clone, Copy, PartialEq, Eq)]
-pub struct Attributes {
-    pub inode: u64,
-    pub kind: Kind,
-    pub mode: u32,
-    pub owner: u32,
-    pub group: u32,
-    pub size: u64,
-    pub links: u32,
-    pub time: u64,
-}
-
-fn push_inode_head(out: &mut String, attributes: &Attributes) -> Result<(), AllocError>
-    ensures { OnOk result (string_bytes out.new ≡ string_bytes out.old ++ inode_head attributes.now) }
+fn push_inode_head(out: &mut String, stat: &Stat) -> Result<(), AllocError>
+    ensures { OnOk result (string_bytes out.new ≡ string_bytes out.old ++ inode_head stat.now) }
 {
-    let Attributes {
+    let Stat {
         inode,
         kind,
         mode,
         owner,
         group,
         ..
-    } = *attributes;
+    } = *stat;
     push_field(out, "inode ", inode)?;
     write!(out, " {kind}")?;
     push_field(out, " mode ", u64::from(mode))?;
@@ -39,15 +26,15 @@ fn push_inode_head(out: &mut String, attributes: &Attributes) -> Result<(), Allo
     push_field(out, " group ", u64::from(group))
 }
 
-fn push_inode_tail(out: &mut String, attributes: &Attributes) -> Result<(), AllocError>
-    ensures { OnOk result (string_bytes out.new ≡ string_bytes out.old ++ inode_tail attributes.now) }
+fn push_inode_tail(out: &mut String, stat: &Stat) -> Result<(), AllocError>
+    ensures { OnOk result (string_bytes out.new ≡ string_bytes out.old ++ inode_tail stat.now) }
 {
-    let Attributes {
+    let Stat {
         size,
         links,
         time,
         ..
-    } = *attributes;
+    } = *stat;
     push_field(out, " size ", size)?;
     push_field(out, " links ", u64::from(links))?;
     push_field(out, " time ", time)?;
@@ -55,19 +42,19 @@ fn push_inode_tail(out: &mut String, attributes: &Attributes) -> Result<(), Allo
 }
 
 /// `inode I KIND mode M owner U group G size Z links L time T`.
-pub fn push_inode_line(out: &mut String, attributes: &Attributes) -> Result<(), AllocError>
-    ensures { OnOk result (string_bytes out.new ≡ string_bytes out.old ++ inode_line attributes.now) }
+pub fn push_inode_line(out: &mut String, stat: &Stat) -> Result<(), AllocError>
+    ensures { OnOk result (string_bytes out.new ≡ string_bytes out.old ++ inode_line stat.now) }
 {
-    push_inode_head(out, attributes)?;
-    push_inode_tail(out, attributes)
+    push_inode_head(out, stat)?;
+    push_inode_tail(out, stat)
 }
 
 /// `stat ` and the first line of the inode.
-pub fn push_stat_line(out: &mut String, attributes: &Attributes) -> Result<(), AllocError>
-    ensures { OnOk result (string_bytes out.new ≡ string_bytes out.old ++ stat_line attributes.now) }
+pub fn push_stat_line(out: &mut String, stat: &Stat) -> Result<(), AllocError>
+    ensures { OnOk result (string_bytes out.new ≡ string_bytes out.old ++ stat_line stat.now) }
 {
     out.push_str("stat ")?;
-    push_inode_line(out, attributes)
+    push_inode_line(out, stat)
 }
 
 fn push_log_pages(out: &mut String, pages: &[u64]) -> Result<(), AllocError>

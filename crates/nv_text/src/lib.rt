@@ -25,7 +25,7 @@ pub use digits::put_digits;
 pub use escapes::{one_name, unescaped};
 pub use faults::{push_fault_line, push_faults};
 pub use free::{push_free_line, push_free_lines};
-pub use inodes::{Attributes, push_inode_line, push_log_line, push_page_line, push_stat_line};
+pub use inodes::{push_inode_line, push_log_line, push_page_line, push_stat_line};
 pub use names::{push_data_line, push_escaped, push_list_line, push_name_line};
 pub use output::Output;
 pub use refusal_lines::{is_refusal_line, no_list_is_refused};

@@ -46,6 +46,18 @@ mapped_same f q h (Some a) = h a
 pub edit_same : (t : Tree) (i : ℕ) (f : Node → Node) → ((a : Node) (q : List ℕ) → (f a).names q ≡ a.names q) → (e : ℕ) (q : List ℕ) → name_in (edit i f t) e q ≡ name_in t e q
 edit_same t i f h e q = put_same t i (option_map f (t i)) (λ r. mapped_same f r (λ a. h a r) (t i)) e q
 
+-- What a change of one inode leaves of each, all show as before.
+pub edit_leaves : {A : Type 0} (p : Node → A) (t : Tree) (d : ℕ) (f : Node → Node) → ((a : Node) → p (f a) ≡ p a) → (k : ℕ) → option_map p (edit d f t k) ≡ option_map p (t k)
+edit_leaves p t d f leaves k = by (cases_eq k d)
+  where
+    mapped : (o : Option Node) → option_map p (option_map f o) ≡ option_map p o
+    mapped None = refl
+    mapped (Some a) = ap (λ x. Some x) (leaves a)
+
+    by : (k ≡ d) ⊎ (k ≡ d → ⊥) → option_map p (edit d f t k) ≡ option_map p (t k)
+    by (inl is) = ap (λ b. option_map p (cond b (option_map f (t d)) (t k))) (eq-eqb k d is) ∙ mapped (t d) ∙ ap (λ e. option_map p (t e)) (sym is)
+    by (inr ne) = ap (λ b. option_map p (cond b (option_map f (t d)) (t k))) (ne_eqb k d ne)
+
 -- a change of one inode that sets one name
 edit_sets : (t : Tree) (d : ℕ) (f : Node → Node) (name : List ℕ) (to : Option ℕ) → option_and_then (λ (node : Node). node.names name) (option_map f (t d)) ≡ to
     → ((a : Node) (q : List ℕ) → (q ≡ name → ⊥) → (f a).names q ≡ a.names q) → SetsName t d name to (edit d f t)

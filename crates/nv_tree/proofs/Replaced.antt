@@ -16,7 +16,7 @@ use Rattle.nv_tree.proofs.Cuts.{CutsName, cut_found, cut_walk, last_stood, named
 use Rattle.nv_tree.proofs.Effects.{removed_names, renamed_names, unlinked_names}
 use Rattle.nv_tree.proofs.Kept.{removed_kept, renamed_kept, unlinked_kept}
 use Rattle.nv_tree.proofs.Leads.{GrowsName, StaysInUse, edit_stays, path_grows, walk_ends}
-use Rattle.nv_tree.proofs.Named.{name_cut, name_set}
+use Rattle.nv_tree.proofs.Named.{edit_leaves, name_cut, name_set}
 use Rattle.nv_tree.proofs.Tested.{and_test, and_tests, behind, into_itself_alike, missing_alike, target_alike, test, walks_alike}
 
 -- ---- where the new path leads nowhere, or to the same inode
@@ -247,6 +247,17 @@ module _ {t : Tree} {i j d e : ℕ} {first : List ℕ} {old : List (List ℕ)} {
       ∙ ap (λ o. on_some o (λ m. on_ok (walk gone 1 from_path) (λ k. on_ok (walk gone 1 to_path) (made m k) gone) gone) gone) gone_moved
       ∙ ap (λ x. on_ok x (λ k. on_ok (walk gone 1 to_path) (made i k) gone) gone) gone_from
       ∙ ap (λ x. on_ok x (made i d) gone) gone_way
+
+  -- an inode beside the one that was there shows what names and times don't change
+  pub beside : {A : Type 0} (p : Node → A) → ((q : List ℕ) (m stamp : ℕ) (a : Node) → p (with_name q m stamp a) ≡ p a) → ((q : List ℕ) (stamp : ℕ) (a : Node) → p (without_name q stamp a) ≡ p a)
+      → (k : ℕ) → k ≢ j → option_map p (replaced from_path to_path time t k) ≡ option_map p (t k)
+  unfolding after without gone
+  beside p more less k ne =
+      ap (λ (u : Tree). option_map p (u k)) replaced_is
+      ∙ edit_leaves p without e (with_name new_name i time) (more new_name i time) k
+      ∙ edit_leaves p gone d (without_name old_name time) (less old_name time) k
+      ∙ edit_leaves p (before (is_directory_at t j)) e (without_name new_name time) (less new_name time) k
+      ∙ ap (option_map p) (before_at (is_directory_at t j) k ne)
 
   -- ---- the inode that was there
 

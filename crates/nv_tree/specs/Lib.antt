@@ -1,6 +1,7 @@
 pub mod Path
 pub mod Names
 pub mod Tree
+pub mod Stat
 pub mod Calls
 pub mod Refusals
 pub mod Replace

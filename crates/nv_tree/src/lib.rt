@@ -9,6 +9,7 @@ mod laws;
 mod path;
 mod refusal;
 mod replacing;
+mod stat;
 
 pub use laws::{
     calls_keep_sameness, each_text_says_one, first_refusal_is_first, looks_are_refused_alike,
@@ -20,3 +21,4 @@ pub use refusal::Refusal;
 pub use replacing::{
     inode_after_replace, names_after_replace, replace_is_rename, replace_keeps_sameness,
 };
+pub use stat::Stat;

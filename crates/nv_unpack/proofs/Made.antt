@@ -26,7 +26,7 @@ use Rattle.nv_unpack.specs.declared.unpacking.Unpacked.{Unpacked}
 use Rattle.nv_unpack.specs.declared.unpacking.Unpacked.TheVariants as unpacked
 use Rattle.nv_unpack.specs.Steps.{steps_of}
 use Rattle.nv_unpack.specs.Making.{AreSteps, GoesOn, HaltsSteps, RefusesSteps}
-use Rattle.nv_unpack.specs.Unpacking.{IsHalted, IsMade, IsRefusalOf, IsUnpacked, IsUnpackedAs, MayLeave}
+use Rattle.nv_unpack.specs.Unpacking.{GrowsInVersion2, IsHalted, IsMade, IsRefusalOf, IsUnpacked, IsUnpackedAs}
 use Rattle.nv_unpack.proofs.Going.{tree}
 
 abbrev Keeps : Mount RegionState → Type 0
@@ -47,8 +47,8 @@ module _ (R : Region) (o : Outcome) (m n : Mount RegionState) (is : IsOpenedAs R
   as_long : size m.memory.region ≡ size R
   as_long = ap size is.region ∙ same_size R (undone o.sup R) (o.sup, is.is.sup, (rolled_back R o is.is).sup, stays R o.sup is.is.sup)
 
-  may_leave : MayLeave o n.layout
-  may_leave = (subst (λ (l : Layout). ChainsGrow l n.layout) is.layout on.chains, λ one. on.stays (ap (λ (s : Super). s.version) is.sup ∙ one) ∙ ap (λ (l : Layout). l.chains) is.layout)
+  tables_by : GrowsInVersion2 o n.layout
+  tables_by = (subst (λ (l : Layout). ChainsGrow l n.layout) is.layout on.chains, λ one. on.stays (ap (λ (s : Super). s.version) is.sup ∙ one) ∙ ap (λ (l : Layout). l.chains) is.layout)
 
   -- The region that is left shows what the steps make.
   pub all_left : AreSteps m.sup base maker (steps_of items) (tree m) (tree n) → IsSettled n.memory → IsMade R o base items maker n.memory
@@ -63,7 +63,7 @@ module _ (R : Region) (o : Outcome) (m n : Mount RegionState) (is : IsOpenedAs R
           shown = own.1;
           own = kept.own on.can.runs;
           sup = kept.tables ∙ on.sup ∙ is.sup;
-          layout = may_leave;
+          layout = tables_by;
           faultless = refl;
           tree = same_itself (tree n);
         };
@@ -77,7 +77,7 @@ module _ (R : Region) (o : Outcome) (m n : Mount RegionState) (is : IsOpenedAs R
     kept = kept;
     runs = on.can.runs;
     sup = on.sup ∙ is.sup;
-    tables = may_leave;
+    tables = tables_by;
     writes = on.can.writes;
     refuses = subst (λ s. RefusesSteps s base maker (steps_of items) (tree_shown R o) n item refusal) is.sup
         (subst (λ (t : Tree). RefusesSteps m.sup base maker (steps_of items) t n item refusal) same_tree refuses);

@@ -6,8 +6,8 @@ use Rattle.nv_tree.specs.declared.refusal.Refusal.{Refusal}
 use Rattle.nv_tree.specs.Path.{IsPath, Says}
 use Rattle.nv_tree.specs.Tree.{Node, Tree}
 use Rattle.nv_tree.specs.Refusals.{Path, first_refusal, stat_tests}
-use Rattle.nv_calls.specs.Stat.{IsStat, stat_of}
-use Rattle.nv_calls.specs.declared.stating.Stat.{Stat}
+use Rattle.nv_tree.specs.Stat.{IsStat, stat_of}
+use Rattle.nv_tree.specs.declared.stat.Stat.{Stat}
 use Rattle.nv_changes.proofs.Standing.{refused_not_there, stat_there}
 use Rattle.nv_unpack.specs.Calls.{IsDirectoryAt}
 

@@ -29,15 +29,15 @@ use Rattle.nv_unpack.specs.Steps.{steps_of}
 use Rattle.nv_unpack.specs.Told.{refused_item}
 
 -- the tables that steps may leave: chains only grow, and none does in version 1
-abbrev pub MayLeave : Outcome → Layout → Type 0
-MayLeave o l = ChainsGrow (outcome_layout o) l × (o.sup.version ≡ 1 → l.chains ≡ o.tables)
+abbrev pub GrowsInVersion2 : Outcome → Layout → Type 0
+GrowsInVersion2 o l = ChainsGrow (outcome_layout o) l × (o.sup.version ≡ 1 → l.chains ≡ o.tables)
 
 -- All steps were made. The region that is left is as long as the one that came, its own undone region, and has no fault; it shows
 -- the tree that the steps make, in such tables. Nothing is pending in it.
 pub record IsMade (R : Region) (o : Outcome) (base : List ℕ) (items : List Item) (maker : Maker) (left : RegionState) : Type 0 where
   pub tree : Tree
   pub made : AreSteps o.sup base maker (steps_of items) (tree_shown R o) tree
-  pub leaves : LeavesTreeBy (MayLeave o) R left.region (mounted_as o false) tree
+  pub leaves : LeavesTreeBy (GrowsInVersion2 o) R left.region (mounted_as o false) tree
   pub settled : IsSettled left
 
 -- A call for this item is refused, of what is mounted then without faults.
@@ -46,7 +46,7 @@ pub record IsHalted (R : Region) (o : Outcome) (base : List ℕ) (items : List I
   pub kept : IsKept left.memory.region left.sup left.layout left.rows left.free left.faults left.read_only left.stopped
   pub runs : left.stopped ≡ false
   pub sup : left.sup ≡ o.sup
-  pub tables : MayLeave o left.layout
+  pub tables : GrowsInVersion2 o left.layout
   pub writes : left.read_only ≡ false
   pub refuses : RefusesSteps o.sup base maker (steps_of items) (tree_shown R o) left item refusal
 

@@ -3,7 +3,7 @@
 use nv_format::FormatRefusal;
 use nv_super::{Fault, Kind, Owner, Run, Super, SuperFault};
 use nv_text::*;
-use nv_tree::Refusal as CallRefusal;
+use nv_tree::{Refusal as CallRefusal, Stat};
 use std::alloc::{AllocError, Global};
 use std::process::Abort;
 
@@ -70,7 +70,7 @@ const NUMBERS: Super = Super {
     state: 0,
 };
 
-const ROOT: Attributes = Attributes {
+const ROOT: Stat = Stat {
     inode: 1,
     kind: Kind::Directory,
     mode: 493,
@@ -81,7 +81,7 @@ const ROOT: Attributes = Attributes {
     time: 18446744073709551615,
 };
 
-const FILE: Attributes = Attributes {
+const FILE: Stat = Stat {
     inode: 14,
     kind: Kind::File,
     mode: 4095,

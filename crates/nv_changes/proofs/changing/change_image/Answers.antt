@@ -1,4 +1,4 @@
-use Rattle.std.proofs.Common.{inl, IsTrue, subst, sym, refl}
+use Rattle.std.proofs.Common.{inl, IsTrue, subst, sym}
 use Rattle.nv_region.specs.Region.{Region}
 use Rattle.nv_region.specs.RegionState.{RegionState, is_steady}
 use Rattle.nv_outcome.specs.Answer.{outcome_of}

@@ -28,4 +28,4 @@ returns-in-Recovered c R of undo =
     (tree_as c.shown-first.result.memory.now c.args.memory.now c.shown-first.result.rows.now found.rows c.shown-first.ensures.memory c.shown-first.ensures.rows (undone found.sup R) undo)
     (tree_as c.shown-second.result.memory.now c.in-Recovered.other c.shown-second.result.rows.now others.rows c.shown-second.ensures.memory c.shown-second.ensures.rows (undone others.sup S) is.1)
     _ _ (c.len.ensures ∙ found.faults.ok.0) (c.len-in-Recovered.ensures ∙ others.faults.ok.0)
-    c.compared_look.result c.compared_look.ensures.text c.compared_look.ensures.status c.compared_look.ensures.first c.compared_look.ensures.second
+    c.compared_look-look.result c.compared_look-look.ensures.text c.compared_look-look.ensures.status c.compared_look-look.ensures.first c.compared_look-look.ensures.second

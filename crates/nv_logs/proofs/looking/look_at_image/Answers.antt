@@ -5,15 +5,15 @@ use Rattle.nv_image_check.proofs.Found.{as_found}
 use Rattle.nv_logs.proofs.Looks.{image_answer, image_layout, image_blocks, refused_look}
 use Rattle.nv_logs.proofs.looking.look_at_image.Goals as goal
 
-pub look_in-requires : goal.look_in-requires
-look_in-requires c =
+pub look_in-look-requires : goal.look_in-look-requires
+look_in-look-requires c =
     let is = as_found (region_of c.args.bytes.now) c.in_ok-image.image c.in-Recovered.memory c.in-Recovered.found c.in-Recovered.is c.in_ok-image.ensures in
     record { layout = image_layout c.args.bytes.now c.in-Recovered.memory c.in-Recovered.found is; blocks = image_blocks c.args.bytes.now c.in-Recovered.memory c.in-Recovered.found is }
 
 pub returns-in-Recovered : goal.returns-in-Recovered
 returns-in-Recovered c =
     let is = as_found (region_of c.args.bytes.now) c.in_ok-image.image c.in-Recovered.memory c.in-Recovered.found c.in-Recovered.is c.in_ok-image.ensures in
-    image_answer c.args.bytes.now c.in-Recovered.memory c.in-Recovered.found is c.args.inode.now c.look_in.result c.look_in.ensures.told c.look_in.ensures.faults
+    image_answer c.args.bytes.now c.in-Recovered.memory c.in-Recovered.found is c.args.inode.now c.look_in-look.result c.look_in-look.ensures.told c.look_in-look.ensures.faults
 
 pub returns-in-Refused : goal.returns-in-Refused
 returns-in-Refused c = IfOk-weaker c.unaccepted_look.result _ _ (λ look said. refused_look c.args.inode.now (region_of c.args.bytes.now) c.in-Refused.refusal (string_bytes look.text) look.answered (rw c.in-Refused.is at c.in_ok-image.ensures) said) c.unaccepted_look.ensures

@@ -7,7 +7,7 @@ use Rattle.nv_logs.proofs.telling.look_at_gathered.Goals as goal
 pub returns-in-Recovered : goal.returns-in-Recovered
 returns-in-Recovered g c R are =
     let is = subst (IsFoundIn c.args.gathered) c.in-Recovered.is c.in_ok-image.ensures in
-    found_rows (g.T.Teller.tells c.args.teller.now) R c.args.gathered are c.in-Recovered._memory c.in-Recovered.found is c.look.result c.look.ensures.told c.look.ensures.faults
+    found_rows (g.T.Teller.tells c.args.teller.now) R c.args.gathered are c.in-Recovered.memory c.in-Recovered.found is c.look-look.result c.look-look.ensures.told c.look-look.ensures.faults
 
 pub returns-in-Refused : goal.returns-in-Refused
 returns-in-Refused g c R are = IfOk-weaker c.unaccepted_look.result _ _

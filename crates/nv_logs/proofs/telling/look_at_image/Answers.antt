@@ -9,8 +9,8 @@ pub returns-in-Recovered : goal.returns-in-Recovered
 returns-in-Recovered g c =
     let bytes = c.args.bytes.now in
     let found = c.in-Recovered.found in
-    let is = as_found (region_of bytes) c.in_ok-image.image c.in-Recovered._memory found c.in-Recovered.is c.in_ok-image.ensures in
-    image_rows (g.T.Teller.tells c.args.teller.now) bytes c.in-Recovered._memory found is c.look.result c.look.ensures.told c.look.ensures.faults
+    let is = as_found (region_of bytes) c.in_ok-image.image c.in-Recovered.memory found c.in-Recovered.is c.in_ok-image.ensures in
+    image_rows (g.T.Teller.tells c.args.teller.now) bytes c.in-Recovered.memory found is c.look-look.result c.look-look.ensures.told c.look-look.ensures.faults
 
 pub returns-in-Refused : goal.returns-in-Refused
 returns-in-Refused g c = IfOk-weaker c.unaccepted_look.result _ _

@@ -1,58 +1,10 @@
-use Rattle.std.proofs.Common.{ap, inr, length, string_bytes, subst}
-use Rattle.std.proofs.KnownBytes.{Keeps-refl}
-use Rattle.std.proofs.lemmas.Result.{err_from_is_err_and}
-use Rattle.nv_region.specs.Region.{region_of}
-use Rattle.nv_looks.specs.Archiving.{GivesArchive}
-use Rattle.nv_looks.specs.Gathered.{IsOpenedOf, is_whole}
-use Rattle.nv_looks.specs.Sent.{written}
-use Rattle.nv_looks.proofs.Cats.{no_zero}
-use Rattle.nv_looks.proofs.Opened.{look_refused}
-use Rattle.nv_looks.proofs.Filed.{opened_small}
-use Rattle.nv_looks.proofs.Archived.{told_opened, fails_opened}
-use Rattle.nv_looks.proofs.ReadFrom.{read_there}
 use Rattle.nv_looks.proofs.archiving.tar_gathered.Goals as goal
 
-pub tar_mounted-requires : goal.tar_mounted-requires
-tar_mounted-requires g c =
-    let is = subst (IsOpenedOf c.args.gathered) c.in-Mounted.is c.in_ok-opened.ensures in
-    opened_small c.args.gathered c.in-Mounted.mount is
+pub tar_opened-answered-requires : goal.tar_opened-answered-requires
+tar_opened-answered-requires g c = (c.args.gathered, c.in_ok-opened.ensures)
 
-pub returns-in_ok-status-in-Mounted-clause-ok : goal.returns-in_ok-status-in-Mounted-clause-ok
-returns-in_ok-status-in-Mounted-clause-ok g c bytes known are =
-    let is = subst (IsOpenedOf c.args.gathered) c.in-Mounted.is c.in_ok-opened.ensures in
-    let m = c.in-Mounted.mount in
-    let old = written (g.W.Write.contents c.args.writer.now) (g.E.Write.contents c.args.errors.now) in
-    let new = written (g.W.Write.contents c.tar_mounted.new.writer) (g.E.Write.contents c.tar_mounted.new.errors) in
-    told_opened (GivesArchive c.args.chosen c.args.all) bytes c.args.gathered are m is old new _
-    (λ Q reads. c.in_ok-status-in-Mounted.ensures.ok Q (read_there c.is_whole-whole.result (is_whole c.args.gathered) (g.B.Blocks.bytes c.args.source.now) bytes m.memory Q m.rows c.is_whole-whole.ensures known reads))
-    (ap length c.faults.ensures)
+pub returns-clause-ok : goal.returns-clause-ok
+returns-clause-ok g c bytes known are = c.tar_opened-answered.ensures.ok c.args.gathered bytes c.in_ok-opened.ensures c.is_whole-whole.ensures known are
 
-pub returns-in_err-status-in-Mounted-clause-err : goal.returns-in_err-status-in-Mounted-clause-err
-returns-in_err-status-in-Mounted-clause-err g c bytes known are =
-    let is = subst (IsOpenedOf c.args.gathered) c.in-Mounted.is c.in_ok-opened.ensures in
-    let m = c.in-Mounted.mount in
-    let old = written (g.W.Write.contents c.args.writer.now) (g.E.Write.contents c.args.errors.now) in
-    let new = written (g.W.Write.contents c.tar_mounted.new.writer) (g.E.Write.contents c.tar_mounted.new.errors) in
-    let e = c.in_err-status-in-Mounted.field-0.0 in
-    let q = err_from_is_err_and c.from_residual-in_err-status-in-Mounted.result c.from_residual-in_err-status-in-Mounted.ensures.1 in
-    rw (q.1, q.2) (fails_opened (GivesArchive c.args.chosen c.args.all) bytes c.args.gathered are m is old new e
-    (λ Q reads. c.in_err-status-in-Mounted.ensures.err Q (read_there c.is_whole-whole.result (is_whole c.args.gathered) (g.B.Blocks.bytes c.args.source.now) bytes m.memory Q m.rows c.is_whole-whole.ensures known reads)))
-
-pub returns-in_ok-write_text-in-Refused-clause-ok : goal.returns-in_ok-write_text-in-Refused-clause-ok
-returns-in_ok-write_text-in-Refused-clause-ok g c bytes known are =
-    let look = c.in_ok-look-in-Refused.look in (
-      string_bytes look.text,
-      look_refused (GivesArchive c.args.chosen c.args.all) (region_of bytes) (string_bytes look.text) look.answered c.args.gathered are c.in-Refused.refusal (subst (IsOpenedOf c.args.gathered) c.in-Refused.is c.in_ok-opened.ensures) c.in_ok-look-in-Refused.ensures,
-      inr (no_zero look.answered.status c.in_ok-look-in-Refused.ensures.0.1, Keeps-refl _, rw c.as_bytes.ensures.value at c.in_ok-write_text-in-Refused.ensures.ok),
-    )
-
-pub returns-in_err-write_text-in-Refused-clause-err : goal.returns-in_err-write_text-in-Refused-clause-err
-returns-in_err-write_text-in-Refused-clause-err g c bytes known are =
-    let look = c.in_ok-look-in-Refused.look in
-    let q = err_from_is_err_and c.from_residual-in_err-write_text-in-Refused.result c.from_residual-in_err-write_text-in-Refused.ensures.1 in
-    rw (q.1, q.2, c.in_err-write_text-in-Refused.ensures.kind) (
-      string_bytes look.text,
-      look.answered,
-      look_refused (GivesArchive c.args.chosen c.args.all) (region_of bytes) (string_bytes look.text) look.answered c.args.gathered are c.in-Refused.refusal (subst (IsOpenedOf c.args.gathered) c.in-Refused.is c.in_ok-opened.ensures) c.in_ok-look-in-Refused.ensures,
-      inr (no_zero look.answered.status c.in_ok-look-in-Refused.ensures.0.1, Keeps-refl _, rw c.as_bytes.ensures.value at c.in_err-write_text-in-Refused.ensures.err),
-    )
+pub returns-clause-err : goal.returns-clause-err
+returns-clause-err g c bytes known are = c.tar_opened-answered.ensures.err c.args.gathered bytes c.in_ok-opened.ensures c.is_whole-whole.ensures known are

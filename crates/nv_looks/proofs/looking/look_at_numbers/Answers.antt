@@ -1,23 +1,5 @@
-use Rattle.std.proofs.Common.{◌∙◌, ap, length, string_bytes}
-use Rattle.std.proofs.lemmas.Result.{IfOk-weaker}
 use Rattle.nv_region.specs.Region.{region_of}
-use Rattle.nv_tree.specs.Refusals.{stat_tests}
-use Rattle.nv_session.specs.Machine.{TellsStat}
-use Rattle.nv_paths.specs.Seen.{tree_of}
-use Rattle.nv_looks.specs.Looking.{TellsNumbers}
-use Rattle.nv_looks.proofs.Looks.{refused_look, mounted_look, call_by_path}
 use Rattle.nv_looks.proofs.looking.look_at_numbers.Goals as goal
 
-pub returns-in_ok-told-in-Mounted : goal.returns-in_ok-told-in-Mounted
-returns-in_ok-told-in-Mounted c =
-    let R = region_of c.args.bytes.now in
-    let m = c.in-Mounted.mount in
-    let is = rw c.in-Mounted.is at c.in_ok-opened.ensures in
-    let look = c.told_look.result in
-    mounted_look R m is (TellsNumbers c.args.path.now) (string_bytes look.text) look.answered
-    (call_by_path TellsStat stat_tests c.args.path.now (tree_of m.memory.region m.rows) (string_bytes look.text) c.in_ok-told-in-Mounted.told.is_refused look.answered.status
-    (λ p says. rw c.told_look.ensures.text (c.in_ok-told-in-Mounted.ensures.text is.5 p says)) (c.in_ok-told-in-Mounted.ensures.refused is.5) c.told_look.ensures.status)
-    (c.told_look.ensures.faults ∙ ap length c.faults.ensures)
-
-pub returns-in-Refused : goal.returns-in-Refused
-returns-in-Refused c = IfOk-weaker c.refused_look.result _ _ (λ look said. refused_look (TellsNumbers c.args.path.now) (region_of c.args.bytes.now) c.in-Refused.refusal (string_bytes look.text) look.answered (rw c.in-Refused.is at c.in_ok-opened.ensures) said) c.refused_look.ensures
+pub returns : goal.returns
+returns c = c.numbers_in-look.ensures (region_of c.args.bytes.now) c.in_ok-opened.ensures

@@ -10,17 +10,17 @@ use Rattle.nv_script.proofs.script.run_script_with_hints.Goals as goal
 
 pub returns-clause-ok : goal.returns-clause-ok
 returns-clause-ok g c =
-    let region = region_in c.run_in.new.session.store in
-    IfOk-weaker c.run_in.result _ _ (λ status all. all_weaker (ShowsEndBy Lenient first_state region) ShowsScript (lenient_any first_state region) _ _ _ status (all first_state c.new-session.ensures)) c.run_in.ensures.ok
+    let region = region_in c.run_in-status.new.session.store in
+    IfOk-weaker c.run_in-status.result _ _ (λ status all. all_weaker (ShowsEndBy Lenient first_state region) ShowsScript (lenient_any first_state region) _ _ _ status (all first_state c.new-session.ensures)) c.run_in-status.ensures.ok
 
 pub returns-clause-err : goal.returns-clause-err
 returns-clause-err g c =
-    IfErr-weaker c.run_in.result _ _ (λ e all. fails_weaker (ShowsFromBy Lenient first_state) ShowsScript (lenient_from first_state) e _ _ _ (all first_state c.new-session.ensures)) c.run_in.ensures.err
+    IfErr-weaker c.run_in-status.result _ _ (λ e all. fails_weaker (ShowsFromBy Lenient first_state) ShowsScript (lenient_from first_state) e _ _ _ (all first_state c.new-session.ensures)) c.run_in-status.ensures.err
 
 pub returns-clause-hints : goal.returns-clause-hints
 returns-clause-hints g c =
-    IfOk-weaker c.run_in.result _ _ (λ status all. all_weaker (HintsFromBy Lenient first_state) HintsScript (lenient_hints first_state) _ _ _ status (all first_state c.new-session.ensures)) c.run_in.ensures.hints
+    IfOk-weaker c.run_in-status.result _ _ (λ status all. all_weaker (HintsFromBy Lenient first_state) HintsScript (lenient_hints first_state) _ _ _ status (all first_state c.new-session.ensures)) c.run_in-status.ensures.hints
 
 pub returns-clause-first_hints : goal.returns-clause-first_hints
 returns-clause-first_hints g c =
-    on_err_weaker c.run_in.result (λ all. whole_weaker (HintsFromBy Lenient first_state) HintsScript (lenient_hints first_state) _ _ _ (all first_state c.new-session.ensures)) c.run_in.ensures.first_hints
+    on_err_weaker c.run_in-status.result (λ all. whole_weaker (HintsFromBy Lenient first_state) HintsScript (lenient_hints first_state) _ _ _ (all first_state c.new-session.ensures)) c.run_in-status.ensures.first_hints

@@ -1,54 +1,11 @@
-use Rattle.std.proofs.Common.{[], refl, inl, inr, string_bytes}
-use Rattle.std.proofs.lemmas.Result.{err_from_is_err_and}
-use Rattle.nv_session.specs.Machine.{state_with}
-use Rattle.nv_session.specs.Sessions.{region_in}
-use Rattle.nv_script.specs.Shell.{ShowsLinesEnd, ShowsAnyLines, ShowsShell, ShowsAnyShell}
-use Rattle.nv_script.proofs.Kept.{grows_none}
-use Rattle.nv_script.proofs.KnownProgress.{fails_short}
-use Rattle.nv_script.proofs.ShellLines.{shell_behind, any_behind, all_behind, fails_behind, first_short, keeps_same}
+use Rattle.nv_script.proofs.EndOfRun.{ended_ok, ended_err}
 use Rattle.nv_script.proofs.shell.run_shell.Goals as goal
-
-pub returns-in_err-text-clause-err : goal.returns-in_err-text-clause-err
-returns-in_err-text-clause-err g c =
-    let r = err_from_is_err_and c.from_residual.result c.from_residual.ensures.1 in
-    rw r.1 ([], grows_none _, inl (r.2, refl, keeps_same _))
-
-pub returns-in_err-write_text-clause-err : goal.returns-in_err-write_text-clause-err
-returns-in_err-write_text-clause-err g c =
-    let R = c.args.region.region in
-    let front = string_bytes c.in_ok-text.text in
-    let next = c.in_ok-text.ensures (state_with R) c.with_region-session.ensures in
-    let r = err_from_is_err_and c.from_residual-in_err-write_text.result c.from_residual-in_err-write_text.ensures.1 in
-    rw r.1 (
-      [],
-      grows_none _,
-      inr (fails_short (ShowsAnyShell R c.args.workers []) r.0 c.in_err-write_text.field-0.0 _ _ _ r.2 c.in_err-write_text.ensures.kind
-          (first_short R c.args.workers next.0 front next.1 _ _ _ (rw c.as_bytes.ensures.value at c.in_err-write_text.ensures.short))),
-    )
-
-pub returns-in_err-status-clause-err : goal.returns-in_err-status-clause-err
-returns-in_err-status-clause-err g c =
-    let R = c.args.region.region in
-    let front = string_bytes c.in_ok-text.text in
-    let next = c.in_ok-text.ensures (state_with R) c.with_region-session.ensures in
-    let r = err_from_is_err_and c.from_residual-in_err-status.result c.from_residual-in_err-status.ensures.1 in
-    let (kept, grown, fails) = c.in_err-status.ensures.err in
-    rw (r.1, r.2) (
-      kept,
-      grown,
-      inr (fails_behind front (ShowsAnyLines 1 next.0 kept) (ShowsAnyShell R c.args.workers kept) (any_behind R c.args.workers kept next.0 front next.1) _ _ (rw c.as_bytes.ensures.value at c.in_ok-write_text.ensures.ok)
-          c.in_err-status.field-0.0 _ _ (fails next.0 next.2)),
-    )
 
 pub returns-clause-ok : goal.returns-clause-ok
 returns-clause-ok g c =
-    let R = c.args.region.region in
-    let front = string_bytes c.in_ok-text.text in
-    let next = c.in_ok-text.ensures (state_with R) c.with_region-session.ensures in
-    let region = region_in c.run_in.new.session.store in
-    let (kept, grown, ends) = c.in_ok-status.ensures.ok in (
-      kept,
-      grown,
-      rw c.into_region.ensures.region (all_behind front (ShowsLinesEnd 1 next.0 kept region) (ShowsShell R c.args.workers kept region) (shell_behind R c.args.workers kept region next.0 front next.1) _ _ (rw c.as_bytes.ensures.value at c.in_ok-write_text.ensures.ok)
-          _ _ c.in_ok-status.status (ends next.0 next.2)),
-    )
+    ended_ok c.end_of.result c.run_recovered-ran.result (λ ended. ended.status) _ _ _ c.end_of.ensures.status c.end_of.ensures.region
+    (λ ended same all. rw same all) (c.run_recovered-ran.ensures.ok c.args.region.region c.with_region-session.ensures)
+
+pub returns-clause-err : goal.returns-clause-err
+returns-clause-err g c =
+    ended_err c.end_of.result c.run_recovered-ran.result _ _ c.end_of.ensures.err (λ e all. all) (c.run_recovered-ran.ensures.err c.args.region.region c.with_region-session.ensures)

@@ -1,4 +1,4 @@
-use Rattle.std.proofs.Common.{◌≢◌, ◌∙◌, IsTrue, refl}
+use Rattle.std.proofs.Common.{◌≢◌, ◌∙◌, IsTrue, inr, refl}
 use Rattle.nv_tree.specs.declared.refusal.Refusal.TheVariants.{Stopped}
 use Rattle.nv_history.proofs.LeftTables.{leaves_tables}
 use Rattle.nv_changes.proofs.Made.{not_on, unstopped}
@@ -11,7 +11,7 @@ returns-in-Ok-clause-goes c =
     let m = c.args.mount.now in
     let n = c.make_calls.new.mount in
     let none = c.requires.tables in
-    goes m n c.args.calls.now c.requires.can none (leaves_tables _ _ c.args.calls.now m n _ none said) said.faults said.mode said.length (said.runs ∙ c.requires.can.runs) (said.keeps_fuse.steady c.requires.can.steady)
+    goes m n c.args.calls.now c.requires.can none (leaves_tables _ _ c.args.calls.now m n _ _ refl none said) said.faults said.mode said.length (said.runs ∙ c.requires.can.runs) (said.keeps_fuse.steady c.requires.can.steady)
 
 pub returns-in-Ok-clause-made : goal.returns-in-Ok-clause-made
 returns-in-Ok-clause-made c = c.in-Ok.ensures.made
@@ -24,7 +24,8 @@ returns-in-Err-clause-goes c =
     let none = c.requires.tables in
     let steady = said.keeps_fuse.steady c.requires.can.steady in
     let never : IsTrue n.stopped → ⊥ = λ on. unstopped n.memory steady (said.burnt c.requires.can.runs on) in
-    goes m n c.args.calls.now c.requires.can none (leaves_tables _ _ c.args.calls.now m n _ none said) said.faults said.mode said.length (not_on n.stopped never) steady
+    let no_stop : c.in-Err.halted.refusal ≢ Stopped = λ e. never (said.stopped.0 e) in
+    goes m n c.args.calls.now c.requires.can none (leaves_tables _ _ c.args.calls.now m n _ _ (inr (no_stop, refl)) none said) said.faults said.mode said.length (not_on n.stopped never) steady
 
 pub returns-in-Err-clause-refused : goal.returns-in-Err-clause-refused
 returns-in-Err-clause-refused c =

@@ -1,10 +1,8 @@
-use Rattle.std.proofs.Common.{inl, IsTrue, subst, sym, refl}
+use Rattle.std.proofs.Common.{inl, IsTrue, subst, sym}
 use Rattle.std.proofs.lemmas.Result.{IfOk-weaker}
 use Rattle.nv_region.specs.Region.{Region}
 use Rattle.nv_region.specs.RegionState.{RegionState, is_steady}
 use Rattle.nv_outcome.specs.Answer.{outcome_of}
-use Rattle.nv_image_check.specs.Recovering.{IsSuperRefused}
-use Rattle.nv_image_check.proofs.Found.{not_found}
 use Rattle.nv_script.specs.Cleaning.{IsOpenedAs}
 use Rattle.nv_script.proofs.CleanedImage.{can_open, opened_as, steady_off}
 use Rattle.nv_unpack.proofs.Made.{by_outcome}

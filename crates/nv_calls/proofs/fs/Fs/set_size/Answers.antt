@@ -1,43 +1,25 @@
-use Rattle.std.proofs.Common.{◌≡◌, ◌∙◌, ◌≤◌, ◌++◌, ◌∷◌, [], List, ℕ, Some, false, inr, ap, set, subst, sym, refl}
+use Rattle.std.proofs.Common.{◌≡◌, ◌∙◌, ◌++◌, ◌∷◌, [], ℕ, Option, Some, None, inr, ap, subst, sym, refl, IfErr, OnOk}
 use Rattle.std.proofs.lemmas.Result.{err_from_is_err_and, IfOk-from_err}
-use Rattle.std.proofs.lemmas.Option.{same_Some}
-use Rattle.nv_rows.proofs.TableNumbers.{numbers_kept}
-use Rattle.nv_alloc.specs.Taking.{all_blocks}
-use Rattle.nv_radix.specs.Pages.{block_at}
-use Rattle.nv_mounted.specs.Held.{Held, Store}
-use Rattle.nv_scan.specs.declared.piece.Row.{Row}
-use Rattle.nv_super.specs.declared.kind.Kind.TheVariants.{File}
 use Rattle.nv_tree.specs.declared.refusal.Refusal.{Refusal}
-use Rattle.nv_tree.specs.Calls.{with_size}
-use Rattle.nv_tree.specs.Path.{IsPath}
-use Rattle.nv_tree.specs.Refusals.{first_refusal, has_no_space, is_bad, is_dir, is_missing, is_too_large, set_size_tests, walk_tests, IsRefusedBy}
-use Rattle.nv_tree.proofs.Texts.{text_says}
-use Rattle.nv_calls.specs.Effects.{logs_size, makes_size}
-use Rattle.nv_calls.specs.Mount.{Mount}
-use Rattle.nv_calls.proofs.Stopped.{call_stays, settled_or_stopped}
-use Rattle.nv_calls.proofs.StoppedSizes.{size_left}
-use Rattle.nv_paths.specs.Seen.{LeadsTo, node_of, tree_of}
-use Rattle.nv_steps.specs.Sizes.{end_block, resizing, sized}
-use Rattle.nv_calls.specs.SizeCall.{resized_blocks}
-use Rattle.nv_steps.specs.Steps.{RefusesStep, ShowsRow}
-use Rattle.nv_calls.specs.World.{world_of}
+use Rattle.nv_tree.specs.Tree.{SameTree, Tree}
 use Rattle.nv_tree.proofs.Replies.{refused_by}
-use Rattle.nv_rows.specs.Rows.{place_in}
-use Rattle.nv_rows.proofs.Places.{at_place, back_one, in_use, own_row}
-use Rattle.nv_calls.proofs.RowChange.{kept_after, same_mount, tree_after}
-use Rattle.nv_calls.proofs.SetAttr.{kept_or_stopped, not_stop, unchanged_step}
-use Rattle.nv_calls.proofs.SetSize.{front_goes_on, resized_node, size_allowed, size_changed, size_front, size_logged, size_refused}
-use Rattle.nv_calls.proofs.SizeKept.{blocks_same, bytes_after, can_resize, log_after}
+use Rattle.nv_tree.proofs.Texts.{text_says}
+use Rattle.nv_steps.specs.Stores.{StoresIn, one_log}
+use Rattle.nv_paths.specs.Seen.{LeadsTo, node_of, tree_of}
+use Rattle.nv_calls.specs.Mount.{Mount}
+use Rattle.nv_calls.specs.World.{world_of}
+use Rattle.nv_calls.proofs.RowChange.{same_mount}
+use Rattle.nv_calls.proofs.SetSize.{front_goes_on}
+use Rattle.nv_calls.proofs.Stopped.{call_stays}
 use Rattle.nv_calls.proofs.Tests.{writing_goes_on}
-use Rattle.nv_calls.proofs.TwoRows.{last_used}
 use Rattle.nv_calls.proofs.TextPaths.{front_path}
-use Rattle.nv_calls.proofs.Stores.{path_stores}
-use Rattle.nv_calls.proofs.CallKept.{call_done, refused_first, refused_late, refused_later}
+use Rattle.nv_calls.proofs.CallKept.{refused_first, refused_later}
+use Rattle.nv_tree.specs.Refusals.{first_refusal, has_no_space, is_bad, is_dir, is_missing, is_too_large, set_size_tests, walk_tests, IsRefusedBy}
+use Rattle.nv_calls.specs.ChangesByNumber.{logs_inode_size}
+use Rattle.nv_calls.specs.Effects.{logs_size, makes_size}
+use Rattle.nv_calls.specs.SizeCall.{ShowsResizedLog, resized_blocks}
+use Rattle.nv_calls.proofs.ByPath.{at_number, front_by_path, left_by, size_by_path, sized_at}
 use Rattle.nv_calls.proofs.fs.Fs.set_size.Goals as goal
-
-pub give_back-requires : goal.give_back-requires
-give_back-requires g c =
-    last_used c.self.inside.rows.items c.lend-row.new.self.items c.in_ok-inode.field-0.now.inode c.resize-resized.new.row (in_use c.self.inside.rows.items c.in_ok-inode.field-0.now.inode c.lend-row.result c.lend-row.ensures.row) c.lend-row.ensures.lent (c.resize-resized.ensures.inode ∙ c.lend-row.ensures.number)
 
 pub returns-in_err-writable-clause-refused : goal.returns-in_err-writable-clause-refused
 returns-in_err-writable-clause-refused g c =
@@ -68,7 +50,7 @@ returns-in_err-inode-clause-refused g c =
     let w = err_from_is_err_and c.from_residual-in_err-inode.result c.from_residual-in_err-inode.ensures.1 in
     let told = c.in_err-inode.ensures.refused (g.P.Pmem.region c.self.inside.memory) p says in
     refused_by c.from_residual-in_err-inode.result c.in_err-inode.field-0.0 w.0 (IsRefusedBy (first_refusal (set_size_tests (world_of c.args.self.now) tree c.cpu.inside.0 p c.args.size (resized_blocks c.args.self.now.rows tree p c.args.size)))) w.1 w.2
-    (inr (inr (size_front g.P.Pmem.region c.self.view_is c.cpu.inside.0 c.args.size c.in_ok-writable.ensures.passed p c.in_err-inode.field-0.0 told)))
+    (inr (inr (front_by_path g.P.Pmem.region c.self.view_is c.cpu.inside.0 c.in_ok-writable.ensures.passed p c.args.size (resized_blocks c.args.self.now.rows tree p c.args.size) c.in_err-inode.field-0.0 told)))
     )
 
 pub returns-in_err-inode-clause-call : goal.returns-in_err-inode-clause-call
@@ -85,169 +67,11 @@ returns-in_err-inode-clause-call g c =
       settled = IfOk-from_err c.from_residual-in_err-inode.result _ c.from_residual-in_err-inode.ensures.0;
     }
 
-pub resize-resized-requires-clause-can : goal.resize-resized-requires-clause-can
-resize-resized-requires-clause-can g c =
-    let runs : c.self.inside.stopped ≡ false = ap (λ (m : Mount g.row.P.Denot). m.stopped) c.self.view_is ∙ c.in_ok-writable.ensures.runs in
-    let writes : c.self.inside.read_only ≡ false = ap (λ (m : Mount g.row.P.Denot). m.read_only) c.self.view_is ∙ c.in_ok-writable.ensures.writes in
-    let rows = c.self.inside.rows.items in
-    let inode = c.in_ok-inode.field-0.now.inode in
-    let at = at_place rows inode ∙ c.lend-row.ensures.row in
-    let file = subst (λ (r : Row). r.kind ≡ File) (same_Some _ _ (sym c.in_ok-inode.ensures.held ∙ c.lend-row.ensures.row)) c.in_ok-inode.ensures.file in
-    can_resize c.self.invariant.0 runs writes (place_in rows inode) c.lend-row.result at c.args.size c.time.inside.0 file c.in_ok-inode.ensures.most
-
-pub invariant_of-self : goal.invariant_of-self
-invariant_of-self g c =
-    let runs : c.self.inside.stopped ≡ false = ap (λ (m : Mount g.row.P.Denot). m.stopped) c.self.view_is ∙ c.in_ok-writable.ensures.runs in
-    let writes : c.self.inside.read_only ≡ false = ap (λ (m : Mount g.row.P.Denot). m.read_only) c.self.view_is ∙ c.in_ok-writable.ensures.writes in
-    let rows = c.self.inside.rows.items in
-    let inode = c.in_ok-inode.field-0.now.inode in
-    let at = at_place rows inode ∙ c.lend-row.ensures.row in
-    let put = back_one rows c.lend-row.new.self.items c.give_back.new.self.items inode c.resize-resized.new.row c.lend-row.ensures.lent (c.resize-resized.ensures.inode ∙ c.lend-row.ensures.number) c.give_back.ensures.rows in (
-      rw put (kept_after c.self.invariant.0 runs writes (place_in rows inode) c.lend-row.result c.resize-resized.new.row at (resizing c.lend-row.result.numbers.size (sized (node_of (g.P.Pmem.region c.self.inside.memory) c.lend-row.result) c.args.size c.time.inside.0) c.in-Ok.ensures.resized.to)
-          (λ held h shows. c.in-Ok.ensures.resized.follows held h shows) c.resize-resized.ensures.kept.lists c.self.inside.stopped),
-      numbers_kept (c.give_back.ensures.sup ∙ c.lend-row.ensures.sup) (c.give_back.ensures.sizes ∙ c.lend-row.ensures.sizes) c.self.invariant.1,
-      λ on. c.in-Ok.ensures.kept.settled,
-    )
-
-pub invariant_of-self-in-Err : goal.invariant_of-self-in-Err
-invariant_of-self-in-Err g c =
-    let runs : c.self.inside.stopped ≡ false = ap (λ (m : Mount g.row.P.Denot). m.stopped) c.self.view_is ∙ c.in_ok-writable.ensures.runs in
-    let writes : c.self.inside.read_only ≡ false = ap (λ (m : Mount g.row.P.Denot). m.read_only) c.self.view_is ∙ c.in_ok-writable.ensures.writes in
-    let rows = c.self.inside.rows.items in
-    let inode = c.in_ok-inode.field-0.now.inode in
-    let at = at_place rows inode ∙ c.lend-row.ensures.row in
-    let put = back_one rows c.lend-row.new.self.items c.give_back.new.self.items inode c.resize-resized.new.row c.lend-row.ensures.lent (c.resize-resized.ensures.inode ∙ c.lend-row.ensures.number) c.give_back.ensures.rows in (
-      rw put (kept_or_stopped g.P.Pmem.region c.self.invariant.0 runs writes (place_in rows inode) c.lend-row.result c.resize-resized.new.row at c.in-Err.refusal c.is_stop-self-inside.result c.is_stop-self-inside.ensures.yes c.is_stop-self-inside.ensures.no c.resize-resized.ensures.kept.lists c.in-Err.ensures.unchanged),
-      numbers_kept (c.give_back.ensures.sup ∙ c.lend-row.ensures.sup) (c.give_back.ensures.sizes ∙ c.lend-row.ensures.sizes) c.self.invariant.1,
-      settled_or_stopped g.P.Pmem.region g.P.Pmem.may_hold c.in-Err.refusal c.is_stop-self-inside.result c.is_stop-self-inside.ensures.no (λ off. (c.in-Err.ensures.unchanged off).memory) (c.self.invariant.2 runs),
-    )
-
-pub returns-in-Ok-clause-allowed : goal.returns-in-Ok-clause-allowed
-returns-in-Ok-clause-allowed g c =
-    rw (← c.cpu.view_is) (λ p says.
-    let runs : c.self.inside.stopped ≡ false = ap (λ (m : Mount g.row.P.Denot). m.stopped) c.self.view_is ∙ c.in_ok-writable.ensures.runs in
-    let rows = c.self.inside.rows.items in
-    let inode = c.in_ok-inode.field-0.now.inode in
-    let at = at_place rows inode ∙ c.lend-row.ensures.row in
-    let leads : (names : List (List ℕ)) → IsPath c.args.path.now names → LeadsTo (tree_of (g.P.Pmem.region c.self.inside.memory) rows) names c.lend-row.result.inode (node_of (g.P.Pmem.region c.self.inside.memory) c.lend-row.result) = λ names path. subst (λ (r : Row). LeadsTo (tree_of (g.P.Pmem.region c.self.inside.memory) rows) names r.inode (node_of (g.P.Pmem.region c.self.inside.memory) r)) (same_Some _ _ (sym c.in_ok-inode.ensures.held ∙ c.lend-row.ensures.row)) (c.in_ok-inode.ensures.row (g.P.Pmem.region c.self.inside.memory) names path) in
-    let numbered = own_row rows inode c.lend-row.result c.lend-row.ensures.row in
-    let none = c.in_ok-inode.ensures.refused (g.P.Pmem.region c.self.inside.memory) p says in
-    let count = blocks_same c.lend-row.result.tail (sized (node_of (g.P.Pmem.region c.self.inside.memory) c.lend-row.result) c.args.size c.time.inside.0) (record { mode = 0; size = 0; time = 0; owner = 0; group = 0 })
-    (end_block (block_at c.lend-row.result.index) c.lend-row.result.numbers.size c.args.size) in
-    size_allowed g.P.Pmem.region c.self.view_is c.cpu.inside.0 c.args.size c.in_ok-writable.ensures.passed p c.args.path.now c.lend-row.result (node_of (g.P.Pmem.region c.self.inside.memory) c.lend-row.result) numbered leads says none
-    (subst (λ (n : ℕ). n ≤ all_blocks c.self.inside.free.pools) count c.in-Ok.ensures.needs.enough)
-    )
-
-pub returns-in-Ok-clause-changed : goal.returns-in-Ok-clause-changed
-returns-in-Ok-clause-changed g c =
-    rw (← c.time.view_is) (λ names path.
-    let runs : c.self.inside.stopped ≡ false = ap (λ (m : Mount g.row.P.Denot). m.stopped) c.self.view_is ∙ c.in_ok-writable.ensures.runs in
-    let writes : c.self.inside.read_only ≡ false = ap (λ (m : Mount g.row.P.Denot). m.read_only) c.self.view_is ∙ c.in_ok-writable.ensures.writes in
-    let rows = c.self.inside.rows.items in
-    let inode = c.in_ok-inode.field-0.now.inode in
-    let at = at_place rows inode ∙ c.lend-row.ensures.row in
-    let leads : (names : List (List ℕ)) → IsPath c.args.path.now names → LeadsTo (tree_of (g.P.Pmem.region c.self.inside.memory) rows) names c.lend-row.result.inode (node_of (g.P.Pmem.region c.self.inside.memory) c.lend-row.result) = λ names path. subst (λ (r : Row). LeadsTo (tree_of (g.P.Pmem.region c.self.inside.memory) rows) names r.inode (node_of (g.P.Pmem.region c.self.inside.memory) r)) (same_Some _ _ (sym c.in_ok-inode.ensures.held ∙ c.lend-row.ensures.row)) (c.in_ok-inode.ensures.row (g.P.Pmem.region c.self.inside.memory) names path) in
-    let follows = λ (held : Store) (h : Held) (shows : ShowsRow (g.P.Pmem.region c.self.inside.memory) c.self.inside.tables.layout held h c.lend-row.result c.self.inside.free). c.in-Ok.ensures.resized.follows held h shows in
-    let resized = c.in-Ok.ensures.resized in
-    let has = resized.numbers in
-    let led = leads names path in
-    let put = back_one rows c.lend-row.new.self.items c.give_back.new.self.items inode c.resize-resized.new.row c.lend-row.ensures.lent (c.resize-resized.ensures.inode ∙ c.lend-row.ensures.number) c.give_back.ensures.rows in
-    rw put (size_changed g.P.Pmem.region c.self.view_is names c.lend-row.result.inode c.args.size c.time.inside.0 (tree_of (g.P.Pmem.region c.resize-resized.new.memory) (set c.self.inside.rows.items (place_in rows inode) c.resize-resized.new.row)) led.leads
-    (tree_after c.self.invariant.0 runs writes (place_in rows inode) c.lend-row.result c.resize-resized.new.row at (resizing c.lend-row.result.numbers.size (sized (node_of (g.P.Pmem.region c.self.inside.memory) c.lend-row.result) c.args.size c.time.inside.0) c.in-Ok.ensures.resized.to) follows (with_size c.args.size c.time.inside.0) has.inode
-    (resized_node (g.P.Pmem.region c.self.inside.memory) (g.P.Pmem.region c.resize-resized.new.memory) c.args.size c.time.inside.0 has
-    (bytes_after c.self.invariant.0 runs writes (place_in rows inode) c.lend-row.result at c.args.size c.time.inside.0 resized))))
-    )
-
-pub returns-in-Ok-clause-log : goal.returns-in-Ok-clause-log
-returns-in-Ok-clause-log g c =
-    rw (← c.cpu.view_is, ← c.time.view_is) (λ names i node held h path led sound is.
-    let runs : c.self.inside.stopped ≡ false = ap (λ (m : Mount g.row.P.Denot). m.stopped) c.self.view_is ∙ c.in_ok-writable.ensures.runs in
-    let writes : c.self.inside.read_only ≡ false = ap (λ (m : Mount g.row.P.Denot). m.read_only) c.self.view_is ∙ c.in_ok-writable.ensures.writes in
-    let rows = c.self.inside.rows.items in
-    let inode = c.in_ok-inode.field-0.now.inode in
-    let at = at_place rows inode ∙ c.lend-row.ensures.row in
-    let leads : (names : List (List ℕ)) → IsPath c.args.path.now names → LeadsTo (tree_of (g.P.Pmem.region c.self.inside.memory) rows) names c.lend-row.result.inode (node_of (g.P.Pmem.region c.self.inside.memory) c.lend-row.result) = λ names path. subst (λ (r : Row). LeadsTo (tree_of (g.P.Pmem.region c.self.inside.memory) rows) names r.inode (node_of (g.P.Pmem.region c.self.inside.memory) r)) (same_Some _ _ (sym c.in_ok-inode.ensures.held ∙ c.lend-row.ensures.row)) (c.in_ok-inode.ensures.row (g.P.Pmem.region c.self.inside.memory) names path) in
-    size_logged g.P.Pmem.region c.self.view_is (g.P.Pmem.region c.resize-resized.new.memory) names c.lend-row.result c.args.size c.time.inside.0 i node held h (leads names path)
-    (λ st k shown holds. log_after c.self.invariant.0 runs writes (place_in rows inode) c.lend-row.result at c.args.size c.time.inside.0 c.in-Ok.ensures.resized st k shown holds) led sound is
-    )
-
-pub returns-in-Err-clause-refused : goal.returns-in-Err-clause-refused
-returns-in-Err-clause-refused g c =
-    rw (← c.cpu.view_is) (λ still p says.
-    let runs : c.self.inside.stopped ≡ false = ap (λ (m : Mount g.row.P.Denot). m.stopped) c.self.view_is ∙ c.in_ok-writable.ensures.runs in
-    let rows = c.self.inside.rows.items in
-    let inode = c.in_ok-inode.field-0.now.inode in
-    let at = at_place rows inode ∙ c.lend-row.ensures.row in
-    let leads : (names : List (List ℕ)) → IsPath c.args.path.now names → LeadsTo (tree_of (g.P.Pmem.region c.self.inside.memory) rows) names c.lend-row.result.inode (node_of (g.P.Pmem.region c.self.inside.memory) c.lend-row.result) = λ names path. subst (λ (r : Row). LeadsTo (tree_of (g.P.Pmem.region c.self.inside.memory) rows) names r.inode (node_of (g.P.Pmem.region c.self.inside.memory) r)) (same_Some _ _ (sym c.in_ok-inode.ensures.held ∙ c.lend-row.ensures.row)) (c.in_ok-inode.ensures.row (g.P.Pmem.region c.self.inside.memory) names path) in
-    let numbered = own_row rows inode c.lend-row.result c.lend-row.ensures.row in
-    let none = c.in_ok-inode.ensures.refused (g.P.Pmem.region c.self.inside.memory) p says in
-    let count = blocks_same c.lend-row.result.tail (sized (node_of (g.P.Pmem.region c.self.inside.memory) c.lend-row.result) c.args.size c.time.inside.0) (record { mode = 0; size = 0; time = 0; owner = 0; group = 0 })
-    (end_block (block_at c.lend-row.result.index) c.lend-row.result.numbers.size c.args.size) in
-    size_refused g.P.Pmem.region c.self.view_is c.cpu.inside.0 c.args.size c.in_ok-writable.ensures.passed p c.args.path.now c.lend-row.result (node_of (g.P.Pmem.region c.self.inside.memory) c.lend-row.result) numbered leads says none c.in-Err.refusal
-    (subst (λ (n : ℕ). RefusesStep c.in-Err.refusal n c.self.inside.free) count c.in-Err.ensures.needs.refused)
-    )
-
-pub returns-in-Err-clause-call : goal.returns-in-Err-clause-call
-returns-in-Err-clause-call g c =
-    let runs : c.self.inside.stopped ≡ false = ap (λ (m : Mount g.row.P.Denot). m.stopped) c.self.view_is ∙ c.in_ok-writable.ensures.runs in
-    let writes : c.self.inside.read_only ≡ false = ap (λ (m : Mount g.row.P.Denot). m.read_only) c.self.view_is ∙ c.in_ok-writable.ensures.writes in
-    record {
-      of_path = record {
-        call = refused_late g.P.Pmem.region g.P.Pmem.fuse c.self.view_is c.resize-resized.new.memory c.give_back.new.self.items c.resize-resized.new.free runs writes c.in-Err.refusal c.is_stop-self-inside.result c.is_stop-self-inside.ensures.yes c.is_stop-self-inside.ensures.no c.in-Err.ensures.kept.keeps
-            (λ off.
-            let rows = c.self.inside.rows.items in
-            let inode = c.in_ok-inode.field-0.now.inode in
-            let at = at_place rows inode ∙ c.lend-row.ensures.row in
-            let put = back_one rows c.lend-row.new.self.items c.give_back.new.self.items inode c.resize-resized.new.row c.lend-row.ensures.lent (c.resize-resized.ensures.inode ∙ c.lend-row.ensures.number) c.give_back.ensures.rows in
-            rw put (unchanged_step c.self.view_is c.resize-resized.new.memory c.resize-resized.new.free (place_in rows inode) c.lend-row.result c.resize-resized.new.row c.is_stop-self-inside.result at runs (not_stop c.in-Err.refusal c.is_stop-self-inside.result c.is_stop-self-inside.ensures.yes off) (c.in-Err.ensures.unchanged off)));
-        bad_text = λ bad. absurd (let said = text_says c.args.path.now in let path = front_path (tree_of (g.P.Pmem.region c.self.inside.memory) c.self.inside.rows.items) c.args.path.now said.0 c.args.size said.1 (c.in_ok-inode.ensures.refused (g.P.Pmem.region c.self.inside.memory) said.0 said.1) in bad path.0 path.1);
-      };
-      settled = tt;
-    }
-
-pub returns-in-Ok-clause-call : goal.returns-in-Ok-clause-call
-returns-in-Ok-clause-call g c =
-    let runs : c.self.inside.stopped ≡ false = ap (λ (m : Mount g.row.P.Denot). m.stopped) c.self.view_is ∙ c.in_ok-writable.ensures.runs in
-    let writes : c.self.inside.read_only ≡ false = ap (λ (m : Mount g.row.P.Denot). m.read_only) c.self.view_is ∙ c.in_ok-writable.ensures.writes in
-    record {
-      of_path = record {
-        call = call_done g.P.Pmem.region g.P.Pmem.fuse c.self.view_is c.resize-resized.new.memory c.give_back.new.self.items c.resize-resized.new.free runs writes _ _ c.in-Ok.ensures.kept.keeps;
-        bad_text = λ bad. absurd (let said = text_says c.args.path.now in let path = front_path (tree_of (g.P.Pmem.region c.self.inside.memory) c.self.inside.rows.items) c.args.path.now said.0 c.args.size said.1 (c.in_ok-inode.ensures.refused (g.P.Pmem.region c.self.inside.memory) said.0 said.1) in bad path.0 path.1);
-      };
-      settled = c.in-Ok.ensures.kept.settled;
-    }
-
 pub returns-in_err-writable-clause-any_stop : goal.returns-in_err-writable-clause-any_stop
 returns-in_err-writable-clause-any_stop g c names path on able = call_stays g.P.Pmem.region c.args.self.now (makes_size c.args.size c.args.time) (logs_size c.args.cpu c.args.size c.args.time) names c.in_err-writable.ensures.kept on able _ (c.in_err-writable.ensures.settled on)
 
 pub returns-in_err-inode-clause-any_stop : goal.returns-in_err-inode-clause-any_stop
 returns-in_err-inode-clause-any_stop g c names path on able = call_stays g.P.Pmem.region c.args.self.now (makes_size c.args.size c.args.time) (logs_size c.args.cpu c.args.size c.args.time) names c.in_ok-writable.ensures.kept on able _ (c.in_ok-writable.ensures.settled on)
-
-pub returns-in-Ok-clause-any_stop : goal.returns-in-Ok-clause-any_stop
-returns-in-Ok-clause-any_stop g c =
-    rw (← c.cpu.view_is, ← c.time.view_is) (λ names path on able.
-    let runs : c.self.inside.stopped ≡ false = ap (λ (m : Mount g.row.P.Denot). m.stopped) c.self.view_is ∙ c.in_ok-writable.ensures.runs in
-    let writes : c.self.inside.read_only ≡ false = ap (λ (m : Mount g.row.P.Denot). m.read_only) c.self.view_is ∙ c.in_ok-writable.ensures.writes in
-    let rows = c.self.inside.rows.items in
-    let inode = c.in_ok-inode.field-0.now.inode in
-    let at = at_place rows inode ∙ c.lend-row.ensures.row in
-    let leads : LeadsTo (tree_of (g.P.Pmem.region c.self.inside.memory) rows) names c.lend-row.result.inode (node_of (g.P.Pmem.region c.self.inside.memory) c.lend-row.result) = subst (λ (r : Row). LeadsTo (tree_of (g.P.Pmem.region c.self.inside.memory) rows) names r.inode (node_of (g.P.Pmem.region c.self.inside.memory) r)) (same_Some _ _ (sym c.in_ok-inode.ensures.held ∙ c.lend-row.ensures.row)) (c.in_ok-inode.ensures.row (g.P.Pmem.region c.self.inside.memory) names path) in
-    size_left g.P.Pmem.region c.self.view_is c.self.invariant.0 runs writes (place_in rows inode) c.lend-row.result at c.cpu.inside.0 c.args.size c.time.inside.0 names leads _ _ _
-    (λ held h shows pending. c.resize-resized.ensures.any_stop held h shows pending) (c.self.invariant.2 runs)
-    )
-
-pub returns-in-Err-clause-any_stop : goal.returns-in-Err-clause-any_stop
-returns-in-Err-clause-any_stop g c =
-    rw (← c.cpu.view_is, ← c.time.view_is) (λ names path on able.
-    let runs : c.self.inside.stopped ≡ false = ap (λ (m : Mount g.row.P.Denot). m.stopped) c.self.view_is ∙ c.in_ok-writable.ensures.runs in
-    let writes : c.self.inside.read_only ≡ false = ap (λ (m : Mount g.row.P.Denot). m.read_only) c.self.view_is ∙ c.in_ok-writable.ensures.writes in
-    let rows = c.self.inside.rows.items in
-    let inode = c.in_ok-inode.field-0.now.inode in
-    let at = at_place rows inode ∙ c.lend-row.ensures.row in
-    let leads : LeadsTo (tree_of (g.P.Pmem.region c.self.inside.memory) rows) names c.lend-row.result.inode (node_of (g.P.Pmem.region c.self.inside.memory) c.lend-row.result) = subst (λ (r : Row). LeadsTo (tree_of (g.P.Pmem.region c.self.inside.memory) rows) names r.inode (node_of (g.P.Pmem.region c.self.inside.memory) r)) (same_Some _ _ (sym c.in_ok-inode.ensures.held ∙ c.lend-row.ensures.row)) (c.in_ok-inode.ensures.row (g.P.Pmem.region c.self.inside.memory) names path) in
-    size_left g.P.Pmem.region c.self.view_is c.self.invariant.0 runs writes (place_in rows inode) c.lend-row.result at c.cpu.inside.0 c.args.size c.time.inside.0 names leads _ _ _
-    (λ held h shows pending. c.resize-resized.ensures.any_stop held h shows pending) (c.self.invariant.2 runs)
-    )
 
 pub returns-in_err-writable-clause-wrote : goal.returns-in_err-writable-clause-wrote
 returns-in_err-writable-clause-wrote g c names i node held path led sound = λ at whole away. refl
@@ -255,12 +79,51 @@ returns-in_err-writable-clause-wrote g c names i node held path led sound = λ a
 pub returns-in_err-inode-clause-wrote : goal.returns-in_err-inode-clause-wrote
 returns-in_err-inode-clause-wrote g c names i node held path led sound = λ at whole away. refl
 
-pub returns-in-Ok-clause-wrote : goal.returns-in-Ok-clause-wrote
-returns-in-Ok-clause-wrote g c names i node held path led sound =
-    path_stores g.P.Pmem.region c.self.view_is c.self.invariant.0 c.in_ok-writable.ensures.runs (g.P.Pmem.region c.resize-resized.new.memory) c.in_ok-inode.field-0.now.inode c.lend-row.result c.lend-row.ensures.row names c.in_ok-inode.field-0.now c.in_ok-inode.ensures.held (c.in_ok-inode.ensures.row (g.P.Pmem.region c.self.inside.memory) names path)
-    (λ st h shows. c.resize-resized.ensures.wrote st h shows) i node held led sound
+pub returns-clause-allowed : goal.returns-clause-allowed
+returns-clause-allowed g c p says =
+    let tests = size_by_path g.P.Pmem.region c.self.view_is c.args.cpu (rw c.cpu.view_is at c.in_ok-writable.ensures.passed) p c.args.path.now c.in_ok-inode.field-0.now (c.in_ok-inode.ensures.row (g.P.Pmem.region c.self.inside.memory)) says c.args.size (c.in_ok-inode.ensures.refused (g.P.Pmem.region c.self.inside.memory) p says) in
+    subst (λ (o : Option Refusal). OnOk c.set_size_inode.result (o ≡ None)) (sym tests) c.set_size_inode.ensures.allowed
 
-pub returns-in-Err-clause-wrote : goal.returns-in-Err-clause-wrote
-returns-in-Err-clause-wrote g c names i node held path led sound =
-    path_stores g.P.Pmem.region c.self.view_is c.self.invariant.0 c.in_ok-writable.ensures.runs (g.P.Pmem.region c.resize-resized.new.memory) c.in_ok-inode.field-0.now.inode c.lend-row.result c.lend-row.ensures.row names c.in_ok-inode.field-0.now c.in_ok-inode.ensures.held (c.in_ok-inode.ensures.row (g.P.Pmem.region c.self.inside.memory) names path)
-    (λ st h shows. c.resize-resized.ensures.wrote st h shows) i node held led sound
+pub returns-clause-refused : goal.returns-clause-refused
+returns-clause-refused g c runs p says =
+    let tests = size_by_path g.P.Pmem.region c.self.view_is c.args.cpu (rw c.cpu.view_is at c.in_ok-writable.ensures.passed) p c.args.path.now c.in_ok-inode.field-0.now (c.in_ok-inode.ensures.row (g.P.Pmem.region c.self.inside.memory)) says c.args.size (c.in_ok-inode.ensures.refused (g.P.Pmem.region c.self.inside.memory) p says) in
+    subst (λ (o : Option Refusal). IfErr c.set_size_inode.result (IsRefusedBy o)) (sym tests) (c.set_size_inode.ensures.refused runs)
+
+pub returns-clause-changed : goal.returns-clause-changed
+returns-clause-changed g c names path =
+    let own = subst (λ (m : Mount g.row.P.Denot). LeadsTo (tree_of (g.P.Pmem.region m.memory) m.rows) names c.in_ok-inode.field-0.now.inode (node_of (g.P.Pmem.region m.memory) c.in_ok-inode.field-0.now)) c.self.view_is
+    (c.in_ok-inode.ensures.row (g.P.Pmem.region c.self.inside.memory) names path) in
+    subst (λ (t : Tree). OnOk c.set_size_inode.result (SameTree (tree_of (g.P.Pmem.region c.set_size_inode.new.self.memory) c.set_size_inode.new.self.rows) t))
+    (sized_at (tree_of (g.P.Pmem.region c.args.self.now.memory) c.args.self.now.rows) names c.in_ok-inode.field-0.now.inode c.args.size c.args.time own.leads) c.set_size_inode.ensures.changed
+
+pub returns-clause-log : goal.returns-clause-log
+returns-clause-log g c names i node held h path led sound is =
+    let own = subst (λ (m : Mount g.row.P.Denot). LeadsTo (tree_of (g.P.Pmem.region m.memory) m.rows) names c.in_ok-inode.field-0.now.inode (node_of (g.P.Pmem.region m.memory) c.in_ok-inode.field-0.now)) c.self.view_is
+    (c.in_ok-inode.ensures.row (g.P.Pmem.region c.self.inside.memory) names path) in
+    at_number own led (λ (k : ℕ). held k ≡ Some h → OnOk c.set_size_inode.result (ShowsResizedLog (g.P.Pmem.region c.set_size_inode.new.self.memory) c.args.self.now.layout c.args.self.now.free.pools c.args.cpu held k h node c.args.size c.args.time))
+    (λ shows here. c.set_size_inode.ensures.log node held h shows sound here) is
+
+pub returns-clause-call : goal.returns-clause-call
+returns-clause-call g c =
+    record {
+      of_path = record {
+        call = c.set_size_inode.ensures.call;
+        bad_text = λ bad. absurd (let said = text_says c.args.path.now in let path = front_path (tree_of (g.P.Pmem.region c.self.inside.memory) c.self.inside.rows.items) c.args.path.now said.0 c.args.size said.1 (c.in_ok-inode.ensures.refused (g.P.Pmem.region c.self.inside.memory) said.0 said.1) in bad path.0 path.1);
+      };
+      settled = c.set_size_inode.ensures.settled;
+    }
+
+pub returns-clause-any_stop : goal.returns-clause-any_stop
+returns-clause-any_stop g c names path on able =
+    let own = subst (λ (m : Mount g.row.P.Denot). LeadsTo (tree_of (g.P.Pmem.region m.memory) m.rows) names c.in_ok-inode.field-0.now.inode (node_of (g.P.Pmem.region m.memory) c.in_ok-inode.field-0.now)) c.self.view_is
+    (c.in_ok-inode.ensures.row (g.P.Pmem.region c.self.inside.memory) names path) in
+    left_by (g.P.Pmem.region c.args.self.now.memory) (logs_inode_size c.args.cpu c.args.size c.args.time c.in_ok-inode.field-0.now.inode (g.P.Pmem.region c.args.self.now.memory) c.args.self.now) (logs_size c.args.cpu c.args.size c.args.time (g.P.Pmem.region c.args.self.now.memory) c.args.self.now names)
+    (sized_at (tree_of (g.P.Pmem.region c.args.self.now.memory) c.args.self.now.rows) names c.in_ok-inode.field-0.now.inode c.args.size c.args.time own.leads)
+    (λ T logs i node held h led sound is. at_number own led (λ (k : ℕ). held k ≡ Some h → ShowsResizedLog T c.args.self.now.layout c.args.self.now.free.pools c.args.cpu held k h node c.args.size c.args.time) (λ shows here. logs node held h shows sound here) is)
+    (c.set_size_inode.ensures.any_stop on able)
+
+pub returns-clause-wrote : goal.returns-clause-wrote
+returns-clause-wrote g c names i node held path led sound =
+    let own = subst (λ (m : Mount g.row.P.Denot). LeadsTo (tree_of (g.P.Pmem.region m.memory) m.rows) names c.in_ok-inode.field-0.now.inode (node_of (g.P.Pmem.region m.memory) c.in_ok-inode.field-0.now)) c.self.view_is
+    (c.in_ok-inode.ensures.row (g.P.Pmem.region c.self.inside.memory) names path) in
+    at_number own led (λ (k : ℕ). StoresIn c.args.self.now.layout held (one_log c.args.self.now.layout k) (g.P.Pmem.region c.args.self.now.memory) (g.P.Pmem.region c.set_size_inode.new.self.memory)) (λ shows. c.set_size_inode.ensures.wrote held sound)

@@ -5,4 +5,4 @@ use Rattle.nv_calls.proofs.fs.Fs.stat.Goals as goal
 pub returns-clause-ok : goal.returns-clause-ok
 returns-clause-ok g c names p =
     let region = g.P.Pmem.region c.args.self.now.memory in
-    numbers_of (tree_of region c.args.self.now.rows) names c.in_ok-target.field-0.now.inode (node_of region c.in_ok-target.field-0.now) c.of.result (c.in_ok-target.ensures.row names p) (c.of.ensures region)
+    numbers_of (tree_of region c.args.self.now.rows) names c.in_ok-target.field-0.now.inode (node_of region c.in_ok-target.field-0.now) c.stat_of.result (c.in_ok-target.ensures.row names p) c.stat_of.ensures

@@ -4,14 +4,14 @@ use Rattle.nv_tree.specs.Refusals.{first_refusal}
 use Rattle.nv_tree.proofs.Replies.{refused_by}
 use Rattle.nv_paths.specs.Seen.{node_of, tree_of}
 use Rattle.nv_calls.specs.ByNumber.{stat_inode_tests}
-use Rattle.nv_calls.specs.Stat.{stat_of}
+use Rattle.nv_tree.specs.Stat.{stat_of}
 use Rattle.nv_calls.proofs.Numbered.{told_missing, told_later}
 use Rattle.nv_calls.proofs.fs.Fs.stat_inode.Goals as goal
 
 pub returns-clause-ok : goal.returns-clause-ok
 returns-clause-ok g c =
     let node = node_of (g.P.Pmem.region c.args.self.now.memory) c.in_ok-row_of.field-0.now in
-    (node, c.in_ok-row_of.ensures.row, c.of.ensures (g.P.Pmem.region c.args.self.now.memory) ∙ ap (λ i. stat_of i node) c.in_ok-row_of.ensures.number)
+    (node, c.in_ok-row_of.ensures.row, c.stat_of.ensures ∙ ap (λ i. stat_of i node) c.in_ok-row_of.ensures.number)
 
 pub returns-clause-allowed : goal.returns-clause-allowed
 returns-clause-allowed g c =

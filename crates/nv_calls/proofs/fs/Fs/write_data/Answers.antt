@@ -1,49 +1,31 @@
-use Rattle.std.proofs.Common.{◌≡◌, ◌∙◌, ◌+◌, ◌<◌, ◌≤◌, ◌++◌, ◌∷◌, [], List, ℕ, Some, None, false, inr, length, ap, set, subst, sym, arith, refl}
+use Rattle.std.proofs.Common.{◌≡◌, ◌∙◌, ◌+◌, ◌++◌, ◌∷◌, [], ℕ, Option, Some, None, inr, length, ap, subst, sym, refl, IfErr, OnOk}
 use Rattle.std.proofs.lemmas.Result.{err_from_is_err_and, IfOk-from_err}
-use Rattle.std.proofs.lemmas.Option.{same_Some}
-use Rattle.nv_rows.proofs.TableNumbers.{numbers_kept}
-use Rattle.nv_radix.specs.Pages.{block_at}
-use Rattle.nv_mounted.specs.Held.{Held, Store}
-use Rattle.nv_scan.specs.declared.piece.Row.{Row}
-use Rattle.nv_super.specs.declared.kind.Kind.TheVariants.{File}
 use Rattle.nv_tree.specs.declared.refusal.Refusal.{Refusal}
-use Rattle.nv_tree.specs.Calls.{with_bytes}
-use Rattle.nv_tree.specs.Path.{IsPath}
-use Rattle.nv_tree.specs.Refusals.{first_refusal, has_no_space, is_bad, is_dir, is_missing, is_too_large, walk_tests, write_tests, IsRefusedBy}
-use Rattle.nv_tree.proofs.Texts.{text_says}
-use Rattle.nv_calls.specs.Effects.{LogsBytes, makes_bytes}
-use Rattle.nv_calls.specs.Mount.{Mount}
-use Rattle.nv_paths.specs.Seen.{LeadsTo, node_of, tree_of}
-use Rattle.nv_steps.specs.Steps.{ShowsRow}
-use Rattle.nv_calls.specs.World.{world_of}
-use Rattle.nv_alloc.specs.Taking.{all_blocks}
-use Rattle.nv_steps.specs.Writes.{NeedsBlocks, data_entries}
-use Rattle.nv_steps.specs.Written.{RefusesWrite}
-use Rattle.nv_steps.specs.declared.planning.Plan.{Plan}
-use Rattle.nv_calls.proofs.FileStanding.{file_stands}
+use Rattle.nv_tree.specs.Tree.{SameTree, Tree}
 use Rattle.nv_tree.proofs.Replies.{refused_by}
-use Rattle.nv_rows.specs.Rows.{place_in}
-use Rattle.nv_rows.proofs.Places.{at_place, back_one, in_use, own_row}
-use Rattle.nv_calls.proofs.OneRow.{stands_right}
-use Rattle.nv_super.proofs.Members.{stands}
-use Rattle.nv_calls.proofs.RowChange.{kept_after, same_mount, tree_after}
-use Rattle.nv_calls.proofs.Stopped.{call_stays, settled_or_stopped}
-use Rattle.nv_calls.proofs.StoppedFiles.{write_left}
-use Rattle.nv_calls.proofs.SetAttr.{kept_or_stopped, not_stop, unchanged_step}
-use Rattle.nv_calls.proofs.SetSize.{front_goes_on, front_tests}
+use Rattle.nv_tree.proofs.Texts.{text_says}
+use Rattle.nv_steps.specs.Stores.{StoresIn, one_log}
+use Rattle.nv_paths.specs.Seen.{LeadsTo, node_of, tree_of}
+use Rattle.nv_calls.specs.Mount.{Mount}
+use Rattle.nv_calls.specs.World.{world_of}
+use Rattle.nv_calls.proofs.RowChange.{same_mount}
+use Rattle.nv_calls.proofs.SetSize.{front_goes_on}
+use Rattle.nv_calls.proofs.Stopped.{call_stays}
 use Rattle.nv_calls.proofs.Tests.{writing_goes_on}
-use Rattle.nv_calls.proofs.WriteReply.{large_same, none_written, write_allowed, write_bytes, write_changed, write_front, write_log, write_logged, write_none, write_refused, written_node}
-use Rattle.nv_calls.proofs.TwoRows.{last_used}
-use Rattle.nv_calls.proofs.Asked.{ends_small, low_pools, planned}
 use Rattle.nv_calls.proofs.TextPaths.{front_path}
-use Rattle.nv_calls.proofs.Stores.{path_stores}
-use Rattle.nv_calls.proofs.CallKept.{call_done, nothing_to_do, refused_first, refused_late, refused_later}
-use Rattle.nv_calls.proofs.fs.Fs.write_data.Goals as goal
+use Rattle.nv_calls.proofs.CallKept.{refused_first, refused_later}
 use Rattle.nv_bytes.specs.Data.{data_bytes}
-
-pub give_back-requires : goal.give_back-requires
-give_back-requires g c =
-    last_used c.self.inside.rows.items c.lend-row.new.self.items c.in_ok-inode.field-0.now.inode c.change_bytes-changed.new.row (in_use c.self.inside.rows.items c.in_ok-inode.field-0.now.inode c.lend-row.result c.lend-row.ensures.row) c.lend-row.ensures.lent (c.change_bytes-changed.ensures.inode ∙ c.lend-row.ensures.number)
+use Rattle.nv_scan.specs.State.{block_of}
+use Rattle.nv_mounted.specs.Held.{good_in}
+use Rattle.nv_tree.specs.Refusals.{first_refusal, has_no_space, is_bad, is_dir, is_missing, is_too_large, walk_tests, write_tests, IsRefusedBy}
+use Rattle.nv_steps.specs.Writes.{plan_of}
+use Rattle.nv_calls.specs.ChangesByNumber.{LogsInodeBytes}
+use Rattle.nv_calls.specs.Effects.{LogsBytes, makes_bytes}
+use Rattle.nv_calls.specs.WriteCall.{ShowsLogWrite}
+use Rattle.nv_calls.proofs.ByPath.{at_number, file_by_path, front_by_path, left_by, needs_by_path, written_at}
+use Rattle.nv_calls.proofs.SetSize.{front_tests}
+use Rattle.nv_calls.proofs.WriteReply.{large_same}
+use Rattle.nv_calls.proofs.fs.Fs.write_data.Goals as goal
 
 pub returns-in_err-writable-clause-refused : goal.returns-in_err-writable-clause-refused
 returns-in_err-writable-clause-refused g c =
@@ -70,7 +52,7 @@ returns-in_err-inode-clause-refused g c =
     let w = err_from_is_err_and c.from_residual-in_err-inode.result c.from_residual-in_err-inode.ensures.1 in
     let told = c.in_err-inode.ensures.refused (g.P.Pmem.region c.self.inside.memory) p says in
     refused_by c.from_residual-in_err-inode.result c.in_err-inode.field-0.0 w.0 (IsRefusedBy (first_refusal (write_tests (world_of c.args.self.now) tree c.cpu.inside.0 p (c.args.offset + length (data_bytes c.args.content)) count))) w.1 w.2
-    (inr (inr (write_front g.P.Pmem.region c.self.view_is c.cpu.inside.0 (c.args.offset + length (data_bytes c.args.content)) count c.in_ok-writable.ensures.passed p c.in_err-inode.field-0.0 (large_same c.args.offset (length (data_bytes c.args.content)) c.saturating_add.result (rw c.len-count.ensures at c.saturating_add.ensures) (tree_of (g.P.Pmem.region c.self.inside.memory) c.self.inside.rows.items) p ∙ told))))
+    (inr (inr (front_by_path g.P.Pmem.region c.self.view_is c.cpu.inside.0 c.in_ok-writable.ensures.passed p (c.args.offset + length (data_bytes c.args.content)) count c.in_err-inode.field-0.0 (large_same c.args.offset (length (data_bytes c.args.content)) c.saturating_add.result (rw c.len-count.ensures at c.saturating_add.ensures) (tree_of (g.P.Pmem.region c.self.inside.memory) c.self.inside.rows.items) p ∙ told))))
     )
 
 pub returns-in_err-inode-clause-call : goal.returns-in_err-inode-clause-call
@@ -82,140 +64,6 @@ returns-in_err-inode-clause-call g c =
       call = refused_later g.P.Pmem.region g.P.Pmem.fuse c.args.self.now c.from_residual-in_err-inode.result c.in_err-inode.field-0.0 w.0 w.1 w.2 c.in_ok-writable.ensures.runs
           (λ is. front_goes_on (tree_of (g.P.Pmem.region c.self.inside.memory) c.self.inside.rows.items) said.0 c.saturating_add.result (told ∙ ap (λ (e : Refusal). Some e) is));
       bad_text = λ bad. same_mount c.args.self.now;
-    }
-
-pub returns-then-count-eq0-clause-allowed : goal.returns-then-count-eq0-clause-allowed
-returns-then-count-eq0-clause-allowed g c =
-    rw (← c.cpu.view_is) (λ p count says needs.
-    let none : first_refusal (front_tests (tree_of (g.P.Pmem.region c.self.inside.memory) c.self.inside.rows.items) p (c.args.offset + length (data_bytes c.args.content))) ≡ None =
-    large_same c.args.offset (length (data_bytes c.args.content)) c.saturating_add.result (rw c.len-count.ensures at c.saturating_add.ensures) (tree_of (g.P.Pmem.region c.self.inside.memory) c.self.inside.rows.items) p ∙ c.in_ok-inode.ensures.refused (g.P.Pmem.region c.self.inside.memory) p says in
-    write_none g.P.Pmem.region c.self.view_is c.cpu.inside.0 (c.args.offset + length (data_bytes c.args.content)) count c.in_ok-writable.ensures.passed p none (needs.none (rw c.len-count.ensures at c.if-count-eq0.true))
-    )
-
-pub change_bytes-changed-requires-clause-stands : goal.change_bytes-changed-requires-clause-stands
-change_bytes-changed-requires-clause-stands g c =
-    let runs : c.self.inside.stopped ≡ false = ap (λ (m : Mount g.row.P.Denot). m.stopped) c.self.view_is ∙ c.in_ok-writable.ensures.runs in
-    let writes : c.self.inside.read_only ≡ false = ap (λ (m : Mount g.row.P.Denot). m.read_only) c.self.view_is ∙ c.in_ok-writable.ensures.writes in
-    let rows = c.self.inside.rows.items in
-    let inode = c.in_ok-inode.field-0.now.inode in
-    let at = at_place rows inode ∙ c.lend-row.ensures.row in
-    stands_right c.self.invariant.0 runs writes c.lend-row.result (stands c.self.inside.rows.items (place_in rows inode) c.lend-row.result at)
-
-pub change_bytes-changed-requires-clause-kind : goal.change_bytes-changed-requires-clause-kind
-change_bytes-changed-requires-clause-kind g c =
-    let rows = c.self.inside.rows.items in
-    let inode = c.in_ok-inode.field-0.now.inode in
-    let at = at_place rows inode ∙ c.lend-row.ensures.row in
-    subst (λ (r : Row). r.kind ≡ File) (same_Some _ _ (sym c.in_ok-inode.ensures.held ∙ c.lend-row.ensures.row)) c.in_ok-inode.ensures.file
-
-pub change_bytes-changed-requires-clause-file : goal.change_bytes-changed-requires-clause-file
-change_bytes-changed-requires-clause-file g c =
-    let runs : c.self.inside.stopped ≡ false = ap (λ (m : Mount g.row.P.Denot). m.stopped) c.self.view_is ∙ c.in_ok-writable.ensures.runs in
-    let writes : c.self.inside.read_only ≡ false = ap (λ (m : Mount g.row.P.Denot). m.read_only) c.self.view_is ∙ c.in_ok-writable.ensures.writes in
-    let rows = c.self.inside.rows.items in
-    let inode = c.in_ok-inode.field-0.now.inode in
-    let at = at_place rows inode ∙ c.lend-row.ensures.row in
-    file_stands c.self.invariant.0 runs writes c.lend-row.result (stands c.self.inside.rows.items (place_in rows inode) c.lend-row.result at)
-
-pub invariant_of-self : goal.invariant_of-self
-invariant_of-self g c =
-    let runs : c.self.inside.stopped ≡ false = ap (λ (m : Mount g.row.P.Denot). m.stopped) c.self.view_is ∙ c.in_ok-writable.ensures.runs in
-    let writes : c.self.inside.read_only ≡ false = ap (λ (m : Mount g.row.P.Denot). m.read_only) c.self.view_is ∙ c.in_ok-writable.ensures.writes in
-    let rows = c.self.inside.rows.items in
-    let inode = c.in_ok-inode.field-0.now.inode in
-    let at = at_place rows inode ∙ c.lend-row.ensures.row in
-    let plan = c.new-plan.result in
-    let put = back_one rows c.lend-row.new.self.items c.give_back.new.self.items inode c.change_bytes-changed.new.row c.lend-row.ensures.lent (c.change_bytes-changed.ensures.inode ∙ c.lend-row.ensures.number) c.give_back.ensures.rows in
-    (rw put (kept_after c.self.invariant.0 runs writes (place_in rows inode) c.lend-row.result c.change_bytes-changed.new.row at (data_entries plan c.in-Ok.ensures.writes.runs) (λ held h shows. c.in-Ok.ensures.writes.follows held h shows) c.change_bytes-changed.ensures.kept.lists c.self.inside.stopped), numbers_kept (c.give_back.ensures.sup ∙ c.lend-row.ensures.sup) (c.give_back.ensures.sizes ∙ c.lend-row.ensures.sizes) c.self.invariant.1, λ on. c.in-Ok.ensures.kept.settled)
-
-pub invariant_of-self-in-Err : goal.invariant_of-self-in-Err
-invariant_of-self-in-Err g c =
-    let runs : c.self.inside.stopped ≡ false = ap (λ (m : Mount g.row.P.Denot). m.stopped) c.self.view_is ∙ c.in_ok-writable.ensures.runs in
-    let writes : c.self.inside.read_only ≡ false = ap (λ (m : Mount g.row.P.Denot). m.read_only) c.self.view_is ∙ c.in_ok-writable.ensures.writes in
-    let rows = c.self.inside.rows.items in
-    let inode = c.in_ok-inode.field-0.now.inode in
-    let at = at_place rows inode ∙ c.lend-row.ensures.row in
-    let put = back_one rows c.lend-row.new.self.items c.give_back.new.self.items inode c.change_bytes-changed.new.row c.lend-row.ensures.lent (c.change_bytes-changed.ensures.inode ∙ c.lend-row.ensures.number) c.give_back.ensures.rows in (
-      rw put (kept_or_stopped g.P.Pmem.region c.self.invariant.0 runs writes (place_in rows inode) c.lend-row.result c.change_bytes-changed.new.row at c.in-Err.refusal c.is_stop-self-inside.result c.is_stop-self-inside.ensures.yes c.is_stop-self-inside.ensures.no c.change_bytes-changed.ensures.kept.lists c.in-Err.ensures.unchanged),
-      numbers_kept (c.give_back.ensures.sup ∙ c.lend-row.ensures.sup) (c.give_back.ensures.sizes ∙ c.lend-row.ensures.sizes) c.self.invariant.1,
-      settled_or_stopped g.P.Pmem.region g.P.Pmem.may_hold c.in-Err.refusal c.is_stop-self-inside.result c.is_stop-self-inside.ensures.no (λ off. (c.in-Err.ensures.unchanged off).memory) (c.self.invariant.2 runs),
-    )
-
-pub returns-in-Ok-clause-allowed : goal.returns-in-Ok-clause-allowed
-returns-in-Ok-clause-allowed g c =
-    rw (← c.cpu.view_is, ← c.time.view_is) (λ p count says needs.
-    let runs : c.self.inside.stopped ≡ false = ap (λ (m : Mount g.row.P.Denot). m.stopped) c.self.view_is ∙ c.in_ok-writable.ensures.runs in
-    let rows = c.self.inside.rows.items in
-    let inode = c.in_ok-inode.field-0.now.inode in
-    let at = at_place rows inode ∙ c.lend-row.ensures.row in
-    let leads : (names : List (List ℕ)) → IsPath c.args.path.now names → LeadsTo (tree_of (g.P.Pmem.region c.self.inside.memory) rows) names c.lend-row.result.inode (node_of (g.P.Pmem.region c.self.inside.memory) c.lend-row.result) = λ names path. subst (λ (r : Row). LeadsTo (tree_of (g.P.Pmem.region c.self.inside.memory) rows) names r.inode (node_of (g.P.Pmem.region c.self.inside.memory) r)) (same_Some _ _ (sym c.in_ok-inode.ensures.held ∙ c.lend-row.ensures.row)) (c.in_ok-inode.ensures.row (g.P.Pmem.region c.self.inside.memory) names path) in
-    let numbered = own_row rows inode c.lend-row.result c.lend-row.ensures.row in
-    let none : first_refusal (front_tests (tree_of (g.P.Pmem.region c.self.inside.memory) c.self.inside.rows.items) p (c.args.offset + length (data_bytes c.args.content))) ≡ None =
-    large_same c.args.offset (length (data_bytes c.args.content)) c.saturating_add.result (rw c.len-count.ensures at c.saturating_add.ensures) (tree_of (g.P.Pmem.region c.self.inside.memory) c.self.inside.rows.items) p ∙ c.in_ok-inode.ensures.refused (g.P.Pmem.region c.self.inside.memory) p says in
-    write_allowed g.P.Pmem.region c.self.view_is c.cpu.inside.0 (c.args.offset + length (data_bytes c.args.content)) count c.in_ok-writable.ensures.passed p none c.args.path.now c.lend-row.result (node_of (g.P.Pmem.region c.self.inside.memory) c.lend-row.result) numbered leads says c.args.offset (length (data_bytes c.args.content)) c.time.inside.0 (omega (arith, c.if-count-eq0.false, c.len-count.ensures)) needs
-    (subst (λ (q : Plan). (k : ℕ) → NeedsBlocks c.self.inside.free.pools c.cpu.inside.0 c.lend-row.result.tail q k → k ≤ all_blocks c.self.inside.free.pools) (rw c.len-count.ensures at c.new-plan.ensures) c.in-Ok.ensures.enough)
-    )
-
-pub returns-in-Err-clause-refused : goal.returns-in-Err-clause-refused
-returns-in-Err-clause-refused g c =
-    rw (← c.cpu.view_is, ← c.time.view_is) (λ still p count says needs.
-    let runs : c.self.inside.stopped ≡ false = ap (λ (m : Mount g.row.P.Denot). m.stopped) c.self.view_is ∙ c.in_ok-writable.ensures.runs in
-    let rows = c.self.inside.rows.items in
-    let inode = c.in_ok-inode.field-0.now.inode in
-    let at = at_place rows inode ∙ c.lend-row.ensures.row in
-    let leads : (names : List (List ℕ)) → IsPath c.args.path.now names → LeadsTo (tree_of (g.P.Pmem.region c.self.inside.memory) rows) names c.lend-row.result.inode (node_of (g.P.Pmem.region c.self.inside.memory) c.lend-row.result) = λ names path. subst (λ (r : Row). LeadsTo (tree_of (g.P.Pmem.region c.self.inside.memory) rows) names r.inode (node_of (g.P.Pmem.region c.self.inside.memory) r)) (same_Some _ _ (sym c.in_ok-inode.ensures.held ∙ c.lend-row.ensures.row)) (c.in_ok-inode.ensures.row (g.P.Pmem.region c.self.inside.memory) names path) in
-    let numbered = own_row rows inode c.lend-row.result c.lend-row.ensures.row in
-    let none : first_refusal (front_tests (tree_of (g.P.Pmem.region c.self.inside.memory) c.self.inside.rows.items) p (c.args.offset + length (data_bytes c.args.content))) ≡ None =
-    large_same c.args.offset (length (data_bytes c.args.content)) c.saturating_add.result (rw c.len-count.ensures at c.saturating_add.ensures) (tree_of (g.P.Pmem.region c.self.inside.memory) c.self.inside.rows.items) p ∙ c.in_ok-inode.ensures.refused (g.P.Pmem.region c.self.inside.memory) p says in
-    write_refused g.P.Pmem.region c.self.view_is c.cpu.inside.0 (c.args.offset + length (data_bytes c.args.content)) count c.in_ok-writable.ensures.passed p none c.args.path.now c.lend-row.result (node_of (g.P.Pmem.region c.self.inside.memory) c.lend-row.result) numbered leads says c.args.offset (length (data_bytes c.args.content)) c.time.inside.0 (omega (arith, c.if-count-eq0.false, c.len-count.ensures)) needs c.in-Err.refusal
-    (subst (λ (q : Plan). RefusesWrite c.in-Err.refusal c.self.inside.free c.cpu.inside.0 c.lend-row.result.tail q) (rw c.len-count.ensures at c.new-plan.ensures) c.in-Err.ensures.refused)
-    )
-
-pub returns-in-Ok-clause-changed : goal.returns-in-Ok-clause-changed
-returns-in-Ok-clause-changed g c =
-    rw (← c.time.view_is) (λ names path.
-    let runs : c.self.inside.stopped ≡ false = ap (λ (m : Mount g.row.P.Denot). m.stopped) c.self.view_is ∙ c.in_ok-writable.ensures.runs in
-    let writes : c.self.inside.read_only ≡ false = ap (λ (m : Mount g.row.P.Denot). m.read_only) c.self.view_is ∙ c.in_ok-writable.ensures.writes in
-    let rows = c.self.inside.rows.items in
-    let inode = c.in_ok-inode.field-0.now.inode in
-    let at = at_place rows inode ∙ c.lend-row.ensures.row in
-    let leads : (names : List (List ℕ)) → IsPath c.args.path.now names → LeadsTo (tree_of (g.P.Pmem.region c.self.inside.memory) rows) names c.lend-row.result.inode (node_of (g.P.Pmem.region c.self.inside.memory) c.lend-row.result) = λ names path. subst (λ (r : Row). LeadsTo (tree_of (g.P.Pmem.region c.self.inside.memory) rows) names r.inode (node_of (g.P.Pmem.region c.self.inside.memory) r)) (same_Some _ _ (sym c.in_ok-inode.ensures.held ∙ c.lend-row.ensures.row)) (c.in_ok-inode.ensures.row (g.P.Pmem.region c.self.inside.memory) names path) in
-    let plan = c.new-plan.result in
-    let follows = λ (held : Store) (h : Held) (shows : ShowsRow (g.P.Pmem.region c.self.inside.memory) c.self.inside.tables.layout held h c.lend-row.result c.self.inside.free). c.in-Ok.ensures.writes.follows held h shows in
-    let led = leads names path in
-    let put = back_one rows c.lend-row.new.self.items c.give_back.new.self.items inode c.change_bytes-changed.new.row c.lend-row.ensures.lent (c.change_bytes-changed.ensures.inode ∙ c.lend-row.ensures.number) c.give_back.ensures.rows in
-    rw put (write_changed g.P.Pmem.region c.self.view_is names c.lend-row.result.inode c.args.offset (data_bytes c.args.content) c.time.inside.0 (omega (arith, c.if-count-eq0.false, c.len-count.ensures)) (tree_of (g.P.Pmem.region c.change_bytes-changed.new.memory) (set c.self.inside.rows.items (place_in rows inode) c.change_bytes-changed.new.row)) led.leads
-    (tree_after c.self.invariant.0 runs writes (place_in rows inode) c.lend-row.result c.change_bytes-changed.new.row at (data_entries plan c.in-Ok.ensures.writes.runs) follows (with_bytes c.args.offset (data_bytes c.args.content) c.time.inside.0) c.in-Ok.ensures.writes.inode
-    (written_node (g.P.Pmem.region c.self.inside.memory) (g.P.Pmem.region c.change_bytes-changed.new.memory) c.time.inside.0 c.in-Ok.ensures.writes (rw c.len-count.ensures at c.new-plan.ensures)
-    (write_bytes c.self.invariant.0 runs writes (place_in rows inode) c.lend-row.result at c.in-Ok.ensures.writes))))
-    )
-
-pub returns-in-Ok-clause-log : goal.returns-in-Ok-clause-log
-returns-in-Ok-clause-log g c =
-    rw (← c.cpu.view_is, ← c.time.view_is) (λ names i node held h path led sound is some.
-    let runs : c.self.inside.stopped ≡ false = ap (λ (m : Mount g.row.P.Denot). m.stopped) c.self.view_is ∙ c.in_ok-writable.ensures.runs in
-    let writes : c.self.inside.read_only ≡ false = ap (λ (m : Mount g.row.P.Denot). m.read_only) c.self.view_is ∙ c.in_ok-writable.ensures.writes in
-    let rows = c.self.inside.rows.items in
-    let inode = c.in_ok-inode.field-0.now.inode in
-    let at = at_place rows inode ∙ c.lend-row.ensures.row in
-    let leads : (names : List (List ℕ)) → IsPath c.args.path.now names → LeadsTo (tree_of (g.P.Pmem.region c.self.inside.memory) rows) names c.lend-row.result.inode (node_of (g.P.Pmem.region c.self.inside.memory) c.lend-row.result) = λ names path. subst (λ (r : Row). LeadsTo (tree_of (g.P.Pmem.region c.self.inside.memory) rows) names r.inode (node_of (g.P.Pmem.region c.self.inside.memory) r)) (same_Some _ _ (sym c.in_ok-inode.ensures.held ∙ c.lend-row.ensures.row)) (c.in_ok-inode.ensures.row (g.P.Pmem.region c.self.inside.memory) names path) in
-    write_logged g.P.Pmem.region c.self.view_is names c.time.inside.0 i node held h c.self.invariant.0 runs (stands c.self.inside.rows.items (place_in rows inode) c.lend-row.result at) (leads names path) c.in-Ok.ensures.writes (rw c.len-count.ensures at c.new-plan.ensures)
-    (λ st k shown holds. write_log c.self.invariant.0 runs writes (place_in rows inode) c.lend-row.result at c.in-Ok.ensures.writes st k shown holds) led sound is
-    )
-
-pub returns-in-Err-clause-call : goal.returns-in-Err-clause-call
-returns-in-Err-clause-call g c =
-    let runs : c.self.inside.stopped ≡ false = ap (λ (m : Mount g.row.P.Denot). m.stopped) c.self.view_is ∙ c.in_ok-writable.ensures.runs in
-    let writes : c.self.inside.read_only ≡ false = ap (λ (m : Mount g.row.P.Denot). m.read_only) c.self.view_is ∙ c.in_ok-writable.ensures.writes in
-    record {
-      call = refused_late g.P.Pmem.region g.P.Pmem.fuse c.self.view_is c.change_bytes-changed.new.memory c.give_back.new.self.items c.change_bytes-changed.new.free runs writes c.in-Err.refusal c.is_stop-self-inside.result c.is_stop-self-inside.ensures.yes c.is_stop-self-inside.ensures.no c.in-Err.ensures.kept.keeps
-          (λ off.
-          let rows = c.self.inside.rows.items in
-          let inode = c.in_ok-inode.field-0.now.inode in
-          let at = at_place rows inode ∙ c.lend-row.ensures.row in
-          let put = back_one rows c.lend-row.new.self.items c.give_back.new.self.items inode c.change_bytes-changed.new.row c.lend-row.ensures.lent (c.change_bytes-changed.ensures.inode ∙ c.lend-row.ensures.number) c.give_back.ensures.rows in
-          rw put (unchanged_step c.self.view_is c.change_bytes-changed.new.memory c.change_bytes-changed.new.free (place_in rows inode) c.lend-row.result c.change_bytes-changed.new.row c.is_stop-self-inside.result at runs (not_stop c.in-Err.refusal c.is_stop-self-inside.result c.is_stop-self-inside.ensures.yes off) (c.in-Err.ensures.unchanged off)));
-      bad_text = λ bad. absurd (let said = text_says c.args.path.now in let path = front_path (tree_of (g.P.Pmem.region c.self.inside.memory) c.self.inside.rows.items) c.args.path.now said.0 _ said.1 (c.in_ok-inode.ensures.refused (g.P.Pmem.region c.self.inside.memory) said.0 said.1) in bad path.0 path.1);
     }
 
 pub returns-in_err-writable-clause-allowed : goal.returns-in_err-writable-clause-allowed
@@ -248,123 +96,11 @@ returns-in_err-inode-clause-nothing g c none = IfOk-from_err c.from_residual-in_
 pub returns-in_err-inode-clause-settled : goal.returns-in_err-inode-clause-settled
 returns-in_err-inode-clause-settled g c some = IfOk-from_err c.from_residual-in_err-inode.result _ c.from_residual-in_err-inode.ensures.0
 
-pub returns-in-Ok-clause-call : goal.returns-in-Ok-clause-call
-returns-in-Ok-clause-call g c =
-    let runs : c.self.inside.stopped ≡ false = ap (λ (m : Mount g.row.P.Denot). m.stopped) c.self.view_is ∙ c.in_ok-writable.ensures.runs in
-    let writes : c.self.inside.read_only ≡ false = ap (λ (m : Mount g.row.P.Denot). m.read_only) c.self.view_is ∙ c.in_ok-writable.ensures.writes in
-    record {
-      call = call_done g.P.Pmem.region g.P.Pmem.fuse c.self.view_is c.change_bytes-changed.new.memory c.give_back.new.self.items c.change_bytes-changed.new.free runs writes _ _ c.in-Ok.ensures.kept.keeps;
-      bad_text = λ bad. absurd (let said = text_says c.args.path.now in let path = front_path (tree_of (g.P.Pmem.region c.self.inside.memory) c.self.inside.rows.items) c.args.path.now said.0 _ said.1 (c.in_ok-inode.ensures.refused (g.P.Pmem.region c.self.inside.memory) said.0 said.1) in bad path.0 path.1);
-    }
-
-pub returns-in-Ok-clause-refused : goal.returns-in-Ok-clause-refused
-returns-in-Ok-clause-refused g c still p count says needs = tt
-
-pub returns-in-Ok-clause-settled : goal.returns-in-Ok-clause-settled
-returns-in-Ok-clause-settled g c some = c.in-Ok.ensures.kept.settled
-
-pub returns-in-Ok-clause-nothing : goal.returns-in-Ok-clause-nothing
-returns-in-Ok-clause-nothing g c none = absurd (c.if-count-eq0.false (c.len-count.ensures ∙ none))
-
-pub returns-in-Err-clause-allowed : goal.returns-in-Err-clause-allowed
-returns-in-Err-clause-allowed g c p count says needs = tt
-
-pub returns-in-Err-clause-changed : goal.returns-in-Err-clause-changed
-returns-in-Err-clause-changed g c names path = tt
-
-pub returns-in-Err-clause-log : goal.returns-in-Err-clause-log
-returns-in-Err-clause-log g c names i node held h path led sound is some = tt
-
-pub returns-in-Err-clause-nothing : goal.returns-in-Err-clause-nothing
-returns-in-Err-clause-nothing g c none = tt
-
-pub returns-in-Err-clause-settled : goal.returns-in-Err-clause-settled
-returns-in-Err-clause-settled g c some = tt
-
-pub returns-then-count-eq0-clause-call : goal.returns-then-count-eq0-clause-call
-returns-then-count-eq0-clause-call g c =
-    record {
-      call = nothing_to_do g.P.Pmem.region g.P.Pmem.fuse c.args.self.now _ c.in_ok-writable.ensures.runs;
-      bad_text = λ bad. same_mount c.args.self.now;
-    }
-
-pub returns-then-count-eq0-clause-refused : goal.returns-then-count-eq0-clause-refused
-returns-then-count-eq0-clause-refused g c still p count says needs = tt
-
-pub returns-then-count-eq0-clause-changed : goal.returns-then-count-eq0-clause-changed
-returns-then-count-eq0-clause-changed g c names path = none_written names c.args.offset (data_bytes c.args.content) c.args.time (tree_of (g.P.Pmem.region c.args.self.now.memory) c.args.self.now.rows) (rw c.len-count.ensures at c.if-count-eq0.true)
-
-pub returns-then-count-eq0-clause-log : goal.returns-then-count-eq0-clause-log
-returns-then-count-eq0-clause-log g c names i node held h path led sound is some = absurd (omega (arith, some, (rw c.len-count.ensures at c.if-count-eq0.true)))
-
-pub returns-then-count-eq0-clause-nothing : goal.returns-then-count-eq0-clause-nothing
-returns-then-count-eq0-clause-nothing g c none = refl
-
-pub returns-then-count-eq0-clause-settled : goal.returns-then-count-eq0-clause-settled
-returns-then-count-eq0-clause-settled g c some = absurd (omega (arith, some, (rw c.len-count.ensures at c.if-count-eq0.true)))
-
-pub lend-row-requires : goal.lend-row-requires
-lend-row-requires g c = in_use c.self.inside.rows.items c.in_ok-inode.field-0.now.inode c.in_ok-inode.field-0.now c.in_ok-inode.ensures.held
-
-pub new-plan-requires-clause-some : goal.new-plan-requires-clause-some
-new-plan-requires-clause-some g c = omega (arith, c.if-count-eq0.false)
-
-pub new-plan-requires-clause-small : goal.new-plan-requires-clause-small
-new-plan-requires-clause-small g c =
-    let ends = ends_small c.args.offset (length (data_bytes c.args.content)) c.saturating_add.result (rw c.len-count.ensures at c.saturating_add.ensures) c.in_ok-inode.ensures.most in
-    omega (arith, ends, c.len-count.ensures)
-
-pub change_bytes-changed-requires-clause-cpu : goal.change_bytes-changed-requires-clause-cpu
-change_bytes-changed-requires-clause-cpu g c =
-    let low : c.cpu.inside.0 < c.self.inside.tables.layout.sup.cpus = subst (λ (m : Mount g.row.P.Denot). c.cpu.inside.0 < m.sup.cpus) (sym c.self.view_is) c.in_ok-writable.ensures.cpu in
-    low_pools c.self.invariant.0 c.cpu.inside.0 low
-
-pub change_bytes-changed-requires-clause-some : goal.change_bytes-changed-requires-clause-some
-change_bytes-changed-requires-clause-some g c = omega (arith, c.if-count-eq0.false, c.len-count.ensures)
-
-pub change_bytes-changed-requires-clause-fits : goal.change_bytes-changed-requires-clause-fits
-change_bytes-changed-requires-clause-fits g c = ends_small c.args.offset (length (data_bytes c.args.content)) c.saturating_add.result (rw c.len-count.ensures at c.saturating_add.ensures) c.in_ok-inode.ensures.most
-
-pub change_bytes-changed-requires-clause-size : goal.change_bytes-changed-requires-clause-size
-change_bytes-changed-requires-clause-size g c = refl
-
-pub change_bytes-changed-requires-clause-plan : goal.change_bytes-changed-requires-clause-plan
-change_bytes-changed-requires-clause-plan g c = planned (block_at c.lend-row.result.index) c.lend-row.result.numbers.size c.args.offset (length (data_bytes c.args.content)) c.time.inside.0 c.new-plan.result (rw c.len-count.ensures at c.new-plan.ensures)
-
 pub returns-in_err-writable-clause-any_stop : goal.returns-in_err-writable-clause-any_stop
 returns-in_err-writable-clause-any_stop g c names path on able = call_stays g.P.Pmem.region c.args.self.now (makes_bytes c.args.offset (data_bytes c.args.content) c.args.time) (LogsBytes c.args.cpu c.args.offset (length (data_bytes c.args.content)) c.args.time) names c.in_err-writable.ensures.kept on able _ (c.in_err-writable.ensures.settled on)
 
 pub returns-in_err-inode-clause-any_stop : goal.returns-in_err-inode-clause-any_stop
 returns-in_err-inode-clause-any_stop g c names path on able = call_stays g.P.Pmem.region c.args.self.now (makes_bytes c.args.offset (data_bytes c.args.content) c.args.time) (LogsBytes c.args.cpu c.args.offset (length (data_bytes c.args.content)) c.args.time) names c.in_ok-writable.ensures.kept on able _ (c.in_ok-writable.ensures.settled on)
-
-pub returns-then-count-eq0-clause-any_stop : goal.returns-then-count-eq0-clause-any_stop
-returns-then-count-eq0-clause-any_stop g c names path on able = call_stays g.P.Pmem.region c.args.self.now (makes_bytes c.args.offset (data_bytes c.args.content) c.args.time) (LogsBytes c.args.cpu c.args.offset (length (data_bytes c.args.content)) c.args.time) names c.in_ok-writable.ensures.kept on able _ (c.in_ok-writable.ensures.settled on)
-
-pub returns-in-Ok-clause-any_stop : goal.returns-in-Ok-clause-any_stop
-returns-in-Ok-clause-any_stop g c =
-    rw (← c.cpu.view_is, ← c.time.view_is) (λ names path on able.
-    let runs : c.self.inside.stopped ≡ false = ap (λ (m : Mount g.row.P.Denot). m.stopped) c.self.view_is ∙ c.in_ok-writable.ensures.runs in
-    let writes : c.self.inside.read_only ≡ false = ap (λ (m : Mount g.row.P.Denot). m.read_only) c.self.view_is ∙ c.in_ok-writable.ensures.writes in
-    let rows = c.self.inside.rows.items in
-    let inode = c.in_ok-inode.field-0.now.inode in
-    let at = at_place rows inode ∙ c.lend-row.ensures.row in
-    let leads : LeadsTo (tree_of (g.P.Pmem.region c.self.inside.memory) rows) names c.lend-row.result.inode (node_of (g.P.Pmem.region c.self.inside.memory) c.lend-row.result) = subst (λ (r : Row). LeadsTo (tree_of (g.P.Pmem.region c.self.inside.memory) rows) names r.inode (node_of (g.P.Pmem.region c.self.inside.memory) r)) (same_Some _ _ (sym c.in_ok-inode.ensures.held ∙ c.lend-row.ensures.row)) (c.in_ok-inode.ensures.row (g.P.Pmem.region c.self.inside.memory) names path) in
-    write_left g.P.Pmem.region c.self.view_is c.self.invariant.0 runs writes (place_in rows inode) c.lend-row.result at c.cpu.inside.0 c.new-plan.result c.args.offset (data_bytes c.args.content) c.time.inside.0 (rw c.len-count.ensures at c.new-plan.ensures) (omega (arith, c.if-count-eq0.false, c.len-count.ensures)) names leads _ _ _
-    (λ held h shows pending. c.change_bytes-changed.ensures.any_stop held h shows pending) (c.self.invariant.2 runs)
-    )
-
-pub returns-in-Err-clause-any_stop : goal.returns-in-Err-clause-any_stop
-returns-in-Err-clause-any_stop g c =
-    rw (← c.cpu.view_is, ← c.time.view_is) (λ names path on able.
-    let runs : c.self.inside.stopped ≡ false = ap (λ (m : Mount g.row.P.Denot). m.stopped) c.self.view_is ∙ c.in_ok-writable.ensures.runs in
-    let writes : c.self.inside.read_only ≡ false = ap (λ (m : Mount g.row.P.Denot). m.read_only) c.self.view_is ∙ c.in_ok-writable.ensures.writes in
-    let rows = c.self.inside.rows.items in
-    let inode = c.in_ok-inode.field-0.now.inode in
-    let at = at_place rows inode ∙ c.lend-row.ensures.row in
-    let leads : LeadsTo (tree_of (g.P.Pmem.region c.self.inside.memory) rows) names c.lend-row.result.inode (node_of (g.P.Pmem.region c.self.inside.memory) c.lend-row.result) = subst (λ (r : Row). LeadsTo (tree_of (g.P.Pmem.region c.self.inside.memory) rows) names r.inode (node_of (g.P.Pmem.region c.self.inside.memory) r)) (same_Some _ _ (sym c.in_ok-inode.ensures.held ∙ c.lend-row.ensures.row)) (c.in_ok-inode.ensures.row (g.P.Pmem.region c.self.inside.memory) names path) in
-    write_left g.P.Pmem.region c.self.view_is c.self.invariant.0 runs writes (place_in rows inode) c.lend-row.result at c.cpu.inside.0 c.new-plan.result c.args.offset (data_bytes c.args.content) c.time.inside.0 (rw c.len-count.ensures at c.new-plan.ensures) (omega (arith, c.if-count-eq0.false, c.len-count.ensures)) names leads _ _ _
-    (λ held h shows pending. c.change_bytes-changed.ensures.any_stop held h shows pending) (c.self.invariant.2 runs)
-    )
 
 pub returns-in_err-writable-clause-wrote : goal.returns-in_err-writable-clause-wrote
 returns-in_err-writable-clause-wrote g c names i node held path led sound = λ at whole away. refl
@@ -372,15 +108,55 @@ returns-in_err-writable-clause-wrote g c names i node held path led sound = λ a
 pub returns-in_err-inode-clause-wrote : goal.returns-in_err-inode-clause-wrote
 returns-in_err-inode-clause-wrote g c names i node held path led sound = λ at whole away. refl
 
-pub returns-then-count-eq0-clause-wrote : goal.returns-then-count-eq0-clause-wrote
-returns-then-count-eq0-clause-wrote g c names i node held path led sound = λ at whole away. refl
+pub returns-clause-allowed : goal.returns-clause-allowed
+returns-clause-allowed g c p count says needs =
+    let none : first_refusal (front_tests (tree_of (g.P.Pmem.region c.self.inside.memory) c.self.inside.rows.items) p (c.args.offset + length (data_bytes c.args.content))) ≡ None = (large_same c.args.offset (length (data_bytes c.args.content)) c.saturating_add.result (rw c.len-count.ensures at c.saturating_add.ensures) (tree_of (g.P.Pmem.region c.self.inside.memory) c.self.inside.rows.items) p ∙ c.in_ok-inode.ensures.refused (g.P.Pmem.region c.self.inside.memory) p says) in
+    let tests = file_by_path g.P.Pmem.region c.self.view_is c.args.cpu (rw c.cpu.view_is at c.in_ok-writable.ensures.passed) p c.args.path.now c.in_ok-inode.field-0.now (c.in_ok-inode.ensures.row (g.P.Pmem.region c.self.inside.memory)) says (c.args.offset + length (data_bytes c.args.content)) none count in
+    let needed = needs_by_path g.P.Pmem.region c.self.view_is c.args.cpu (rw c.cpu.view_is at c.in_ok-writable.ensures.passed) p c.args.path.now c.in_ok-inode.field-0.now (c.in_ok-inode.ensures.row (g.P.Pmem.region c.self.inside.memory)) says (c.args.offset + length (data_bytes c.args.content)) none c.args.offset (length (data_bytes c.args.content)) c.args.time count needs in
+    subst (λ (o : Option Refusal). OnOk c.write_data_inode.result (o ≡ None)) (sym tests) (c.write_data_inode.ensures.allowed count needed)
 
-pub returns-in-Ok-clause-wrote : goal.returns-in-Ok-clause-wrote
-returns-in-Ok-clause-wrote g c names i node held path led sound =
-    path_stores g.P.Pmem.region c.self.view_is c.self.invariant.0 c.in_ok-writable.ensures.runs (g.P.Pmem.region c.change_bytes-changed.new.memory) c.in_ok-inode.field-0.now.inode c.lend-row.result c.lend-row.ensures.row names c.in_ok-inode.field-0.now c.in_ok-inode.ensures.held (c.in_ok-inode.ensures.row (g.P.Pmem.region c.self.inside.memory) names path)
-    (λ st h shows. c.change_bytes-changed.ensures.wrote st h shows) i node held led sound
+pub returns-clause-refused : goal.returns-clause-refused
+returns-clause-refused g c runs p count says needs =
+    let none : first_refusal (front_tests (tree_of (g.P.Pmem.region c.self.inside.memory) c.self.inside.rows.items) p (c.args.offset + length (data_bytes c.args.content))) ≡ None = (large_same c.args.offset (length (data_bytes c.args.content)) c.saturating_add.result (rw c.len-count.ensures at c.saturating_add.ensures) (tree_of (g.P.Pmem.region c.self.inside.memory) c.self.inside.rows.items) p ∙ c.in_ok-inode.ensures.refused (g.P.Pmem.region c.self.inside.memory) p says) in
+    let tests = file_by_path g.P.Pmem.region c.self.view_is c.args.cpu (rw c.cpu.view_is at c.in_ok-writable.ensures.passed) p c.args.path.now c.in_ok-inode.field-0.now (c.in_ok-inode.ensures.row (g.P.Pmem.region c.self.inside.memory)) says (c.args.offset + length (data_bytes c.args.content)) none count in
+    let needed = needs_by_path g.P.Pmem.region c.self.view_is c.args.cpu (rw c.cpu.view_is at c.in_ok-writable.ensures.passed) p c.args.path.now c.in_ok-inode.field-0.now (c.in_ok-inode.ensures.row (g.P.Pmem.region c.self.inside.memory)) says (c.args.offset + length (data_bytes c.args.content)) none c.args.offset (length (data_bytes c.args.content)) c.args.time count needs in
+    subst (λ (o : Option Refusal). IfErr c.write_data_inode.result (IsRefusedBy o)) (sym tests) (c.write_data_inode.ensures.refused runs count needed)
 
-pub returns-in-Err-clause-wrote : goal.returns-in-Err-clause-wrote
-returns-in-Err-clause-wrote g c names i node held path led sound =
-    path_stores g.P.Pmem.region c.self.view_is c.self.invariant.0 c.in_ok-writable.ensures.runs (g.P.Pmem.region c.change_bytes-changed.new.memory) c.in_ok-inode.field-0.now.inode c.lend-row.result c.lend-row.ensures.row names c.in_ok-inode.field-0.now c.in_ok-inode.ensures.held (c.in_ok-inode.ensures.row (g.P.Pmem.region c.self.inside.memory) names path)
-    (λ st h shows. c.change_bytes-changed.ensures.wrote st h shows) i node held led sound
+pub returns-clause-changed : goal.returns-clause-changed
+returns-clause-changed g c names path =
+    let own = subst (λ (m : Mount g.row.P.Denot). LeadsTo (tree_of (g.P.Pmem.region m.memory) m.rows) names c.in_ok-inode.field-0.now.inode (node_of (g.P.Pmem.region m.memory) c.in_ok-inode.field-0.now)) c.self.view_is
+    (c.in_ok-inode.ensures.row (g.P.Pmem.region c.self.inside.memory) names path) in
+    subst (λ (t : Tree). OnOk c.write_data_inode.result (SameTree (tree_of (g.P.Pmem.region c.write_data_inode.new.self.memory) c.write_data_inode.new.self.rows) t))
+    (written_at (tree_of (g.P.Pmem.region c.args.self.now.memory) c.args.self.now.rows) names c.in_ok-inode.field-0.now.inode c.args.offset (data_bytes c.args.content) c.args.time own.leads) c.write_data_inode.ensures.changed
+
+pub returns-clause-log : goal.returns-clause-log
+returns-clause-log g c names i node held h path led sound is some =
+    let own = subst (λ (m : Mount g.row.P.Denot). LeadsTo (tree_of (g.P.Pmem.region m.memory) m.rows) names c.in_ok-inode.field-0.now.inode (node_of (g.P.Pmem.region m.memory) c.in_ok-inode.field-0.now)) c.self.view_is
+    (c.in_ok-inode.ensures.row (g.P.Pmem.region c.self.inside.memory) names path) in
+    at_number own led (λ (k : ℕ). held k ≡ Some h → OnOk c.write_data_inode.result (ShowsLogWrite (g.P.Pmem.region c.write_data_inode.new.self.memory) c.args.self.now c.args.cpu held k h (plan_of (block_of (good_in c.args.self.now.layout h)) node.size c.args.offset (length (data_bytes c.args.content)) c.args.time)))
+    (λ shows here. c.write_data_inode.ensures.log node held h shows sound here some) is
+
+pub returns-clause-call : goal.returns-clause-call
+returns-clause-call g c =
+    record {
+      call = c.write_data_inode.ensures.call;
+      bad_text = λ bad. absurd (let said = text_says c.args.path.now in let path = front_path (tree_of (g.P.Pmem.region c.self.inside.memory) c.self.inside.rows.items) c.args.path.now said.0 _ said.1 (c.in_ok-inode.ensures.refused (g.P.Pmem.region c.self.inside.memory) said.0 said.1) in bad path.0 path.1);
+    }
+
+pub returns-clause-any_stop : goal.returns-clause-any_stop
+returns-clause-any_stop g c names path on able =
+    let own = subst (λ (m : Mount g.row.P.Denot). LeadsTo (tree_of (g.P.Pmem.region m.memory) m.rows) names c.in_ok-inode.field-0.now.inode (node_of (g.P.Pmem.region m.memory) c.in_ok-inode.field-0.now)) c.self.view_is
+    (c.in_ok-inode.ensures.row (g.P.Pmem.region c.self.inside.memory) names path) in
+    left_by (g.P.Pmem.region c.args.self.now.memory) (LogsInodeBytes c.args.cpu c.args.offset (length (data_bytes c.args.content)) c.args.time c.in_ok-inode.field-0.now.inode (g.P.Pmem.region c.args.self.now.memory) c.args.self.now) (LogsBytes c.args.cpu c.args.offset (length (data_bytes c.args.content)) c.args.time (g.P.Pmem.region c.args.self.now.memory) c.args.self.now names)
+    (written_at (tree_of (g.P.Pmem.region c.args.self.now.memory) c.args.self.now.rows) names c.in_ok-inode.field-0.now.inode c.args.offset (data_bytes c.args.content) c.args.time own.leads)
+    (λ T logs. record {
+      some = λ i node held h led sound is some. at_number own led (λ (k : ℕ). held k ≡ Some h → ShowsLogWrite T c.args.self.now c.args.cpu held k h (plan_of (block_of (good_in c.args.self.now.layout h)) node.size c.args.offset (length (data_bytes c.args.content)) c.args.time)) (λ shows here. logs.some node held h shows sound here some) is;
+      none = logs.none;
+    })
+    (c.write_data_inode.ensures.any_stop on able)
+
+pub returns-clause-wrote : goal.returns-clause-wrote
+returns-clause-wrote g c names i node held path led sound =
+    let own = subst (λ (m : Mount g.row.P.Denot). LeadsTo (tree_of (g.P.Pmem.region m.memory) m.rows) names c.in_ok-inode.field-0.now.inode (node_of (g.P.Pmem.region m.memory) c.in_ok-inode.field-0.now)) c.self.view_is
+    (c.in_ok-inode.ensures.row (g.P.Pmem.region c.self.inside.memory) names path) in
+    at_number own led (λ (k : ℕ). StoresIn c.args.self.now.layout held (one_log c.args.self.now.layout k) (g.P.Pmem.region c.args.self.now.memory) (g.P.Pmem.region c.write_data_inode.new.self.memory)) (λ shows. c.write_data_inode.ensures.wrote held sound)

@@ -24,39 +24,6 @@ returns-in-Stat g c = rw c.in-Stat.is c.stat.ensures
 pub returns-in-Read : goal.returns-in-Read
 returns-in-Read g c = rw c.in-Read.is c.read.ensures
 
-pub returns-in-Create : goal.returns-in-Create
-returns-in-Create g c = rw c.in-Create.is c.create.ensures
-
-pub returns-in-MakeDirectory : goal.returns-in-MakeDirectory
-returns-in-MakeDirectory g c = rw c.in-MakeDirectory.is c.make_directory.ensures
-
-pub returns-in-Write : goal.returns-in-Write
-returns-in-Write g c = rw c.in-Write.is c.write.ensures
-
-pub returns-in-SetSize : goal.returns-in-SetSize
-returns-in-SetSize g c = rw c.in-SetSize.is c.set_size.ensures
-
-pub returns-in-SetAttributes : goal.returns-in-SetAttributes
-returns-in-SetAttributes g c = rw c.in-SetAttributes.is c.set_attributes.ensures
-
-pub returns-in-Link : goal.returns-in-Link
-returns-in-Link g c = rw c.in-Link.is c.link.ensures
-
-pub returns-in-Unlink : goal.returns-in-Unlink
-returns-in-Unlink g c = rw c.in-Unlink.is c.unlink.ensures
-
-pub returns-in-RemoveDirectory : goal.returns-in-RemoveDirectory
-returns-in-RemoveDirectory g c = rw c.in-RemoveDirectory.is c.remove_directory.ensures
-
-pub returns-in-Rename : goal.returns-in-Rename
-returns-in-Rename g c = rw c.in-Rename.is c.rename.ensures
-
-pub returns-in-Clean : goal.returns-in-Clean
-returns-in-Clean g c = rw c.in-Clean.is c.clean.ensures
-
-pub returns-in-Upgrade : goal.returns-in-Upgrade
-returns-in-Upgrade g c = rw c.in-Upgrade.is c.upgrade.ensures
-
 pub returns-in-Tree : goal.returns-in-Tree
 returns-in-Tree g c = rw c.in-Tree.is c.show.ensures
 

@@ -1,0 +1,32 @@
+use Rattle.std.proofs.Common.{◌∙◌}
+use Rattle.nv_region.specs.Region.{Region}
+use Rattle.nv_tree.specs.Calls.{edit, with_size}
+use Rattle.nv_paths.specs.Seen.{tree_of}
+use Rattle.nv_calls.specs.ChangesByNumber.{logs_inode_size}
+use Rattle.nv_calls.specs.Mount.{Mount}
+use Rattle.nv_calls.specs.Stopped.{StopLeaves}
+use Rattle.nova_c.specs.Refused.{set_size_inode_refusal}
+use Rattle.nova_c.proofs.Calls.{any_stop_by, refused_by, unchanged_by}
+use Rattle.nova_c.proofs.files_by_number.nova_set_size_inode.Goals as goal
+
+pub returns-in-Ok-clause-any_stop : goal.returns-in-Ok-clause-any_stop
+returns-in-Ok-clause-any_stop c running writes =
+    any_stop_by _ _ _ _ (c.deref_mut.ensures.value ∙ c.in-Some.ensures.mount.1) c.put.ensures.mount
+    (λ (R : Region) (k : Mount Region). StopLeaves R k.layout k.rows k.free.pools (edit c.args.inode (with_size c.args.size c.args.time) (tree_of R k.rows)) (logs_inode_size c.args.cpu c.args.size c.args.time c.args.inode R k))
+    (λ runs writes. c.set_size_inode-done.ensures.any_stop runs writes) running.runs writes
+
+pub returns-in-Err-clause-refused : goal.returns-in-Err-clause-refused
+returns-in-Err-clause-refused c running some =
+    refused_by (λ (m : Mount Region). set_size_inode_refusal m c.args.cpu c.args.inode c.args.size) _ _ c.in-Err.refusal c.code.result (c.deref_mut.ensures.value ∙ c.in-Some.ensures.mount.1) c.code.ensures.says
+    (λ runs. c.in-Err.ensures.refused runs) running.runs
+
+pub returns-in-Err-clause-unchanged : goal.returns-in-Err-clause-unchanged
+returns-in-Err-clause-unchanged c owns some =
+    unchanged_by _ _ _ _ (c.deref_mut.ensures.value ∙ c.in-Some.ensures.mount.1) c.put.ensures.mount c.set_size_inode-done.result c.in-Err.refusal c.in-Err.is
+    c.set_size_inode-done.ensures.call.stopped_before c.set_size_inode-done.ensures.call.stopped c.in-Err.ensures.call.unchanged
+
+pub returns-in-Err-clause-any_stop : goal.returns-in-Err-clause-any_stop
+returns-in-Err-clause-any_stop c running writes =
+    any_stop_by _ _ _ _ (c.deref_mut.ensures.value ∙ c.in-Some.ensures.mount.1) c.put.ensures.mount
+    (λ (R : Region) (k : Mount Region). StopLeaves R k.layout k.rows k.free.pools (edit c.args.inode (with_size c.args.size c.args.time) (tree_of R k.rows)) (logs_inode_size c.args.cpu c.args.size c.args.time c.args.inode R k))
+    (λ runs writes. c.set_size_inode-done.ensures.any_stop runs writes) running.runs writes

@@ -1,0 +1,31 @@
+use Rattle.std.proofs.Common.{◌∙◌, ◌+◌, length, subst, sym}
+use Rattle.nv_region.specs.Region.{Region}
+use Rattle.nv_paths.specs.Seen.{tree_of}
+use Rattle.nv_calls.specs.ChangesByNumber.{LogsInodeBytes, WriteInodeNeeds, written_inode}
+use Rattle.nv_calls.specs.Mount.{Mount}
+use Rattle.nv_calls.specs.Stopped.{StopLeaves}
+use Rattle.nova_c.specs.Refused.{write_inode_refusal}
+use Rattle.nova_c.proofs.Calls.{any_stop_by, refused_by, unchanged_by}
+use Rattle.nova_c.proofs.files_by_number.nova_write_inode.Goals as goal
+
+pub returns-in-Ok-clause-any_stop : goal.returns-in-Ok-clause-any_stop
+returns-in-Ok-clause-any_stop c running writes =
+    any_stop_by _ _ _ _ (c.deref_mut.ensures.value ∙ c.in-Some.ensures.mount.1) c.put.ensures.mount
+    (λ (R : Region) (k : Mount Region). StopLeaves R k.layout k.rows k.free.pools (written_inode c.args.inode c.args.offset c.args.bytes.now c.args.time (tree_of R k.rows)) (LogsInodeBytes c.args.cpu c.args.offset (length c.args.bytes.now) c.args.time c.args.inode R k))
+    (λ runs writes. c.write_inode-done.ensures.any_stop runs writes) running.runs writes
+
+pub returns-in-Err-clause-refused : goal.returns-in-Err-clause-refused
+returns-in-Err-clause-refused c running some blocks needs =
+    refused_by (λ (m : Mount Region). write_inode_refusal m c.args.cpu c.args.inode (c.args.offset + length c.args.bytes.now) blocks) _ _ c.in-Err.refusal c.code.result (c.deref_mut.ensures.value ∙ c.in-Some.ensures.mount.1) c.code.ensures.says
+    (λ runs. c.in-Err.ensures.refused runs blocks (subst (λ (m : Mount Region). WriteInodeNeeds m c.args.cpu c.args.inode c.args.offset (length c.args.bytes.now) c.args.time blocks) (sym (c.deref_mut.ensures.value ∙ c.in-Some.ensures.mount.1)) needs)) running.runs
+
+pub returns-in-Err-clause-unchanged : goal.returns-in-Err-clause-unchanged
+returns-in-Err-clause-unchanged c owns some =
+    unchanged_by _ _ _ _ (c.deref_mut.ensures.value ∙ c.in-Some.ensures.mount.1) c.put.ensures.mount c.write_inode-done.result c.in-Err.refusal c.in-Err.is
+    c.write_inode-done.ensures.call.stopped_before c.write_inode-done.ensures.call.stopped c.in-Err.ensures.call.unchanged
+
+pub returns-in-Err-clause-any_stop : goal.returns-in-Err-clause-any_stop
+returns-in-Err-clause-any_stop c running writes =
+    any_stop_by _ _ _ _ (c.deref_mut.ensures.value ∙ c.in-Some.ensures.mount.1) c.put.ensures.mount
+    (λ (R : Region) (k : Mount Region). StopLeaves R k.layout k.rows k.free.pools (written_inode c.args.inode c.args.offset c.args.bytes.now c.args.time (tree_of R k.rows)) (LogsInodeBytes c.args.cpu c.args.offset (length c.args.bytes.now) c.args.time c.args.inode R k))
+    (λ runs writes. c.write_inode-done.ensures.any_stop runs writes) running.runs writes
