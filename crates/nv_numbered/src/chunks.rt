@@ -131,6 +131,20 @@ impl<T> Chunks<T> {
         Ok(())
     }
 
+    // As `reserve` of one, which most calls find room for.
+    #[inline(always)]
+    fn reserve_one(&mut self) -> Result<(), AllocError>
+        ensures items { self.new.items ≡ self.old.items }
+        ensures ready { OnOk result (0 < self.new.room) }
+        ensures succeeds { 0 < self.old.room → IsOk result }
+    {
+        if self.room() > 0 {
+            return Ok(());
+        }
+        self.add_chunk()
+    }
+
+    #[inline(never)]
     fn add_chunk(&mut self) -> Result<(), AllocError>
         ensures items { self.new.items ≡ self.old.items }
         ensures ok { OnOk result (self.new.room ≡ self.old.room + 256) }
@@ -170,7 +184,7 @@ impl<T> Chunks<T> {
         ensures err { OnErr result (self.new.items ≡ self.old.items) }
         ensures succeeds { 0 < self.old.room → IsOk result }
     {
-        self.reserve(1)?;
+        self.reserve_one()?;
         self.push_reserved(value);
         Ok(())
     }

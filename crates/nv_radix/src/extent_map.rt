@@ -196,7 +196,7 @@ fn put_leaf(index: &mut FileIndex, leaf: &Leaf) -> Result<(), AllocError>
     index.reserve(0, end)?;
     for page in 0..end {
         if let Some(block) = leaf.get(page) {
-            index.set_run(page, block, 1);
+            index.set_page(page, block);
         }
     }
     Ok(())

@@ -8,6 +8,8 @@ use crate::extent::Extent;
 use std::alloc::AllocError;
 
 /// Adds a run of mapped pages, which stands behind all pages of the extents.
+// Most runs are added for one page, and a call for each would cost as much as its work.
+#[inline(always)]
 pub fn add_run(extents: &mut Vec<Extent>, run: Extent) -> Result<(), AllocError>
     requires some { 0 < run.count }
     requires fits { run.page + run.count ≤ 2 ^ 33 }

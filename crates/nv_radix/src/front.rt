@@ -1,6 +1,6 @@
 //! The first pages of a file index, of which as many are ready as the file needed: most files have few.
 
-ghost use Rattle.std.specs.Prelude.{◌≡◌, ℕ, ◌+◌, ◌-◌, ◌^◌, ◌<◌, ◌≤◌, [], ◌||◌, if◌then◌else◌, nat_le, nat_lt, Some, None, true, OnOk, OnErr};
+ghost use Rattle.std.specs.Prelude.{◌≡◌, ℕ, ◌+◌, ◌-◌, ◌^◌, ◌<◌, ◌≤◌, ◌++◌, List, length, [], ◌||◌, if◌then◌else◌, nat_le, nat_lt, Some, None, true, OnOk, OnErr};
 ghost use Rattle.nv_radix.specs.Pages.{block_at, is_ready, in_run, AreReady};
 ghost use Rattle.nv_radix.specs.Extents.{AreExtents};
 ghost use Rattle.nv_radix.specs.Rising.{Rises};
@@ -62,6 +62,7 @@ impl Front {
     }
 
     /// Makes the first `count` pages ready. An error leaves the pages.
+    #[inline(always)]
     pub(crate) fn make_ready(&mut self, count: u64) -> Result<(), AllocError>
         requires { count ≤ 64 }
         ensures blocks { (p : ℕ) → block_at self.new p ≡ block_at self.old p }
@@ -70,12 +71,13 @@ impl Front {
         ensures rises { Rises 0 64 self.new }
     {
         if self.blocks.len() < count as usize {
-            self.blocks.resize(count as usize, 0)?;
+            lengthen(&mut self.blocks, count as usize)?;
         }
         Ok(())
     }
 
     /// Maps the `count` pages from `page` on, all of them ready, to as many blocks from `block` on.
+    #[inline(always)]
     pub(crate) fn set_part(&mut self, page: u64, block: u64, count: u64)
         requires some { 0 < count }
         requires ready { AreReady self.old page count }
@@ -107,6 +109,21 @@ impl Front {
     {
         add_places(self.mapped, &self.blocks, extents, 0)
     }
+}
+
+// Adds blocks of no meaning until there are `count`. Most files have one page, for which a list need not be looked at.
+#[inline(always)]
+fn lengthen(blocks: &mut SmallVec<u64, INLINE>, count: usize) -> Result<(), AllocError>
+    requires { length blocks.old.items < count }
+    ensures more { OnOk result ((more : List ℕ) × (blocks.new.items ≡ blocks.old.items ++ more)) }
+    ensures len { OnOk result (length blocks.new.items ≡ count) }
+    ensures refused { OnErr result (blocks.new.items ≡ blocks.old.items) }
+{
+    if count == 1 && blocks.capacity() > 0 {
+        blocks.push_reserved(0);
+        return Ok(());
+    }
+    blocks.resize(count, 0)
 }
 
 // Gives the memory of the blocks back if they fit in the value itself. A smaller memory in place of theirs would be taken anew.

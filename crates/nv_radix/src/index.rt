@@ -112,6 +112,7 @@ impl FileIndex {
     }
 
     /// Makes the first `count` pages ready. An error leaves the pages.
+    #[inline(always)]
     fn make_first_ready(&mut self, count: u64) -> Result<(), AllocError>
         requires { count ≤ 64 }
         ensures blocks { (p : ℕ) → block_at self.new p ≡ block_at self.old p }
@@ -148,7 +149,43 @@ impl FileIndex {
         }
     }
 
+    /// `reserve` of a run of pages, and then `set_run` of them.
+    #[inline(always)]
+    pub(crate) fn put_run(&mut self, page: u64, block: u64, count: u64) -> Result<(), AllocError>
+        requires pages { AreFilePages page count }
+        requires blocks { 0 < count → block + count ≤ 2 ^ 64 }
+        ensures { OnOk result ((p : ℕ) → block_at self.new p ≡ (if in_run page count p then Some (block + (p - page)) else block_at self.old p)) }
+    {
+        if page == 0 && count == 1 {
+            return self.put_first(block);
+        }
+        self.reserve(page, count)?;
+        self.set_run(page, block, count);
+        Ok(())
+    }
+
+    /// The same of the first page, which is the only one of most files.
+    #[inline(always)]
+    fn put_first(&mut self, block: u64) -> Result<(), AllocError>
+        ensures { OnOk result ((p : ℕ) → block_at self.new p ≡ (if in_run 0 1 p then Some (block + (p - 0)) else block_at self.old p)) }
+    {
+        self.make_first_ready(1)?;
+        self.set_part(0, block, 1);
+        Ok(())
+    }
+
+    /// Maps a page, which is ready, to a block.
+    #[inline(always)]
+    pub(crate) fn set_page(&mut self, page: u64, block: u64)
+        requires { AreReady self.old page 1 }
+        ensures blocks { (p : ℕ) → block_at self.new p ≡ (if in_run page 1 p then Some (block + (p - page)) else block_at self.old p) }
+        ensures ready { (p : ℕ) → is_ready self.new p ≡ is_ready self.old p }
+    {
+        self.set_part(page, block, 1);
+    }
+
     /// Maps the `count` pages from `page` on, all of one leaf, to as many blocks from `block` on.
+    #[inline(always)]
     fn set_part(&mut self, page: u64, block: u64, count: u64)
         requires some { 0 < count }
         requires part { page % 64 + count ≤ 64 }

@@ -23,6 +23,7 @@ pub(crate) fn block_of(mapped: u64, blocks: &[u64], place: u64) -> Option<u64>
 }
 
 /// Sets the bits of a run of places, and gives them as many blocks from `block` on.
+#[inline(always)]
 pub(crate) fn set_places(mapped: &mut u64, blocks: &mut [u64], page: u64, block: u64, count: u64)
     requires part { page + count ≤ length blocks.old }
     requires few { length blocks.old ≤ 64 }

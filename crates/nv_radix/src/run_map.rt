@@ -153,8 +153,7 @@ fn put_run(
     ensures extents { OnOk result (AreExtents index.old extents.old.items → AreExtents index.new extents.new.items) }
 {
     let Blocks { start, count } = blocks;
-    index.reserve(page, count)?;
-    index.set_run(page, start, count);
+    index.put_run(page, start, count)?;
     add_run(
         extents,
         Extent {

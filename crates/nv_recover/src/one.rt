@@ -24,8 +24,8 @@ use nv_numbered::Chunks;
 use nv_outcome::{Recovered, cross_faults};
 use nv_region::Pmem;
 use nv_scan::{
-    Gate, Inodes, ListedInodes, NoGate, Scanner, push_heads, room_for_ticket, scan_slots,
-    ticket_count,
+    Gate, Inodes, ListedInodes, NoGate, Scanner, UnusedBlocks, push_heads, room_for_ticket,
+    scan_slots_once, ticket_count,
 };
 use std::alloc::{AllocError, Global};
 
@@ -99,9 +99,18 @@ fn scan_tickets<P: Pmem, G: Gate>(
     let mut heads = Chunks::new(alloc);
     let mut each = room_for_ticket(alloc)?;
     let mut sets = Sets::new(alloc, tables.sup())?;
+    let mut unused = UnusedBlocks::new(alloc, tables.sup().blocks)?;
     for ticket in 0..ticket_count(tables) {
         gate.enter(0, ticket);
-        let count = scan_slots(memory, tables, &mut scanner, &mut inodes, &mut each, ticket)?;
+        let count = scan_slots_once(
+            memory,
+            tables,
+            &mut scanner,
+            &mut inodes,
+            &mut each,
+            &mut unused,
+            ticket,
+        )?;
         push_heads(&mut heads, &inodes.rows)?;
         sets.claim_each(&each[..count]);
     }

@@ -1,11 +1,11 @@
 -- Write entries that are taken together: what is kept, with the numbers and the row that stand beside it meanwhile.
-use Rattle.std.proofs.Common.{◌≡◌, ◌∙◌, ℕ, ◌+◌, ◌-◌, ◌*◌, ◌<◌, ◌≤◌, Bool, true, false, not, cond, nat_le, List, ◌∷◌, ◌++◌, [], append-nil, ap, refl, sym, subst, Option, Some, None, unwrap_or, arith, inl, inr}
+use Rattle.std.proofs.Common.{◌≡◌, ◌∙◌, ℕ, ◌+◌, ◌-◌, ◌*◌, ◌<◌, ◌≤◌, Bool, true, false, not, cond, nat_le, ◌∷◌, ◌++◌, [], append-nil, ap, refl, sym, subst, Option, Some, None, unwrap_or, arith, inl, inr}
 use Rattle.std.specs.List.{cons_option}
 use Rattle.std.proofs.lemmas.Bool.{cases_lt}
 use Rattle.std.proofs.lemmas.Bool.Decides.{nat_tests}
 use Rattle.nv_region.specs.Region.{Region}
+use Rattle.nv_super.specs.Layout.{system_blocks}
 use Rattle.nv_super.specs.declared.superblock.Super.{Super}
-use Rattle.nv_super.specs.declared.kind.Kind.{Kind}
 use Rattle.nv_super.specs.declared.kind.Kind.TheVariants.{File}
 use Rattle.nv_entry.specs.declared.content.ContentFault.{ContentFault}
 use Rattle.nv_entry.specs.declared.content.ContentFault.TheVariants.{OutOfRange}
@@ -18,7 +18,7 @@ use Rattle.nv_names.specs.Names.{name_at}
 use Rattle.nv_radix.specs.Pages.{in_run}
 use Rattle.nv_radix.specs.Runs.{Runs, block_by}
 use Rattle.nv_scan.specs.State.{block_in, says_block, says_name}
-use Rattle.nv_scan.specs.Fold.{Counts, Holds, Takes, fault_with, word_after}
+use Rattle.nv_scan.specs.Fold.{Counts, Takes, fault_with, word_after}
 use Rattle.nv_scan.specs.Reading.{IsReadSoFar}
 use Rattle.nv_scan.specs.declared.fold.Fold.{Fold}
 use Rattle.nv_scan.specs.declared.numbers.Numbers.{Numbers}
@@ -68,6 +68,14 @@ module _ (s : Super) (e : WriteEntry) (fine : is_write_out_of_range s e ≡ fals
 
   pub ends_below : (e.offset + e.count - 1) * 4096 < e.size
   ends_below = grind (arith, nat_tests)
+
+-- a write of one page is good by these
+pub good_page : (s : Super) (e : WriteEntry) (past : ℕ) → e.count ≡ 1 → nat_le past e.offset ≡ nat_le e.size (e.offset * 4096) → e.size ≤ 1073741824 → e.offset < past → system_blocks s ≤ e.block → e.block < s.blocks
+    → is_write_out_of_range s e ≡ false
+good_page s e past one begins size below from to =
+    let within : e.offset * 4096 < e.size = grind (arith, nat_tests, begins, below) in
+    let few : e.offset + 1 ≤ 262144 = omega (arith, within, size) in
+    grind (arith, nat_tests, one, within, few, size, from, to)
 
 -- that an entry has no fault
 pub fine_write : (b : Bool) → None ≡ cond b (Some OutOfRange) None → b ≡ false

@@ -22,6 +22,7 @@ pub mod Told
 pub mod Drawn
 pub mod BlockSlots
 pub mod Work
+pub mod NoneUsed
 pub mod RowKeys
 pub mod RowClaims
 pub mod RowHeads

@@ -90,16 +90,19 @@ module _ {R : Region} {l : Layout} where
 
   -- ---- the slots of a ticket, one after another
 
-  pub at_slot : (x : SlotBlock) (k : ℕ) (o : Option Piece) → IsFound R l (number_in l x k) o → AtSlot R l x k o
-  at_slot x k (Some p) found = let above : 0 < number_in l x k = has_above l (number_in l x k) found.1 in record {
+  pub piece_at_slot : (x : SlotBlock) (k : ℕ) (p : Piece) → 0 < number_in l x k → p.inode ≡ number_in l x k → IsPiece R l p → AtSlot R l x k (Some p)
+  piece_at_slot x k p above same is = record {
     numbers = number_in l x k ∷ [];
     more = numbers_more l x k true (grind (arith, nat_tests));
     pieces = p ∷ [];
-    are = one_piece p found.0 found.2;
+    are = one_piece p same is;
     rows = refl;
     faults = refl;
     claims = refl;
   }
+
+  pub at_slot : (x : SlotBlock) (k : ℕ) (o : Option Piece) → IsFound R l (number_in l x k) o → AtSlot R l x k o
+  at_slot x k (Some p) found = piece_at_slot x k p (has_above l (number_in l x k) found.1) found.0 found.2
   at_slot x k None found = test (nat_lt 0 (number_in l x k)) refl where
     test : (b : Bool) → nat_lt 0 (number_in l x k) ≡ b → AtSlot R l x k None
     test true e = let p = blank_piece R l (number_in l x k) found in record {

@@ -12,6 +12,7 @@ pub mod Scanned
 pub mod Tickets
 pub mod Kept
 pub mod Work
+pub mod Unused
 pub mod Scanner
 pub mod Claiming
 pub mod Light

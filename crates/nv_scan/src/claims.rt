@@ -9,7 +9,7 @@ ghost use Rattle.nv_scan.specs.ChainBlocks.{table_claims};
 ghost use Rattle.nv_scan.specs.Claims.{AreClaimsBy, AreSmall, IsClaim, log_claims, data_claims, IsSmall};
 
 use crate::chain_block::ChainBlock;
-use crate::piece::{LogPages, Row, extend_pages};
+use crate::piece::{LogPages, Row, set_pages};
 use nv_claimmap::ClaimedRuns;
 use nv_radix::{Extent, ExtentMap, FileIndex};
 use nv_super::{Owner, Run};
@@ -114,8 +114,7 @@ impl Claims {
     {
         self.inode = inode;
         self.table = table;
-        self.pages.clear();
-        extend_pages(&mut self.pages, pages)?;
+        set_pages(&mut self.pages, pages)?;
         // The extents are made where they stay, and moved no more.
         match extents.fill_index(index, &mut self.runs) {
             Ok(()) => Ok(()),

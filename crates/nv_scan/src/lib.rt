@@ -24,6 +24,7 @@ mod row_list;
 mod scan;
 mod tickets;
 mod touching;
+mod unused;
 mod working;
 
 pub use all_claims::claims_of;
@@ -42,4 +43,5 @@ pub use piece::{LogPages, Piece, Row};
 pub use row_list::{RowHead, RowList, push_heads};
 pub use scan::{Scanner, scan_slot};
 pub use tickets::{SLOTS, ticket_count};
+pub use unused::{UnusedBlocks, scan_slots_once};
 pub use working::{Gate, NoGate, WorkerResult, room_for_ticket, scan_slots, worker};

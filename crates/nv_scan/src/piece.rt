@@ -19,11 +19,25 @@ pub type LogPages = SmallVec<u64, 2>;
 pub(crate) fn extend_pages(pages: &mut LogPages, blocks: &[u64]) -> Result<(), AllocError>
     ensures { OnOk result (pages.new.items ≡ pages.old.items ++ blocks.now) }
 {
-    if blocks.len() == 1 {
-        pages.push(blocks[0])?;
+    if blocks.len() == 1 && pages.len() < pages.capacity() {
+        pages.push_reserved(blocks[0]);
         return Ok(());
     }
     pages.extend_from_slice(blocks)
+}
+
+/// Puts blocks of a log in place of others, and their memory.
+// Most logs have one page, whose block is stored over the other one.
+#[inline(always)]
+pub(crate) fn set_pages(pages: &mut LogPages, blocks: &[u64]) -> Result<(), AllocError>
+    ensures { OnOk result (pages.new.items ≡ blocks.now) }
+{
+    if pages.len() == 1 && blocks.len() == 1 {
+        pages[0] = blocks[0];
+        return Ok(());
+    }
+    pages.clear();
+    extend_pages(pages, blocks)
 }
 
 /// The row of an inode in use.

@@ -8,7 +8,7 @@ ghost use Rattle.nv_scan.specs.Fold.{Holds};
 ghost use Rattle.nv_scan.specs.Reading.{IsRead, IsReadSoFar};
 
 use crate::fold::{Fold, NameRoom};
-use crate::in_a_row::{take_pages, take_row};
+use crate::in_a_row::take_more;
 use crate::in_use::InUse;
 use nv_entry::WRITE_LENGTH;
 use nv_logpage::{LightFinding, LogEnd, LogReader};
@@ -72,8 +72,7 @@ fn take_writes<P: Pmem>(
     let mut at = reader.place();
     while let Some(e) = reader.write_at(memory, at, end) {
         fold.take_write(&sup, Kind::File, used.inode, at, &e)?;
-        at = take_pages(memory, &sup, reader, fold, at + WRITE_LENGTH, end);
-        at = take_row(memory, &sup, reader, fold, at, end)?;
+        at = take_more(memory, &sup, reader, fold, at + WRITE_LENGTH, end)?;
     }
     reader.go_to(at);
     Ok(())

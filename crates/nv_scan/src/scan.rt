@@ -1,7 +1,8 @@
 //! One inode: its slot and its log become its row, the blocks that it claims and its faults.
 
 ghost use Rattle.std.specs.Prelude.{◌≡◌, ◌≢◌, ◌⊎◌, ◌≤◌, ◌+◌, ◌*◌, ◌%◌, ◌++◌, [], ℕ, IfOk, IfSome, IsSome, IsTrue, None, OnErr, OnOk, Some, false, true};
-ghost use Rattle.nv_region.specs.Region.{HasBlocks, size, word};
+ghost use Rattle.nv_region.specs.Region.{Region, HasBlocks, size, word};
+ghost use Rattle.nv_super.specs.declared.faults.Fault.TheVariants as faults;
 ghost use Rattle.nv_super.specs.Layout.{Layout, IsLayout, HasAreas, slot_of};
 ghost use Rattle.nv_inode.specs.Slot.{kind_of, is_right_log};
 ghost use Rattle.nv_radix.specs.Pages.{block_at};
@@ -135,21 +136,9 @@ impl Scanner {
     {
         let alloc = self.alloc;
         match slot.state() {
-            SlotState::Unused => keep_fault(inode, table, None, inodes, claims),
-            SlotState::BadValid => keep_fault(
-                inode,
-                table,
-                Some(Fault::I1 { inode }),
-                inodes,
-                claims,
-            ),
-            SlotState::BadKind => keep_fault(
-                inode,
-                table,
-                Some(Fault::I2 { inode }),
-                inodes,
-                claims,
-            ),
+            SlotState::Unused => keep_unused(inode, table, inodes, claims),
+            SlotState::BadValid => keep_bad_valid(inode, table, inodes, claims),
+            SlotState::BadKind => keep_bad_kind(inode, table, inodes, claims),
             SlotState::InUse(kind) => scan_log(
                 alloc,
                 memory,
@@ -251,10 +240,29 @@ fn scan_log<P: Pmem>(
         };
         scan_from_head(alloc, memory, sup, at_head, name, used, inodes, claims)
     } else {
-        let mut fold = Fold::new(alloc, used.slot.created);
-        let fault = Fault::I3 { inode: used.inode };
-        keep(alloc, used, &[], &mut fold, Some(fault), inodes, claims)
+        keep_without_log(alloc, sup, used, inodes, claims)
     }
+}
+
+/// Keeps an inode in use whose head or tail isn't right.
+// What few inodes need stands apart, so that no scan clears room for it.
+#[inline(never)]
+fn keep_without_log(
+    alloc: Global,
+    _sup: &Super,
+    used: &InUse,
+    inodes: &mut Inodes,
+    claims: &mut Claims,
+) -> Result<(), AllocError>
+    requires kind { kind_of used.now.slot ≡ Some used.now.kind }
+    requires wrong { is_right_log _sup.now used.now.slot.head used.now.slot.tail ≡ false }
+    ensures kept { (R : Region) (l : Layout) → IsSlotOf R _sup.now l used.now.inode used.now.table used.now.slot
+        → OnOk result (Keeps (IsPieceBy R l used.now.inode) inodes.old inodes.new claims.new) }
+    ensures refused { OnErr result (SameInodes inodes.old inodes.new) }
+{
+    let mut fold = Fold::new(alloc, used.slot.created);
+    let fault = Fault::I3 { inode: used.inode };
+    keep(alloc, used, &[], &mut fold, Some(fault), inodes, claims)
 }
 
 /// Scans an inode in use by a reader at the head of its log.
@@ -307,8 +315,25 @@ fn go_to_head(
 {
     match reader {
         Some(last) => last.restart(slot.head, slot.tail),
-        None => *reader = Some(LogReader::new(alloc, sup, slot.head, slot.tail)?),
+        None => return make_reader(alloc, sup, reader, slot),
     }
+    Ok(())
+}
+
+/// Makes a reader at the head of a slot's log.
+#[inline(never)]
+fn make_reader(
+    alloc: Global,
+    sup: &Super,
+    reader: &mut Option<LogReader>,
+    slot: &Slot,
+) -> Result<(), AllocError>
+    requires areas { HasAreas sup.now }
+    requires right { is_right_log sup.now slot.now.head slot.now.tail ≡ true }
+    ensures head { OnOk result (reader.new ≡ Some (at_head sup.now slot.now.head slot.now.tail)) }
+    ensures refused { OnErr result (reader.new ≡ reader.old) }
+{
+    *reader = Some(LogReader::new(alloc, sup, slot.head, slot.tail)?);
     Ok(())
 }
 
@@ -396,6 +421,48 @@ fn fill_row(
 {
     extend_pages(&mut row.pages, pages)?;
     claims.set(row.inode, table, pages, extents, &mut row.index)
+}
+
+/// Keeps an inode of which nothing is told.
+#[inline(never)]
+fn keep_unused(
+    inode: u64,
+    table: Option<ChainBlock>,
+    inodes: &mut Inodes,
+    claims: &mut Claims,
+) -> Result<(), AllocError>
+    ensures kept { OnOk result (Keeps (IsEmptyPiece inode table None) inodes.old inodes.new claims.new) }
+    ensures refused { OnErr result (SameInodes inodes.old inodes.new) }
+{
+    keep_fault(inode, table, None, inodes, claims)
+}
+
+/// Keeps the fault of an inode whose valid word is wrong.
+#[inline(never)]
+fn keep_bad_valid(
+    inode: u64,
+    table: Option<ChainBlock>,
+    inodes: &mut Inodes,
+    claims: &mut Claims,
+) -> Result<(), AllocError>
+    ensures kept { OnOk result (Keeps (IsEmptyPiece inode table (Some (faults.I1 inode))) inodes.old inodes.new claims.new) }
+    ensures refused { OnErr result (SameInodes inodes.old inodes.new) }
+{
+    keep_fault(inode, table, Some(Fault::I1 { inode }), inodes, claims)
+}
+
+/// Keeps the fault of an inode whose kind is wrong.
+#[inline(never)]
+fn keep_bad_kind(
+    inode: u64,
+    table: Option<ChainBlock>,
+    inodes: &mut Inodes,
+    claims: &mut Claims,
+) -> Result<(), AllocError>
+    ensures kept { OnOk result (Keeps (IsEmptyPiece inode table (Some (faults.I2 inode))) inodes.old inodes.new claims.new) }
+    ensures refused { OnErr result (SameInodes inodes.old inodes.new) }
+{
+    keep_fault(inode, table, Some(Fault::I2 { inode }), inodes, claims)
 }
 
 /// Keeps the fault of an inode that isn't in use, if it has one. It claims nothing but the block of a chain that is told with

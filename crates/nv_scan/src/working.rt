@@ -1,12 +1,13 @@
 //! A worker of a recovery: it draws tickets until none is left, scans the inodes of each and claims what they own.
 
-ghost use Rattle.std.specs.Prelude.{◌≡◌, ◌<◌, ◌≤◌, ℕ, IsTrue, false, [], length, take, IfOk, OnOk};
+ghost use Rattle.std.specs.Prelude.{◌≡◌, ◌<◌, ◌≤◌, ◌*◌, ℕ, IsTrue, false, [], length, take, IfOk, OnOk};
 ghost use Rattle.std.specs.List.{All, Contains};
 ghost use Rattle.nv_region.specs.Region.{HasBlocks};
 ghost use Rattle.nv_inode.specs.Chains.{IsLaid};
 ghost use Rattle.nv_inode.specs.SlotBlocks.{slot_blocks};
 ghost use Rattle.nv_claimcore.specs.Claims.{nothing};
 ghost use Rattle.nv_scan.specs.Tickets.{ticket_count, numbers_of, numbers_to};
+ghost use Rattle.nv_scan.specs.Unused.{KnowsUnused};
 ghost use Rattle.nv_scan.specs.Work.{AreNext, IsAllWork, IsDone, Returned, claims_among, tickets_among};
 
 use crate::claiming::claim_each;
@@ -15,6 +16,7 @@ use crate::inodes::{Inodes, ListedInodes};
 use crate::row_list::{RowList, push_heads};
 use crate::scan::Scanner;
 use crate::tickets::SLOTS;
+use crate::unused::{UnusedBlocks, scan_slots_once};
 use nv_claimmap::{ClaimMap, ClaimSeat};
 use nv_inode::{SlotBlock, Tables};
 use nv_numbered::Chunks;
@@ -115,6 +117,7 @@ fn draw_all<P: Pmem, G: Gate>(
     let mut inodes = Inodes::new(alloc);
     let mut heads = Chunks::new(alloc);
     let mut each = room_for_ticket(alloc)?;
+    let mut unused = UnusedBlocks::new(alloc, tables.sup().blocks)?;
     while let Some(ticket) = map.draw(seat) {
         gate.enter(seat.number(), ticket);
         scan_ticket(
@@ -125,6 +128,7 @@ fn draw_all<P: Pmem, G: Gate>(
             seat,
             &mut inodes,
             &mut each,
+            &mut unused,
             ticket,
             gate,
         )?;
@@ -147,6 +151,7 @@ fn scan_ticket<P: Pmem, G: Gate>(
     seat: &mut ClaimSeat,
     inodes: &mut Inodes,
     each: &mut Vec<Claims>,
+    unused: &mut UnusedBlocks,
     ticket: u64,
     _gate: &G,
 ) -> Result<(), AllocError>
@@ -157,14 +162,18 @@ fn scan_ticket<P: Pmem, G: Gate>(
     requires sizes { map.now.sizes.blocks ≡ tables.now.layout.sup.blocks }
     requires ticket { ticket < ticket_count tables.now.layout }
     requires room { length each.old.items ≡ 32 }
+    requires known { KnowsUnused (P.region memory.now) unused.old }
+    requires set { tables.now.layout.sup.blocks ≤ 64 * length unused.old }
     ensures scanner { scanner.new ≡ scanner.old }
     ensures seat { (seat.new.map ≡ seat.old.map) × (seat.new.number ≡ seat.old.number) × (seat.new.view.seats ≡ seat.old.view.seats) }
     ensures room { length each.new.items ≡ 32 }
     ensures done { OnOk result (IsDone (P.region memory.now) tables.now.layout (numbers_of tables.now.layout ticket) seat.old.view seat.new.view inodes.old.rows.items inodes.new.rows.items
         inodes.old.faults.items inodes.new.faults.items) }
+    ensures known { KnowsUnused (P.region memory.now) unused.new }
+    ensures set { length unused.new ≡ length unused.old }
 {
     tables.are_laid();
-    let count = scan_slots(memory, tables, scanner, inodes, each, ticket)?;
+    let count = scan_slots_once(memory, tables, scanner, inodes, each, unused, ticket)?;
     claim_each(map, seat, &each[..count])
 }
 
@@ -196,7 +205,7 @@ pub fn scan_slots<P: Pmem>(
 }
 
 /// Scans the inodes of a block of slots, one after another.
-fn scan_block<P: Pmem>(
+pub(crate) fn scan_block<P: Pmem>(
     memory: &P,
     tables: &Tables,
     scanner: &mut Scanner,

@@ -18,7 +18,7 @@ loop-e-preserved g c =
       read = λ head created before. (
           let as_file = subst (λ (k : Kind). IsReadSoFar R head k i created (gone_to c.args.reader.now c.loop-e.at) c.loop-e.fold) is (c.loop-e.invariant.read head created before) in
           let one = read_write R head c.args.sup.now File i created (gone_to c.args.reader.now c.loop-e.at) (gone_to c.args.reader.now (c.loop-e.at + 40)) c.loop-e.fold c.take_write.new.self c.in-Some.e as_file c.in-Some.ensures.leads c.requires.sup c.requires.sup c.in_ok-take_write.ensures in
-          subst (λ (k : Kind). IsReadSoFar R head k i created (gone_to c.args.reader.now c.in_ok-at.at) c.take_row.new.fold) (sym is)
-          (c.in_ok-at.ensures.read head i created (c.take_pages-at.ensures.read head i created one)));
-      less = omega (arith, c.in-Some.ensures.less, c.take_pages-at.ensures.less, c.in_ok-at.ensures.less, c.loop-e.invariant.less);
+          subst (λ (k : Kind). IsReadSoFar R head k i created (gone_to c.args.reader.now c.in_ok-at.at) c.take_more.new.fold) (sym is)
+          (c.in_ok-at.ensures.read head i created one));
+      less = omega (arith, c.in-Some.ensures.less, c.in_ok-at.ensures.less, c.loop-e.invariant.less);
     }

@@ -1,5 +1,6 @@
-use Rattle.std.proofs.Common.{◌<◌, ◌≤◌, ◌∙◌, ℕ, sym, ap, subst, ⊎_elim, refl}
+use Rattle.std.proofs.Common.{◌<◌, ◌≤◌, ◌*◌, ◌∙◌, ℕ, length, sym, ap, subst, ⊎_elim, refl, arith}
 use Rattle.nv_super.specs.Layout.{IsLayout}
+use Rattle.nv_super.specs.declared.superblock.Super.{Super}
 use Rattle.nv_claimcore.specs.declared.view.View.{View}
 use Rattle.nv_claimcore.specs.Claims.{past}
 use Rattle.nv_scan.specs.Tickets.{ticket_count, numbers_of}
@@ -7,6 +8,7 @@ use Rattle.std.specs.List.{All}
 use Rattle.nv_scan.specs.Work.{IsWork, rows_in, tickets_among}
 use Rattle.nv_scan.proofs.RowHeads.{heads_first}
 use Rattle.nv_scan.proofs.Work.{work_none, work_past, work_more, each_none, each_past, each_more, nearer}
+use Rattle.nv_scan.proofs.NoneUsed.{knows_none, set_long}
 use Rattle.nv_scan.proofs.working.draw_all.Goals as goal
 
 pub loop-ticket-init : goal.loop-ticket-init
@@ -16,6 +18,8 @@ loop-ticket-init g c = record {
   number = refl;
   seats = ap (λ (v : View). v.seats) c.requires.own.1;
   room = c.in_ok-each.ensures;
+  known = knows_none (g.P.Pmem.region c.args.memory.now) c.sup-2.result.now.blocks c.in_ok-unused.ensures;
+  set = (let long = set_long c.sup-2.result.now.blocks c.in_ok-unused.ensures in subst (λ (s : Super). s.blocks ≤ 64 * length c.in_ok-unused.unused) c.sup-2.ensures long);
   work = work_none (g.P.Pmem.region c.args.memory.now) c.args.tables.now.layout c.args.seat.now.view c.new-inodes.result.rows.items c.new-inodes.result.faults.items c.requires.own.1 c.new-inodes.ensures.rows c.new-inodes.ensures.faults;
   heads = rw (c.new-heads.ensures, c.new-inodes.ensures.rows) refl;
   entered = each_none (g.G.Gate.entered c.args.gate.now c.args.seat.now.number) (ticket_count c.args.tables.now.layout) c.args.seat.now.view c.requires.own.1;
@@ -56,6 +60,8 @@ loop-ticket-preserved g c =
       number = c.scan_ticket.ensures.seat.1 ∙ d.number ∙ was.number;
       seats = c.scan_ticket.ensures.seat.2 ∙ ap (λ (x : View). x.seats) d.joins ∙ was.seats;
       room = c.scan_ticket.ensures.room;
+      known = c.scan_ticket.ensures.known;
+      set = (let long = c.scan_ticket.ensures.set in let before = was.set in omega (arith, long, before));
       heads = c.in_ok-push_heads.ensures;
       work = work_more R l v u w old new before after t was.work (subst (λ (n : ℕ). t < n) c.requires.sizes.1 d.ticket.below) d.joins c.in_ok-scan_ticket.ensures.done;
       entered = each_more (g.G.Gate.entered c.args.gate.now c.args.seat.now.number) R l v u w (numbers_of l t) t was.entered

@@ -12,7 +12,7 @@ pub claim_each-requires-clause-each : goal.claim_each-requires-clause-each
 claim_each-requires-clause-each g c =
     let n = c.in_ok-count.count in
     subst (λ (each : List ClaimList). All (IsClaimable c.args.map.now.sizes.blocks) (claims_among (take n each))) (sym c.deref.ensures.value)
-    (subst (λ (blocks : ℕ). All (IsClaimable blocks) (claims_among (take n c.scan_slots.new.each.items))) (sym c.requires.sizes) (next_fit c.are_laid.ensures c.in_ok-count.ensures.next))
+    (subst (λ (blocks : ℕ). All (IsClaimable blocks) (claims_among (take n c.scan_slots_once.new.each.items))) (sym c.requires.sizes) (next_fit c.are_laid.ensures c.in_ok-count.ensures.next))
 
 pub returns-clause-done : goal.returns-clause-done
 returns-clause-done g c = on_ok_weaker c.claim_each.result (λ adds. next_done c.in_ok-count.ensures.next

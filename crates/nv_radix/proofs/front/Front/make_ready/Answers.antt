@@ -1,26 +1,25 @@
-use Rattle.std.proofs.Common.{◌≡◌, ℕ, ◌||◌, Bool, ltb, List, ◌++◌, length, ap, sym, ◌∙◌, arith}
-use Rattle.std.proofs.lemmas.List.{take_all}
+use Rattle.std.proofs.Common.{◌≡◌, ℕ, ◌||◌, Bool, ltb, ◌++◌, length, ap, sym, ◌∙◌, arith}
 use Rattle.nv_radix.proofs.Leaves.{is_ready-leaf}
 use Rattle.nv_radix.proofs.FirstPages.{Rises-first, first_longer, longer_ready, ready_already}
 use Rattle.nv_radix.proofs.front.Front.make_ready.Goals as goal
 
-pub returns-in_err-resize-clause-rises : goal.returns-in_err-resize-clause-rises
-returns-in_err-resize-clause-rises c = Rises-first c.self.inside.mapped c.resize.new.self.items (let same : length c.resize.new.self.items ≡ length c.self.inside.blocks.items = ap length c.in_err-resize.ensures.err in omega (arith, same, c.self.invariant.0))
+pub returns-in_err-lengthen-clause-rises : goal.returns-in_err-lengthen-clause-rises
+returns-in_err-lengthen-clause-rises c = Rises-first c.self.inside.mapped c.lengthen.new.blocks.items (let same : length c.lengthen.new.blocks.items ≡ length c.self.inside.blocks.items = ap length c.in_err-lengthen.ensures.refused in omega (arith, same, c.self.invariant.0))
 
-pub returns-in_ok-resize-clause-blocks : goal.returns-in_ok-resize-clause-blocks
-returns-in_ok-resize-clause-blocks c =
+pub returns-in_ok-lengthen-clause-blocks : goal.returns-in_ok-lengthen-clause-blocks
+returns-in_ok-lengthen-clause-blocks c =
     let blocks = c.self.inside.blocks.items in
-    let more = c.in_ok-resize.ensures.ok in
-    let whole : c.resize.new.self.items ≡ blocks ++ more.0 = more.1 ∙ ap (λ (xs : List ℕ). xs ++ more.0) (take_all c.args.count blocks (omega (arith, c.len.ensures.value, c.if-len-count.true))) in
-    λ p. rw (← c.self.view_is) (first_longer c.self.inside.mapped blocks more.0 c.resize.new.self.items p c.self.invariant.1 whole (omega (arith, c.in_ok-resize.ensures.len, c.requires)))
+    let more = c.in_ok-lengthen.ensures.more in
+    let whole : c.lengthen.new.blocks.items ≡ blocks ++ more.0 = more.1 in
+    λ p. rw (← c.self.view_is) (first_longer c.self.inside.mapped blocks more.0 c.lengthen.new.blocks.items p c.self.invariant.1 whole (omega (arith, c.in_ok-lengthen.ensures.len, c.requires)))
 
-pub returns-in_ok-resize-clause-ready : goal.returns-in_ok-resize-clause-ready
-returns-in_ok-resize-clause-ready c =
+pub returns-in_ok-lengthen-clause-ready : goal.returns-in_ok-lengthen-clause-ready
+returns-in_ok-lengthen-clause-ready c =
     let blocks = c.self.inside.blocks.items in
-    λ p. rw (← c.self.view_is) (is_ready-leaf c.self.inside.mapped c.resize.new.self.items p ∙ ap (λ (n : ℕ). ltb p n) c.in_ok-resize.ensures.len ∙ longer_ready (length blocks) c.args.count p (omega (arith, c.len.ensures.value, c.if-len-count.true)) ∙ ap (λ (b : Bool). ltb p c.args.count || b) (sym (is_ready-leaf c.self.inside.mapped blocks p)))
+    λ p. rw (← c.self.view_is) (is_ready-leaf c.self.inside.mapped c.lengthen.new.blocks.items p ∙ ap (λ (n : ℕ). ltb p n) c.in_ok-lengthen.ensures.len ∙ longer_ready (length blocks) c.args.count p (omega (arith, c.len.ensures.value, c.if-len-count.true)) ∙ ap (λ (b : Bool). ltb p c.args.count || b) (sym (is_ready-leaf c.self.inside.mapped blocks p)))
 
-pub returns-in_ok-resize-clause-rises : goal.returns-in_ok-resize-clause-rises
-returns-in_ok-resize-clause-rises c = Rises-first c.self.inside.mapped c.resize.new.self.items (omega (arith, c.in_ok-resize.ensures.len, c.requires))
+pub returns-in_ok-lengthen-clause-rises : goal.returns-in_ok-lengthen-clause-rises
+returns-in_ok-lengthen-clause-rises c = Rises-first c.self.inside.mapped c.lengthen.new.blocks.items (omega (arith, c.in_ok-lengthen.ensures.len, c.requires))
 
 pub returns-else-len-count-clause-ready : goal.returns-else-len-count-clause-ready
 returns-else-len-count-clause-ready c =

@@ -1,4 +1,4 @@
-use Rattle.std.proofs.Common.{◌++◌, ◌∙◌, List, ℕ, ap, refl, sym, subst}
+use Rattle.std.proofs.Common.{◌++◌, ◌∙◌, List, ℕ, refl, sym, subst}
 use Rattle.nv_super.specs.declared.owners.Owner.{Owner}
 use Rattle.nv_super.specs.Order.{Lists, owner_key}
 use Rattle.nv_scan.specs.Claims.{IsClaim, log_claims, data_claims}
@@ -13,7 +13,7 @@ returns-in-Ok-clause-claims c =
     let runs = c.fill_index.new.extents.items in (
       _,
       refl,
-      subst (λ (pages : List ℕ). Lists (λ (x : ℕ × Owner). owner_key x.1) (IsClaim i given index) (log_claims i 0 pages ++ data_claims i runs)) (sym (c.in_ok-extend_pages.ensures ∙ ap (λ (pages : List ℕ). pages ++ given) c.clear.ensures.items))
+      subst (λ (pages : List ℕ). Lists (λ (x : ℕ × Owner). owner_key x.1) (IsClaim i given index) (log_claims i 0 pages ++ data_claims i runs)) (sym c.in_ok-set_pages.ensures)
           (are_claims i given index runs c.in-Ok.ensures.extents),
     )
 

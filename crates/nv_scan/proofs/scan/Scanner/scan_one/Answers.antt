@@ -15,18 +15,18 @@ of_sup {R} {s} {t} {l} {i} {told} {slot} same is = record { sup = is.sup ∙ sym
 
 pub returns-in-Unused-clause-kept : goal.returns-in-Unused-clause-kept
 returns-in-Unused-clause-kept g c = λ l is. let R = g.P.Pmem.region c.args.memory.now in
-    keeps_more _ _ _ c.keep_fault.result (unused_one R c.args.self.now l c.args.inode c.args.table c.args.slot.now is
-    (sym c.state.ensures.in_use ∙ ap kind_in c.in-Unused.is) (c.state.ensures.unused.0 c.in-Unused.is)) c.keep_fault.ensures.kept
+    keeps_more _ _ _ c.keep_unused.result (unused_one R c.args.self.now l c.args.inode c.args.table c.args.slot.now is
+    (sym c.state.ensures.in_use ∙ ap kind_in c.in-Unused.is) (c.state.ensures.unused.0 c.in-Unused.is)) c.keep_unused.ensures.kept
 
 pub returns-in-BadValid-clause-kept : goal.returns-in-BadValid-clause-kept
 returns-in-BadValid-clause-kept g c = λ l is. let R = g.P.Pmem.region c.args.memory.now in let bad = c.state.ensures.bad_valid.0 c.in-BadValid.is in
-    keeps_more _ _ _ c.keep_fault-in-BadValid.result (bad_valid_one R c.args.self.now l c.args.inode c.args.table c.args.slot.now is
-    (sym c.state.ensures.in_use ∙ ap kind_in c.in-BadValid.is) bad.0 bad.1) c.keep_fault-in-BadValid.ensures.kept
+    keeps_more _ _ _ c.keep_bad_valid.result (bad_valid_one R c.args.self.now l c.args.inode c.args.table c.args.slot.now is
+    (sym c.state.ensures.in_use ∙ ap kind_in c.in-BadValid.is) bad.0 bad.1) c.keep_bad_valid.ensures.kept
 
 pub returns-in-BadKind-clause-kept : goal.returns-in-BadKind-clause-kept
 returns-in-BadKind-clause-kept g c = λ l is. let R = g.P.Pmem.region c.args.memory.now in
-    keeps_more _ _ _ c.keep_fault-in-BadKind.result (bad_kind_one R c.args.self.now l c.args.inode c.args.table c.args.slot.now is
-    (sym c.state.ensures.in_use ∙ ap kind_in c.in-BadKind.is) (c.state.ensures.bad_kind.0 c.in-BadKind.is).0) c.keep_fault-in-BadKind.ensures.kept
+    keeps_more _ _ _ c.keep_bad_kind.result (bad_kind_one R c.args.self.now l c.args.inode c.args.table c.args.slot.now is
+    (sym c.state.ensures.in_use ∙ ap kind_in c.in-BadKind.is) (c.state.ensures.bad_kind.0 c.in-BadKind.is).0) c.keep_bad_kind.ensures.kept
 
 pub returns-in-InUse-clause-kept : goal.returns-in-InUse-clause-kept
 returns-in-InUse-clause-kept g c = λ l is. c.scan_log.ensures.kept l (of_sup c.self.view_is is)
@@ -44,13 +44,13 @@ pub scan_log-requires-clause-reader : goal.scan_log-requires-clause-reader
 scan_log-requires-clause-reader g c = c.self.invariant.reader
 
 pub returns-in-Unused-clause-refused : goal.returns-in-Unused-clause-refused
-returns-in-Unused-clause-refused g c = c.keep_fault.ensures.refused
+returns-in-Unused-clause-refused g c = c.keep_unused.ensures.refused
 
 pub returns-in-BadValid-clause-refused : goal.returns-in-BadValid-clause-refused
-returns-in-BadValid-clause-refused g c = c.keep_fault-in-BadValid.ensures.refused
+returns-in-BadValid-clause-refused g c = c.keep_bad_valid.ensures.refused
 
 pub returns-in-BadKind-clause-refused : goal.returns-in-BadKind-clause-refused
-returns-in-BadKind-clause-refused g c = c.keep_fault-in-BadKind.ensures.refused
+returns-in-BadKind-clause-refused g c = c.keep_bad_kind.ensures.refused
 
 pub returns-in-InUse-clause-refused : goal.returns-in-InUse-clause-refused
 returns-in-InUse-clause-refused g c = c.scan_log.ensures.refused
