@@ -1,9 +1,9 @@
--- The logs of regions with the same words in front of the data blocks, and of the inodes whose slots lie before a place.
+-- The logs of regions with the same words in front of the data blocks, and of the inodes whose slots have some places.
 use Rattle.std.proofs.Common.{◌≡◌, ◌≢◌, inl, inr, ◌+◌, ◌*◌, ◌/◌, ◌%◌, ◌<◌, ◌≤◌, ℕ, IsTrue, List, [], ◌∷◌, ◌++◌, length, Some, sym, ap, ◌∙◌, subst, arith, true}
 use Rattle.std.proofs.lemmas.Bool.Decides.{nat_tests}
 use Rattle.std.specs.List.{Contains}
-use Rattle.std.proofs.lemmas.Bool.{cases_eq}
-use Rattle.std.proofs.lemmas.List.Elements.{Contains-append_left, Contains-push, Contains-push_cases}
+use Rattle.std.proofs.lemmas.Bool.{cases_eq, cases_lt}
+use Rattle.std.proofs.lemmas.List.Elements.{Contains-append_left, Contains-append_right, Contains-append_cases, Contains-push, Contains-push_cases}
 use Rattle.std.proofs.lemmas.Option.{same_Some}
 use Rattle.nv_region.specs.Region.{Region, word}
 use Rattle.nv_super.specs.declared.superblock.Super.{Super}
@@ -24,7 +24,7 @@ use Rattle.nv_journal.proofs.AnyLength.{quiet_same}
 use Rattle.nv_journal.proofs.Fixed.{front_undone}
 use Rattle.nv_journal.proofs.KeptLinks.{own_rule}
 use Rattle.nv_metadata.specs.Linked.{IsLogOf, IsLog}
-use Rattle.nv_metadata.specs.Walk.{AreLogs}
+use Rattle.nv_metadata.specs.Walk.{AreLogs, AreLogsAmong}
 use Rattle.nv_metadata.specs.declared.logs.LogEnds.{LogEnds}
 
 -- rolled back, they have the same words there still
@@ -128,15 +128,10 @@ slot_log U s k head tail kind layout later below used head_is tail_is right =
     ] in
     (i, record { kind = kind; slot = slot_is s i layout (is_a_number s i some low) ∙ ap (λ (x : ℕ). Some x) (sym same); used = used; head_is = head_is; tail_is = tail_is; right = right })
 
--- the logs of the inodes whose slots lie before a place
-pub record LogsBelow (U : Region) (s : Super) (n : ℕ) (logs : List LogEnds) : Type 0 where
-  pub all : (i a head tail : ℕ) → a < nth_slot s n → IsLogOf U s i a head tail → Contains logs (record { head = head; tail = tail })
-  pub only : (log : LogEnds) → Contains logs log → IsLog U s log.head log.tail
-
--- no inode has the first place
-pub below_first : (U : Region) (s : Super) (logs : List LogEnds) → IsLayout s → logs ≡ [] → LogsBelow U s 1 logs
-below_first U s logs layout none = record {
-  all = λ i a head tail low l. absurd (let n = place_between s i a layout l.slot in let some = n.0 in omega (arith, low, some));
+-- among the slots from one place to itself there is none
+pub among_none : (U : Region) (s : Super) (n : ℕ) (logs : List LogEnds) → logs ≡ [] → AreLogsAmong U s n n logs
+among_none U s n logs none = record {
+  all = λ i a head tail high low l. absurd (omega (arith, high, low));
   only = λ log c. absurd (none_in log (subst (λ (x : List LogEnds). Contains x log) none c));
 }
 
@@ -144,12 +139,12 @@ below_first U s logs layout none = record {
 below_or_at : (s : Super) (U : Region) (i a head tail n : ℕ) → IsLayout s → a < nth_slot s (n + 1) → a ≢ nth_slot s n → IsLogOf U s i a head tail → a < nth_slot s n
 below_or_at s U i a head tail n layout low other l = (let whole = (slots_apart s layout).whole i a l.slot in omega (arith, low, other, whole))
 
-pub below_some : (U : Region) (s : Super) (n : ℕ) (logs : List LogEnds) (log : LogEnds) → IsLayout s → LogsBelow U s n logs → ((i head tail : ℕ) → IsLogOf U s i (nth_slot s n) head tail → log ≡ record { head = head; tail = tail })
-    → IsLog U s log.head log.tail → LogsBelow U s (n + 1) (logs ++ log ∷ [])
-below_some U s n logs log layout before is has = record {
-  all = λ i a head tail low l. elim (cases_eq a (nth_slot s n)) [
+pub among_some : (U : Region) (s : Super) (from n : ℕ) (logs : List LogEnds) (log : LogEnds) → IsLayout s → AreLogsAmong U s from n logs
+    → ((i head tail : ℕ) → IsLogOf U s i (nth_slot s n) head tail → log ≡ record { head = head; tail = tail }) → IsLog U s log.head log.tail → AreLogsAmong U s from (n + 1) (logs ++ log ∷ [])
+among_some U s from n logs log layout before is has = record {
+  all = λ i a head tail high low l. elim (cases_eq a (nth_slot s n)) [
     | inl same ↦ subst (λ (x : LogEnds). Contains (logs ++ log ∷ []) x) (is i head tail (subst (λ (x : ℕ). IsLogOf U s i x head tail) same l)) (Contains-push logs log)
-    | inr other ↦ Contains-append_left logs (log ∷ []) (record { head = head; tail = tail }) (before.all i a head tail (below_or_at s U i a head tail n layout low other l) l)
+    | inr other ↦ Contains-append_left logs (log ∷ []) (record { head = head; tail = tail }) (before.all i a head tail high (below_or_at s U i a head tail n layout low other l) l)
   ];
   only = λ x c. elim (Contains-push_cases logs log x c) [
     | inl old ↦ before.only x old
@@ -157,18 +152,38 @@ below_some U s n logs log layout before is has = record {
   ];
 }
 
-pub below_none : (U : Region) (s : Super) (n : ℕ) (logs : List LogEnds) → IsLayout s → LogsBelow U s n logs → ((i head tail : ℕ) → IsLogOf U s i (nth_slot s n) head tail → ⊥) → LogsBelow U s (n + 1) logs
-below_none U s n logs layout before none = record {
-  all = λ i a head tail low l. elim (cases_eq a (nth_slot s n)) [
+pub among_no_more : (U : Region) (s : Super) (from n : ℕ) (logs : List LogEnds) → IsLayout s → AreLogsAmong U s from n logs → ((i head tail : ℕ) → IsLogOf U s i (nth_slot s n) head tail → ⊥) → AreLogsAmong U s from (n + 1) logs
+among_no_more U s from n logs layout before none = record {
+  all = λ i a head tail high low l. elim (cases_eq a (nth_slot s n)) [
     | inl same ↦ absurd (none i head tail (subst (λ (x : ℕ). IsLogOf U s i x head tail) same l))
-    | inr other ↦ before.all i a head tail (below_or_at s U i a head tail n layout low other l) l
+    | inr other ↦ before.all i a head tail high (below_or_at s U i a head tail n layout low other l) l
   ];
   only = before.only;
 }
 
--- all slots lie before the limit's place
-pub below_limit : (U : Region) (s : Super) (n : ℕ) (logs : List LogEnds) → IsLayout s → inode_limit s ≤ n → LogsBelow U s n logs → AreLogs U s logs
-below_limit U s n logs layout high below = record {
-  all = λ head tail l. below.all l.0 l.1 head tail (let m = place_between s l.0 l.1 layout l.2.slot in let low = m.1 in omega (arith, low, high)) l.2;
-  only = below.only;
+-- up to an earlier place
+pub among_fewer : (U : Region) (s : Super) (from to n : ℕ) (logs : List LogEnds) → to ≤ n → AreLogsAmong U s from n logs → AreLogsAmong U s from to logs
+among_fewer U s from to n logs before are = record {
+  all = λ i a head tail high low l. are.all i a head tail high (omega (arith, low, before)) l;
+  only = are.only;
+}
+
+-- those of slots side by side
+pub among_both : (U : Region) (s : Super) (from middle to : ℕ) (logs more : List LogEnds) → AreLogsAmong U s from middle logs → AreLogsAmong U s middle to more → AreLogsAmong U s from to (logs ++ more)
+among_both U s from middle to logs more first second = record {
+  all = λ i a head tail high low l. elim (cases_lt a (nth_slot s middle)) [
+    | inl under ↦ Contains-append_left logs more (record { head = head; tail = tail }) (first.all i a head tail high under l)
+    | inr over ↦ Contains-append_right logs more (record { head = head; tail = tail }) (second.all i a head tail over low l)
+  ];
+  only = λ log c. elim (Contains-append_cases logs more log c) [
+    | inl old ↦ first.only log old
+    | inr new ↦ second.only log new
+  ];
+}
+
+-- no inode has the first place, and all others lie before the limit's
+pub among_all : (U : Region) (s : Super) (logs : List LogEnds) → IsLayout s → AreLogsAmong U s 1 (inode_limit s) logs → AreLogs U s logs
+among_all U s logs layout are = record {
+  all = λ head tail l. (let m = place_between s l.0 l.1 layout l.2.slot in are.all l.0 l.1 head tail m.0 m.1 l.2);
+  only = are.only;
 }

@@ -87,11 +87,12 @@ take_add : (n m : ℕ) (xs : List ℕ) → take (n + m) xs ≡ take n xs ++ take
 take_add n m xs = sym (take-append-drop n (take (n + m) xs)) ∙ (λ i. take-take n (n + m) xs (omega arith) i ++ drop-take n m xs i)
 
 -- bytes behind bytes that were read
-pub read_on : (bytes first rest : List ℕ) (at : ℕ) → AreBytesAt bytes 0 first → AreBytesAt bytes at rest → length first ≡ at → AreBytesAt bytes 0 (first ++ rest)
-read_on bytes first rest at begins goes here = record {
+pub read_on : (bytes first rest : List ℕ) (start at : ℕ) → AreBytesAt bytes start first → AreBytesAt bytes at rest → start + length first ≡ at → AreBytesAt bytes start (first ++ rest)
+read_on bytes first rest start at begins goes here = record {
   within = (let w = goes.within in let n = length-append first rest in omega (arith, w, n, here));
-  same = sym (ap (λ (n : ℕ). take n bytes) (length-append first rest) ∙ take_add (length first) (length rest) bytes
-      ∙ ap (λ (l : List ℕ). l ++ take (length rest) (drop (length first) bytes)) (sym begins.same)
+  same = sym (ap (λ (n : ℕ). take n (drop start bytes)) (length-append first rest) ∙ take_add (length first) (length rest) (drop start bytes)
+      ∙ ap (λ (l : List ℕ). l ++ take (length rest) (drop (length first) (drop start bytes))) (sym begins.same)
+      ∙ ap (λ (l : List ℕ). first ++ take (length rest) l) (drop-drop (length first) start bytes)
       ∙ ap (λ (n : ℕ). first ++ take (length rest) (drop n bytes)) here ∙ ap (λ (l : List ℕ). first ++ l) (sym goes.same));
 }
 

@@ -1,9 +1,10 @@
 -- What it is to hold more of an image's blocks.
-use Rattle.std.specs.Prelude.{◌≡◌, ◌≢◌, ◌≤◌, ◌<◌, ◌/◌, ◌%◌, ◌||◌, ℕ, List, drop, length, nat_le}
+use Rattle.std.specs.Prelude.{◌≡◌, ◌≢◌, ◌≤◌, ◌<◌, ◌/◌, ◌%◌, ◌||◌, ℕ, List, IsTrue, drop, length, nat_le}
 use Rattle.byteorder.specs.Endian.{little_number}
 use Rattle.nv_region.specs.Region.{Region, word}
 use Rattle.nv_super.specs.declared.superblock.Super.{Super}
 use Rattle.nv_super.specs.Layout.{HasAreas, system_blocks}
+use Rattle.nv_inode.specs.Slot.{is_right_log}
 use Rattle.nv_metadata.specs.Memory.{CanHold, MetadataState, held}
 
 -- The block begins with these bytes, whole words of them, and has zeros behind them. Every other block is as before.
@@ -32,6 +33,12 @@ pub record CanFetch (s : Super) (m : MetadataState) (block count : ℕ) : Type 0
   pub inside : block < s.blocks
   pub whole : count % 8 ≡ 0
   pub few : count ≤ 4096
+
+-- A log with this head and tail can be followed: both are right, and the memory can hold data blocks.
+pub record CanFollow (s : Super) (m : MetadataState) (head tail : ℕ) : Type 0 where
+  pub areas : HasAreas s
+  pub can : CanHold s m
+  pub right : IsTrue (is_right_log s head tail)
 
 -- So many bytes of the block are held, or more. No less is held of any block, and of each other one as much as before.
 pub record HoldsMore (old : MetadataState) (block count : ℕ) (new : MetadataState) : Type 0 where

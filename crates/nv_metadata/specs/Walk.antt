@@ -1,9 +1,10 @@
 -- What walks along logs leave in the memory.
-use Rattle.std.specs.Prelude.{◌≡◌, ◌≤◌, ◌⊎◌, ℕ, List}
+use Rattle.std.specs.Prelude.{◌≡◌, ◌≤◌, ◌<◌, ◌⊎◌, ℕ, List}
 use Rattle.std.specs.List.{Contains}
 use Rattle.nv_region.specs.Region.{Region}
 use Rattle.nv_super.specs.declared.superblock.Super.{Super}
-use Rattle.nv_metadata.specs.Linked.{IsLinked, IsLog, wanted}
+use Rattle.nv_inode.specs.Slot.{nth_slot}
+use Rattle.nv_metadata.specs.Linked.{IsLinked, IsLog, IsLogOf, wanted}
 use Rattle.nv_metadata.specs.Memory.{MetadataState, Shows, held}
 use Rattle.nv_metadata.specs.declared.logs.LogEnds.{LogEnds}
 
@@ -28,4 +29,9 @@ pub record AreFetched (s : Super) (R : Region) (logs : List LogEnds) (old new : 
 -- these are the heads and tails of the logs of a region's inodes in use, where both are right
 pub record AreLogs (U : Region) (s : Super) (logs : List LogEnds) : Type 0 where
   pub all : (head tail : ℕ) → IsLog U s head tail → Contains logs (record { head = head; tail = tail })
+  pub only : (log : LogEnds) → Contains logs log → IsLog U s log.head log.tail
+
+-- the same of the inodes whose slots have places from one on and before another
+pub record AreLogsAmong (U : Region) (s : Super) (from to : ℕ) (logs : List LogEnds) : Type 0 where
+  pub all : (i a head tail : ℕ) → nth_slot s from ≤ a → a < nth_slot s to → IsLogOf U s i a head tail → Contains logs (record { head = head; tail = tail })
   pub only : (log : LogEnds) → Contains logs log → IsLog U s log.head log.tail

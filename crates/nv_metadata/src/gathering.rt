@@ -1,9 +1,9 @@
 //! The metadata of an image, gathered by a reader of its bytes.
 //!
-//! First the superblock is read, and then all blocks in front of the data blocks in one read. Rolled back, they say where logs
-//! begin and end. From each head on the links lead to the pages, which are read once by each thread, that of the tail up to it.
+//! First the superblock is read, and then all blocks in front of the data blocks in one read, or in four at once. Rolled back, they
+//! say where logs begin and end. From each head on the links lead to the pages, which are read once by each thread, that of the tail up to it.
 //!
-//! In version 2 slots may stand in each block, so all blocks are read in one read, and no log is looked for.
+//! In version 2 slots may stand in each block, so all blocks are read so, and no log is looked for.
 
 ghost use Rattle.std.specs.Prelude.{◌≡◌, ◌≤◌, ◌+◌, ◌*◌, ◌^◌, ℕ, List, Some, IfOk, IfErr, OnOk, IsTrue, false, length, take};
 ghost use Rattle.std.specs.List.{Contains};
@@ -23,7 +23,8 @@ ghost use Rattle.nv_metadata.specs.declared.logs.LogEnds.{LogEnds as LogEndsValu
 use crate::blocks::Blocks;
 use crate::errors::GatherError;
 use crate::front::FrontRegion;
-use crate::logs::{LogEnds, right_logs};
+use crate::halved::read_quarters;
+use crate::logs::{LogEnds, right_logs, right_logs_on};
 use crate::memory::MetadataRegion;
 use crate::parts::{fetch_alone, fetch_apart};
 use nv_journal::undo;
@@ -37,6 +38,9 @@ const MOST_THREADS: u64 = 8;
 
 // Fewer logs than these are read sooner than another thread's tables are made.
 const FEW_LOGS: usize = 1024;
+
+// The system's large pages have so many bytes.
+const LARGE_PAGE: u64 = 2_097_152;
 
 // Where the enqueue number of a journal stands, in bytes from its start. The dequeue number is its first word.
 const ENQUEUE: u64 = 8;
@@ -102,9 +106,12 @@ pub fn gather_on<B: Blocks + Sync, H: Threads + Sync>(
     ensures known { (image : List ℕ) → B.bytes source.now ≡ Some image → IfErr result (λ e. e ≡ GatherError.Memory) }
     ensures open { IfOk result IsOpen }
 {
-    match read_front(alloc, source)? {
+    if threads < 2 {
+        return gather(alloc, source);
+    }
+    match read_front_on(rt, alloc, source)? {
         Front::Accepted(sup, front) => {
-            let logs = logs_rolled_back(alloc, &sup, &front)?;
+            let logs = logs_rolled_back_on(rt, alloc, &sup, &front, threads.min(MOST_THREADS))?;
             let threads = worth(threads, logs.len());
             let memory = fetch_apart(rt, alloc, source, &sup, front, &logs, threads)?;
             Ok(Gathered::Metadata(sup, memory))
@@ -182,7 +189,7 @@ fn read_rest<B: Blocks>(
     ensures read { (image : List ℕ) → B.bytes source.now ≡ Some image → AreBytesAt image 0 first.items → IfOk result (λ front. AreBytesAt image 0 front.items) }
     ensures known { (image : List ℕ) → B.bytes source.now ≡ Some image → 4096 * blocks ≤ length image → IfErr result (λ e. e ≡ GatherError.Memory) }
 {
-    let mut front = first;
+    let mut front = with_room(alloc, &first, large_room(blocks * BLOCK_SIZE))?;
     front.resize((blocks * BLOCK_SIZE) as usize, 0)?;
     read_behind(source, &mut front)?;
     Ok(front)
@@ -198,6 +205,111 @@ fn read_behind<B: Blocks>(source: &B, front: &mut [u8]) -> Result<(), GatherErro
 {
     source.read(BLOCK_SIZE, &mut front[BLOCK_SIZE as usize..])?;
     Ok(())
+}
+
+// `read_front` by four threads.
+fn read_front_on<B: Blocks + Sync, H: Threads + Sync>(
+    rt: &H,
+    alloc: Global,
+    source: &B,
+) -> Result<Front, GatherError>
+    ensures read { (image : List ℕ) → B.bytes source.now ≡ Some image → IfOk result (IsFrontOf image) }
+    ensures known { (image : List ℕ) → B.bytes source.now ≡ Some image → IfErr result (λ e. e ≡ GatherError.Memory) }
+    ensures sound { IfOk result IsSoundFront }
+{
+    let size = source.len()?;
+    let blocks = size / BLOCK_SIZE;
+    if size % BLOCK_SIZE != 0 || blocks < LEAST_BLOCKS || blocks > MOST_BLOCKS {
+        return Ok(Front::Refused(SuperFault::Length));
+    }
+    let first = read_bytes(alloc, source, 0, BLOCK_SIZE)?;
+    let alone = FrontRegion::new(blocks, &first);
+    match read_super(&alone) {
+        Ok(sup) => read_accepted_on(rt, alloc, source, sup, first),
+        Err(fault) => Ok(Front::Refused(fault)),
+    }
+}
+
+// `read_accepted` by four threads.
+fn read_accepted_on<B: Blocks + Sync, H: Threads + Sync>(
+    rt: &H,
+    alloc: Global,
+    source: &B,
+    sup: Super,
+    first: Vec<u8>,
+) -> Result<Front, GatherError>
+    requires layout { IsLayout sup }
+    requires first { length first.items ≡ 4096 }
+    requires says { SaysSuper first.items sup }
+    ensures read { (image : List ℕ) → B.bytes source.now ≡ Some image → length image ≡ 4096 * sup.blocks → AreBytesAt image 0 first.items → IfOk result (IsFrontOf image) }
+    ensures known { (image : List ℕ) → B.bytes source.now ≡ Some image → length image ≡ 4096 * sup.blocks → IfErr result (λ e. e ≡ GatherError.Memory) }
+    ensures sound { IfOk result IsSoundFront }
+{
+    if sup.version == WITH_CHAINS {
+        let bytes = read_rest_on(rt, alloc, source, sup.blocks, first)?;
+        return Ok(Front::Whole(sup, bytes));
+    }
+    let system = read_rest_on(rt, alloc, source, sup.system_blocks(), first)?;
+    Ok(Front::Accepted(sup, system))
+}
+
+// `read_rest` by four threads.
+fn read_rest_on<B: Blocks + Sync, H: Threads + Sync>(
+    rt: &H,
+    alloc: Global,
+    source: &B,
+    blocks: u64,
+    first: Vec<u8>,
+) -> Result<Vec<u8>, GatherError>
+    requires some { 1 ≤ blocks }
+    requires few { blocks ≤ most_blocks }
+    requires first { length first.items ≡ 4096 }
+    ensures begins { IfOk result (λ front. take 4096 front.items ≡ first.items) }
+    ensures count { IfOk result (λ front. length front.items ≡ 4096 * blocks) }
+    ensures read { (image : List ℕ) → B.bytes source.now ≡ Some image → AreBytesAt image 0 first.items → IfOk result (λ front. AreBytesAt image 0 front.items) }
+    ensures known { (image : List ℕ) → B.bytes source.now ≡ Some image → 4096 * blocks ≤ length image → IfErr result (λ e. e ≡ GatherError.Memory) }
+{
+    let mut front = with_room(alloc, &first, large_room(blocks * BLOCK_SIZE))?;
+    front.resize((blocks * BLOCK_SIZE) as usize, 0)?;
+    read_behind_on(rt, source, &mut front)?;
+    Ok(front)
+}
+
+// `read_behind` by four threads.
+fn read_behind_on<B: Blocks + Sync, H: Threads + Sync>(
+    rt: &H,
+    source: &B,
+    front: &mut [u8],
+) -> Result<(), GatherError>
+    requires begins { 4096 ≤ length front.old }
+    ensures begins { take 4096 front.new ≡ take 4096 front.old }
+    ensures as_long { length front.new ≡ length front.old }
+    ensures read { (image : List ℕ) → B.bytes source.now ≡ Some image → AreBytesAt image 0 (take 4096 front.old) → OnOk result (AreBytesAt image 0 front.new) }
+    ensures known { (image : List ℕ) → B.bytes source.now ≡ Some image → length front.old ≤ length image → IfErr result (λ e. e ≡ GatherError.Memory) }
+{
+    read_quarters(rt, source, BLOCK_SIZE, &mut front[BLOCK_SIZE as usize..])?;
+    Ok(())
+}
+
+// So much room that an allocator takes whole large pages for so many bytes, where these fill two of them: the system makes them
+// ready sooner than many small ones.
+fn large_room(bytes: u64) -> usize
+    requires { bytes ≤ 2 ^ 33 }
+{
+    if bytes < 2 * LARGE_PAGE {
+        return bytes as usize;
+    }
+    let pages = (bytes + BLOCK_SIZE + LARGE_PAGE - 1) / LARGE_PAGE;
+    (pages * LARGE_PAGE - BLOCK_SIZE) as usize
+}
+
+// A copy of bytes, with room for so many at least.
+fn with_room(alloc: Global, bytes: &[u8], room: usize) -> Result<Vec<u8>, AllocError>
+    ensures { IfOk result (λ copy. copy.items ≡ bytes.now) }
+{
+    let mut copy = Vec::with_capacity(alloc, room)?;
+    copy.extend_from_slice(bytes)?;
+    Ok(copy)
 }
 
 // So many bytes of the image from one on.
@@ -244,6 +356,28 @@ fn logs_rolled_back(alloc: Global, sup: &Super, front: &[u8]) -> Result<Vec<LogE
         return logs_of_undone(alloc, sup, front);
     }
     Ok(right_logs(alloc, &memory, sup)?)
+}
+
+// The same, found by so many threads where there is nothing to roll back.
+fn logs_rolled_back_on<H: Threads + Sync>(
+    rt: &H,
+    alloc: Global,
+    sup: &Super,
+    front: &[u8],
+    threads: u64,
+) -> Result<Vec<LogEnds>, GatherError>
+    requires layout { IsLayout sup.now }
+    requires version { sup.now.version ≡ 1 }
+    requires front { length front.now ≡ 4096 * system_blocks sup.now }
+    ensures logs { (image : List ℕ) → AreBytesAt image 0 front.now → length image ≡ 4096 * sup.now.blocks → IfOk result (λ logs. AreLogs (undone sup.now (region_of image)) sup.now logs.items) }
+    ensures unread { IfErr result (λ e. e ≡ GatherError.Memory) }
+    ensures right { IfOk result (λ logs. (log : LogEndsValue) → Contains logs.items log → IsTrue (is_right_log sup.now log.head log.tail)) }
+{
+    let memory = FrontRegion::new(sup.blocks, front);
+    if may_be_pending(&memory, sup) {
+        return logs_of_undone(alloc, sup, front);
+    }
+    Ok(right_logs_on(rt, alloc, &memory, sup, threads)?)
 }
 
 // Whether a journal may have something to roll back: its two numbers differ.

@@ -8,6 +8,7 @@ mod blocks;
 mod errors;
 mod front;
 mod gathering;
+mod halved;
 mod laws;
 mod logs;
 mod memory;

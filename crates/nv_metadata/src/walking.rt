@@ -7,7 +7,7 @@ ghost use Rattle.nv_super.specs.Layout.{HasAreas, is_page_start};
 ghost use Rattle.nv_inode.specs.Slot.{is_right_log};
 ghost use Rattle.nv_metadata.specs.Linked.{link_in, wanted};
 ghost use Rattle.nv_metadata.specs.Memory.{CanHold, SameFront, Shows};
-ghost use Rattle.nv_metadata.specs.Holding.{CanFetch, HoldsMore};
+ghost use Rattle.nv_metadata.specs.Holding.{CanFetch, CanFollow, HoldsMore};
 ghost use Rattle.nv_metadata.specs.Walk.{IsFetched, AreFetched};
 ghost use Rattle.nv_metadata.specs.declared.logs.LogEnds.{LogEnds as LogEndsValue};
 
@@ -62,9 +62,7 @@ fn fetch_log<B: Blocks>(
     walked: &mut BlockList,
     room: &mut [u8],
 ) -> Result<(), GatherError>
-    requires areas { HasAreas sup.now }
-    requires can { CanHold sup.now memory.old }
-    requires right { IsTrue (is_right_log sup.now log.head log.tail) }
+    requires log { CanFollow sup.now memory.old log.head log.tail }
     requires all_blocks { walked.old.bound ≡ sup.now.blocks }
     requires room { length room.old ≡ 4096 }
     ensures can { CanHold sup.now memory.new }

@@ -17,4 +17,4 @@ returns-clause-read g c image known begins =
     let into = c.read.new.into in
     let none : drop (length front - 4096) (drop 4096 front) ≡ [] = drop_all (length front - 4096) (drop 4096 front) (omega (arith, length-drop 4096 front)) in
     subst (λ (l : List ℕ). AreBytesAt image 0 l) (sym (ap (λ (l : List ℕ). take 4096 front ++ (into ++ l)) none ∙ ap (λ (l : List ℕ). take 4096 front ++ l) (append-nil into)))
-    (read_on image (take 4096 front) into 4096 begins (c.in_ok-read.ensures.read image known) (omega (arith, length-take 4096 front, c.requires.begins)))
+    (read_on image (take 4096 front) into 0 4096 begins (c.in_ok-read.ensures.read image known) (omega (arith, length-take 4096 front, c.requires.begins)))

@@ -14,9 +14,9 @@ pub pages-init : goal.pages-init
 pages-init g c =
     let s = c.args.sup.now in
     let head = c.args.log.head in
-    let start = right_start s head c.args.log.tail c.requires.right in
+    let start = right_start s head c.args.log.tail c.requires.log.right in
     let inside = start_inside s head start in record {
-      can = c.requires.can;
+      can = c.requires.log.can;
       front = (refl, refl);
       bound = ap (λ (l : Listed). l.bound) c.restart.ensures ∙ c.requires.all_blocks;
       few = omega (arith, ap (λ (l : Listed). l.bound) c.restart.ensures, ap (λ (l : Listed). length l.blocks) c.restart.ensures, c.requires.all_blocks, inside);
