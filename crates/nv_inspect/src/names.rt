@@ -1,7 +1,7 @@
 //! The names of a directory as its log is read: what each stands for, and the entry that holds it, which is the one without which it
 //! would stand for something else.
 
-ghost use Rattle.std.specs.Prelude.{◌≡◌, ℕ, List, if◌then◌else◌, nat_eq, None, Some, OnOk};
+ghost use Rattle.std.specs.Prelude.{◌≡◌, ℕ, List, if◌then◌else◌, nat_eq, None, Some, IfOk, OnOk};
 ghost use Rattle.std.specs.Cmp.Lexicographic.{pointwise};
 ghost use Rattle.std.specs.Option.{option_map};
 ghost use Rattle.nv_names.specs.Names.{inode_and_place, name_at, IsName};
@@ -29,16 +29,6 @@ impl HeldNames {
         HeldNames {
             targets: NameIndex::new(alloc),
             holders: NameIndex::new(alloc),
-        }
-    }
-
-    /// The place of the entry that holds a name.
-    pub fn holder(&self, name: &[u8]) -> Option<u64>
-        ensures { result ≡ name_holder self.now name.now }
-    {
-        match self.holders.get(name) {
-            Some(target) => Some(target.inode),
-            None => None,
         }
     }
 
@@ -73,11 +63,11 @@ impl HeldNames {
         ensures marks { OnOk result (Marks by (λ (k : ℕ). (q : List ℕ) × Loses (name_in q at (Entry.Name e.now)) (name_holder self.old q) k) takers.old takers.new) }
     {
         let name = e.name.as_slice();
-        mark(takers, self.holder(name), by);
         let said = said_of(e, at);
-        let holder = taken(self.targets.get(name), said, by);
-        hold(&mut self.holders, name, holder)?;
-        set(&mut self.targets, name, said)?;
+        let before = set(&mut self.targets, name, said)?;
+        let holder = taken(before, said, by);
+        let last = hold(&mut self.holders, name, holder)?;
+        mark(takers, last, by);
         Ok(())
     }
 }
@@ -95,31 +85,49 @@ fn said_of(e: &NameEntry, at: u64) -> Option<Target>
     }
 }
 
-/// Lets a name stand for this, or takes it out.
-fn set(targets: &mut NameIndex, name: &[u8], said: Option<Target>) -> Result<(), AllocError>
+/// Lets a name stand for this, or takes it out, and answers what it stood for before.
+fn set(
+    targets: &mut NameIndex,
+    name: &[u8],
+    said: Option<Target>,
+) -> Result<Option<Target>, AllocError>
     requires { IsName name.now }
-    ensures { OnOk result ((q : List ℕ) → name_at targets.new q ≡ (if pointwise nat_eq q name.now then option_map inode_and_place said else name_at targets.old q)) }
+    ensures set { OnOk result ((q : List ℕ) → name_at targets.new q ≡ (if pointwise nat_eq q name.now then option_map inode_and_place said else name_at targets.old q)) }
+    ensures had { IfOk result (λ had. option_map inode_and_place had ≡ name_at targets.old name.now) }
 {
     match said {
-        Some(Target { inode, place }) => targets.insert(name, inode, place),
+        Some(Target { inode, place }) => targets.put(name, inode, place),
         None => {
+            let had = targets.get(name);
             targets.remove(name);
-            Ok(())
+            Ok(had)
         }
     }
 }
 
-/// Lets this entry hold a name, or none.
-fn hold(holders: &mut NameIndex, name: &[u8], by: Option<u64>) -> Result<(), AllocError>
+/// Lets this entry hold a name, or none, and answers the place of the one that held it before.
+fn hold(holders: &mut NameIndex, name: &[u8], by: Option<u64>) -> Result<Option<u64>, AllocError>
     requires { IsName name.now }
-    ensures { OnOk result ((q : List ℕ) → option_map first_of (name_at holders.new q) ≡ (if pointwise nat_eq q name.now then by else option_map first_of (name_at holders.old q))) }
+    ensures hold { OnOk result ((q : List ℕ) → option_map first_of (name_at holders.new q) ≡ (if pointwise nat_eq q name.now then by else option_map first_of (name_at holders.old q))) }
+    ensures had { IfOk result (λ had. had ≡ option_map first_of (name_at holders.old name.now)) }
 {
     match by {
-        Some(place) => holders.insert(name, place, 0),
+        Some(place) => Ok(place_of(holders.put(name, place, 0)?)),
         None => {
+            let had = holders.get(name);
             holders.remove(name);
-            Ok(())
+            Ok(place_of(had))
         }
+    }
+}
+
+/// The place of an entry, which stands as an inode.
+fn place_of(had: Option<Target>) -> Option<u64>
+    ensures { result ≡ option_map first_of (option_map inode_and_place had) }
+{
+    match had {
+        Some(target) => Some(target.inode),
+        None => None,
     }
 }
 
