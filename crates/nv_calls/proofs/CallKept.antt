@@ -7,7 +7,7 @@ use Rattle.nv_scan.specs.declared.piece.Row.{Row}
 use Rattle.nv_tree.specs.declared.refusal.Refusal.{Refusal}
 use Rattle.nv_tree.specs.declared.refusal.Refusal.TheVariants.{Stopped}
 use Rattle.nv_steps.specs.Keeping.{KeepsStep}
-use Rattle.nv_calls.specs.Keeping.{KeepsCall}
+use Rattle.nv_calls.specs.Keeping.{KeepsCall, KeepsCallBy}
 use Rattle.nv_calls.specs.Mount.{Mount}
 use Rattle.nv_calls.specs.Same.{SameMount}
 use Rattle.nv_calls.proofs.Early.{good_reply, same_fuse}
@@ -76,9 +76,9 @@ module _ {P T : Type 0} (region : P → Region) (fuse : P → FuseState) where
           read_only = λ only. absurd (let clash : true ≡ false = sym only ∙ writes in cc);
         })
 
-module _ {P A B : Type 0} {region : P → Region} {fuse : P → FuseState} {old new : Mount P} where
+module _ {P A B : Type 0} {Kept : Mount P → Mount P → Type 0} {region : P → Region} {fuse : P → FuseState} {old new : Mount P} where
   -- done with another answer
-  pub as_done : {a : A} {b : B} → KeepsCall region fuse old new (Ok a) → KeepsCall region fuse old new (Ok b)
+  pub as_done : {a : A} {b : B} → KeepsCallBy Kept region fuse old new (Ok a) → KeepsCallBy Kept region fuse old new (Ok b)
   as_done {a} {b} kept = record {
     stopped_before = λ on. absurd (let clash : ◌≡◌ {A = Result A Refusal} (Ok a) (Err Stopped) = (kept.stopped_before on).0 in cc);
     unchanged = tt;
@@ -90,7 +90,7 @@ module _ {P A B : Type 0} {region : P → Region} {fuse : P → FuseState} {old 
   }
 
   -- refused alike
-  pub as_refused : {e : Refusal} → KeepsCall {T = A} region fuse old new (Err e) → KeepsCall {T = B} region fuse old new (Err e)
+  pub as_refused : {e : Refusal} → KeepsCallBy {T = A} Kept region fuse old new (Err e) → KeepsCallBy {T = B} Kept region fuse old new (Err e)
   as_refused {e} kept = record {
     stopped_before = λ on. (let told = kept.stopped_before on in (same_stop told.0, told.1));
     unchanged = kept.unchanged;

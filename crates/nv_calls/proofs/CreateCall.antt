@@ -1,5 +1,5 @@
 -- What `create` and `mkdir` answer, and what they leave.
-use Rattle.std.proofs.Common.{◌≡◌, ℕ, ◌+◌, ◌%◌, ◌<◌, ◌≤◌, Bool, true, false, IsTrue, List, [], ◌∷◌, refl, ap, sym, ◌∙◌, subst, Option, Some, None, Result, Ok, slice_get}
+use Rattle.std.proofs.Common.{◌≡◌, ℕ, ◌+◌, ◌%◌, ◌<◌, ◌≤◌, Bool, true, false, IsTrue, List, [], ◌∷◌, refl, ap, sym, ◌∙◌, subst, Option, Some, None, Result, slice_get}
 use Rattle.std.proofs.Math.Logic.{∥∥₁_map}
 use Rattle.nv_region.specs.Region.{Region}
 use Rattle.nv_super.specs.declared.superblock.Super.{Super}
@@ -25,26 +25,26 @@ use Rattle.nv_mounted.specs.Blocks.{KeepsFree}
 use Rattle.nv_mounted.specs.Mounted.{IsMounted, ShowsSound}
 use Rattle.nv_tree.specs.declared.refusal.Refusal.{Refusal}
 use Rattle.nv_tree.specs.declared.refusal.Refusal.TheVariants.{Stopped}
-use Rattle.nv_tree.specs.Path.{IsPath, IsPathName, Says, last_name}
-use Rattle.nv_tree.specs.Tree.{SameNode, SameTree, Tree, walk}
-use Rattle.nv_tree.specs.Calls.{created, with_name}
-use Rattle.nv_tree.specs.Refusals.{Path, Tests, create_tests, first_refusal, has_no_space, writing, IsRefusedBy}
+use Rattle.nv_tree.specs.Path.{IsPathName}
+use Rattle.nv_tree.specs.Tree.{Node, SameNode, SameTree}
+use Rattle.nv_tree.specs.Calls.{edit, new_node, put_node, with_name}
+use Rattle.nv_tree.specs.Refusals.{Tests, first_refusal, has_no_space, writing, IsRefusedBy}
 use Rattle.nv_calls.specs.Mount.{IsKept, Mount}
-use Rattle.nv_calls.specs.NameCalls.{ShowsCreated, WasCreated, create_blocks, ended_row, name_blocks, row_blocks, table_growth}
+use Rattle.nv_calls.specs.NameCalls.{ShowsCreated, WasCreated, row_blocks, table_growth}
+use Rattle.nv_calls.specs.NamesByNumber.{create_inode_blocks, create_inode_tests, created_in, entry_blocks}
 use Rattle.nv_steps.specs.NameEntries.{name_entries}
 use Rattle.nv_calls.specs.AtPlaces.{CreatesAt, LeavesRows}
 use Rattle.nv_calls.specs.Growing.{CreatesGrown, grown_blocks}
-use Rattle.nv_paths.specs.Spots.{IsNoneNamed, IsSpot, new_number, spot_tests}
+use Rattle.nv_paths.specs.Directories.{IsDirectoryAt, spot_tests}
+use Rattle.nv_paths.specs.Spots.{IsNoneNamed, IsSpot, new_number}
 use Rattle.nv_calls.specs.Same.{SameMount}
 use Rattle.nv_paths.specs.Seen.{node_of, tree_of}
 use Rattle.nv_steps.specs.Steps.{RefusesStep}
-use Rattle.nv_tree.proofs.Alike.{walk_alike}
-use Rattle.nv_tree.proofs.Kept.{created_kept as keeps_sameness}
-use Rattle.nv_tree.proofs.Same.{same_transitive}
+use Rattle.nv_tree.proofs.Same.{edit_kept, name_kept, put_kept, same_node, same_transitive}
 use Rattle.nv_calls.specs.World.{world_of}
 use Rattle.nv_calls.proofs.CreatedRows.{bytes_kept, kept_then, mounted_then, name_absent, was_created}
-use Rattle.nv_calls.proofs.CreatedTree.{created_by, made_tree, named_node, new_node_is, tree_then}
-use Rattle.nv_paths.proofs.CreateTests.{good_name, spot_allows}
+use Rattle.nv_calls.proofs.CreatedTree.{made_tree, named_node, new_node_is, tree_then}
+use Rattle.nv_paths.proofs.CreateTests.{good_name}
 use Rattle.nv_calls.proofs.Kept.{rows_rise}
 use Rattle.nv_calls.proofs.GrownMount.{got_gives, got_has, got_kept, got_mounted, got_tree}
 use Rattle.nv_calls.proofs.Mounts.{kept_of_mounted, kept_when_stopped, mounted_of_kept, mounted_with}
@@ -53,20 +53,19 @@ use Rattle.nv_calls.proofs.RowChange.{keeps_same}
 use Rattle.nv_calls.proofs.Tests.{space_allows, space_refuses}
 
 -- where a new inode goes
-pub record GoesTo (t : Tree) (rows : List Row) (names : List (List ℕ)) (place : ℕ) (name : List ℕ) : Type 0 where
-  pub directory : (row : Row) → slice_get rows place ≡ Some row → (walk t 1 names ≡ Ok row.inode) × (row.kind ≡ Directory)
-  pub name_is : name ≡ last_name names
+pub record GoesTo (rows : List Row) (d place : ℕ) (name : List ℕ) : Type 0 where
+  pub directory : IsDirectoryAt rows d place
   pub absent : (row : Row) → slice_get rows place ≡ Some row → IsNoneNamed rows row name
 
 -- ---- where its number has a slot
 
 module _ {R S : Region} {s : Super} {l : Layout} {rows news : List Row} {free after : FreeLists} {faults : List Fault} {read_only stopped : Bool} (kept : IsKept R s l rows free faults read_only stopped) (runs : stopped ≡ false) (writes : read_only ≡ false)
-    {place : ℕ} {kind : Kind} {cpu mode time j : ℕ} {name : List ℕ} (step : CreatesAt R S l free after cpu rows news place kind mode time j name) (number : IsTrue (has_slot l j)) (unused : row_of rows j ≡ None) (spelled : IsPathName name) (names : List (List ℕ)) (goes : GoesTo (tree_of R rows) rows names place name) where
+    {place : ℕ} {kind : Kind} {cpu mode time j : ℕ} {name : List ℕ} (step : CreatesAt R S l free after cpu rows news place kind mode time j name) (number : IsTrue (has_slot l j)) (unused : row_of rows j ≡ None) (spelled : IsPathName name) (d : ℕ) (goes : GoesTo rows d place name) where
   directory : step.row.kind ≡ Directory
   directory = (goes.directory step.row step.at).1
 
-  walked : walk (tree_of R rows) 1 names ≡ Ok step.row.inode
-  walked = (goes.directory step.row step.at).0
+  is_there : step.row.inode ≡ d
+  is_there = (goes.directory step.row step.at).0
 
   good : IsGoodName l.sup j name
   good = good_name l.sup j name spelled (named_number kept runs writes j number)
@@ -80,7 +79,7 @@ module _ {R S : Region} {s : Super} {l : Layout} {rows news : List Row} {free af
   step_kept : (now : Bool) → IsKept S s l news after faults read_only now
   step_kept = kept_then kept runs writes step directory good unused absent
 
-  step_tree : SameTree (tree_of S news) (created kind (Some j) names mode time (tree_of R rows))
+  step_tree : SameTree (tree_of S news) (created_in kind (Some j) d name mode time (tree_of R rows))
   step_tree =
       let made = step.step in
       let new = made.row in
@@ -91,23 +90,18 @@ module _ {R S : Region} {s : Super} {l : Layout} {rows news : List Row} {free af
       (subst (λ (i : ℕ). SameNode (node_of S step.now) (with_name name i time (node_of R step.row))) (sym there)
       (named_node R S made.fresh _ name j _ time made.directory made.once made.once_now (name_absent kept runs writes step.row here name absent) (bytes_kept kept runs writes step directory good unused absent step.row here)))
       (new_node_is S j kind mode time made.page _ new) (bytes_kept kept runs writes step directory good unused absent)) in
-      subst (λ (t : Tree). SameTree (tree_of S news) t) (sym (created_by kind (Some j) names mode time (tree_of R rows) j step.row.inode name refl walked goes.name_is)) same
+      subst (λ (k : ℕ). SameTree (tree_of S news) (edit k (with_name name j time) (put_node j (Some (new_node kind mode time)) (tree_of R rows)))) is_there same
     where
       number_stays : step.now.inode ≡ step.row.inode
       number_stays = let made = step.step in let dir = made.directory in dir.inode
 
-  step_logged : (d : ℕ) (held : Store) (m : IsMounted R l held rows free.pools) (h : Held) → walk (tree_of R rows) 1 names ≡ Ok d → held d ≡ Some h → WasCreated S l free.pools cpu held kind mode time j d h (last_name names)
-  step_logged d held m h ended is =
-      let both : Ok step.row.inode ≡ Ok d = sym walked ∙ ended in
-      let same : step.row.inode ≡ d = cc in
-      subst (λ (q : List ℕ). WasCreated S l free.pools cpu held kind mode time j d h q) goes.name_is
-      (subst (λ (k : ℕ). WasCreated S l free.pools cpu held kind mode time j k h name) same
-      (was_created kept runs writes step directory good unused absent held m h (ap held same ∙ is)))
+  step_logged : (held : Store) (m : IsMounted R l held rows free.pools) (h : Held) → held d ≡ Some h → WasCreated S l free.pools cpu held kind mode time j d h name
+  step_logged held m h is = subst (λ (k : ℕ). WasCreated S l free.pools cpu held kind mode time j k h name) is_there (was_created kept runs writes step directory good unused absent held m h (ap held is_there ∙ is))
 
 -- ---- once the number has got one
 
 module _ {R S : Region} {s : Super} {l grown : Layout} {rows news : List Row} {free after : FreeLists} {faults : List Fault} {read_only stopped : Bool} (kept : IsKept R s l rows free faults read_only stopped) (runs : stopped ≡ false) (writes : read_only ≡ false)
-    {place : ℕ} {kind : Kind} {cpu mode time j : ℕ} {name : List ℕ} (step : CreatesGrown R S l grown free after cpu rows news place kind mode time j name) (low : cpu < l.sup.cpus) (spelled : IsPathName name) (names : List (List ℕ)) (spot : IsSpot (tree_of R rows) rows l cpu names place name j) where
+    {place : ℕ} {kind : Kind} {cpu mode time j : ℕ} {name : List ℕ} (step : CreatesGrown R S l grown free after cpu rows news place kind mode time j name) (low : cpu < l.sup.cpus) (spelled : IsPathName name) (d : ℕ) (spot : IsSpot rows l cpu d place name j) where
   abbrev mid : Region
   mid = step.mid
 
@@ -117,75 +111,62 @@ module _ {R S : Region} {s : Super} {l grown : Layout} {rows news : List Row} {f
   same_tree : SameTree (tree_of mid rows) (tree_of R rows)
   same_tree = got_tree kept runs writes step.got
 
-  walks : walk (tree_of mid rows) 1 names ≡ walk (tree_of R rows) 1 names
-  walks = walk_alike (tree_of mid rows) (tree_of R rows) same_tree 1 names
-
   unused : row_of rows j ≡ None
   unused = new_unused kept runs writes cpu j low spot.unused
 
-  goes : GoesTo (tree_of mid rows) rows names place name
-  goes = record {
-    directory = λ row at. (let w = spot.directory row at in (walks ∙ w.0, w.1));
-    name_is = spot.name_is;
-    absent = spot.absent;
-  }
+  goes : GoesTo rows d place name
+  goes = record { directory = spot.directory; absent = spot.absent }
 
   -- What is mounted, for what is held of the region of before.
   pub created_mounted : (held : Store) (m : IsMounted R l held rows free.pools) → (then : Store) × IsMounted S grown then news after.pools
-  created_mounted held m = step_mounted kept_mid runs writes step.step (got_has step.got) unused spelled names goes held (got_mounted m step.got)
+  created_mounted held m = step_mounted kept_mid runs writes step.step (got_has step.got) unused spelled d goes held (got_mounted m step.got)
 
   -- What is kept.
   pub created_kept : (now : Bool) → IsKept S s grown news after faults read_only now
-  created_kept = step_kept kept_mid runs writes step.step (got_has step.got) unused spelled names goes
+  created_kept = step_kept kept_mid runs writes step.step (got_has step.got) unused spelled d goes
 
   -- The tree is what the call makes of that of before.
-  pub created_tree : SameTree (tree_of S news) (created kind (new_number l rows cpu) names mode time (tree_of R rows))
+  pub created_tree : SameTree (tree_of S news) (created_in kind (new_number l rows cpu) d name mode time (tree_of R rows))
   created_tree =
-      subst (λ (o : Option ℕ). SameTree (tree_of S news) (created kind o names mode time (tree_of R rows))) (sym spot.unused)
-      (same_transitive (tree_of S news) (created kind (Some j) names mode time (tree_of mid rows)) (created kind (Some j) names mode time (tree_of R rows))
-      (step_tree kept_mid runs writes step.step (got_has step.got) unused spelled names goes)
-      (keeps_sameness kind (Some j) names mode time (tree_of mid rows) (tree_of R rows) same_tree))
+      let new : Option Node = Some (new_node kind mode time) in
+      subst (λ (o : Option ℕ). SameTree (tree_of S news) (created_in kind o d name mode time (tree_of R rows))) (sym spot.unused)
+      (same_transitive (tree_of S news) (created_in kind (Some j) d name mode time (tree_of mid rows)) (created_in kind (Some j) d name mode time (tree_of R rows))
+      (step_tree kept_mid runs writes step.step (got_has step.got) unused spelled d goes)
+      (edit_kept (put_node j new (tree_of mid rows)) (put_node j new (tree_of R rows)) d (with_name name j time) (with_name name j time) (name_kept name j time)
+      (put_kept (tree_of mid rows) (tree_of R rows) j new new (same_node (new_node kind mode time)) same_tree)))
 
   -- The logs, for whatever is held of the region.
-  pub created_log : (d i : ℕ) (held : Store) (h : Held) → walk (tree_of R rows) 1 names ≡ Ok d → new_number l rows cpu ≡ Some i → ShowsSound R l held → held d ≡ Some h → ShowsCreated S l free.pools cpu held kind mode time i d h (last_name names)
-  created_log d i held h ended free_number sound is =
+  pub created_log : (i : ℕ) (held : Store) (h : Held) → new_number l rows cpu ≡ Some i → ShowsSound R l held → held d ≡ Some h → ShowsCreated S l free.pools cpu held kind mode time i d h name
+  created_log i held h free_number sound is =
       let numbers : Some j ≡ Some i = sym spot.unused ∙ free_number in
       let one : j ≡ i = cc in
-      subst (λ (k : ℕ). ShowsCreated S l free.pools cpu held kind mode time k d h (last_name names)) one
+      subst (λ (k : ℕ). ShowsCreated S l free.pools cpu held kind mode time k d h name) one
       (∥∥₁_map (mounted_with kept runs held sound) (λ m. (
         grown,
         step.between.pools,
         got_gives step.got,
-        step_logged kept_mid runs writes step.step (got_has step.got) unused spelled names goes d held (got_mounted m step.got) h (walks ∙ ended) is,
+        step_logged kept_mid runs writes step.step (got_has step.got) unused spelled d goes held (got_mounted m step.got) h is,
       )))
 
 -- ---- why it is refused
 
--- what a path with a name needs, by where it goes
-blocks_by : (rows : List Row) (t : Tree) (row : Row) (names : List (List ℕ)) (j time : ℕ) (name : List ℕ) → walk t 1 names ≡ Ok row.inode → row_of rows row.inode ≡ Some row → name ≡ last_name names
-    → 1 + name_blocks rows t (Some names) ≡ 1 + needed (row.tail % 4096) (name_entries Add j name time)
-blocks_by rows t row names j time name walked is last =
-    ap (λ (w : Result ℕ Refusal). 1 + row_blocks (ended_row rows w) (name_entries Add 0 (last_name names) 0)) walked
-    ∙ ap (λ (o : Option Row). 1 + row_blocks o (name_entries Add 0 (last_name names) 0)) is
-    ∙ ap (λ (q : List ℕ). 1 + needed (row.tail % 4096) (name_entries Add 0 q 0)) (sym last)
-
-module _ {P : Type 0} (region : P → Region) {n m : Mount P} (same : n ≡ m) (cpu : ℕ) (passed : (tests : Tests) → first_refusal (writing (world_of m) cpu tests) ≡ first_refusal tests) (place : ℕ) (row : Row) (at : slice_get n.rows place ≡ Some row) (is : row_of n.rows row.inode ≡ Some row)
-    (name : List ℕ) (j time : ℕ) (text : List ℕ) (spot : (names : List (List ℕ)) → IsPath text names → IsSpot (tree_of (region n.memory) n.rows) n.rows n.layout cpu names place name j) (p : Path) (says : Says text p)
-    (none : first_refusal (spot_tests (tree_of (region n.memory) n.rows) (new_number n.layout n.rows cpu) p) ≡ None) (growth : table_growth n.layout n.rows cpu ≡ grown_blocks n.layout j) where
+module _ {P : Type 0} (region : P → Region) {n m : Mount P} (same : n ≡ m) (cpu : ℕ) (passed : (tests : Tests) → first_refusal (writing (world_of m) cpu tests) ≡ first_refusal tests) (d : ℕ) (row : Row) (is : row_of n.rows d ≡ Some row)
+    (name : List ℕ) (j time : ℕ) (told : (more : Tests) → first_refusal (spot_tests (tree_of (region n.memory) n.rows) (new_number n.layout n.rows cpu) d name more) ≡ first_refusal more)
+    (growth : table_growth n.layout n.rows cpu ≡ grown_blocks n.layout j) where
   abbrev tests : Mount P → Option Refusal
-  tests k = first_refusal (create_tests (world_of k) (tree_of (region k.memory) k.rows) cpu p (create_blocks k.layout k.rows cpu (tree_of (region k.memory) k.rows) p))
+  tests k = first_refusal (create_inode_tests (world_of k) (tree_of (region k.memory) k.rows) cpu d name (create_inode_blocks k.layout k.rows cpu d name))
 
   abbrev count : ℕ
   count = grown_blocks n.layout j + (1 + needed (row.tail % 4096) (name_entries Add j name time))
 
-  blocks_there : (q : Path) → Says text q → first_refusal (spot_tests (tree_of (region n.memory) n.rows) (new_number n.layout n.rows cpu) q) ≡ None → create_blocks n.layout n.rows cpu (tree_of (region n.memory) n.rows) q ≡ count
-  blocks_there None says none = absurd (cc)
-  blocks_there (Some names) says none = let there = spot names says in ap (λ (k : ℕ). k + (1 + name_blocks n.rows (tree_of (region n.memory) n.rows) (Some names))) growth ∙ ap (λ (k : ℕ). grown_blocks n.layout j + k) (blocks_by n.rows (tree_of (region n.memory) n.rows) row names j time name (there.directory row at).0 is there.name_is)
+  blocks_there : create_inode_blocks n.layout n.rows cpu d name ≡ count
+  blocks_there = ap (λ (k : ℕ). k + (1 + entry_blocks n.rows d name)) growth ∙ ap (λ (o : Option Row). grown_blocks n.layout j + (1 + row_blocks o (name_entries Add 0 name 0))) is
 
   at_last : tests n ≡ first_refusal (has_no_space (world_of n) count ∷ [])
   at_last =
+      let space = has_no_space (world_of n) (create_inode_blocks n.layout n.rows cpu d name) ∷ [] in
       let passed_here : (ts : Tests) → first_refusal (writing (world_of n) cpu ts) ≡ first_refusal ts = λ ts. subst (λ (k : Mount P). first_refusal (writing (world_of k) cpu ts) ≡ first_refusal ts) (sym same) (passed ts) in
-      spot_allows (world_of n) (tree_of (region n.memory) n.rows) cpu passed_here p (create_blocks n.layout n.rows cpu (tree_of (region n.memory) n.rows) p) none ∙ ap (λ (k : ℕ). first_refusal (has_no_space (world_of n) k ∷ [])) (blocks_there p says none)
+      passed_here (spot_tests (tree_of (region n.memory) n.rows) (new_number n.layout n.rows cpu) d name space) ∙ told space ∙ ap (λ (k : ℕ). first_refusal (has_no_space (world_of n) k ∷ [])) blocks_there
 
   -- No test refuses it where there are enough blocks.
   pub create_allowed : count ≤ all_blocks n.free.pools → tests m ≡ None

@@ -1,5 +1,5 @@
 -- The tree once an inode was made: the tree machine's.
-use Rattle.std.proofs.Common.{◌≡◌, ◌≢◌, ℕ, ◌/◌, inl, inr, nat_eq, cond, Bool, true, false, List, set, slice_get, refl, ap, sym, ◌∙◌, subst, arith, Option, Some, None, Ok}
+use Rattle.std.proofs.Common.{◌≡◌, ◌≢◌, ℕ, ◌/◌, inl, inr, nat_eq, cond, Bool, true, false, List, set, slice_get, refl, ap, sym, ◌∙◌, subst, arith, Option, Some, None}
 use Rattle.std.specs.Cmp.Lexicographic.{pointwise}
 use Rattle.std.specs.List.{Contains}
 use Rattle.std.specs.Option.{option_map}
@@ -16,9 +16,8 @@ use Rattle.nv_scan.specs.declared.piece.Row.{Row}
 use Rattle.nv_cross_check.specs.Cross.{row_key}
 use Rattle.nv_graph.specs.Read.{row_of}
 use Rattle.nv_mounted.specs.Bytes.{byte_in}
-use Rattle.nv_tree.specs.Path.{last_name}
-use Rattle.nv_tree.specs.Tree.{Node, SameNode, SameNodes, SameTree, Tree, walk}
-use Rattle.nv_tree.specs.Calls.{created, edit, new_node, on_ok, put_node, with_name}
+use Rattle.nv_tree.specs.Tree.{Node, SameNode, SameNodes, SameTree, Tree}
+use Rattle.nv_tree.specs.Calls.{edit, new_node, put_node, with_name}
 use Rattle.nv_rows.specs.Rows.{HasInserted}
 use Rattle.nv_steps.specs.NewNames.{HasNamed, IsNewRow}
 use Rattle.nv_paths.specs.Seen.{node_of, tree_of}
@@ -121,11 +120,3 @@ tree_then R S rows news place row now made kind mode time name rising at number 
       | inr row_no ↦ both j (ap (option_map (node_of S)) (left_other j new_no row_no)) (elsewhere (tree_of R rows) row.inode made.inode (with_name name made.inode time) (Some (new_node kind mode time)) j new_no row_no) (unchanged R S rows bytes j (row_of rows j) refl)
     ]
   ]
-
--- What `create` makes of a tree, by where it goes.
-pub created_by : (kind : Kind) (unused : Option ℕ) (names : List (List ℕ)) (mode time : ℕ) (t : Tree) (j d : ℕ) (name : List ℕ) → unused ≡ Some j → walk t 1 names ≡ Ok d → name ≡ last_name names
-    → created kind unused names mode time t ≡ edit d (with_name name j time) (put_node j (Some (new_node kind mode time)) t)
-created_by kind unused names mode time t j d name free walked named =
-    ap (λ (o : Option ℕ). created kind o names mode time t) free
-    ∙ ap (λ r. on_ok r (λ e. edit e (with_name (last_name names) j time) (put_node j (Some (new_node kind mode time)) t)) t) walked
-    ∙ ap (λ (q : List ℕ). edit d (with_name q j time) (put_node j (Some (new_node kind mode time)) t)) (sym named)

@@ -50,7 +50,6 @@ pub mod ThreeRows
 pub mod BothHeld
 pub mod BothMounted
 pub mod BothTree
-pub mod LinkTests
 pub mod RowNumbers
 pub mod LinkedHeld
 pub mod LinkedTree
@@ -113,3 +112,5 @@ pub mod CleanAlike
 pub mod AnswersAlike
 pub mod Numbered
 pub mod ByPath
+pub mod NamesByPath
+pub mod LinkByPath

@@ -1,5 +1,5 @@
 -- The tree once a file has a name more: the tree machine's.
-use Rattle.std.proofs.Common.{◌≡◌, ℕ, ◌+◌, ◌/◌, List, length, ap, sym, ◌∙◌, Option, Some, Result, Ok}
+use Rattle.std.proofs.Common.{◌≡◌, ℕ, ◌/◌, List, length, ap, ◌∙◌, Option, Some}
 use Rattle.std.specs.Option.{option_map, option_map_or}
 use Rattle.nv_region.specs.Region.{Region}
 use Rattle.nv_radix.specs.Pages.{block_at}
@@ -7,10 +7,8 @@ use Rattle.nv_scan.specs.declared.numbers.Numbers.{Numbers}
 use Rattle.nv_scan.specs.declared.piece.Row.{Row}
 use Rattle.nv_graph.specs.Read.{row_of}
 use Rattle.nv_mounted.specs.Bytes.{byte_in}
-use Rattle.nv_tree.specs.declared.refusal.Refusal.{Refusal}
-use Rattle.nv_tree.specs.Path.{last_name}
-use Rattle.nv_tree.specs.Tree.{Node, SameNode, Tree, found, walk}
-use Rattle.nv_tree.specs.Calls.{edit, linked, links_at, on_ok, on_some, with_links, with_name}
+use Rattle.nv_tree.specs.Tree.{Node, SameNode}
+use Rattle.nv_tree.specs.Calls.{links_at, with_links}
 use Rattle.nv_steps.specs.MoreNames.{HasCounted}
 use Rattle.nv_paths.specs.Seen.{node_of, tree_of}
 
@@ -29,14 +27,6 @@ counted_node R S {row} {now} fresh end links time has count bytes = record {
   names = λ q. ap (λ (o : Option (ℕ × ℕ)). option_map (λ (y : ℕ × ℕ). y.0) o) (has.names q);
   bytes = λ x below. ap (λ (o : Option ℕ). byte_in S o x) (has.index (x / 4096)) ∙ bytes x;
 }
-
--- What `link` makes of a tree, by the file and the directory.
-pub linked_by : (names others : List (List ℕ)) (time : ℕ) (t : Tree) (i d : ℕ) (name : List ℕ) → found t names ≡ Some i → walk t 1 others ≡ Ok d → name ≡ last_name others
-    → linked names others time t ≡ edit d (with_name name i time) (edit i (with_links (links_at t i + 1) time) t)
-linked_by names others time t i d name leads walked is =
-    ap (λ (o : Option ℕ). on_some o (λ k. on_ok (walk t 1 others) (λ e. edit e (with_name (last_name others) k time) (edit k (with_links (links_at t k + 1) time) t)) t) t) leads
-    ∙ ap (λ (r : Result ℕ Refusal). on_ok r (λ e. edit e (with_name (last_name others) i time) (edit i (with_links (links_at t i + 1) time) t)) t) walked
-    ∙ ap (λ (q : List ℕ). edit d (with_name q i time) (edit i (with_links (links_at t i + 1) time) t)) (sym is)
 
 -- the count that the tree machine has is the row's
 pub links_told : (R : Region) (rows : List Row) (row : Row) → row_of rows row.inode ≡ Some row → links_at (tree_of R rows) row.inode ≡ row.numbers.links

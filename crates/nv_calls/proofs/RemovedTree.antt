@@ -20,6 +20,8 @@ use Rattle.nv_tree.specs.Tree.{Node, SameNode, SameNodes, SameTree, Tree, found,
 use Rattle.nv_tree.specs.Calls.{edit, on_ok, on_some, put_node, removed, without_name}
 use Rattle.nv_steps.specs.LessNames.{HasLost}
 use Rattle.nv_paths.specs.Seen.{node_of, tree_of}
+use Rattle.nv_paths.specs.Directories.{named_in}
+use Rattle.nv_calls.specs.NamesByNumber.{removed_in}
 use Rattle.nv_calls.proofs.CreatedTree.{changed_there, elsewhere, put_there}
 use Rattle.nv_steps.proofs.NamesCounted.{one_less}
 use Rattle.nv_rows.proofs.Places.{row_of_other}
@@ -99,3 +101,8 @@ removed_by names time t j d name leads walked is =
     ap (λ (o : Option ℕ). on_some o (λ k. on_ok (walk t 1 names) (λ e. edit e (without_name (last_name names) time) (put_node k None t)) t) t) leads
     ∙ ap (λ (r : Result ℕ Refusal). on_ok r (λ e. edit e (without_name (last_name names) time) (put_node j None t)) t) walked
     ∙ ap (λ (q : List ℕ). edit d (without_name q time) (put_node j None t)) (sym is)
+
+-- What `rmdir_inode` makes of a tree, by the directory and what goes.
+pub removed_there : (d : ℕ) (name : List ℕ) (time : ℕ) (t : Tree) (j e : ℕ) → named_in t d name ≡ Some j → e ≡ d → removed_in d name time t ≡ edit e (without_name name time) (put_node j None t)
+removed_there d name time t j e leads there =
+    ap (λ (o : Option ℕ). on_some o (λ k. edit d (without_name name time) (put_node k None t)) t) leads ∙ ap (λ (k : ℕ). edit k (without_name name time) (put_node j None t)) (sym there)

@@ -16,15 +16,14 @@ use Rattle.nv_mounted.specs.Held.{Held, Store}
 use Rattle.nv_mounted.specs.Mounted.{IsMounted}
 use Rattle.nv_commit.specs.Stopped.{LeavesEither}
 use Rattle.nv_tree.specs.Path.{IsPathName}
-use Rattle.nv_tree.specs.Calls.{linked}
 use Rattle.nv_paths.specs.Places.{IsLinkSpot}
 use Rattle.nv_paths.specs.Seen.{tree_of}
 use Rattle.nv_steps.specs.MoreNames.{LinksAt}
 use Rattle.nv_steps.specs.Steps.{ShowsRow}
 use Rattle.nv_steps.specs.Stopped.{Linked}
 use Rattle.nv_calls.specs.Mount.{IsKept, Mount}
-use Rattle.nv_calls.specs.Effects.{logs_link, makes_link}
-use Rattle.nv_calls.specs.Stopped.{IsAsMade, IsAsMounted, LeavesCall}
+use Rattle.nv_calls.specs.NamesByNumber.{linked_in, logs_linked_in}
+use Rattle.nv_calls.specs.Stopped.{IsAsMade, IsAsMounted, StopLeaves}
 use Rattle.nv_calls.proofs.CreatedRows.{not_named}
 use Rattle.nv_calls.proofs.LinkCall.{linked_logs, linked_mounted, linked_tree}
 use Rattle.nv_calls.proofs.LinkedHeld.{kinds_apart}
@@ -34,8 +33,8 @@ use Rattle.nv_calls.proofs.Stopped.{recovers_to, still_mounted}
 use Rattle.nv_calls.proofs.TwoRows.{lifted}
 
 module _ {P : Type 0} (region : P → Region) {n m : Mount P} (same : n ≡ m) (kept : IsKept (region n.memory) n.sup n.layout n.rows n.free n.faults n.read_only n.stopped) (runs : n.stopped ≡ false) (writes : n.read_only ≡ false)
-    (i j : ℕ) (file directory : Row) (at : row_of n.rows i ≡ Some file) (other_at : row_of n.rows j ≡ Some directory) (name : List ℕ) (cpu time : ℕ) (spelled : IsPathName name) (names others : List (List ℕ))
-    (spot : IsLinkSpot (tree_of (region n.memory) n.rows) n.rows names others (place_in n.rows j) name (place_in n.rows i)) where
+    (i j : ℕ) (file directory : Row) (at : row_of n.rows i ≡ Some file) (other_at : row_of n.rows j ≡ Some directory) (name : List ℕ) (cpu time : ℕ) (spelled : IsPathName name)
+    (spot : IsLinkSpot n.rows i j (place_in n.rows j) name (place_in n.rows i)) where
   abbrev R : Region
   R = region n.memory
 
@@ -55,13 +54,10 @@ module _ {P : Type 0} (region : P → Region) {n m : Mount P} (same : n ≡ m) (
   directory_at = at_place rows j ∙ other_at
 
   apart : i ≢ j
-  apart is =
-      let free_name = spot.spot in
-      let in_directory = free_name.directory in
-      kinds_apart rows (place_in rows i) (place_in rows j) file directory file_at directory_at (spot.file file file_at).0 (in_directory.row directory directory_at).1 (ap (place_in rows) is)
+  apart is = kinds_apart rows (place_in rows i) (place_in rows j) file directory file_at directory_at (spot.file file file_at).1 (spot.directory directory directory_at).1 (ap (place_in rows) is)
 
   link_by : (left : Region) (held : Store) (mounted : IsMounted R l held rows free.pools) → LeavesEither R l held (Linked R l free cpu file directory name time) left
-      → IsAsMounted R l rows free.pools left ⊎ IsAsMade l (linked names others time (tree_of R rows)) (logs_link cpu time (Some others) R n names) left
+      → IsAsMounted R l rows free.pools left ⊎ IsAsMade l (linked_in i j name time (tree_of R rows)) (logs_linked_in cpu time i j name R n) left
   link_by left held mounted (inl as_before) = inl (still_mounted mounted as_before)
   link_by left held mounted (inr w) =
       let after = w.1.0 in
@@ -73,20 +69,19 @@ module _ {P : Type 0} (region : P → Region) {n m : Mount P} (same : n ≡ m) (
       inr (record {
         rows = news;
         free = after.pools;
-        recovers = recovers_to w.0 (linked_mounted kept runs writes step spelled names others spot held mounted).1;
-        tree = linked_tree kept runs writes step spelled names others spot;
-        logs = λ k d node st f h led ended sound is other_is. linked_logs kept runs writes step spelled names others spot k d node st f h led ended sound is other_is;
+        recovers = recovers_to w.0 (linked_mounted kept runs writes step spelled i j spot held mounted).1;
+        tree = linked_tree kept runs writes step spelled i j spot;
+        logs = λ node st f h shows sound is other_is. linked_logs kept runs writes step spelled i j spot node st f h shows sound is other_is;
       })
 
   -- What a stop leaves within the call.
   pub link_left : (S : Region) (old last : Choices)
       → ((held : Store) (f h : Held) → ShowsRow R l held f file free → ShowsRow R l held h directory free → name_at directory.names name ≡ None → NothingPending R old → LeavesOnly S last (LeavesEither R l held (Linked R l free cpu file directory name time)))
-      → NothingPending R old → LeavesOnly S last (LeavesCall (makes_link time (Some others)) (logs_link cpu time (Some others)) (region m.memory) m names)
+      → NothingPending R old → LeavesOnly S last (StopLeaves (region m.memory) m.layout m.rows m.free.pools (linked_in i j name time (tree_of (region m.memory) m.rows)) (logs_linked_in cpu time i j name (region m.memory) m))
   link_left S old last step settled =
-      subst (λ (k : Mount P). LeavesOnly S last (LeavesCall (makes_link time (Some others)) (logs_link cpu time (Some others)) (region k.memory) k names)) same
+      subst (λ (k : Mount P). LeavesOnly S last (StopLeaves (region k.memory) k.layout k.rows k.free.pools (linked_in i j name time (tree_of (region k.memory) k.rows)) (logs_linked_in cpu time i j name (region k.memory) k))) same
       (λ left may. ∥∥₁_map (mounted_of_kept kept runs writes) (λ w.
       let there = stands rows (place_in rows j) directory directory_at in
       let v = shows_row w.1 kept.lists file (stands rows (place_in rows i) file file_at) in
       let u = shows_row w.1 kept.lists directory there in
-      let free_name = spot.spot in
-      link_by left w.0 w.1 (step w.0 v.0 u.0 v.1 u.1 (not_named w.1 directory there name (free_name.absent directory directory_at)) settled left may)))
+      link_by left w.0 w.1 (step w.0 v.0 u.0 v.1 u.1 (not_named w.1 directory there name (spot.absent directory directory_at)) settled left may)))

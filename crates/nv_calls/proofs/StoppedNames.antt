@@ -22,7 +22,7 @@ use Rattle.nv_mounted.specs.Held.{Held, Store}
 use Rattle.nv_mounted.specs.Mounted.{IsMounted}
 use Rattle.nv_commit.specs.Stopped.{LeavesEither}
 use Rattle.nv_tree.specs.Path.{IsPathName}
-use Rattle.nv_tree.specs.Calls.{created}
+use Rattle.nv_tree.specs.Tree.{Tree}
 use Rattle.nv_paths.specs.Seen.{tree_of}
 use Rattle.nv_paths.specs.Spots.{IsSpot, new_number}
 use Rattle.nv_super.specs.declared.owners.Run.{Run}
@@ -36,8 +36,8 @@ use Rattle.nv_steps.proofs.RowOf.{row_at}
 use Rattle.nv_calls.specs.AtPlaces.{CreatesAt}
 use Rattle.nv_calls.specs.Growing.{CreatesGrown, GotSlot, LeavesCreated}
 use Rattle.nv_calls.specs.Mount.{IsKept, Mount}
-use Rattle.nv_calls.specs.Effects.{Logs, Makes, logs_inode, makes_inode}
-use Rattle.nv_calls.specs.Stopped.{IsAsMade, IsAsMounted, LeavesCall, LeavesGrowing, MayHaveGrown}
+use Rattle.nv_calls.specs.NamesByNumber.{created_in, logs_created_in}
+use Rattle.nv_calls.specs.Stopped.{IsAsMade, IsAsMounted, MayHaveGrown, StopGrows, StopLeaves}
 use Rattle.nv_calls.proofs.CreateCall.{created_log, created_mounted, created_tree}
 use Rattle.nv_calls.proofs.CreatedRows.{not_held, not_named}
 use Rattle.nv_calls.proofs.Kept.{rows_rise}
@@ -76,7 +76,7 @@ can_insert (x ∷ rows) row up none = elim (cases_lt row.inode x.inode) [
 ]
 
 module _ {P : Type 0} (region : P → Region) {n m : Mount P} (same : n ≡ m) (kept : IsKept (region n.memory) n.sup n.layout n.rows n.free n.faults n.read_only n.stopped) (runs : n.stopped ≡ false) (writes : n.read_only ≡ false)
-    (place : ℕ) (row : Row) (at : slice_get n.rows place ≡ Some row) (kind : Kind) (mode time j : ℕ) (name : List ℕ) (cpu : ℕ) (low : cpu < n.layout.sup.cpus) (spelled : IsPathName name) (names : List (List ℕ)) (spot : IsSpot (tree_of (region n.memory) n.rows) n.rows n.layout cpu names place name j) where
+    (place : ℕ) (row : Row) (at : slice_get n.rows place ≡ Some row) (kind : Kind) (mode time j : ℕ) (name : List ℕ) (cpu : ℕ) (low : cpu < n.layout.sup.cpus) (spelled : IsPathName name) (d : ℕ) (spot : IsSpot n.rows n.layout cpu d place name j) where
   abbrev R : Region
   R = region n.memory
 
@@ -113,7 +113,7 @@ module _ {P : Type 0} (region : P → Region) {n m : Mount P} (same : n ≡ m) (
 
   made_by : (left : Region) (held : Store) (mounted : IsMounted R l held rows free.pools) (M : Region) (grown : Layout) (between : FreeLists) (got : GotSlot R M l grown free between cpu j)
       → LeavesEither M grown held (Named M grown between cpu row kind mode time j name) left
-      → IsAsMounted R grown rows between.pools left ⊎ IsAsMade grown (created kind (new_number l rows cpu) names mode time (tree_of R rows)) (logs_inode kind cpu mode time R n names) left
+      → IsAsMounted R grown rows between.pools left ⊎ IsAsMade grown (created_in kind (new_number l rows cpu) d name mode time (tree_of R rows)) (logs_created_in kind cpu mode time d name R n) left
   made_by left held mounted M grown between got (inl as_before) =
       let there : IsAsMounted M grown rows between.pools left = still_mounted (got_mounted mounted got) as_before in
       inl (there.0, same_transitive (tree_of (undone grown.sup left) rows) (tree_of M rows) (tree_of R rows) there.1 (got_tree kept runs writes got))
@@ -124,28 +124,28 @@ module _ {P : Type 0} (region : P → Region) {n m : Mount P} (same : n ≡ m) (
       inr (record {
         rows = put.0;
         free = (step.0).pools;
-        recovers = recovers_to w.0 (created_mounted kept runs writes whole low spelled names spot held mounted).1;
-        tree = created_tree kept runs writes whole low spelled names spot;
-        logs = λ d i st h ended number sound is. created_log kept runs writes whole low spelled names spot d i st h ended number sound is;
+        recovers = recovers_to w.0 (created_mounted kept runs writes whole low spelled d spot held mounted).1;
+        tree = created_tree kept runs writes whole low spelled d spot;
+        logs = λ i st h number sound is. created_log kept runs writes whole low spelled d spot i st h number sound is;
       })
 
   create_by : (left : Region) (held : Store) (mounted : IsMounted R l held rows free.pools) → LeavesCreated R l free cpu held row kind mode time j name left
       → (k : Layout) × (pools : List (List Run)) × MayHaveGrown n cpu k pools
-      × (IsAsMounted R k rows pools left ⊎ IsAsMade k (created kind (new_number l rows cpu) names mode time (tree_of R rows)) (logs_inode kind cpu mode time R n names) left)
+      × (IsAsMounted R k rows pools left ⊎ IsAsMade k (created_in kind (new_number l rows cpu) d name mode time (tree_of R rows)) (logs_created_in kind cpu mode time d name R n) left)
   create_by left held mounted (inl as_before) = (l, free.pools, inl (refl, refl), inl (still_mounted mounted as_before))
   create_by left held mounted (inr w) = (w.1, (w.2).pools, grew w.0 w.1 w.2 w.3, made_by left held mounted w.0 w.1 w.2 w.3 w.4)
 
   -- What a stop within the call leaves.
   pub create_left : (S : Region) (old last : Choices)
       → ((held : Store) (h : Held) → ShowsRow R l held h row free → held j ≡ None → name_at row.names name ≡ None → NothingPending R old → LeavesOnly S last (LeavesCreated R l free cpu held row kind mode time j name))
-      → NothingPending R old → LeavesOnly S last (LeavesGrowing cpu (makes_inode kind cpu mode time) (logs_inode kind cpu mode time) (region m.memory) m names)
+      → NothingPending R old → LeavesOnly S last (StopGrows cpu (region m.memory) m (created_in kind (new_number m.layout m.rows cpu) d name mode time (tree_of (region m.memory) m.rows)) (logs_created_in kind cpu mode time d name (region m.memory) m))
   create_left S old last step settled =
-      subst (λ (k : Mount P). LeavesOnly S last (LeavesGrowing cpu (makes_inode kind cpu mode time) (logs_inode kind cpu mode time) (region k.memory) k names)) same
+      subst (λ (k : Mount P). LeavesOnly S last (StopGrows cpu (region k.memory) k (created_in kind (new_number k.layout k.rows cpu) d name mode time (tree_of (region k.memory) k.rows)) (logs_created_in kind cpu mode time d name (region k.memory) k))) same
       (λ left may. ∥∥₁_map (mounted_of_kept kept runs writes) (λ w.
       let here = stands rows place row at in
       let v = shows_row w.1 kept.lists row here in
       create_by left w.0 w.1 (step w.0 v.0 v.1 (not_held w.1 j unused) (not_named w.1 row here name (spot.absent row at)) settled left may)))
 
 -- A call that has stored nothing leaves what was mounted.
-pub still_grows : {P : Type 0} {cpu : ℕ} (makes : Makes P) (logs : Logs P) (m : Mount P) {R : Region} {names : List (List ℕ)} {left : Region} → LeavesCall makes logs R m names left → LeavesGrowing cpu makes logs R m names left
-still_grows makes logs m leaves = ∥∥₁_map leaves (λ w. (m.layout, m.free.pools, inl (refl, refl), w))
+pub still_grows : {P : Type 0} {cpu : ℕ} (m : Mount P) (R : Region) {made : Tree} {Logged : Region → Type 0} {left : Region} → StopLeaves R m.layout m.rows m.free.pools made Logged left → StopGrows cpu R m made Logged left
+still_grows m R leaves = ∥∥₁_map leaves (λ w. (m.layout, m.free.pools, inl (refl, refl), w))

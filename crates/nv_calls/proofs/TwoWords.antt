@@ -22,8 +22,7 @@ use Rattle.nv_tree.specs.Path.{last_name}
 use Rattle.nv_tree.specs.Tree.{Node, walk}
 use Rattle.nv_tree.specs.Calls.{links_at}
 use Rattle.nv_paths.specs.MoveSpots.{IsMoveSpot}
-use Rattle.nv_paths.specs.NamedAt.{IsNamedAt}
-use Rattle.nv_paths.specs.Places.{IsLinkSpot}
+use Rattle.nv_paths.specs.Directories.{IsNamedIn}
 use Rattle.nv_paths.specs.Seen.{LeadsTo, tree_of}
 use Rattle.nv_paths.specs.Spots.{IsSpot, new_number}
 use Rattle.nv_steps.specs.InOrder.{TailIsFirst, tail_address}
@@ -33,6 +32,7 @@ use Rattle.nv_steps.specs.Stores.{Places, StoresIn, one_log, two_logs}
 use Rattle.nv_calls.specs.Growing.{create_places}
 use Rattle.nv_calls.specs.InOrder.{ShowsTailFirst, ShowsValidFirst}
 use Rattle.nv_calls.specs.Mount.{IsKept, Mount}
+use Rattle.nv_calls.specs.NamesByNumber.{StandsFor}
 use Rattle.nv_calls.proofs.CreatedRows.{not_held}
 use Rattle.nv_calls.proofs.InOrder.{first_as, rows_first, valid_as}
 use Rattle.nv_calls.proofs.LinkedTree.{links_told}
@@ -60,10 +60,10 @@ module _ {P : Type 0} (region : P → Region) {n m : Mount P} (same : n ≡ m) (
   there : (i : ℕ) (row : Row) → row_of rows i ≡ Some row → Contains rows row
   there i row at = stands rows (place_in rows i) row (at_place rows i ∙ at)
 
-  -- a row has the links of the inode that its path leads to
-  links_are : (i : ℕ) (row : Row) → row_of rows i ≡ Some row → (names : List (List ℕ)) (k : ℕ) (node : Node) → LeadsTo (tree_of R rows) names k node → row.inode ≡ k → row.numbers.links ≡ node.links
-  links_are i row at names k node led one =
-      sym (links_told R rows row (own_row rows i row at)) ∙ ap (λ (q : ℕ). links_at (tree_of R rows) q) one ∙ ap (λ (o : Option Node). option_map_or (λ (x : Node). x.links) o 0) led.shows
+  -- a row has the links of the inode of its number
+  links_are : (i : ℕ) (row : Row) → row_of rows i ≡ Some row → (k : ℕ) (node : Node) → tree_of R rows k ≡ Some node → row.inode ≡ k → row.numbers.links ≡ node.links
+  links_are i row at k node shows one =
+      sym (links_told R rows row (own_row rows i row at)) ∙ ap (λ (q : ℕ). links_at (tree_of R rows) q) one ∙ ap (λ (o : Option Node). option_map_or (λ (x : Node). x.links) o 0) shows
 
   -- ---- two rows, of inodes that are in use
 
@@ -100,67 +100,60 @@ module _ {P : Type 0} (region : P → Region) {n m : Mount P} (same : n ≡ m) (
         (rows_first kept runs S one other (there i one one_at) (there j other other_at) cpu entries (address other.inode) held h sound (ap held one_is ∙ is) (λ f g seen beside. step held f g seen beside))
 
     -- `link`: of the file, and of the directory
-    module _ (time : ℕ) (name : List ℕ) (names others : List (List ℕ)) (spot : IsLinkSpot (tree_of R rows) rows names others (place_in rows j) name (place_in rows i)) where
-      file_is : (k : ℕ) (node : Node) → LeadsTo (tree_of R rows) names k node → one.inode ≡ k
-      file_is k node led = same_Some _ _ (sym (spot.leads one one_there) ∙ led.leads)
+    module _ (time : ℕ) where
+      file_is : one.inode ≡ i
+      file_is = numbered rows i one one_at
 
-      directory_is : (d : ℕ) → walk (tree_of R rows) 1 others ≡ Ok d → other.inode ≡ d
-      directory_is d ended =
-          let free_name = spot.spot in
-          let in_directory = free_name.directory in
-          let walked : Ok other.inode ≡ Ok d = sym (in_directory.row other other_there).0 ∙ ended in
-          cc
+      directory_is : other.inode ≡ j
+      directory_is = numbered rows j other other_at
 
       pub link_stored : ((file directory : Row) (held : Store) (f h : Held) → row_of rows i ≡ Some file → row_of rows j ≡ Some directory → ShowsRow R l held f file free → ShowsRow R l held h directory free → StoresIn l held (two_logs l cpu file.inode directory.inode) R S)
-          → (k d : ℕ) (node : Node) (held : Store) → LeadsTo (tree_of (region m.memory) m.rows) names k node → walk (tree_of (region m.memory) m.rows) 1 others ≡ Ok d → ShowsSound (region m.memory) m.layout held → StoresIn m.layout held (two_logs m.layout cpu k d) (region m.memory) S
-      link_stored step k d node held =
-          subst (λ (q : Mount P). LeadsTo (tree_of (region q.memory) q.rows) names k node → walk (tree_of (region q.memory) q.rows) 1 others ≡ Ok d → ShowsSound (region q.memory) q.layout held → StoresIn q.layout held (two_logs q.layout cpu k d) (region q.memory) S) same
-          (λ led ended sound. two_store (two_logs l cpu) (λ st f h seen beside. step one other st f h one_at other_at seen beside) k d (file_is k node led) (directory_is d ended) held sound)
+          → (held : Store) → ShowsSound (region m.memory) m.layout held → StoresIn m.layout held (two_logs m.layout cpu i j) (region m.memory) S
+      link_stored step held =
+          subst (λ (q : Mount P). ShowsSound (region q.memory) q.layout held → StoresIn q.layout held (two_logs q.layout cpu i j) (region q.memory) S) same
+          (λ sound. two_store (two_logs l cpu) (λ st f h seen beside. step one other st f h one_at other_at seen beside) i j file_is directory_is held sound)
 
       -- The file's tail is stored first.
       pub link_ordered : ((file directory : Row) (held : Store) (f h : Held) → row_of rows i ≡ Some file → row_of rows j ≡ Some directory → ShowsRow R l held f file free → ShowsRow R l held h directory free → TailIsFirst R S l free.pools cpu file.inode file.tail (links_entries (file.numbers.links + 1) time) (tail_address l directory.inode))
-          → (k d : ℕ) (node : Node) (held : Store) (f : Held) → LeadsTo (tree_of (region m.memory) m.rows) names k node → walk (tree_of (region m.memory) m.rows) 1 others ≡ Ok d → ShowsSound (region m.memory) m.layout held → held k ≡ Some f
-          → ShowsTailFirst (region m.memory) S m.layout m.free.pools cpu k f (links_entries (node.links + 1) time) (tail_address m.layout d)
-      link_ordered step k d node held f =
-          subst (λ (q : Mount P). LeadsTo (tree_of (region q.memory) q.rows) names k node → walk (tree_of (region q.memory) q.rows) 1 others ≡ Ok d → ShowsSound (region q.memory) q.layout held → held k ≡ Some f
-          → ShowsTailFirst (region q.memory) S q.layout q.free.pools cpu k f (links_entries (node.links + 1) time) (tail_address q.layout d)) same
-          (λ led ended sound is.
-          let file = file_is k node led in
-          two_order (links_entries (one.numbers.links + 1) time) (links_entries (node.links + 1) time) (tail_address l) (λ st a b seen beside. step one other st a b one_at other_at seen beside) k d file (directory_is d ended)
-          (ap (λ (q : ℕ). links_entries (q + 1) time) (links_are i one one_at names k node led file)) held f sound is)
+          → (node : Node) (held : Store) (f : Held) → tree_of (region m.memory) m.rows i ≡ Some node → ShowsSound (region m.memory) m.layout held → held i ≡ Some f
+          → ShowsTailFirst (region m.memory) S m.layout m.free.pools cpu i f (links_entries (node.links + 1) time) (tail_address m.layout j)
+      link_ordered step node held f =
+          subst (λ (q : Mount P). tree_of (region q.memory) q.rows i ≡ Some node → ShowsSound (region q.memory) q.layout held → held i ≡ Some f
+          → ShowsTailFirst (region q.memory) S q.layout q.free.pools cpu i f (links_entries (node.links + 1) time) (tail_address q.layout j)) same
+          (λ shows sound is.
+          two_order (links_entries (one.numbers.links + 1) time) (links_entries (node.links + 1) time) (tail_address l) (λ st a b seen beside. step one other st a b one_at other_at seen beside) i j file_is directory_is
+          (ap (λ (q : ℕ). links_entries (q + 1) time) (links_are i one one_at i node shows file_is)) held f sound is)
 
     -- `rmdir` and `unlink`: of the directory, and of the inode that loses its name, where a condition on its links holds
-    module _ (time : ℕ) (name : List ℕ) (names : List (List ℕ)) (spot : IsNamedAt (tree_of R rows) rows names (place_in rows i) name (place_in rows j)) (Links : ℕ → Type 0) where
-      parent_is : (d : ℕ) → walk (tree_of R rows) 1 names ≡ Ok d → one.inode ≡ d
-      parent_is d ended =
-          let walked : Ok one.inode ≡ Ok d = sym (spot.directory one one_there).0 ∙ ended in
-          cc
+    module _ (time : ℕ) (name : List ℕ) (spot : IsNamedIn (tree_of R rows) rows i (place_in rows i) name (place_in rows j)) (Links : ℕ → Type 0) where
+      parent_is : one.inode ≡ i
+      parent_is = numbered rows i one one_at
 
-      gone_is : (k : ℕ) (node : Node) → LeadsTo (tree_of R rows) names k node → other.inode ≡ k
+      gone_is : (k : ℕ) (node : Node) → StandsFor (tree_of R rows) i name k node → other.inode ≡ k
       gone_is k node led = same_Some _ _ (sym (spot.leads other other_there) ∙ led.leads)
 
-      links_of : (k : ℕ) (node : Node) → LeadsTo (tree_of R rows) names k node → Links node.links → Links other.numbers.links
-      links_of k node led = subst Links (sym (links_are j other other_at names k node led (gone_is k node led)))
+      links_of : (k : ℕ) (node : Node) → StandsFor (tree_of R rows) i name k node → Links node.links → Links other.numbers.links
+      links_of k node led = subst Links (sym (links_are j other other_at k node led.shows (gone_is k node led)))
 
       pub gone_stored : (places : Layout → ℕ → ℕ → Places)
           → ((row gone : Row) (held : Store) (h f : Held) → row_of rows i ≡ Some row → row_of rows j ≡ Some gone → ShowsRow R l held h row free → ShowsRow R l held f gone free → Links gone.numbers.links → StoresIn l held (places l row.inode gone.inode) R S)
-          → (k d : ℕ) (node : Node) (held : Store) → LeadsTo (tree_of (region m.memory) m.rows) names k node → walk (tree_of (region m.memory) m.rows) 1 names ≡ Ok d → ShowsSound (region m.memory) m.layout held → Links node.links → StoresIn m.layout held (places m.layout d k) (region m.memory) S
-      gone_stored places step k d node held =
-          subst (λ (q : Mount P). LeadsTo (tree_of (region q.memory) q.rows) names k node → walk (tree_of (region q.memory) q.rows) 1 names ≡ Ok d → ShowsSound (region q.memory) q.layout held → Links node.links → StoresIn q.layout held (places q.layout d k) (region q.memory) S) same
-          (λ led ended sound told. two_store (places l) (λ st a b seen beside. step one other st a b one_at other_at seen beside (links_of k node led told)) d k (parent_is d ended) (gone_is k node led) held sound)
+          → (k : ℕ) (node : Node) (held : Store) → StandsFor (tree_of (region m.memory) m.rows) i name k node → ShowsSound (region m.memory) m.layout held → Links node.links → StoresIn m.layout held (places m.layout i k) (region m.memory) S
+      gone_stored places step k node held =
+          subst (λ (q : Mount P). StandsFor (tree_of (region q.memory) q.rows) i name k node → ShowsSound (region q.memory) q.layout held → Links node.links → StoresIn q.layout held (places q.layout i k) (region q.memory) S) same
+          (λ led sound told. two_store (places l) (λ st a b seen beside. step one other st a b one_at other_at seen beside (links_of k node led told)) i k parent_is (gone_is k node led) held sound)
 
       -- The directory's tail is stored before a word of the inode's slot.
       pub gone_ordered : (word_of : Layout → ℕ → ℕ)
           → ((row gone : Row) (held : Store) (h f : Held) → row_of rows i ≡ Some row → row_of rows j ≡ Some gone → ShowsRow R l held h row free → ShowsRow R l held f gone free → Links gone.numbers.links → TailIsFirst R S l free.pools cpu row.inode row.tail (name_entries Remove gone.inode name time) (word_of l gone.inode))
-          → (k d : ℕ) (node : Node) (held : Store) (h : Held) → LeadsTo (tree_of (region m.memory) m.rows) names k node → walk (tree_of (region m.memory) m.rows) 1 names ≡ Ok d → ShowsSound (region m.memory) m.layout held → held d ≡ Some h → Links node.links
-          → ShowsTailFirst (region m.memory) S m.layout m.free.pools cpu d h (name_entries Remove k (last_name names) time) (word_of m.layout k)
-      gone_ordered word_of step k d node held h =
-          subst (λ (q : Mount P). LeadsTo (tree_of (region q.memory) q.rows) names k node → walk (tree_of (region q.memory) q.rows) 1 names ≡ Ok d → ShowsSound (region q.memory) q.layout held → held d ≡ Some h → Links node.links
-          → ShowsTailFirst (region q.memory) S q.layout q.free.pools cpu d h (name_entries Remove k (last_name names) time) (word_of q.layout k)) same
-          (λ led ended sound is told.
+          → (k : ℕ) (node : Node) (held : Store) (h : Held) → StandsFor (tree_of (region m.memory) m.rows) i name k node → ShowsSound (region m.memory) m.layout held → held i ≡ Some h → Links node.links
+          → ShowsTailFirst (region m.memory) S m.layout m.free.pools cpu i h (name_entries Remove k name time) (word_of m.layout k)
+      gone_ordered word_of step k node held h =
+          subst (λ (q : Mount P). StandsFor (tree_of (region q.memory) q.rows) i name k node → ShowsSound (region q.memory) q.layout held → held i ≡ Some h → Links node.links
+          → ShowsTailFirst (region q.memory) S q.layout q.free.pools cpu i h (name_entries Remove k name time) (word_of q.layout k)) same
+          (λ led sound is told.
           let gone = gone_is k node led in
-          let entries : name_entries Remove other.inode name time ≡ name_entries Remove k (last_name names) time = λ t. name_entries Remove (gone t) (spot.name_is t) time in
-          two_order (name_entries Remove other.inode name time) (name_entries Remove k (last_name names) time) (word_of l) (λ st a b seen beside. step one other st a b one_at other_at seen beside (links_of k node led told)) d k (parent_is d ended) gone entries held h sound is)
+          two_order (name_entries Remove other.inode name time) (name_entries Remove k name time) (word_of l) (λ st a b seen beside. step one other st a b one_at other_at seen beside (links_of k node led told)) i k parent_is gone
+          (ap (λ (q : ℕ). name_entries Remove q name time) gone) held h sound is)
 
     -- `rename`: of the old directory, and of the new one
     module _ (t : ℕ) (moved_used : IsInUse rows t) (time : ℕ) (name new : List ℕ) (names others : List (List ℕ)) (spot : IsMoveSpot (tree_of R rows) rows names others (place_in rows i) name (place_in rows t) (place_in rows j) new) where
@@ -223,7 +216,7 @@ module _ {P : Type 0} (region : P → Region) {n m : Mount P} (same : n ≡ m) (
 
   -- ---- `create` and `mkdir`: of the directory, and the number of the new inode
 
-  module _ (now_writes : m.read_only ≡ false) (i j : ℕ) (used : IsInUse rows i) (now_low : cpu < m.sup.cpus) (name : List ℕ) (names : List (List ℕ)) (spot : IsSpot (tree_of R rows) rows l cpu names (place_in rows i) name j) where
+  module _ (now_writes : m.read_only ≡ false) (i j : ℕ) (used : IsInUse rows i) (now_low : cpu < m.sup.cpus) (name : List ℕ) (spot : IsSpot rows l cpu i (place_in rows i) name j) where
     abbrev directory : Row
     directory = (row_in_use rows i used).0
 
@@ -236,30 +229,27 @@ module _ {P : Type 0} (region : P → Region) {n m : Mount P} (same : n ≡ m) (
     unused : row_of rows j ≡ None
     unused = new_unused kept runs writes cpu j (subst (λ (s : Super). cpu < s.cpus) (sym kept.tables) (subst (λ (q : Mount P). cpu < q.sup.cpus) (sym same) now_low)) spot.unused
 
-    named_is : (d : ℕ) → walk (tree_of R rows) 1 names ≡ Ok d → directory.inode ≡ d
-    named_is d ended =
-        let walked : Ok directory.inode ≡ Ok d = sym (spot.directory directory (at_place rows i ∙ directory_at)).0 ∙ ended in
-        cc
+    named_is : directory.inode ≡ i
+    named_is = numbered rows i directory directory_at
 
     number_is : (k : ℕ) → new_number l rows cpu ≡ Some k → j ≡ k
     number_is k number = same_Some _ _ (sym spot.unused ∙ number)
 
     pub create_stored : ((row : Row) (held : Store) (h : Held) → row_of rows i ≡ Some row → ShowsRow R l held h row free → held j ≡ None → StoresIn l held (create_places l cpu j row.inode) R S)
-        → (d k : ℕ) (held : Store) → walk (tree_of (region m.memory) m.rows) 1 names ≡ Ok d → new_number m.layout m.rows cpu ≡ Some k → ShowsSound (region m.memory) m.layout held → StoresIn m.layout held (create_places m.layout cpu k d) (region m.memory) S
-    create_stored step d k held =
-        subst (λ (q : Mount P). walk (tree_of (region q.memory) q.rows) 1 names ≡ Ok d → new_number q.layout q.rows cpu ≡ Some k → ShowsSound (region q.memory) q.layout held → StoresIn q.layout held (create_places q.layout cpu k d) (region q.memory) S) same
-        (λ ended number sound.
-        let parent = named_is d ended in
+        → (k : ℕ) (held : Store) → new_number m.layout m.rows cpu ≡ Some k → ShowsSound (region m.memory) m.layout held → StoresIn m.layout held (create_places m.layout cpu k i) (region m.memory) S
+    create_stored step k held =
+        subst (λ (q : Mount P). new_number q.layout q.rows cpu ≡ Some k → ShowsSound (region q.memory) q.layout held → StoresIn q.layout held (create_places q.layout cpu k i) (region q.memory) S) same
+        (λ number sound.
         let inode = number_is k number in
-        let places : create_places l cpu j directory.inode ≡ create_places l cpu k d = λ p. create_places l cpu (inode p) (parent p) in
+        let places : create_places l cpu j directory.inode ≡ create_places l cpu k i = λ p. create_places l cpu (inode p) (named_is p) in
         subst (λ (p : Places). StoresIn l held p R S) places
         (row_stores kept runs S directory (there i directory directory_at) (create_places l cpu j directory.inode) held sound (λ mounted h seen. step directory held h directory_at seen (not_held mounted j unused))))
 
     -- The new inode's valid word is stored first, in the slot that it has then.
     pub create_ordered : (grown : Layout) → ((row : Row) (held : Store) (h : Held) → row_of rows i ≡ Some row → ShowsRow R l held h row free → held j ≡ None → FirstIsFirst R (slot_in grown j) 1 (tail_address grown row.inode) S)
-        → (d k : ℕ) → walk (tree_of (region m.memory) m.rows) 1 names ≡ Ok d → new_number m.layout m.rows cpu ≡ Some k → ShowsValidFirst (region m.memory) S grown k d
-    create_ordered grown step d k =
-        subst (λ (q : Mount P). walk (tree_of (region q.memory) q.rows) 1 names ≡ Ok d → new_number q.layout q.rows cpu ≡ Some k → ShowsValidFirst (region q.memory) S grown k d) same
-        (λ ended number. valid_as R S grown (number_is k number) (named_is d ended) (∥∥₁_map (mounted_of_kept kept runs writes) (λ w.
+        → (k : ℕ) → new_number m.layout m.rows cpu ≡ Some k → ShowsValidFirst (region m.memory) S grown k i
+    create_ordered grown step k =
+        subst (λ (q : Mount P). new_number q.layout q.rows cpu ≡ Some k → ShowsValidFirst (region q.memory) S grown k i) same
+        (λ number. valid_as R S grown (number_is k number) named_is (∥∥₁_map (mounted_of_kept kept runs writes) (λ w.
         let v = shows_row w.1 kept.lists directory (there i directory directory_at) in
         step directory w.0 v.0 directory_at v.1 (not_held w.1 j unused))))

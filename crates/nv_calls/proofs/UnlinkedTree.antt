@@ -5,6 +5,8 @@ use Rattle.nv_tree.specs.declared.refusal.Refusal.{Refusal}
 use Rattle.nv_tree.specs.Path.{last_name}
 use Rattle.nv_tree.specs.Tree.{Node, SameTree, Tree, found, walk}
 use Rattle.nv_tree.specs.Calls.{edit, links_at, on_ok, on_some, put_node, released, unlinked, with_links, without_name}
+use Rattle.nv_paths.specs.Directories.{named_in}
+use Rattle.nv_calls.specs.NamesByNumber.{unlinked_in}
 use Rattle.nv_calls.proofs.RowsTree.{edits_swap}
 
 -- two inodes changed, in either order
@@ -29,3 +31,19 @@ module _ (names : List (List ℕ)) (time : ℕ) (t : Tree) (i d : ℕ) (name : L
   unlinked_last few =
       unlinked_by names time t i d name leads walked is
       ∙ ap (λ (b : Bool). edit d (without_name name time) (cond b (put_node i None t) (edit i (with_links (links_at t i - 1) time) t))) (ap (λ (m : ℕ). nat_le m 1) count ∙ le-leb n 1 few)
+
+-- What `unlink_inode` makes of a tree, by the directory and the file.
+module _ (d : ℕ) (name : List ℕ) (time : ℕ) (t : Tree) (i e : ℕ) (leads : named_in t d name ≡ Some i) (there : e ≡ d) (n : ℕ) (count : links_at t i ≡ n) where
+  unlinked_there : unlinked_in d name time t ≡ edit e (without_name name time) (released i time t)
+  unlinked_there = ap (λ (o : Option ℕ). on_some o (λ k. edit d (without_name name time) (released k time t)) t) leads ∙ ap (λ (k : ℕ). edit k (without_name name time) (released i time t)) (sym there)
+
+  pub more_unlinked : 1 < n → unlinked_in d name time t ≡ edit e (without_name name time) (edit i (with_links (n - 1) time) t)
+  more_unlinked some =
+      unlinked_there
+      ∙ ap (λ (b : Bool). edit e (without_name name time) (cond b (put_node i None t) (edit i (with_links (links_at t i - 1) time) t))) (ap (λ (m : ℕ). nat_le m 1) count ∙ lt-leb n 1 some)
+      ∙ ap (λ (m : ℕ). edit e (without_name name time) (edit i (with_links (m - 1) time) t)) count
+
+  pub last_unlinked : n ≤ 1 → unlinked_in d name time t ≡ edit e (without_name name time) (put_node i None t)
+  last_unlinked few =
+      unlinked_there
+      ∙ ap (λ (b : Bool). edit e (without_name name time) (cond b (put_node i None t) (edit i (with_links (links_at t i - 1) time) t))) (ap (λ (m : ℕ). nat_le m 1) count ∙ le-leb n 1 few)

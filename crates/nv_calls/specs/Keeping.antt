@@ -47,6 +47,13 @@ pub record SettlesCallBy {P T : Type 0} (Kept : Mount P → Mount P → Type 0) 
   pub open of_path use *
   pub settled : OnOk result (NothingPending (region new.memory) (may_hold new.memory))
 
+-- What a call by the number of an inode keeps, and where it is done, nothing is pending.
+pub record SettlesInodeCallBy {P T : Type 0} (Kept : Mount P → Mount P → Type 0) (region : P → Region) (may_hold : P → Choices) (fuse : P → FuseState) (old new : Mount P)
+    (result : Result T Refusal) : Type 0 where
+  pub call : KeepsCallBy Kept region fuse old new result
+  pub open call use *
+  pub settled : OnOk result (NothingPending (region new.memory) (may_hold new.memory))
+
 -- The same of a call by paths that keeps the tables.
 abbrev pub KeepsPathCall : {P T : Type 0} → (P → Region) → (P → FuseState) → Type 0 → Mount P → Mount P → Result T Refusal → Type 0
 KeepsPathCall region fuse no_path old new result = KeepsPathCallBy KeepsMount region fuse no_path old new result

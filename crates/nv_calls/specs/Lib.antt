@@ -16,6 +16,7 @@ pub mod ReplaceCalls
 pub mod ReplaceStores
 pub mod ReplaceLogs
 pub mod ReplaceBlocks
+pub mod CanChange
 pub mod LinkCalls
 pub mod NameCalls
 pub mod RemoveCalls
@@ -31,5 +32,6 @@ pub mod Mounting
 pub mod InOrder
 pub mod ByNumber
 pub mod ChangesByNumber
+pub mod NamesByNumber
 pub mod Upgrading
 pub mod Growing

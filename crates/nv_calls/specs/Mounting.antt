@@ -1,5 +1,5 @@
 -- What a mount finds in a memory, and which memory comes back from it.
-use Rattle.std.specs.Prelude.{◌≡◌, ◌≢◌, ◌*◌, ℕ, List, Result, Ok, Err, IsTrue, IfErr}
+use Rattle.std.specs.Prelude.{◌≡◌, ◌≢◌, ◌*◌, ℕ, false, List, Result, Ok, Err, IsTrue, IfErr}
 use Rattle.nv_region.specs.Region.{Region}
 use Rattle.nv_region.specs.Stops.{Choices, LeavesOnly}
 use Rattle.nv_region.specs.Fuses.{FuseState, KeepsFuse}
@@ -8,17 +8,29 @@ use Rattle.nv_super.specs.declared.superblock.Super.{Super}
 use Rattle.nv_super.specs.Super.{IsSuper}
 use Rattle.nv_super.specs.declared.owners.Owner.{Owner}
 use Rattle.nv_outcome.specs.Outcome.{IsOutcome}
+use Rattle.nv_outcome.specs.declared.recovered.Recovered.{Recovered}
 use Rattle.nv_journal.specs.Undone.{AllQuiet}
 use Rattle.nv_journal.specs.Permitted.{slots_end}
 use Rattle.nv_recover.specs.Behind.{BehindSlots, RecoveryStores}
 use Rattle.nv_recover.specs.Errors.{UndoesAsBefore, comes_first}
 use Rattle.nv_recover.specs.declared.errors.RecoverError.{RecoverError}
 use Rattle.nv_recover.specs.declared.errors.RecoverError.TheVariants.{Stopped}
-use Rattle.nv_calls.specs.Mount.{Mount, told}
+use Rattle.nv_calls.specs.Mount.{Mount, has_faults, told}
 
 -- Superblock, rows, free lists and faults are those of the outcome of this region, in which some blocks may be doubled.
 abbrev pub TellsOutcome : {P : Type 0} → Region → Mount P → Type 0
 TellsOutcome R fs = ∥ ((doubled : List (ℕ × Owner)) × IsOutcome R (told fs.layout fs.rows fs.free doubled fs.faults)) ∥₁
+
+-- The mount of what a recovery found in a memory. It can only be read where there are faults.
+pub record IsMountOf {P : Type 0} (p : P) (found : Recovered) (m : Mount P) : Type 0 where
+  pub memory : m.memory ≡ p
+  pub sup : m.sup ≡ found.sup
+  pub layout : m.layout ≡ found.tables.layout
+  pub rows : m.rows ≡ found.rows.items
+  pub free : m.free ≡ found.free
+  pub faults : m.faults ≡ found.faults.items
+  pub read_only : m.read_only ≡ has_faults found.faults.items
+  pub stopped : m.stopped ≡ false
 
 -- the memory that comes back: it is mounted, or stands beside the error
 abbrev pub memory_back : {P : Type 0} → Result (Mount P) (P × RecoverError) → P

@@ -53,9 +53,12 @@ MayHaveGrown m cpu l free = ((l ≡ m.layout) × (free ≡ m.free.pools))
 
 -- The same of a call by which the table of a CPU may grow: by such tables and free lists recovery finds what was mounted, or what the
 -- call makes of it.
+abbrev pub StopGrows : {P : Type 0} → ℕ → Region → Mount P → Tree → (Region → Type 0) → Region → Type 0
+StopGrows cpu R m made Logged left = ∥ ((l : Layout) × (free : List (List Run)) × MayHaveGrown m cpu l free × (IsAsMounted R l m.rows free left ⊎ IsAsMade l made Logged left)) ∥₁
+
+-- the same by the names of a path
 abbrev pub LeavesGrowing : {P : Type 0} → ℕ → Makes P → Logs P → Region → Mount P → List (List ℕ) → Region → Type 0
-LeavesGrowing cpu makes logs R m names left =
-    ∥ ((l : Layout) × (free : List (List Run)) × MayHaveGrown m cpu l free × (IsAsMounted R l m.rows free left ⊎ IsAsMade l (makes R m names) (logs R m names) left)) ∥₁
+LeavesGrowing cpu makes logs R m names left = StopGrows cpu R m (makes R m names) (logs R m names) left
 
 -- Recovery finds what is mounted.
 abbrev pub LeavesMounted : {P : Type 0} → Region → Mount P → Region → Type 0

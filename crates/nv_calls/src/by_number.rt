@@ -8,9 +8,11 @@ ghost use Rattle.nv_paths.specs.Seen.{node_of};
 ghost use Rattle.nv_calls.specs.ByNumber.{IsInodeRead, IsInodeReadInto, IsInodeStat, ListsInode, list_inode_tests, read_inode_tests, stat_inode_tests};
 ghost use Rattle.nv_calls.specs.Listing.{name_and_inode};
 ghost use Rattle.nv_calls.specs.Mount.{shown};
+ghost use Rattle.nv_calls.specs.NamesByNumber.{IsStatNamed, lookup_inode_tests};
 
 use crate::Fs;
 use nv_names::Named;
+use nv_paths::row_named;
 use nv_region::Pmem;
 use nv_rows::stat_of;
 use nv_scan::Row;
@@ -92,6 +94,25 @@ impl<P: Pmem + Drop> Fs<P> {
             Ok(listed) => Ok(listed),
             Err(_) => Err(Refusal::Memory),
         }
+    }
+
+    /// The numbers of the inode that a name of the directory of this number stands for. It takes no memory.
+    ///
+    /// Errors, the first that applies:
+    /// - `Stopped` after a stop
+    /// - `BadName` where no path can say the name
+    /// - `NotFound` where no inode in use has the directory's number, and `NotDirectory` where a file has it
+    /// - `NotFound` where no inode in use has the name
+    pub fn lookup_inode(&self, directory: u64, name: &[u8]) -> Result<Stat, Refusal>
+        ensures stopped { IsTrue self.now.stopped → result ≡ Result.Err Refusal.Stopped }
+        ensures ok { IfOk result (IsStatNamed (shown P.region self.now) directory name.now) }
+        ensures allowed { OnOk result (first_refusal (lookup_inode_tests (shown P.region self.now) directory name.now) ≡ Option.None) }
+        ensures refused { self.now.stopped ≡ false → IfErr result (λ e. first_refusal (lookup_inode_tests (shown P.region self.now) directory name.now) ≡ Option.Some e) }
+    {
+        if self.stopped {
+            return Err(Refusal::Stopped);
+        }
+        Ok(stat_of(row_named(&self.rows, directory, name)?))
     }
 
     // The row of the inode in use of this number.

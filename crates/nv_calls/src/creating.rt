@@ -1,6 +1,6 @@
 //! `create` and `mkdir`: a new inode and its name. In version 2 the table of the CPU grows where no slot of it is unused.
 
-ghost use Rattle.std.specs.Prelude.{◌≡◌, ◌+◌, ◌≤◌, ◌%◌, ℕ, List, Option, Result, IfErr, IsTrue, OnOk, false};
+ghost use Rattle.std.specs.Prelude.{◌≡◌, ◌+◌, ◌≤◌, ◌%◌, ℕ, List, Option, Result, IfOk, IfErr, IsTrue, OnOk, false};
 ghost use Rattle.nv_region.specs.Stops.{LeavesOnly, NothingPending};
 ghost use Rattle.nv_journal.specs.InOrder.{FirstIsFirst};
 ghost use Rattle.nv_super.specs.declared.kind.Kind.TheVariants.{File, Directory};
@@ -19,20 +19,21 @@ ghost use Rattle.nv_tree.specs.Tree.{SameTree, walk};
 ghost use Rattle.nv_tree.specs.Calls.{created};
 ghost use Rattle.nv_tree.specs.Refusals.{Path, create_tests, first_refusal, IsRefusedBy};
 ghost use Rattle.nv_calls.specs.NameCalls.{ShowsCreated, create_blocks};
+ghost use Rattle.nv_calls.specs.NamesByNumber.{CreateStoresIn, create_inode_blocks, create_inode_tests, created_in, logs_created_in};
 ghost use Rattle.nv_steps.specs.NameEntries.{name_entries};
 ghost use Rattle.nv_commit.specs.Stopped.{LeavesEither};
 ghost use Rattle.nv_steps.specs.Stopped.{Named};
 ghost use Rattle.nv_calls.specs.AtPlaces.{CreatesAt, KeepsRows};
 ghost use Rattle.nv_calls.specs.Growing.{CanCreate, CanGetSlot, CreatesGrown, KeepsTables, LeavesCreated, create_places, grown_blocks};
 ghost use Rattle.nv_calls.specs.Effects.{logs_inode, makes_inode};
-ghost use Rattle.nv_calls.specs.Stopped.{LeavesGrowing};
+ghost use Rattle.nv_calls.specs.Stopped.{LeavesGrowing, StopGrows};
 ghost use Rattle.nv_steps.specs.Steps.{RefusesStep, ShowsRow};
 ghost use Rattle.nv_steps.specs.InOrder.{tail_address};
 ghost use Rattle.nv_paths.specs.Spots.{new_number};
 ghost use Rattle.nv_calls.specs.World.{world_of};
 ghost use Rattle.nv_steps.specs.Stores.{StoresIn, one_more};
 ghost use Rattle.nv_calls.specs.Mount.{shown};
-ghost use Rattle.nv_calls.specs.Keeping.{IsNoPath, SettlesCallBy};
+ghost use Rattle.nv_calls.specs.Keeping.{IsNoPath, SettlesCallBy, SettlesInodeCallBy};
 ghost use Rattle.nv_calls.specs.Same.{GrowsMount, IsLaidFor};
 ghost use Rattle.nv_calls.specs.Storing.{CreateStores};
 
@@ -44,7 +45,7 @@ use nv_alloc::Allocators;
 use nv_entry::{Operation, name_entry};
 use nv_inode::Tables;
 use nv_logpage::pages_needed;
-use nv_paths::spot_for;
+use nv_paths::{directory_for, spot_in};
 use nv_region::Pmem;
 use nv_rows::Rows;
 use nv_steps::{NewName, make_named};
@@ -260,13 +261,145 @@ impl<P: Pmem + Drop> Fs<P> {
             (P.region self.old.memory) self.old names) }
     {
         self.writable(cpu.0)?;
-        let spot = spot_for(&self.rows, &self.tables, cpu.0, path)?;
+        let (directory, name) = directory_for(&self.rows, path)?;
+        match self.make_inode(cpu, directory, name, kind, mode, time) {
+            Ok(_) => Ok(()),
+            Err(refusal) => Err(refusal),
+        }
+    }
+
+    /// Makes a file of this mode, of which the low 12 bits are kept, with this name in the directory of this number. It answers
+    /// the new file's number.
+    ///
+    /// Errors, the first that applies:
+    /// - `Stopped` after a stop
+    /// - `BadCpu` where there is no CPU of that number
+    /// - `ReadOnly` where the region was mounted with faults
+    /// - `BadName` where no path can say the name
+    /// - `NotFound` where no inode in use has the directory's number, and `NotDirectory` where a file has it
+    /// - `Exists` where an inode in use has the name
+    /// - `NoInodes` where the CPU's table has no unused slot, in version 1 alone: in version 2 the table grows by a block then
+    /// - `NoSpace` where fewer blocks are free than both logs need, and the table where it grows
+    ///
+    /// Besides these `Memory` where a growth was refused, and `Stopped` where the fuse burns. All but `Stopped` leave
+    /// everything as it was.
+    pub fn create_inode(
+        &mut self,
+        cpu: Cpu,
+        directory: u64,
+        name: &[u8],
+        mode: u32,
+        time: Time,
+    ) -> Result<u64, Refusal>
+        ensures allowed { OnOk result (first_refusal (create_inode_tests (world_of self.old) (shown P.region self.old) cpu directory name.now
+            (create_inode_blocks self.old.layout self.old.rows cpu directory name.now)) ≡ Option.None) }
+        ensures refused { self.old.stopped ≡ false
+            → IfErr result (IsRefusedBy (first_refusal (create_inode_tests (world_of self.old) (shown P.region self.old) cpu directory name.now
+            (create_inode_blocks self.old.layout self.old.rows cpu directory name.now)))) }
+        ensures number { IfOk result (λ i. new_number self.old.layout self.old.rows cpu ≡ Option.Some i) }
+        ensures changed { OnOk result (SameTree (shown P.region self.new) (created_in File (new_number self.old.layout self.old.rows cpu) directory name.now mode time
+            (shown P.region self.old))) }
+        // The table of the CPU has grown just where the number of the new inode had no slot.
+        ensures tables { OnOk result (IsLaidFor self.old.layout cpu (new_number self.old.layout self.old.rows cpu) self.new.layout) }
+        // The log of the directory has one entry more, the new inode's log is one entry, and no other log has changed.
+        ensures log { (j : ℕ) (held : Store) (h : Held) → new_number self.old.layout self.old.rows cpu ≡ Option.Some j
+            → ShowsSound (P.region self.old.memory) self.old.layout held → held directory ≡ Option.Some h
+            → OnOk result (ShowsCreated (P.region self.new.memory) self.old.layout self.old.free.pools cpu held File mode time j directory h name.now) }
+        // What every call that writes keeps, but that the table of the CPU may grow.
+        ensures call { SettlesInodeCallBy (GrowsMount cpu) P.region P.may_hold P.fuse self.old self.new result }
+        // Where it stores, and in which order.
+        ensures stores { CreateStoresIn P.region self.old self.new cpu directory result }
+        // Whatever a stop leaves, at any exit: recovery finds what was mounted, or what the call makes, without faults. The table
+        // of the CPU may have grown.
+        ensures any_stop { self.old.stopped ≡ false → self.old.read_only ≡ false
+            → LeavesOnly (P.region self.new.memory) (P.may_hold self.new.memory) (StopGrows cpu (P.region self.old.memory) self.old
+            (created_in File (new_number self.old.layout self.old.rows cpu) directory name.now mode time (shown P.region self.old))
+            (logs_created_in File cpu mode time directory name.now (P.region self.old.memory) self.old)) }
+    {
+        self.make_inode(cpu, directory, name, Kind::File, mode, time)
+    }
+
+    /// Makes a directory of this mode, of which the low 12 bits are kept, with this name in the directory of this number. It
+    /// answers the new directory's number. Errors as `create_inode` has them.
+    pub fn mkdir_inode(
+        &mut self,
+        cpu: Cpu,
+        directory: u64,
+        name: &[u8],
+        mode: u32,
+        time: Time,
+    ) -> Result<u64, Refusal>
+        ensures allowed { OnOk result (first_refusal (create_inode_tests (world_of self.old) (shown P.region self.old) cpu directory name.now
+            (create_inode_blocks self.old.layout self.old.rows cpu directory name.now)) ≡ Option.None) }
+        ensures refused { self.old.stopped ≡ false
+            → IfErr result (IsRefusedBy (first_refusal (create_inode_tests (world_of self.old) (shown P.region self.old) cpu directory name.now
+            (create_inode_blocks self.old.layout self.old.rows cpu directory name.now)))) }
+        ensures number { IfOk result (λ i. new_number self.old.layout self.old.rows cpu ≡ Option.Some i) }
+        ensures changed { OnOk result (SameTree (shown P.region self.new) (created_in Directory (new_number self.old.layout self.old.rows cpu) directory name.now mode time
+            (shown P.region self.old))) }
+        // The table of the CPU has grown just where the number of the new inode had no slot.
+        ensures tables { OnOk result (IsLaidFor self.old.layout cpu (new_number self.old.layout self.old.rows cpu) self.new.layout) }
+        // The log of the directory has one entry more, the new inode's log is one entry, and no other log has changed.
+        ensures log { (j : ℕ) (held : Store) (h : Held) → new_number self.old.layout self.old.rows cpu ≡ Option.Some j
+            → ShowsSound (P.region self.old.memory) self.old.layout held → held directory ≡ Option.Some h
+            → OnOk result (ShowsCreated (P.region self.new.memory) self.old.layout self.old.free.pools cpu held Directory mode time j directory h name.now) }
+        // What every call that writes keeps, but that the table of the CPU may grow.
+        ensures call { SettlesInodeCallBy (GrowsMount cpu) P.region P.may_hold P.fuse self.old self.new result }
+        // Where it stores, and in which order.
+        ensures stores { CreateStoresIn P.region self.old self.new cpu directory result }
+        // Whatever a stop leaves, at any exit: recovery finds what was mounted, or what the call makes, without faults. The table
+        // of the CPU may have grown.
+        ensures any_stop { self.old.stopped ≡ false → self.old.read_only ≡ false
+            → LeavesOnly (P.region self.new.memory) (P.may_hold self.new.memory) (StopGrows cpu (P.region self.old.memory) self.old
+            (created_in Directory (new_number self.old.layout self.old.rows cpu) directory name.now mode time (shown P.region self.old))
+            (logs_created_in Directory cpu mode time directory name.now (P.region self.old.memory) self.old)) }
+    {
+        self.make_inode(cpu, directory, name, Kind::Directory, mode, time)
+    }
+
+    /// Makes an inode of a kind: what `create_inode` and `mkdir_inode` do.
+    fn make_inode(
+        &mut self,
+        cpu: Cpu,
+        directory: u64,
+        name: &[u8],
+        kind: Kind,
+        mode: u32,
+        time: Time,
+    ) -> Result<u64, Refusal>
+        ensures allowed { OnOk result (first_refusal (create_inode_tests (world_of self.old) (shown P.region self.old) cpu directory name.now
+            (create_inode_blocks self.old.layout self.old.rows cpu directory name.now)) ≡ Option.None) }
+        ensures refused { self.old.stopped ≡ false
+            → IfErr result (IsRefusedBy (first_refusal (create_inode_tests (world_of self.old) (shown P.region self.old) cpu directory name.now
+            (create_inode_blocks self.old.layout self.old.rows cpu directory name.now)))) }
+        ensures number { IfOk result (λ i. new_number self.old.layout self.old.rows cpu ≡ Option.Some i) }
+        ensures changed { OnOk result (SameTree (shown P.region self.new) (created_in kind (new_number self.old.layout self.old.rows cpu) directory name.now mode time
+            (shown P.region self.old))) }
+        // The table of the CPU has grown just where the number of the new inode had no slot.
+        ensures tables { OnOk result (IsLaidFor self.old.layout cpu (new_number self.old.layout self.old.rows cpu) self.new.layout) }
+        // The log of the directory has one entry more, the new inode's log is one entry, and no other log has changed.
+        ensures log { (j : ℕ) (held : Store) (h : Held) → new_number self.old.layout self.old.rows cpu ≡ Option.Some j
+            → ShowsSound (P.region self.old.memory) self.old.layout held → held directory ≡ Option.Some h
+            → OnOk result (ShowsCreated (P.region self.new.memory) self.old.layout self.old.free.pools cpu held kind mode time j directory h name.now) }
+        // What every call that writes keeps, but that the table of the CPU may grow.
+        ensures call { SettlesInodeCallBy (GrowsMount cpu) P.region P.may_hold P.fuse self.old self.new result }
+        // Where it stores, and in which order.
+        ensures stores { CreateStoresIn P.region self.old self.new cpu directory result }
+        // Whatever a stop leaves, at any exit: recovery finds what was mounted, or what the call makes, without faults. The table
+        // of the CPU may have grown.
+        ensures any_stop { self.old.stopped ≡ false → self.old.read_only ≡ false
+            → LeavesOnly (P.region self.new.memory) (P.may_hold self.new.memory) (StopGrows cpu (P.region self.old.memory) self.old
+            (created_in kind (new_number self.old.layout self.old.rows cpu) directory name.now mode time (shown P.region self.old))
+            (logs_created_in kind cpu mode time directory name.now (P.region self.old.memory) self.old)) }
+    {
+        self.writable(cpu.0)?;
+        let inode = spot_in(&self.rows, &self.tables, cpu.0, directory, name)?;
         let new = NewName {
-            inode: spot.inode,
+            inode,
             kind,
             mode,
             time: time.0,
-            name: spot.name,
+            name,
         };
         match create_at(
             self.alloc,
@@ -275,10 +408,10 @@ impl<P: Pmem + Drop> Fs<P> {
             &mut self.free,
             cpu.0,
             &mut self.rows,
-            spot.directory,
+            directory,
             &new,
         ) {
-            Ok(()) => Ok(()),
+            Ok(()) => Ok(inode),
             Err(refusal) => {
                 self.stopped = is_stop(refusal);
                 Err(refusal)

@@ -16,7 +16,8 @@ ghost use Rattle.nv_tree.specs.Refusals.{Path, first_refusal, stat_tests};
 ghost use Rattle.nv_tree.specs.declared.refusal.Refusal.{Refusal as RefusalValue};
 ghost use Rattle.nv_paths.specs.Seen.{node_of, LeadsTo};
 ghost use Rattle.nv_paths.specs.Spots.{new_number};
-ghost use Rattle.nv_calls.specs.Mount.{IsKept, has_faults, shown};
+ghost use Rattle.nv_calls.specs.Mount.{IsKept, shown};
+ghost use Rattle.nv_calls.specs.Mounting.{IsMountOf};
 ghost use Rattle.nv_calls.specs.Stopped.{LeavesMounted};
 
 use crate::arguments::Cpu;
@@ -82,14 +83,7 @@ impl<P: Pmem + Drop> Fs<P> {
         requires numbers { HasNumbersOf recovered.tables.layout recovered.rows }
         requires own { undone recovered.sup (P.region memory) ≡ P.region memory }
         requires settled { NothingPending (P.region memory) (P.may_hold memory) }
-        ensures memory { result.memory ≡ memory }
-        ensures sup { result.sup ≡ recovered.sup }
-        ensures layout { result.layout ≡ recovered.tables.layout }
-        ensures rows { result.rows ≡ recovered.rows.items }
-        ensures free { result.free ≡ recovered.free }
-        ensures faults { result.faults ≡ recovered.faults.items }
-        ensures read_only { result.read_only ≡ has_faults recovered.faults.items }
-        ensures stopped { result.stopped ≡ false }
+        ensures { IsMountOf memory recovered result }
     {
         let Recovered {
             sup: _,

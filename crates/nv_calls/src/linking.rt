@@ -21,7 +21,8 @@ ghost use Rattle.nv_steps.specs.NameEntries.{links_entries, name_entries};
 ghost use Rattle.nv_steps.specs.MoreNames.{LinksAt};
 ghost use Rattle.nv_steps.specs.NewNames.{CanName};
 ghost use Rattle.nv_calls.specs.Effects.{logs_link, makes_link};
-ghost use Rattle.nv_calls.specs.Stopped.{LeavesCall};
+ghost use Rattle.nv_calls.specs.NamesByNumber.{LinkStoresIn, link_inode_blocks, link_inode_tests, linked_in, logs_linked_in};
+ghost use Rattle.nv_calls.specs.Stopped.{LeavesCall, StopLeaves};
 ghost use Rattle.nv_steps.specs.Stopped.{Linked};
 ghost use Rattle.nv_paths.specs.Seen.{LeadsTo};
 ghost use Rattle.nv_steps.specs.Steps.{RefusesStep, ShowsRow};
@@ -29,7 +30,7 @@ ghost use Rattle.nv_steps.specs.InOrder.{TailIsFirst, tail_address};
 ghost use Rattle.nv_calls.specs.World.{world_of};
 ghost use Rattle.nv_steps.specs.Stores.{StoresIn, two_logs};
 ghost use Rattle.nv_calls.specs.Mount.{shown};
-ghost use Rattle.nv_calls.specs.Keeping.{AreNoPaths, SettlesCall};
+ghost use Rattle.nv_calls.specs.Keeping.{AreNoPaths, KeepsCall, SettlesCall};
 ghost use Rattle.nv_calls.specs.Storing.{LinkStores};
 ghost use Rattle.nv_calls.specs.AtPlaces.{KeepsRows};
 
@@ -38,7 +39,7 @@ use crate::arguments::{Cpu, Time};
 use crate::writing::is_stop;
 use nv_alloc::Allocators;
 use nv_inode::Tables;
-use nv_paths::{Named, link_for};
+use nv_paths::{Named, link_for, link_in};
 use nv_region::Pmem;
 use nv_rows::Rows;
 use nv_steps::link_both;
@@ -155,6 +156,57 @@ impl<P: Pmem + Drop> Fs<P> {
     {
         self.writable(cpu.0)?;
         let named = link_for(&self.rows, old, new)?;
+        self.link_inode(cpu, named.target, named.directory, named.name, time)
+    }
+
+    /// Gives the file of this number one name more, in the directory of this number.
+    ///
+    /// Errors, the first that applies:
+    /// - `Stopped` after a stop
+    /// - `BadCpu` where there is no CPU of that number
+    /// - `ReadOnly` where the region was mounted with faults
+    /// - `BadName` where no path can say the name
+    /// - `NotFound` where no inode in use has the directory's number, and `NotDirectory` where a file has it
+    /// - `NotFound` where no inode in use has the file's number, and `IsDirectory` where a directory has it
+    /// - `Exists` where an inode in use has the name
+    /// - `LinkLimit` where the file has 1,000 links
+    /// - `NoSpace` where fewer blocks are free than both logs need
+    ///
+    /// Besides these `Memory` where a growth was refused, and `Stopped` where the fuse burns. All but `Stopped` leave
+    /// everything as it was.
+    pub fn link_inode(
+        &mut self,
+        cpu: Cpu,
+        inode: u64,
+        directory: u64,
+        name: &[u8],
+        time: Time,
+    ) -> Result<(), Refusal>
+        ensures allowed { OnOk result (first_refusal (link_inode_tests (world_of self.old) (shown P.region self.old) cpu inode directory name.now
+            (link_inode_blocks self.old.rows inode directory name.now)) ≡ Option.None) }
+        ensures refused { self.old.stopped ≡ false
+            → IfErr result (IsRefusedBy (first_refusal (link_inode_tests (world_of self.old) (shown P.region self.old) cpu inode directory name.now
+            (link_inode_blocks self.old.rows inode directory name.now)))) }
+        ensures changed { OnOk result (SameTree (shown P.region self.new) (linked_in inode directory name.now time (shown P.region self.old))) }
+        // The log of the file and that of the directory have one entry more, and no other log has changed.
+        ensures log { OnOk result (logs_linked_in cpu time inode directory name.now (P.region self.old.memory) self.old (P.region self.new.memory)) }
+        // What every call that writes keeps.
+        ensures call { KeepsCall P.region P.fuse self.old self.new result }
+        ensures settled { OnOk result (NothingPending (P.region self.new.memory) (P.may_hold self.new.memory)) }
+        // Where it stores, and in which order.
+        ensures stores { LinkStoresIn P.region self.old self.new cpu inode directory time result }
+        // Whatever a stop leaves, at any exit: recovery finds what was mounted, or what the call makes, without faults.
+        ensures any_stop { self.old.stopped ≡ false → self.old.read_only ≡ false
+            → LeavesOnly (P.region self.new.memory) (P.may_hold self.new.memory) (StopLeaves (P.region self.old.memory) self.old.layout self.old.rows self.old.free.pools
+            (linked_in inode directory name.now time (shown P.region self.old)) (logs_linked_in cpu time inode directory name.now (P.region self.old.memory) self.old)) }
+    {
+        self.writable(cpu.0)?;
+        link_in(&self.rows, inode, directory, name)?;
+        let named = Named {
+            directory,
+            name,
+            target: inode,
+        };
         match link_at(
             self.alloc,
             &mut self.memory,

@@ -1,7 +1,7 @@
 //! `rmdir`: a directory without names goes, and its name.
 
 ghost use Rattle.std.specs.Prelude.{◌≡◌, ℕ, List, Option, Result, IfErr, OnOk, false};
-ghost use Rattle.nv_region.specs.Stops.{LeavesOnly};
+ghost use Rattle.nv_region.specs.Stops.{LeavesOnly, NothingPending};
 ghost use Rattle.nv_entry.specs.declared.entry.Operation.TheVariants.{Remove};
 ghost use Rattle.nv_mounted.specs.Held.{Held, Store};
 ghost use Rattle.nv_mounted.specs.Mounted.{ShowsSound};
@@ -13,18 +13,19 @@ ghost use Rattle.nv_calls.specs.NameCalls.{name_blocks};
 ghost use Rattle.nv_steps.specs.NameEntries.{name_entries};
 ghost use Rattle.nv_calls.specs.RemoveCalls.{ShowsRemoved};
 ghost use Rattle.nv_calls.specs.Effects.{logs_removal, makes_removal};
-ghost use Rattle.nv_calls.specs.Stopped.{LeavesCall};
+ghost use Rattle.nv_calls.specs.NamesByNumber.{RemoveStoresIn, entry_blocks, logs_removed_in, removed_in, rmdir_inode_tests};
+ghost use Rattle.nv_calls.specs.Stopped.{LeavesCall, StopLeaves};
 ghost use Rattle.nv_paths.specs.Seen.{LeadsTo};
 ghost use Rattle.nv_calls.specs.World.{world_of};
 ghost use Rattle.nv_calls.specs.Mount.{shown};
-ghost use Rattle.nv_calls.specs.Keeping.{IsNoPath, SettlesCall};
+ghost use Rattle.nv_calls.specs.Keeping.{IsNoPath, KeepsCall, SettlesCall};
 ghost use Rattle.nv_calls.specs.Storing.{RemoveStores};
 
 use crate::Fs;
 use crate::arguments::{Cpu, Time};
 use crate::removing::remove_named;
 use crate::writing::is_stop;
-use nv_paths::rmdir_for;
+use nv_paths::{Named, directory_for, rmdir_in};
 use nv_region::Pmem;
 use nv_tree::Refusal;
 
@@ -65,7 +66,57 @@ impl<P: Pmem + Drop> Fs<P> {
             → LeavesOnly (P.region self.new.memory) (P.may_hold self.new.memory) (LeavesCall (makes_removal time) (logs_removal cpu time) (P.region self.old.memory) self.old names) }
     {
         self.writable(cpu.0)?;
-        let named = rmdir_for(&self.rows, path)?;
+        let (directory, name) = directory_for(&self.rows, path)?;
+        self.rmdir_inode(cpu, directory, name, time)
+    }
+
+    /// Takes a directory without names away, and its name in the directory of this number.
+    ///
+    /// Errors, the first that applies:
+    /// - `Stopped` after a stop
+    /// - `BadCpu` where there is no CPU of that number
+    /// - `ReadOnly` where the region was mounted with faults
+    /// - `BadName` where no path can say the name
+    /// - `NotFound` where no inode in use has the directory's number, and `NotDirectory` where a file has it
+    /// - `NotFound` where no inode in use has the name
+    /// - `NotDirectory` for a file
+    /// - `NotEmpty` where names are in it
+    /// - `NoSpace` where fewer blocks are free than the log needs
+    ///
+    /// Besides these `Memory` where a growth was refused, and `Stopped` where the fuse burns. All but `Stopped` leave
+    /// everything as it was.
+    pub fn rmdir_inode(
+        &mut self,
+        cpu: Cpu,
+        directory: u64,
+        name: &[u8],
+        time: Time,
+    ) -> Result<(), Refusal>
+        ensures allowed { OnOk result (first_refusal (rmdir_inode_tests (world_of self.old) (shown P.region self.old) cpu directory name.now
+            (entry_blocks self.old.rows directory name.now)) ≡ Option.None) }
+        ensures refused { self.old.stopped ≡ false
+            → IfErr result (IsRefusedBy (first_refusal (rmdir_inode_tests (world_of self.old) (shown P.region self.old) cpu directory name.now
+            (entry_blocks self.old.rows directory name.now)))) }
+        ensures changed { OnOk result (SameTree (shown P.region self.new) (removed_in directory name.now time (shown P.region self.old))) }
+        // The log of the directory in which it stood has one entry more, and no other log has changed.
+        ensures log { OnOk result (logs_removed_in cpu time directory name.now (P.region self.old.memory) self.old (P.region self.new.memory)) }
+        // What every call that writes keeps.
+        ensures call { KeepsCall P.region P.fuse self.old self.new result }
+        ensures settled { OnOk result (NothingPending (P.region self.new.memory) (P.may_hold self.new.memory)) }
+        // Where it stores, and in which order.
+        ensures stores { RemoveStoresIn P.region self.old self.new cpu directory name.now time result }
+        // Whatever a stop leaves, at any exit: recovery finds what was mounted, or what the call makes, without faults.
+        ensures any_stop { self.old.stopped ≡ false → self.old.read_only ≡ false
+            → LeavesOnly (P.region self.new.memory) (P.may_hold self.new.memory) (StopLeaves (P.region self.old.memory) self.old.layout self.old.rows self.old.free.pools
+            (removed_in directory name.now time (shown P.region self.old)) (logs_removed_in cpu time directory name.now (P.region self.old.memory) self.old)) }
+    {
+        self.writable(cpu.0)?;
+        let target = rmdir_in(&self.rows, directory, name)?;
+        let named = Named {
+            directory,
+            name,
+            target,
+        };
         match remove_named(
             self.alloc,
             &mut self.memory,

@@ -16,6 +16,7 @@ ghost use Rattle.nv_tree.specs.Tree.{Node, SameTree, walk};
 ghost use Rattle.nv_tree.specs.Calls.{renamed};
 ghost use Rattle.nv_tree.specs.Refusals.{Path, first_refusal, rename_tests, IsRefusedBy};
 ghost use Rattle.nv_steps.specs.Grown.{StandsRight};
+ghost use Rattle.nv_calls.specs.CanChange.{CanMoveAcross};
 ghost use Rattle.nv_calls.specs.GrownLogs.{ShowsGrownLog};
 ghost use Rattle.nv_calls.specs.LinkCalls.{ShowsBothGrew};
 ghost use Rattle.nv_calls.specs.MoveCalls.{MovesAcross, MovesAt, move_blocks, rename_blocks};
@@ -61,16 +62,7 @@ fn move_across<P: Pmem>(
     moved: &Move<'_>,
     time: u64,
 ) -> Result<(), Refusal>
-    requires target { IsInUse rows.old.items moved.now.from.target }
-    requires from { IsInUse rows.old.items moved.now.from.directory }
-    requires directory { IsInUse rows.old.items moved.now.directory }
-    requires apart { moved.now.from.directory ≢ moved.now.directory }
-    requires stands { (row : RowValue) → row_of rows.old.items moved.now.from.directory ≡ Option.Some row
-        → StandsRight (P.region memory.old) tables.now.layout free.old row × CanName (P.region memory.old) tables.now.layout cpu row.inode row }
-    requires other_stands { (row : RowValue) → row_of rows.old.items moved.now.directory ≡ Option.Some row
-        → StandsRight (P.region memory.old) tables.now.layout free.old row × CanName (P.region memory.old) tables.now.layout cpu row.inode row }
-    requires name { IsName moved.now.from.name.now }
-    requires other { IsName moved.now.name.now }
+    requires { CanMoveAcross (P.region memory.old) tables.now.layout free.old cpu rows.old.items moved.now.from.target moved.now.from.directory moved.now.directory moved.now.from.name.now moved.now.name.now }
     ensures moved { OnOk result (MovesAcross (P.region memory.old) (P.region memory.new) tables.now.layout free.old free.new cpu rows.old.items rows.new.items
         (place_in rows.old.items moved.now.from.directory)
         (place_in rows.old.items moved.now.from.target) (place_in rows.old.items moved.now.directory) moved.now.from.name.now moved.now.name.now time) }

@@ -1,23 +1,22 @@
 //! `replace` within one directory: another name for an inode, which it gets from an inode that goes or loses a link.
 
-ghost use Rattle.std.specs.Prelude.{◌≡◌, ◌≢◌, ◌+◌, ◌-◌, ◌%◌, ◌<◌, ◌≤◌, Option, IfErr, OnOk, true, false};
+ghost use Rattle.std.specs.Prelude.{◌≡◌, ◌+◌, ◌-◌, ◌%◌, ◌≤◌, Option, IfErr, OnOk, true, false};
 ghost use Rattle.nv_region.specs.Stops.{LeavesOnly, NothingPending};
 ghost use Rattle.nv_alloc.specs.Taking.{all_blocks};
 ghost use Rattle.nv_logpage.specs.Append.{needed};
 ghost use Rattle.nv_names.specs.Names.{IsName};
 ghost use Rattle.nv_scan.specs.declared.piece.Row.{Row as RowValue};
-ghost use Rattle.nv_rows.specs.Rows.{IsInUse, place_in, row_of};
+ghost use Rattle.nv_rows.specs.Rows.{place_in, row_of};
 ghost use Rattle.nv_mounted.specs.Held.{Held, Store};
 ghost use Rattle.nv_commit.specs.Stopped.{LeavesEither};
-ghost use Rattle.nv_steps.specs.Grown.{StandsRight};
-ghost use Rattle.nv_steps.specs.LessNames.{OwnsBlocks};
 ghost use Rattle.nv_steps.specs.Lessens.{Lessened, LessensAt};
 ghost use Rattle.nv_steps.specs.NameEntries.{links_entries};
-ghost use Rattle.nv_steps.specs.NewNames.{CanName};
 ghost use Rattle.nv_steps.specs.Steps.{RefusesStep, ShowsRow};
 ghost use Rattle.nv_steps.specs.InOrder.{TailIsFirst, tail_address};
 ghost use Rattle.nv_steps.specs.Stores.{StoresIn, one_less, two_logs};
 ghost use Rattle.nv_steps.specs.Takes.{TookWithin, take_entries};
+ghost use Rattle.nv_steps.specs.Keeping.{NeedsFree};
+ghost use Rattle.nv_calls.specs.CanChange.{CanReplaceHere, CanTakeAt, CanUnlinkAt};
 ghost use Rattle.nv_calls.specs.ReplaceCalls.{ReplacedHere, ReplacesHere, TakesAt, keeps_others, replace_here_blocks};
 ghost use Rattle.nv_calls.specs.AtPlaces.{KeepsRows};
 ghost use Rattle.nv_steps.specs.Slots.{slot_in};
@@ -51,13 +50,7 @@ fn take_at<P: Pmem>(
     there: u64,
     time: u64,
 ) -> Result<(), Refusal>
-    requires directory { IsInUse rows.old.items moved.now.directory }
-    requires there { IsInUse rows.old.items there }
-    requires stands { (row : RowValue) → row_of rows.old.items moved.now.directory ≡ Option.Some row → StandsRight (P.region memory.old) tables.now.layout free.old row }
-    requires can { (row gone : RowValue) → row_of rows.old.items moved.now.directory ≡ Option.Some row → row_of rows.old.items there ≡ Option.Some gone
-        → CanName (P.region memory.old) tables.now.layout cpu gone.inode row × (row.inode ≢ gone.inode) }
-    requires owns { (gone : RowValue) → row_of rows.old.items there ≡ Option.Some gone → OwnsBlocks free.old gone }
-    requires name { IsName moved.now.from.name.now }
+    requires can { CanTakeAt (P.region memory.old) tables.now.layout free.old cpu rows.old.items moved.now.directory there moved.now.from.name.now }
     requires other { IsName moved.now.name.now }
     ensures taken { OnOk result (TakesAt (P.region memory.old) (P.region memory.new) tables.now.layout free.old free.new cpu rows.old.items rows.new.items (place_in rows.old.items moved.now.directory)
         (place_in rows.old.items there) moved.now.from.target moved.now.from.name.now moved.now.name.now time) }
@@ -120,15 +113,7 @@ fn lessen_at<P: Pmem>(
     there: u64,
     time: u64,
 ) -> Result<(), Refusal>
-    requires directory { IsInUse rows.old.items moved.now.directory }
-    requires there { IsInUse rows.old.items there }
-    requires apart { moved.now.directory ≢ there }
-    requires more { (file : RowValue) → row_of rows.old.items there ≡ Option.Some file → 1 < file.numbers.links }
-    requires stands { (row : RowValue) → row_of rows.old.items moved.now.directory ≡ Option.Some row
-        → StandsRight (P.region memory.old) tables.now.layout free.old row × CanName (P.region memory.old) tables.now.layout cpu row.inode row }
-    requires file_stands { (file : RowValue) → row_of rows.old.items there ≡ Option.Some file
-        → StandsRight (P.region memory.old) tables.now.layout free.old file × CanName (P.region memory.old) tables.now.layout cpu file.inode file }
-    requires name { IsName moved.now.from.name.now }
+    requires can { CanUnlinkAt (P.region memory.old) tables.now.layout free.old cpu rows.old.items moved.now.directory there moved.now.from.name.now }
     requires other { IsName moved.now.name.now }
     ensures lessened { OnOk result (LessensAt (P.region memory.old) (P.region memory.new) tables.now.layout free.old free.new cpu rows.old.items rows.new.items
         (place_in rows.old.items moved.now.directory)
@@ -195,26 +180,13 @@ pub(crate) fn replace_within<P: Pmem>(
     there: u64,
     time: u64,
 ) -> Result<(), Refusal>
-    requires directory { IsInUse rows.old.items moved.now.directory }
-    requires there { IsInUse rows.old.items there }
-    requires apart { moved.now.directory ≢ there }
-    requires stands { (row : RowValue) → row_of rows.old.items moved.now.directory ≡ Option.Some row
-        → StandsRight (P.region memory.old) tables.now.layout free.old row × CanName (P.region memory.old) tables.now.layout cpu row.inode row }
-    requires there_stands { (file : RowValue) → row_of rows.old.items there ≡ Option.Some file
-        → StandsRight (P.region memory.old) tables.now.layout free.old file × CanName (P.region memory.old) tables.now.layout cpu file.inode file }
-    requires can { (row file : RowValue) → row_of rows.old.items moved.now.directory ≡ Option.Some row → row_of rows.old.items there ≡ Option.Some file
-        → CanName (P.region memory.old) tables.now.layout cpu file.inode row × (row.inode ≢ file.inode) }
-    requires owns { (file : RowValue) → row_of rows.old.items there ≡ Option.Some file → OwnsBlocks free.old file }
-    requires name { IsName moved.now.from.name.now }
-    requires other { IsName moved.now.name.now }
+    requires { CanReplaceHere (P.region memory.old) tables.now.layout free.old cpu rows.old.items moved.now.directory there moved.now.from.name.now moved.now.name.now }
     ensures replaced { OnOk result (ReplacesHere (P.region memory.old)
         (P.region memory.new) tables.now.layout free.old free.new cpu rows.old.items rows.new.items (place_in rows.old.items moved.now.directory)
         (place_in rows.old.items there) moved.now.from.target moved.now.from.name.now moved.now.name.now time) }
-    ensures enough { (row file : RowValue) → row_of rows.old.items moved.now.directory ≡ Option.Some row → row_of rows.old.items there ≡ Option.Some file
-        → OnOk result (replace_here_blocks row file moved.now.from.target moved.now.from.name.now moved.now.name.now time ≤ all_blocks free.old.pools) }
+    ensures needs { (row file : RowValue) → row_of rows.old.items moved.now.directory ≡ Option.Some row → row_of rows.old.items there ≡ Option.Some file
+        → NeedsFree (replace_here_blocks row file moved.now.from.target moved.now.from.name.now moved.now.name.now time) free.old result }
     ensures kept { KeepsRows P.region P.may_hold P.fuse memory.old memory.new free.old free.new rows.old rows.new result }
-    ensures refused { (row file : RowValue) → row_of rows.old.items moved.now.directory ≡ Option.Some row → row_of rows.old.items there ≡ Option.Some file
-        → IfErr result (λ e. RefusesStep e (replace_here_blocks row file moved.now.from.target moved.now.from.name.now moved.now.name.now time) free.old) }
     // Every word outside these places is as it was.
     ensures wrote { (row file : RowValue) (held : Store) (h f : Held) → row_of rows.old.items moved.now.directory ≡ Option.Some row → row_of rows.old.items there ≡ Option.Some file
         → ShowsRow (P.region memory.old) tables.now.layout held h row free.old → ShowsRow (P.region memory.old) tables.now.layout held f file free.old → keeps_others file ≡ true

@@ -1,24 +1,21 @@
 //! `replace` from one directory to another: a name of one inode that is given to another, by the logs of both.
 
-ghost use Rattle.std.specs.Prelude.{◌≡◌, ◌≢◌, ◌+◌, ◌-◌, ◌%◌, ◌<◌, ◌≤◌, Option, IsTrue, IfErr, OnOk, true, false};
+ghost use Rattle.std.specs.Prelude.{◌≡◌, ◌+◌, ◌-◌, ◌%◌, ◌≤◌, Option, IfErr, OnOk, true, false};
 ghost use Rattle.nv_steps.specs.Slots.{slot_in};
-ghost use Rattle.nv_inode.specs.Numbers.{has_slot};
 ghost use Rattle.nv_region.specs.Stops.{LeavesOnly, NothingPending};
 ghost use Rattle.nv_alloc.specs.Taking.{all_blocks};
 ghost use Rattle.nv_logpage.specs.Append.{needed};
-ghost use Rattle.nv_names.specs.Names.{IsName};
 ghost use Rattle.nv_scan.specs.declared.piece.Row.{Row as RowValue};
-ghost use Rattle.nv_rows.specs.Rows.{IsInUse, place_in, row_of};
+ghost use Rattle.nv_rows.specs.Rows.{place_in, row_of};
 ghost use Rattle.nv_mounted.specs.Held.{Held, Store};
 ghost use Rattle.nv_commit.specs.Stopped.{LeavesEither};
 ghost use Rattle.nv_steps.specs.Across.{LessenedAcross, TookAcross};
-ghost use Rattle.nv_steps.specs.Grown.{StandsRight};
 ghost use Rattle.nv_steps.specs.InOrder.{tail_address};
-ghost use Rattle.nv_steps.specs.LessNames.{OwnsBlocks};
 ghost use Rattle.nv_steps.specs.NameEntries.{links_entries};
-ghost use Rattle.nv_steps.specs.NewNames.{CanName};
 ghost use Rattle.nv_steps.specs.Steps.{RefusesStep, ShowsRow};
 ghost use Rattle.nv_steps.specs.Stores.{StoresIn, three_logs, two_less};
+ghost use Rattle.nv_steps.specs.Keeping.{NeedsFree};
+ghost use Rattle.nv_calls.specs.CanChange.{CanLessenOver, CanReplaceOver, CanTakeOver};
 ghost use Rattle.nv_calls.specs.ReplaceCalls.{HandsInOrder, LessensOver, ReplacedOver, ReplacesOver, TakesOver, hand_blocks, keeps_others, replace_over_blocks};
 ghost use Rattle.nv_calls.specs.AtPlaces.{KeepsRows};
 
@@ -50,18 +47,7 @@ fn take_over<P: Pmem>(
     there: u64,
     time: u64,
 ) -> Result<(), Refusal>
-    requires from { IsInUse rows.old.items moved.now.from.directory }
-    requires directory { IsInUse rows.old.items moved.now.directory }
-    requires there { IsInUse rows.old.items there }
-    requires apart { (moved.now.from.directory ≢ moved.now.directory) × (moved.now.from.directory ≢ there) × (moved.now.directory ≢ there) }
-    requires stands { (row : RowValue) → row_of rows.old.items moved.now.from.directory ≡ Option.Some row
-        → StandsRight (P.region memory.old) tables.now.layout free.old row × CanName (P.region memory.old) tables.now.layout cpu row.inode row }
-    requires to_stands { (row : RowValue) → row_of rows.old.items moved.now.directory ≡ Option.Some row
-        → StandsRight (P.region memory.old) tables.now.layout free.old row × CanName (P.region memory.old) tables.now.layout cpu row.inode row }
-    requires number { IsTrue (has_slot tables.now.layout there) }
-    requires owns { (gone : RowValue) → row_of rows.old.items there ≡ Option.Some gone → OwnsBlocks free.old gone }
-    requires name { IsName moved.now.from.name.now }
-    requires other { IsName moved.now.name.now }
+    requires { CanTakeOver (P.region memory.old) tables.now.layout free.old cpu rows.old.items moved.now.from.directory moved.now.directory there moved.now.from.name.now moved.now.name.now }
     ensures taken { OnOk result (TakesOver (P.region memory.old) (P.region memory.new) tables.now.layout free.old free.new cpu rows.old.items rows.new.items
         (place_in rows.old.items moved.now.from.directory) (place_in rows.old.items moved.now.directory)
         (place_in rows.old.items there) moved.now.from.target moved.now.from.name.now moved.now.name.now time) }
@@ -128,19 +114,7 @@ fn lessen_over<P: Pmem>(
     there: u64,
     time: u64,
 ) -> Result<(), Refusal>
-    requires from { IsInUse rows.old.items moved.now.from.directory }
-    requires directory { IsInUse rows.old.items moved.now.directory }
-    requires there { IsInUse rows.old.items there }
-    requires apart { (moved.now.from.directory ≢ moved.now.directory) × (moved.now.from.directory ≢ there) × (moved.now.directory ≢ there) }
-    requires stands { (row : RowValue) → row_of rows.old.items moved.now.from.directory ≡ Option.Some row
-        → StandsRight (P.region memory.old) tables.now.layout free.old row × CanName (P.region memory.old) tables.now.layout cpu row.inode row }
-    requires to_stands { (row : RowValue) → row_of rows.old.items moved.now.directory ≡ Option.Some row
-        → StandsRight (P.region memory.old) tables.now.layout free.old row × CanName (P.region memory.old) tables.now.layout cpu row.inode row }
-    requires file_stands { (row : RowValue) → row_of rows.old.items there ≡ Option.Some row
-        → StandsRight (P.region memory.old) tables.now.layout free.old row × CanName (P.region memory.old) tables.now.layout cpu row.inode row }
-    requires more { (file : RowValue) → row_of rows.old.items there ≡ Option.Some file → 1 < file.numbers.links }
-    requires name { IsName moved.now.from.name.now }
-    requires other { IsName moved.now.name.now }
+    requires { CanLessenOver (P.region memory.old) tables.now.layout free.old cpu rows.old.items moved.now.from.directory moved.now.directory there moved.now.from.name.now moved.now.name.now }
     ensures lessened { OnOk result (LessensOver (P.region memory.old) (P.region memory.new) tables.now.layout free.old free.new cpu rows.old.items rows.new.items
         (place_in rows.old.items moved.now.from.directory) (place_in rows.old.items moved.now.directory)
         (place_in rows.old.items there) moved.now.from.target moved.now.from.name.now moved.now.name.now time) }
@@ -204,30 +178,14 @@ pub(crate) fn replace_over<P: Pmem>(
     there: u64,
     time: u64,
 ) -> Result<(), Refusal>
-    requires from { IsInUse rows.old.items moved.now.from.directory }
-    requires directory { IsInUse rows.old.items moved.now.directory }
-    requires there { IsInUse rows.old.items there }
-    requires apart { (moved.now.from.directory ≢ moved.now.directory) × (moved.now.from.directory ≢ there) × (moved.now.directory ≢ there) }
-    requires stands { (row : RowValue) → row_of rows.old.items moved.now.from.directory ≡ Option.Some row
-        → StandsRight (P.region memory.old) tables.now.layout free.old row × CanName (P.region memory.old) tables.now.layout cpu row.inode row }
-    requires to_stands { (row : RowValue) → row_of rows.old.items moved.now.directory ≡ Option.Some row
-        → StandsRight (P.region memory.old) tables.now.layout free.old row × CanName (P.region memory.old) tables.now.layout cpu row.inode row }
-    requires there_stands { (row : RowValue) → row_of rows.old.items there ≡ Option.Some row
-        → StandsRight (P.region memory.old) tables.now.layout free.old row × CanName (P.region memory.old) tables.now.layout cpu row.inode row }
-    requires number { IsTrue (has_slot tables.now.layout there) }
-    requires owns { (file : RowValue) → row_of rows.old.items there ≡ Option.Some file → OwnsBlocks free.old file }
-    requires name { IsName moved.now.from.name.now }
-    requires other { IsName moved.now.name.now }
+    requires { CanReplaceOver (P.region memory.old) tables.now.layout free.old cpu rows.old.items moved.now.from.directory moved.now.directory there moved.now.from.name.now moved.now.name.now }
     ensures replaced { OnOk result (ReplacesOver (P.region memory.old) (P.region memory.new) tables.now.layout free.old free.new cpu rows.old.items rows.new.items
         (place_in rows.old.items moved.now.from.directory) (place_in rows.old.items moved.now.directory)
         (place_in rows.old.items there) moved.now.from.target moved.now.from.name.now moved.now.name.now time) }
-    ensures enough { (from to file : RowValue) → row_of rows.old.items moved.now.from.directory ≡ Option.Some from → row_of rows.old.items moved.now.directory ≡ Option.Some to
+    ensures needs { (from to file : RowValue) → row_of rows.old.items moved.now.from.directory ≡ Option.Some from → row_of rows.old.items moved.now.directory ≡ Option.Some to
         → row_of rows.old.items there ≡ Option.Some file
-        → OnOk result (replace_over_blocks from to file moved.now.from.target moved.now.from.name.now moved.now.name.now time ≤ all_blocks free.old.pools) }
+        → NeedsFree (replace_over_blocks from to file moved.now.from.target moved.now.from.name.now moved.now.name.now time) free.old result }
     ensures kept { KeepsRows P.region P.may_hold P.fuse memory.old memory.new free.old free.new rows.old rows.new result }
-    ensures refused { (from to file : RowValue) → row_of rows.old.items moved.now.from.directory ≡ Option.Some from → row_of rows.old.items moved.now.directory ≡ Option.Some to
-        → row_of rows.old.items there ≡ Option.Some file
-        → IfErr result (λ e. RefusesStep e (replace_over_blocks from to file moved.now.from.target moved.now.from.name.now moved.now.name.now time) free.old) }
     // Every word outside these places is as it was.
     ensures wrote { (from to file : RowValue) (held : Store) (h g f : Held) → row_of rows.old.items moved.now.from.directory ≡ Option.Some from
         → row_of rows.old.items moved.now.directory ≡ Option.Some to

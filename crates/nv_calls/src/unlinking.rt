@@ -17,13 +17,15 @@ ghost use Rattle.nv_tree.specs.Calls.{unlinked};
 ghost use Rattle.nv_tree.specs.Refusals.{Path, first_refusal, unlink_tests, IsRefusedBy};
 ghost use Rattle.nv_steps.specs.Grown.{StandsRight};
 ghost use Rattle.nv_steps.specs.LessNames.{OwnsBlocks};
+ghost use Rattle.nv_calls.specs.CanChange.{CanUnlinkAt};
 ghost use Rattle.nv_calls.specs.LinkCalls.{ShowsBothGrew};
 ghost use Rattle.nv_steps.specs.NameEntries.{links_entries, name_entries};
 ghost use Rattle.nv_steps.specs.NewNames.{CanName};
 ghost use Rattle.nv_calls.specs.AtPlaces.{KeepsRows, Releases, release_blocks};
 ghost use Rattle.nv_calls.specs.RemoveCalls.{ShowsRemoved};
 ghost use Rattle.nv_calls.specs.Effects.{LogsUnlink, makes_unlink};
-ghost use Rattle.nv_calls.specs.Stopped.{LeavesCall, Released};
+ghost use Rattle.nv_calls.specs.NamesByNumber.{LogsUnlinkedIn, UnlinkStoresIn, unlink_inode_blocks, unlink_inode_tests, unlinked_in};
+ghost use Rattle.nv_calls.specs.Stopped.{LeavesCall, Released, StopLeaves};
 ghost use Rattle.nv_steps.specs.Stopped.{Unlinked};
 ghost use Rattle.nv_paths.specs.Seen.{LeadsTo};
 ghost use Rattle.nv_steps.specs.Steps.{RefusesStep, ShowsRow};
@@ -33,7 +35,7 @@ ghost use Rattle.nv_steps.specs.Unlinks.{UnlinksAt};
 ghost use Rattle.nv_calls.specs.World.{world_of};
 ghost use Rattle.nv_steps.specs.Stores.{StoresIn, one_less, two_logs};
 ghost use Rattle.nv_calls.specs.Mount.{shown};
-ghost use Rattle.nv_calls.specs.Keeping.{IsNoPath, SettlesCall};
+ghost use Rattle.nv_calls.specs.Keeping.{IsNoPath, KeepsCall, SettlesCall};
 ghost use Rattle.nv_calls.specs.Storing.{UnlinkStores};
 ghost use Rattle.nv_steps.specs.Slots.{slot_in};
 
@@ -43,7 +45,7 @@ use crate::removing::remove_named;
 use crate::writing::is_stop;
 use nv_alloc::Allocators;
 use nv_inode::Tables;
-use nv_paths::{Named, unlink_for};
+use nv_paths::{Named, directory_for, unlink_in};
 use nv_region::Pmem;
 use nv_rows::Rows;
 use nv_scan::Row;
@@ -66,15 +68,7 @@ fn unlink_at<P: Pmem>(
     named: &Named<'_>,
     time: u64,
 ) -> Result<(), Refusal>
-    requires directory { IsInUse rows.old.items named.now.directory }
-    requires target { IsInUse rows.old.items named.now.target }
-    requires apart { named.now.directory ≢ named.now.target }
-    requires more { (file : RowValue) → row_of rows.old.items named.now.target ≡ Option.Some file → 1 < file.numbers.links }
-    requires stands { (row : RowValue) → row_of rows.old.items named.now.directory ≡ Option.Some row
-        → StandsRight (P.region memory.old) tables.now.layout free.old row × CanName (P.region memory.old) tables.now.layout cpu row.inode row }
-    requires file_stands { (file : RowValue) → row_of rows.old.items named.now.target ≡ Option.Some file
-        → StandsRight (P.region memory.old) tables.now.layout free.old file × CanName (P.region memory.old) tables.now.layout cpu file.inode file }
-    requires name { IsName named.now.name.now }
+    requires { CanUnlinkAt (P.region memory.old) tables.now.layout free.old cpu rows.old.items named.now.directory named.now.target named.now.name.now }
     ensures unlinked { OnOk result (UnlinksAt (P.region memory.old) (P.region memory.new) tables.now.layout free.old free.new cpu rows.old.items rows.new.items
         (place_in rows.old.items named.now.directory)
         (place_in rows.old.items named.now.target) named.now.name.now time) }
@@ -238,7 +232,57 @@ impl<P: Pmem + Drop> Fs<P> {
             → LeavesOnly (P.region self.new.memory) (P.may_hold self.new.memory) (LeavesCall (makes_unlink time) (LogsUnlink cpu time) (P.region self.old.memory) self.old names) }
     {
         self.writable(cpu.0)?;
-        let named = unlink_for(&self.rows, path)?;
+        let (directory, name) = directory_for(&self.rows, path)?;
+        self.unlink_inode(cpu, directory, name, time)
+    }
+
+    /// Takes a name of a file out of the directory of this number, and with the last one the file.
+    ///
+    /// Errors, the first that applies:
+    /// - `Stopped` after a stop
+    /// - `BadCpu` where there is no CPU of that number
+    /// - `ReadOnly` where the region was mounted with faults
+    /// - `BadName` where no path can say the name
+    /// - `NotFound` where no inode in use has the directory's number, and `NotDirectory` where a file has it
+    /// - `NotFound` where no inode in use has the name
+    /// - `IsDirectory` for a directory
+    /// - `NoSpace` where fewer blocks are free than the logs need
+    ///
+    /// Besides these `Memory` where a growth was refused, and `Stopped` where the fuse burns. All but `Stopped` leave
+    /// everything as it was.
+    pub fn unlink_inode(
+        &mut self,
+        cpu: Cpu,
+        directory: u64,
+        name: &[u8],
+        time: Time,
+    ) -> Result<(), Refusal>
+        ensures allowed { OnOk result (first_refusal (unlink_inode_tests (world_of self.old) (shown P.region self.old) cpu directory name.now
+            (unlink_inode_blocks self.old.rows (shown P.region self.old) directory name.now)) ≡ Option.None) }
+        ensures refused { self.old.stopped ≡ false
+            → IfErr result (IsRefusedBy (first_refusal (unlink_inode_tests (world_of self.old) (shown P.region self.old) cpu directory name.now
+            (unlink_inode_blocks self.old.rows (shown P.region self.old) directory name.now)))) }
+        ensures changed { OnOk result (SameTree (shown P.region self.new) (unlinked_in directory name.now time (shown P.region self.old))) }
+        // Where there are more links, the log of the directory and that of the file have one entry more. With its last name the file
+        // goes too. In both cases no other log has changed.
+        ensures log { OnOk result (LogsUnlinkedIn cpu time directory name.now (P.region self.old.memory) self.old (P.region self.new.memory)) }
+        // What every call that writes keeps.
+        ensures call { KeepsCall P.region P.fuse self.old self.new result }
+        ensures settled { OnOk result (NothingPending (P.region self.new.memory) (P.may_hold self.new.memory)) }
+        // Where it stores, and in which order.
+        ensures stores { UnlinkStoresIn P.region self.old self.new cpu directory name.now time result }
+        // Whatever a stop leaves, at any exit: recovery finds what was mounted, or what the call makes, without faults.
+        ensures any_stop { self.old.stopped ≡ false → self.old.read_only ≡ false
+            → LeavesOnly (P.region self.new.memory) (P.may_hold self.new.memory) (StopLeaves (P.region self.old.memory) self.old.layout self.old.rows self.old.free.pools
+            (unlinked_in directory name.now time (shown P.region self.old)) (LogsUnlinkedIn cpu time directory name.now (P.region self.old.memory) self.old)) }
+    {
+        self.writable(cpu.0)?;
+        let target = unlink_in(&self.rows, directory, name)?;
+        let named = Named {
+            directory,
+            name,
+            target,
+        };
         match release_at(
             self.alloc,
             &mut self.memory,

@@ -6,6 +6,6 @@ pub mod Refusing
 pub mod CreateTests
 pub mod LinkSpots
 pub mod NamedAt
-pub mod RemoveTests
+pub mod Directories
 pub mod MoveSpots
 pub mod ReplaceSpots

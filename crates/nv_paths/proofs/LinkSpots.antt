@@ -1,5 +1,5 @@
--- Why `link` is refused where it looks for its file and its directory.
-use Rattle.std.proofs.Common.{◌≡◌, ℕ, ◌<◌, nat_le, Bool, true, false, List, [], ◌∷◌, ◌++◌, length, refl, ap, ◌∙◌, arith, Option, Some, None, Result, Ok, Err, is_none, is_some, option_copied, Bor}
+-- Why `link` is refused where it looks for its file and its directory, and what the last name of a path stands for.
+use Rattle.std.proofs.Common.{◌≡◌, ℕ, ◌<◌, nat_le, Bool, true, false, List, [], ◌∷◌, ◌++◌, length, slice_get, refl, ap, sym, ◌∙◌, subst, arith, Option, Some, None, Result, Ok, Err, is_none, is_some, option_copied, Bor}
 use Rattle.std.specs.Option.{option_and_then, option_map, option_map_or}
 use Rattle.std.proofs.lemmas.Bool.Decides.{nat_tests}
 use Rattle.nv_region.specs.Region.{Region}
@@ -11,80 +11,82 @@ use Rattle.nv_scan.specs.declared.piece.Row.{Row}
 use Rattle.nv_rows.specs.Rows.{IsInUse}
 use Rattle.nv_graph.specs.Read.{row_of}
 use Rattle.nv_tree.specs.declared.refusal.Refusal.{Refusal}
-use Rattle.nv_tree.specs.declared.refusal.Refusal.TheVariants.{BadName, Exists, IsDirectory, LinkLimit, NotFound, Stopped}
+use Rattle.nv_tree.specs.declared.refusal.Refusal.TheVariants.{BadName, Exists, IsDirectory, LinkLimit, NotFound}
 use Rattle.nv_tree.specs.Calls.{links_at}
 use Rattle.nv_tree.specs.Names.{Spells}
-use Rattle.nv_tree.specs.Path.{IsPath, Says, last_name}
+use Rattle.nv_tree.specs.Path.{IsPath, IsPathName, Says, last_name}
 use Rattle.nv_tree.specs.Tree.{Node, Tree, found, is_directory, walk}
-use Rattle.nv_tree.specs.Refusals.{Path, first_refusal, has_most_links, is_dir, is_directory_at, refused_walk}
-use Rattle.nv_paths.specs.Places.{link_spot_tests}
-use Rattle.nv_paths.specs.Seen.{LeadsTo, node_of, tree_of}
+use Rattle.nv_tree.specs.Refusals.{Path, Tests, first_refusal, is_bad, is_bad_name, is_directory_at, is_missing, refused_walk, walk_tests}
+use Rattle.nv_paths.specs.Directories.{link_spot_tests, name_tests, named_in}
+use Rattle.nv_paths.specs.Seen.{node_of, tree_of}
 use Rattle.nv_paths.proofs.CreateTests.{none, row_leads, said_names}
+use Rattle.nv_paths.proofs.Directories.{name_passes, none_named, one_named}
+use Rattle.nv_paths.proofs.Spots.{directory_told}
 use Rattle.nv_paths.proofs.Targets.{said}
-use Rattle.nv_paths.proofs.Refusing.{walk_goes_on}
 
--- the tests by what both walks and both paths give
-abbrev link_at : Result ℕ Refusal → Result ℕ Refusal → Bool → Bool → Bool → Bool → Option Refusal
-link_at w v missing directory there full = first_refusal ((false, BadName) ∷ (false, BadName) ∷ refused_walk w ++ refused_walk v ++ (missing, NotFound) ∷ (directory, IsDirectory) ∷ (there, Exists) ∷ (full, LinkLimit) ∷ [])
+-- ---- by two paths
 
-module _ (R : Region) (rows : List Row) (names : List (List ℕ)) (other : List ℕ) (others : List (List ℕ)) where
+-- the tests by what both walks and the first path give
+abbrev ways_told : Result ℕ Refusal → Result ℕ Refusal → Option ℕ → Tests → Option Refusal
+ways_told w v o more = first_refusal ((false, BadName) ∷ (false, BadName) ∷ refused_walk w ++ refused_walk v ++ (is_none o, NotFound) ∷ more)
+
+module _ (t : Tree) (names : List (List ℕ)) (other : List ℕ) (others : List (List ℕ)) (more : Tests) where
+  abbrev told : Option Refusal
+  told = first_refusal (is_bad (Some names) ∷ is_bad_name (Some (other ∷ others)) ∷ walk_tests t (Some names) ++ walk_tests t (Some (other ∷ others)) ++ is_missing t (Some names) ∷ more)
+
+  ways_by : {w v : Result ℕ Refusal} {o : Option ℕ} → walk t 1 names ≡ w → walk t 1 (other ∷ others) ≡ v → found t names ≡ o → told ≡ ways_told w v o more
+  ways_by a b c = λ k. ways_told (a k) (b k) (c k) more
+
+  pub old_walk_refused : (e : Refusal) → walk t 1 names ≡ Err e → told ≡ Some e
+  old_walk_refused e w = ways_by w refl refl
+
+  pub new_walk_refused : (d : ℕ) (e : Refusal) → walk t 1 names ≡ Ok d → walk t 1 (other ∷ others) ≡ Err e → told ≡ Some e
+  new_walk_refused d e w v = ways_by w v refl
+
+  pub file_missing : (d e : ℕ) → walk t 1 names ≡ Ok d → walk t 1 (other ∷ others) ≡ Ok e → found t names ≡ None → told ≡ Some NotFound
+  file_missing d e w v none = ways_by w v none
+
+  pub file_passes : (d e i : ℕ) → walk t 1 names ≡ Ok d → walk t 1 (other ∷ others) ≡ Ok e → found t names ≡ Some i → told ≡ first_refusal more
+  file_passes d e i w v leads = ways_by w v leads
+
+-- ---- by the file's number and the directory's
+
+-- the tests by what is known of the file and of the name
+abbrev link_told : Option Node → Option ℕ → Tests → Option Refusal
+link_told o there more = first_refusal ((is_none o, NotFound) ∷ (option_map_or (λ (node : Node). is_directory node.kind) o false, IsDirectory) ∷ (is_some there, Exists) ∷ (nat_le most_links (option_map_or (λ (node : Node). node.links) o 0), LinkLimit) ∷ more)
+
+-- and by its kind, whether the name is there, and whether it has the most links
+abbrev file_told : Bool → Bool → Bool → Tests → Option Refusal
+file_told directory there full more = first_refusal ((directory, IsDirectory) ∷ (there, Exists) ∷ (full, LinkLimit) ∷ more)
+
+module _ (R : Region) (rows : List Row) (i d : ℕ) (row : Row) (at : row_of rows d ≡ Some row) (kind : row.kind ≡ Directory) (name : List ℕ) (good : IsPathName name) (more : Tests) where
   abbrev t : Tree
   t = tree_of R rows
 
-  abbrev told : Option Refusal
-  told = first_refusal (link_spot_tests t (Some names) (Some (other ∷ others)))
+  abbrev listed : Option Row
+  listed = option_and_then (row_of rows) (option_map (λ (x : ℕ × ℕ). x.0) (name_at row.names name))
 
-  link_by : {w v : Result ℕ Refusal} {missing directory there full : Bool} → walk t 1 names ≡ w → walk t 1 (other ∷ others) ≡ v → is_none (found t names) ≡ missing → (is_dir t (Some names)).0 ≡ directory → is_some (found t (other ∷ others)) ≡ there → (has_most_links t (Some names)).0 ≡ full
-      → told ≡ link_at w v missing directory there full
-  link_by a b c d e f = λ k. link_at (a k) (b k) (c k) (d k) (e k) (f k)
+  past : first_refusal (link_spot_tests t i d name more) ≡ link_told (t i) (named_in t d name) more
+  past = name_passes t d name ((is_none (t i), NotFound) ∷ (is_directory_at t i, IsDirectory) ∷ (is_some (named_in t d name), Exists) ∷ (nat_le most_links (links_at t i), LinkLimit) ∷ more) good (sym (directory_told R rows d row at kind))
 
-  pub old_walk_refused : (e : Refusal) → walk t 1 names ≡ Err e → told ≡ Some e
-  old_walk_refused e w = link_by w refl refl refl refl refl
+  pub no_file : row_of rows i ≡ None → first_refusal (link_spot_tests t i d name more) ≡ Some NotFound
+  no_file missing = past ∙ ap (λ (o : Option Node). link_told o (named_in t d name) more) (ap (option_map (node_of R)) missing)
 
-  pub new_walk_refused : (d : ℕ) (e : Refusal) → walk t 1 names ≡ Ok d → walk t 1 (other ∷ others) ≡ Err e → told ≡ Some e
-  new_walk_refused d e w v = link_by w v refl refl refl refl
+  module _ (file : Row) (is : row_of rows i ≡ Some file) where
+    by_file : {directory full : Bool} {o : Option ℕ} → is_directory file.kind ≡ directory → named_in t d name ≡ o → nat_le most_links file.numbers.links ≡ full → first_refusal (link_spot_tests t i d name more) ≡ file_told directory (is_some o) full more
+    by_file a b c = past ∙ ap (λ (x : Option Node). link_told x (named_in t d name) more) (ap (option_map (node_of R)) is) ∙ (λ k. file_told (a k) (is_some (b k)) (c k) more)
 
-  module _ (d e : ℕ) (walked : walk t 1 names ≡ Ok d) (ended : walk t 1 (other ∷ others) ≡ Ok e) where
-    pub file_missing : found t names ≡ None → told ≡ Some NotFound
-    file_missing none = link_by walked ended (ap (λ (o : Option ℕ). is_none o) none) refl refl refl
+    pub a_directory : is_directory file.kind ≡ true → first_refusal (link_spot_tests t i d name more) ≡ Some IsDirectory
+    a_directory directory = by_file directory refl refl
 
-    module _ (row : Row) (led : LeadsTo t names row.inode (node_of R row)) where
-      here : is_none (found t names) ≡ false
-      here = ap (λ (o : Option ℕ). is_none o) led.leads
+    pub name_there : is_directory file.kind ≡ false → (there : Row) → listed ≡ Some there → first_refusal (link_spot_tests t i d name more) ≡ Some Exists
+    name_there plain there named = by_file plain (one_named R rows d row at kind name there named) refl
 
-      kind_is : (b : Bool) → is_directory row.kind ≡ b → (is_dir t (Some names)).0 ≡ b
-      kind_is b is = ap (λ (o : Option ℕ). option_map_or (is_directory_at t) o false) led.leads ∙ ap (λ (o : Option Node). option_map_or (λ (node : Node). is_directory node.kind) o false) led.shows ∙ is
+    pub links_full : is_directory file.kind ≡ false → listed ≡ None → nat_le most_links file.numbers.links ≡ true → first_refusal (link_spot_tests t i d name more) ≡ Some LinkLimit
+    links_full plain free full = by_file plain (none_named R rows d row at kind name free) full
 
-      links_are : (b : Bool) → nat_le most_links row.numbers.links ≡ b → (has_most_links t (Some names)).0 ≡ b
-      links_are b is = ap (λ (o : Option ℕ). option_map_or (λ i. nat_le most_links (links_at t i)) o false) led.leads ∙ ap (λ (o : Option Node). nat_le most_links (option_map_or (λ (node : Node). node.links) o 0)) led.shows ∙ is
-
-      pub file_is_directory : is_directory row.kind ≡ true → told ≡ Some IsDirectory
-      file_is_directory is = link_by walked ended here (kind_is true is) refl refl
-
-      pub name_there : is_directory row.kind ≡ false → is_some (found t (other ∷ others)) ≡ true → told ≡ Some Exists
-      name_there is there = link_by walked ended here (kind_is false is) there refl
-
-      pub links_full : is_directory row.kind ≡ false → is_some (found t (other ∷ others)) ≡ false → nat_le most_links row.numbers.links ≡ true → told ≡ Some LinkLimit
-      links_full is there full = link_by walked ended here (kind_is false is) there (links_are true full)
-
-      pub link_passes : is_directory row.kind ≡ false → is_some (found t (other ∷ others)) ≡ false → nat_le most_links row.numbers.links ≡ false → told ≡ None
-      link_passes is there few = link_by walked ended here (kind_is false is) there (links_are false few)
-
--- no test answers `Stopped`
-pub link_goes_on : (t : Tree) (p q : Path) → first_refusal (link_spot_tests t p q) ≡ Some Stopped → ⊥
-link_goes_on t None q e = absurd (cc)
-link_goes_on t (Some names) None e = absurd (cc)
-link_goes_on t (Some names) (Some []) e = absurd (cc)
-link_goes_on t (Some names) (Some (other ∷ others)) e =
-    by (walk t 1 names) (walk_goes_on t 1 names) (walk t 1 (other ∷ others)) (walk_goes_on t 1 (other ∷ others)) (is_none (found t names)) (is_dir t (Some names)).0 (is_some (found t (other ∷ others))) (has_most_links t (Some names)).0 e where
-      by : (w : Result ℕ Refusal) → (w ≡ Err Stopped → ⊥) → (v : Result ℕ Refusal) → (v ≡ Err Stopped → ⊥) → (missing directory there full : Bool) → link_at w v missing directory there full ≡ Some Stopped → ⊥
-      by (Err r) off v on a b c d e = off (let same : r ≡ Stopped = cc in ap (λ (x : Refusal). Err x) same)
-      by (Ok k) off (Err r) on a b c d e = on (let same : r ≡ Stopped = cc in ap (λ (x : Refusal). Err x) same)
-      by (Ok k) off (Ok j) on true b c d e = absurd (cc)
-      by (Ok k) off (Ok j) on false true c d e = absurd (cc)
-      by (Ok k) off (Ok j) on false false true d e = absurd (cc)
-      by (Ok k) off (Ok j) on false false false true e = absurd (cc)
-      by (Ok k) off (Ok j) on false false false false e = absurd (cc)
+    pub link_passes : is_directory file.kind ≡ false → listed ≡ None → nat_le most_links file.numbers.links ≡ false → first_refusal (link_spot_tests t i d name more) ≡ first_refusal more
+    link_passes plain free few = by_file plain (none_named R rows d row at kind name free) few
 
 -- what holds of each two paths of which the second has a name, where both texts are such
 pub said_both : (old new : List ℕ) (Q : Path → Path → Type 0) → (names : List (List ℕ)) × IsPath old names → (name : List ℕ) × (names : List (List ℕ)) × IsPath new (name ∷ names) → (length new ≡ 1 → ⊥)

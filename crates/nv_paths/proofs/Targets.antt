@@ -32,7 +32,7 @@ leads_to R rows names row e = by (found (tree_of R rows) names) refl e where
       }
 
 -- a number without a row isn't in use
-nowhere : (R : Region) (rows : List Row) (o : Option ℕ) → option_and_then (row_of rows) (in_use (tree_of R rows) o) ≡ None → in_use (tree_of R rows) o ≡ None
+pub nowhere : (R : Region) (rows : List Row) (o : Option ℕ) → option_and_then (row_of rows) (in_use (tree_of R rows) o) ≡ None → in_use (tree_of R rows) o ≡ None
 nowhere R rows None none = refl
 nowhere R rows (Some i) none = by (row_of rows i) refl none where
   by : (o : Option Row) → row_of rows i ≡ o → option_and_then (row_of rows) (cond (is_some (option_map (node_of R) o)) (Some i) None) ≡ None → cond (is_some (option_map (node_of R) o)) (Some i) None ≡ None

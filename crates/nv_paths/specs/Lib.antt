@@ -1,5 +1,6 @@
 pub mod Seen
 pub mod Places
+pub mod Directories
 pub mod NamedAt
 pub mod MoveSpots
 pub mod ReplaceSpots

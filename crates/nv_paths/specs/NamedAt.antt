@@ -1,12 +1,11 @@
--- The inode in use that the last name of a path stands for, and the tests of the calls that take the name away.
-use Rattle.std.specs.Prelude.{◌≡◌, ℕ, List, [], ◌∷◌, ◌++◌, slice_get, Some, Ok}
+-- The inode in use that the last name of a path stands for.
+use Rattle.std.specs.Prelude.{◌≡◌, ℕ, List, slice_get, Some, Ok}
 use Rattle.std.specs.Option.{option_map}
 use Rattle.nv_super.specs.declared.kind.Kind.TheVariants.{Directory}
 use Rattle.nv_names.specs.Names.{name_at}
 use Rattle.nv_scan.specs.declared.piece.Row.{Row}
 use Rattle.nv_tree.specs.Path.{last_name}
 use Rattle.nv_tree.specs.Tree.{Tree, found, walk}
-use Rattle.nv_tree.specs.Refusals.{Path, Tests, has_names, is_bad_name, is_dir, is_missing, is_no_dir, walk_tests}
 
 -- The last name stands in the directory whose row is at one place, for the inode whose row is at another.
 pub record IsNamedAt (t : Tree) (rows : List Row) (names : List (List ℕ)) (place : ℕ) (name : List ℕ) (target : ℕ) : Type 0 where
@@ -14,17 +13,3 @@ pub record IsNamedAt (t : Tree) (rows : List Row) (names : List (List ℕ)) (pla
   pub name_is : name ≡ last_name names
   pub leads : (row : Row) → slice_get rows target ≡ Some row → found t names ≡ Some row.inode
   pub named : (row i : Row) → slice_get rows place ≡ Some row → slice_get rows target ≡ Some i → option_map (λ (x : ℕ × ℕ). x.0) (name_at row.names name) ≡ Some i.inode
-
--- ---- tests, between those of every writing call and that for space
-
--- of a name that is there: the path, the way, and that it leads to an inode
-abbrev pub named_tests : Tree → Path → Tests
-named_tests t p = is_bad_name p ∷ walk_tests t p ++ is_missing t p ∷ []
-
--- `unlink` takes no directory
-abbrev pub unlink_spot_tests : Tree → Path → Tests
-unlink_spot_tests t p = is_bad_name p ∷ walk_tests t p ++ is_missing t p ∷ is_dir t p ∷ []
-
--- `rmdir` takes a directory without names
-abbrev pub rmdir_spot_tests : Tree → Path → Tests
-rmdir_spot_tests t p = is_bad_name p ∷ walk_tests t p ++ is_missing t p ∷ is_no_dir t p ∷ has_names t p ∷ []

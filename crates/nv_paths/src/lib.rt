@@ -12,8 +12,9 @@ mod targeting;
 mod walking;
 
 pub use moving::{Move, rename_for};
-pub use named::{Named, rmdir_for, unlink_for};
+pub use named::{Named, rmdir_in, row_named, unlink_in};
+pub use naming::directory_for;
 pub use replacing::{Replacement, replace_for};
-pub use spotting::{Spot, new_number, spot_for};
-pub use targeting::link_for;
+pub use spotting::{new_number, spot_in};
+pub use targeting::{link_for, link_in};
 pub use walking::row_at;

@@ -1,4 +1,4 @@
-//! The inode in use that the last name of a path stands for.
+//! The inode in use that a name of a directory stands for.
 
 ghost use Rattle.std.specs.Prelude.{◌≡◌, ℕ, List, IsTrue, IsFalse, IfOk, IfErr, OnOk, Option};
 ghost use Rattle.nv_region.specs.Region.{Region};
@@ -6,13 +6,13 @@ ghost use Rattle.nv_super.specs.declared.kind.Kind.TheVariants.{File, Directory}
 ghost use Rattle.nv_names.specs.Names.{name_at};
 ghost use Rattle.nv_scan.specs.declared.piece.Row.{Row as RowValue};
 ghost use Rattle.nv_rows.specs.Rows.{IsInUse, place_in, row_of};
-ghost use Rattle.nv_tree.specs.Path.{IsPath, IsPathName, Says};
-ghost use Rattle.nv_tree.specs.Refusals.{Path, first_refusal};
-ghost use Rattle.nv_paths.specs.NamedAt.{IsNamedAt, named_tests, rmdir_spot_tests, unlink_spot_tests};
+ghost use Rattle.nv_tree.specs.Path.{IsPathName};
+ghost use Rattle.nv_tree.specs.Refusals.{Tests, first_refusal};
+ghost use Rattle.nv_tree.specs.declared.refusal.Refusal.{Refusal as RefusalValue};
+ghost use Rattle.nv_paths.specs.Directories.{IsNamedIn, lookup_tests, rmdir_spot_tests, unlink_spot_tests};
 ghost use Rattle.nv_paths.specs.Seen.{tree_of};
 
-use crate::naming::{has_name, target_at};
-use crate::walking::walk;
+use crate::naming::{directory_named, target_of};
 use nv_rows::Rows;
 use nv_scan::Row;
 use nv_super::Kind;
@@ -26,84 +26,73 @@ pub struct Named<'a> {
     pub target: u64,
 }
 
-/// The inode in use for which the last name of a path stands, and where it stands.
+/// The row of the inode in use that a name of a directory stands for.
 ///
-/// Errors, the first that applies: `BadName` where the text is no path or `/`, `NotFound` or `NotDirectory` for an inode on
-/// the way, `NotFound` where the path leads to no inode in use.
-fn named_at<'a>(rows: &Rows, path: &'a [u8]) -> Result<Named<'a>, Refusal>
-    ensures directory { IfOk result (λ named. IsInUse rows.now.items named.directory) }
-    ensures target { IfOk result (λ named. IsInUse rows.now.items named.target) }
-    ensures name { IfOk result (λ named. IsPathName named.name.now) }
-    ensures path { OnOk result ((names : List (List ℕ)) × IsPath path.now names) }
-    ensures spot { (region : Region) (names : List (List ℕ)) → IsPath path.now names
-        → IfOk result (λ named. IsNamedAt (tree_of region rows.now.items) rows.now.items names (place_in rows.now.items named.directory) named.name.now (place_in rows.now.items named.target)) }
-    ensures allowed { (region : Region) (p : Path) → Says path.now p → OnOk result (first_refusal (named_tests (tree_of region rows.now.items) p) ≡ Option.None) }
-    ensures refused { (region : Region) (p : Path) → Says path.now p → IfErr result (λ e. first_refusal (named_tests (tree_of region rows.now.items) p) ≡ Option.Some e) }
+/// Errors, the first that applies:
+/// - `BadName` where no path can say the name
+/// - `NotFound` where no inode in use has the directory's number, and `NotDirectory` where a file has it
+/// - `NotFound` where no inode in use has the name
+pub fn row_named<'a>(rows: &'a Rows, directory: u64, name: &[u8]) -> Result<&'a Row, Refusal>
+    ensures in_use { OnOk result (IsInUse rows.now.items directory) }
+    ensures name { OnOk result (IsPathName name.now) }
+    ensures held { IfOk result (λ r. row_of rows.now.items r.now.inode ≡ Option.Some r.now) }
+    ensures spot { (region : Region)
+        → IfOk result (λ r. IsNamedIn (tree_of region rows.now.items) rows.now.items directory (place_in rows.now.items directory) name.now (place_in rows.now.items r.now.inode)) }
+    ensures passed { (region : Region) (more : Tests) → OnOk result (first_refusal (lookup_tests (tree_of region rows.now.items) directory name.now more) ≡ first_refusal more) }
+    ensures refused { (region : Region) (more : Tests) → IfErr result (λ e. first_refusal (lookup_tests (tree_of region rows.now.items) directory name.now more) ≡ Option.Some e) }
+    ensures goes_on { IfErr result (λ e. e ≡ RefusalValue.Stopped → ⊥) }
 {
-    if !has_name(path) {
-        return Err(Refusal::BadName);
-    }
-    let (directory, name) = walk(rows, path)?;
-    match target_at(rows, directory, name) {
-        Some(target) => Ok(Named {
-            directory,
-            name,
-            target: target.inode,
-        }),
+    let row = directory_named(rows, directory, name)?;
+    match target_of(rows, row, name) {
+        Some(target) => Ok(target),
         None => Err(Refusal::NotFound),
     }
 }
 
-/// The file whose name goes.
+/// The number of the file whose name goes.
 ///
-/// Errors, the first that applies: `BadName` where the text is no path or `/`, `NotFound` or `NotDirectory` for an inode on
-/// the way, `NotFound` where the path leads to no inode in use, `IsDirectory` where it leads to a directory.
-pub fn unlink_for<'a>(rows: &Rows, path: &'a [u8]) -> Result<Named<'a>, Refusal>
-    ensures directory { IfOk result (λ named. IsInUse rows.now.items named.directory) }
-    ensures target { IfOk result (λ named. IsInUse rows.now.items named.target) }
-    ensures name { IfOk result (λ named. IsPathName named.name.now) }
-    ensures path { OnOk result ((names : List (List ℕ)) × IsPath path.now names) }
-    ensures spot { (region : Region) (names : List (List ℕ)) → IsPath path.now names
-        → IfOk result (λ named. IsNamedAt (tree_of region rows.now.items) rows.now.items names (place_in rows.now.items named.directory) named.name.now (place_in rows.now.items named.target)) }
-    ensures allowed { (region : Region) (p : Path) → Says path.now p → OnOk result (first_refusal (unlink_spot_tests (tree_of region rows.now.items) p) ≡ Option.None) }
-    ensures refused { (region : Region) (p : Path) → Says path.now p → IfErr result (λ e. first_refusal (unlink_spot_tests (tree_of region rows.now.items) p) ≡ Option.Some e) }
-    ensures file { IfOk result (λ named. (row : RowValue) → row_of rows.now.items named.target ≡ Option.Some row → row.kind ≡ File) }
+/// Errors, the first that applies: those of `row_named`, and `IsDirectory` where the name stands for a directory.
+pub fn unlink_in(rows: &Rows, directory: u64, name: &[u8]) -> Result<u64, Refusal>
+    ensures in_use { OnOk result (IsInUse rows.now.items directory) }
+    ensures name { OnOk result (IsPathName name.now) }
+    ensures target { IfOk result (λ target. IsInUse rows.now.items target) }
+    ensures spot { (region : Region)
+        → IfOk result (λ target. IsNamedIn (tree_of region rows.now.items) rows.now.items directory (place_in rows.now.items directory) name.now (place_in rows.now.items target)) }
+    ensures passed { (region : Region) (more : Tests) → OnOk result (first_refusal (unlink_spot_tests (tree_of region rows.now.items) directory name.now more) ≡ first_refusal more) }
+    ensures refused { (region : Region) (more : Tests) → IfErr result (λ e. first_refusal (unlink_spot_tests (tree_of region rows.now.items) directory name.now more) ≡ Option.Some e) }
+    ensures goes_on { IfErr result (λ e. e ≡ RefusalValue.Stopped → ⊥) }
+    ensures file { IfOk result (λ target. (row : RowValue) → row_of rows.now.items target ≡ Option.Some row → row.kind ≡ File) }
 {
-    let named = named_at(rows, path)?;
-    if !is_file(rows.row(named.target)) {
+    let target = row_named(rows, directory, name)?;
+    if !is_file(target) {
         return Err(Refusal::IsDirectory);
     }
-    Ok(named)
+    Ok(target.inode)
 }
 
-/// The directory that goes with its name.
+/// The number of the directory that goes with its name.
 ///
-/// Errors, the first that applies:
-/// - `BadName` where the text is no path or `/`
-/// - `NotFound` or `NotDirectory` for an inode on the way
-/// - `NotFound` where the path leads to no inode in use
-/// - `NotDirectory` where it leads to a file
-/// - `NotEmpty` where there are names in the directory
-pub fn rmdir_for<'a>(rows: &Rows, path: &'a [u8]) -> Result<Named<'a>, Refusal>
-    ensures directory { IfOk result (λ named. IsInUse rows.now.items named.directory) }
-    ensures target { IfOk result (λ named. IsInUse rows.now.items named.target) }
-    ensures name { IfOk result (λ named. IsPathName named.name.now) }
-    ensures path { OnOk result ((names : List (List ℕ)) × IsPath path.now names) }
-    ensures spot { (region : Region) (names : List (List ℕ)) → IsPath path.now names
-        → IfOk result (λ named. IsNamedAt (tree_of region rows.now.items) rows.now.items names (place_in rows.now.items named.directory) named.name.now (place_in rows.now.items named.target)) }
-    ensures allowed { (region : Region) (p : Path) → Says path.now p → OnOk result (first_refusal (rmdir_spot_tests (tree_of region rows.now.items) p) ≡ Option.None) }
-    ensures refused { (region : Region) (p : Path) → Says path.now p → IfErr result (λ e. first_refusal (rmdir_spot_tests (tree_of region rows.now.items) p) ≡ Option.Some e) }
-    ensures empty { IfOk result (λ named. (row : RowValue) → row_of rows.now.items named.target ≡ Option.Some row → (row.kind ≡ Directory) × ((q : List ℕ) → name_at row.names q ≡ Option.None)) }
+/// Errors, the first that applies: those of `row_named`, `NotDirectory` where the name stands for a file, and `NotEmpty` where
+/// there are names in the directory.
+pub fn rmdir_in(rows: &Rows, directory: u64, name: &[u8]) -> Result<u64, Refusal>
+    ensures in_use { OnOk result (IsInUse rows.now.items directory) }
+    ensures name { OnOk result (IsPathName name.now) }
+    ensures target { IfOk result (λ target. IsInUse rows.now.items target) }
+    ensures spot { (region : Region)
+        → IfOk result (λ target. IsNamedIn (tree_of region rows.now.items) rows.now.items directory (place_in rows.now.items directory) name.now (place_in rows.now.items target)) }
+    ensures passed { (region : Region) (more : Tests) → OnOk result (first_refusal (rmdir_spot_tests (tree_of region rows.now.items) directory name.now more) ≡ first_refusal more) }
+    ensures refused { (region : Region) (more : Tests) → IfErr result (λ e. first_refusal (rmdir_spot_tests (tree_of region rows.now.items) directory name.now more) ≡ Option.Some e) }
+    ensures goes_on { IfErr result (λ e. e ≡ RefusalValue.Stopped → ⊥) }
+    ensures empty { IfOk result (λ target. (row : RowValue) → row_of rows.now.items target ≡ Option.Some row → (row.kind ≡ Directory) × ((q : List ℕ) → name_at row.names q ≡ Option.None)) }
 {
-    let named = named_at(rows, path)?;
-    let row = rows.row(named.target);
-    if is_file(row) {
+    let target = row_named(rows, directory, name)?;
+    if is_file(target) {
         return Err(Refusal::NotDirectory);
     }
-    if !row.names.is_empty() {
+    if !target.names.is_empty() {
         return Err(Refusal::NotEmpty);
     }
-    Ok(named)
+    Ok(target.inode)
 }
 
 /// Whether the row is that of a file.

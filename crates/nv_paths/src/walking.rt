@@ -11,6 +11,7 @@ ghost use Rattle.nv_tree.specs.Path.{IsPath, Says, last_name};
 ghost use Rattle.nv_tree.specs.Names.{Spells};
 ghost use Rattle.nv_tree.specs.Tree.{walk, found, as_directory};
 ghost use Rattle.nv_tree.specs.Refusals.{Path, first_refusal, stat_tests};
+ghost use Rattle.nv_tree.specs.declared.refusal.Refusal.{Refusal as RefusalValue};
 ghost use Rattle.nv_paths.specs.Seen.{node_of, tree_of, LeadsTo};
 
 use nv_rows::Rows;
@@ -21,8 +22,10 @@ use nv_tree::{Refusal, is_path, split_name};
 pub(crate) const ROOT: u64 = 1;
 
 /// The row of a directory in use. `NotFound` where the inode isn't in use, `NotDirectory` where it is a file.
-fn directory_at(rows: &Rows, inode: u64) -> Result<&Row, Refusal>
+pub(crate) fn directory_at(rows: &Rows, inode: u64) -> Result<&Row, Refusal>
     ensures row { IfOk result (λ r. row_of rows.now.items inode ≡ Option.Some r.now) }
+    ensures kind { IfOk result (λ r. r.now.kind ≡ Directory) }
+    ensures goes_on { IfErr result (λ e. e ≡ RefusalValue.Stopped → ⊥) }
     ensures reply { (region : Region) → result_map_both (λ _. inode) (λ e. e) result ≡ as_directory inode (tree_of region rows.now.items inode) }
 {
     let row = rows.get(inode).ok_or(Refusal::NotFound)?;
@@ -43,6 +46,7 @@ pub(crate) fn walk<'a>(rows: &Rows, path: &'a [u8]) -> Result<(u64, &'a [u8]), R
         → IfOk result (λ r. (row : RowValue) → row_of rows.now.items r.0 ≡ Option.Some row → (walk (tree_of region rows.now.items) 1 names ≡ Result.Ok row.inode) × (row.kind ≡ Directory)) }
     ensures refused { (region : Region) (names : List (List ℕ)) → Spells path.now names → IfErr result (λ e. walk (tree_of region rows.now.items) 1 names ≡ Result.Err e) }
     ensures name { (names : List (List ℕ)) → Spells path.now names → IfOk result (λ r. r.1.now ≡ last_name names) }
+    ensures goes_on { IfErr result (λ e. e ≡ RefusalValue.Stopped → ⊥) }
 {
     let mut directory = ROOT;
     let mut rest = path;
@@ -70,6 +74,7 @@ pub(crate) fn found<'a>(rows: &'a Rows, path: &[u8]) -> Result<Option<&'a Row>, 
     ensures held { IfOk result (λ row. IfSome row (λ r. row_of rows.now.items r.now.inode ≡ Option.Some r.now)) }
     ensures walk { (region : Region) (names : List (List ℕ)) → IsPath path.now names → IfOk result (λ _. (d : ℕ) × (walk (tree_of region rows.now.items) 1 names ≡ Result.Ok d)) }
     ensures refused { (region : Region) (names : List (List ℕ)) → IsPath path.now names → IfErr result (λ e. walk (tree_of region rows.now.items) 1 names ≡ Result.Err e) }
+    ensures goes_on { IfErr result (λ e. e ≡ RefusalValue.Stopped → ⊥) }
 {
     // The path of one byte is `/`.
     if path.len() == 1 {

@@ -1,5 +1,5 @@
 -- What is owed where a file's last page is copied, and what its copy is made of.
-use Rattle.std.proofs.Common.{◌≡◌, ℕ, zero, suc, ◌+◌, ◌*◌, ◌/◌, ◌%◌, ◌<◌, ◌≤◌, Bool, true, false, cond, ◌||◌, ◌==◌, List, [], ◌∷◌, length, get_or, refl, ap, sym, ◌∙◌, subst, arith, Some}
+use Rattle.std.proofs.Common.{◌≡◌, ℕ, zero, suc, ◌+◌, ◌*◌, ◌/◌, ◌%◌, ◌<◌, ◌≤◌, Bool, true, false, cond, ◌||◌, ◌==◌, List, [], ◌∷◌, length, get_or, refl, ap, sym, ◌∙◌, subst, arith, Some, ◌^◌}
 use Rattle.std.specs.List.{Contains}
 use Rattle.std.proofs.lemmas.List.{get_or_default}
 use Rattle.std.proofs.lemmas.Option.{none-some}
@@ -62,6 +62,23 @@ module _ {R : Region} {l : Layout} {free mid : FreeLists} {cpu : ℕ} {row : Row
   module _ {from : ℕ} (ends : end_block (block_at row.index) row.numbers.size x.size ≡ Some from) where
     maps : block_at row.index (row.numbers.size / 4096) ≡ Some from
     maps = let e = ends_in row.index row.numbers.size x.size from ends in e.maps
+
+    -- The page's block lies inside the region.
+    pub from_inside : from * 4096 + 4096 ≤ size R
+    from_inside =
+        let own = can.own in
+        let stands = can.stands in
+        let below = (own.in_data (row.numbers.size / 4096) from maps).1 in
+        let blocks = stands.blocks in
+        let lists : free.sup.blocks ≡ l.sup.blocks = ap (λ (t : Super). t.blocks) stands.lists in
+        omega (arith, below, blocks, lists)
+
+    -- The page's number is small.
+    pub page_small : row.numbers.size / 4096 < 2 ^ 32
+    page_small =
+        let longer = (ends_in row.index row.numbers.size x.size from ends).longer in
+        let most = can.most in
+        omega (arith, longer, most)
 
     -- It isn't the page's block.
     pub to_differs : from ≡ to → ⊥

@@ -123,3 +123,8 @@ module _ (pools : List (List Run)) (cpu tail : ℕ) (plan : Plan) where
         let sum = less in
         let is = counts count needs (omega (arith, sum)) in
         omega (arith, is, sum, few)
+
+-- There are some runs where they have some blocks.
+pub some_runs : (runs : List Run) → 0 < blocks_in runs → 0 < length runs
+some_runs [] some = (let none : 0 < 0 = some in absurd (omega (arith, none)))
+some_runs (r ∷ runs) some = omega arith

@@ -1,10 +1,12 @@
 -- The plan of a write that isn't too large.
-use Rattle.std.proofs.Common.{◌≡◌, ℕ, ◌+◌, ◌/◌, ◌%◌, ◌<◌, ◌≤◌, Bool, true, false, cond, nat_eq, nat_lt, not, is_some, ◌&&◌, refl, arith, Option, Some, None}
+use Rattle.std.proofs.Common.{◌≡◌, ℕ, ◌+◌, ◌/◌, ◌%◌, ◌<◌, ◌≤◌, Bool, true, false, cond, nat_eq, nat_lt, not, is_some, IfSome, ◌&&◌, refl, arith, Option, Some, None}
 use Rattle.std.proofs.lemmas.Bool.Decides.{nat_tests}
 use Rattle.nv_region.specs.Region.{size}
+use Rattle.nv_super.specs.Layout.{most_pages}
 use Rattle.nv_scan.specs.declared.piece.Row.{Row}
 use Rattle.nv_steps.specs.Writes.{ending_page, plan_of}
 use Rattle.nv_steps.proofs.WriteFollows.{IsRight}
+use Rattle.nv_steps.specs.declared.planning.Plan.{Plan}
 
 -- the page where the file ended lies before the new bytes
 ends_before : (mapped : ℕ → Option ℕ) (size offset q : ℕ) → ending_page mapped size offset ≡ Some q → q < offset / 4096
@@ -25,3 +27,10 @@ plan_right row mapped offset count time small some fits = record {
   last = omega (arith, some);
   grows = omega arith;
 }
+
+-- Then the page where the file ended is one that a file has.
+pub ending_inside : {row : Row} {plan : Plan} → IsRight row plan → IfSome plan.ending (λ p. p < most_pages)
+ending_inside {row} {plan} right = by plan.ending right.before where
+  by : (o : Option ℕ) → ((q : ℕ) → o ≡ Some q → q < plan.first) → IfSome o (λ p. p < most_pages)
+  by None before = tt
+  by (Some q) before = let below = before q refl in let some = right.some in let top = right.top in omega (arith, below, some, top)

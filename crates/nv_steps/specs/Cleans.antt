@@ -1,5 +1,5 @@
 -- A page that was taken out of the log of a row.
-use Rattle.std.specs.Prelude.{◌≡◌, ℕ, List, Option, Some, None, get_or}
+use Rattle.std.specs.Prelude.{◌≡◌, ◌⊎◌, ℕ, List, Option, Some, None, get_or}
 use Rattle.std.specs.List.{remove}
 use Rattle.nv_region.specs.Region.{Region}
 use Rattle.nv_super.specs.declared.superblock.Super.{Super}
@@ -16,6 +16,8 @@ use Rattle.nv_mounted.specs.Bytes.{byte_of}
 use Rattle.nv_mounted.specs.Cleaned.{cleaned}
 use Rattle.nv_mounted.specs.Mounted.{KeepsRow, ShowsSound}
 use Rattle.nv_outcome.specs.Same.{SameRow}
+use Rattle.nv_tree.specs.declared.refusal.Refusal.{Refusal}
+use Rattle.nv_tree.specs.declared.refusal.Refusal.TheVariants.{Memory, Stopped}
 use Rattle.nv_steps.specs.Taken.{SamePools}
 
 -- what is known of the first page that a log can do without: nothing, or its place
@@ -62,3 +64,8 @@ pub record LosesNone (R S : Region) (old new : Row) (before after : FreeLists) :
 abbrev pub Cleans : Region → Region → Layout → Store → Held → Row → Row → FreeLists → FreeLists → Option ℕ → Type 0
 Cleans R S l held h old new before after None = IsFirstDead l.sup h.kind old.inode h.created h.entries h.pages None × LosesNone R S old new before after
 Cleans R S l held h old new before after (Some b) = (k : ℕ) × IsFirstDead l.sup h.kind old.inode h.created h.entries h.pages (Some k) × LosesPageAt R S l held h old new after k b
+
+-- Why no page is taken out of a log: memory or the store refused it. No block is given back then.
+pub record RefusesClean (e : Refusal) (before after : FreeLists) : Type 0 where
+  pub why : (e ≡ Memory) ⊎ (e ≡ Stopped)
+  pub same : SamePools before after

@@ -87,6 +87,12 @@ pub record GrowsAtMost (cpu : ℕ) (old new : TableChains) : Type 0 where
   pub layout : MayGrow old.layout cpu new.layout
   pub faults : new.faults ≡ old.faults
 
+-- The same, and the row is of the inode that it was of.
+pub record GrowsAtMostBeside (cpu : ℕ) (old new : TableChains) (had has' : Row) : Type 0 where
+  pub tables : GrowsAtMost cpu old new
+  pub open tables use *
+  pub inode : has'.inode ≡ had.inode
+
 -- A step that was refused has changed nothing, also of the tables.
 pub record LeavesTables {P : Type 0} (old new : P) (before after : FreeLists) (had has' : Row) (was now : Layout) : Type 0 where
   pub step : LeavesStep old new before after had has'

@@ -24,3 +24,5 @@ pub mod Takes
 pub mod Across
 pub mod Lessens
 pub mod GrownTables
+pub mod Premises
+pub mod Readied

@@ -1,8 +1,7 @@
 //! A name of one inode that is given to another, by the rows of two directories: the first inode goes, or loses a link.
 
-ghost use Rattle.std.specs.Prelude.{◌≡◌, ◌≢◌, ◌+◌, ◌-◌, ◌%◌, ◌<◌, ◌≤◌, IsTrue, IfErr, OnOk};
+ghost use Rattle.std.specs.Prelude.{◌≡◌, ◌+◌, ◌-◌, ◌%◌, ◌<◌, ◌≤◌, IfErr, OnOk};
 ghost use Rattle.nv_region.specs.Stops.{LeavesOnly, NothingPending};
-ghost use Rattle.nv_inode.specs.Numbers.{has_slot};
 ghost use Rattle.nv_entry.specs.declared.entry.Operation.TheVariants.{Remove};
 ghost use Rattle.nv_logpage.specs.Append.{needed};
 ghost use Rattle.nv_names.specs.Names.{IsName};
@@ -11,14 +10,14 @@ ghost use Rattle.nv_mounted.specs.Held.{Held, Store};
 ghost use Rattle.nv_commit.specs.Stopped.{LeavesEither};
 ghost use Rattle.nv_tree.specs.declared.refusal.Refusal.{Refusal as RefusalValue};
 ghost use Rattle.nv_steps.specs.Across.{LessenedAcross, LessensAcross, TakesAcross, TookAcross, handed_entries};
-ghost use Rattle.nv_steps.specs.Grown.{StandsRight};
 ghost use Rattle.nv_steps.specs.NameEntries.{links_entries, name_entries};
-ghost use Rattle.nv_steps.specs.NewNames.{CanName};
 ghost use Rattle.nv_steps.specs.Steps.{LeavesStep, ShowsRow};
 ghost use Rattle.nv_steps.specs.InOrder.{TailIsFirst, TailIsNext, tail_address};
 ghost use Rattle.nv_steps.specs.Stores.{StoresIn, three_logs, two_less};
 ghost use Rattle.nv_steps.specs.Keeping.{NeedsFree, SettlesStep};
 ghost use Rattle.nv_steps.specs.Slots.{slot_in};
+ghost use Rattle.nv_steps.specs.Premises.{CanAppendLogsLess, CanAppendThreeLogs};
+ghost use Rattle.nv_steps.specs.Readied.{NeedsRoom};
 
 use crate::growing::Growth;
 use crate::growing_less::append_logs_less;
@@ -50,20 +49,12 @@ pub fn take_across<P: Pmem>(
     moved: &OtherName<'_>,
     gone: Displaced,
 ) -> Result<(), Refusal>
-    requires apart { from.old.inode ≢ to.old.inode }
-    requires stands { StandsRight (P.region memory.old) tables.now.layout free.old from.old × CanName (P.region memory.old) tables.now.layout cpu from.old.inode from.old }
-    requires to_stands { StandsRight (P.region memory.old) tables.now.layout free.old to.old × CanName (P.region memory.old) tables.now.layout cpu to.old.inode to.old }
-    requires number { IsTrue (has_slot tables.now.layout gone.inode) }
-    requires differ { from.old.inode ≢ gone.inode }
-    requires to_differs { to.old.inode ≢ gone.inode }
-    requires name { IsName moved.now.name.now }
-    requires other { IsName moved.now.other.now }
+    requires { CanAppendLogsLess (P.region memory.old) tables.now.layout free.old cpu from.old to.old gone.inode (IsName moved.now.name.now × IsName moved.now.other.now) }
     ensures taken { OnOk result (TakesAcross (P.region memory.old) (P.region memory.new) tables.now.layout free.old free.new cpu from.old from.new to.old to.new
         moved.now.inode gone.inode moved.now.name.now
         moved.now.other.now moved.now.time) }
-    ensures room { OnOk result (gone.blocks ≤ free.new.room) }
-    ensures needs { NeedsFree (needed (from.old.tail % 4096) (name_entries Remove moved.now.inode moved.now.name.now moved.now.time)
-        + needed (to.old.tail % 4096) (handed_entries moved.now.inode gone.inode moved.now.other.now moved.now.time)) free.old result }
+    ensures needs { NeedsRoom (needed (from.old.tail % 4096) (name_entries Remove moved.now.inode moved.now.name.now moved.now.time)
+        + needed (to.old.tail % 4096) (handed_entries moved.now.inode gone.inode moved.now.other.now moved.now.time)) (gone.blocks ≤ free.new.room) free.old result }
     ensures kept { SettlesStep P.region P.may_hold P.fuse memory.old memory.new free.old free.new result }
     ensures unchanged { IfErr result (λ e. (e ≡ RefusalValue.Stopped → ⊥) → LeavesStep memory.old memory.new free.old free.new from.old from.new × SameRow to.old to.new) }
     ensures inodes { (from.new.inode ≡ from.old.inode) × (to.new.inode ≡ to.old.inode) }
@@ -122,13 +113,8 @@ pub fn lessen_across<P: Pmem>(
     file: &mut Row,
     moved: &OtherName<'_>,
 ) -> Result<(), Refusal>
-    requires apart { (from.old.inode ≢ to.old.inode) × (from.old.inode ≢ file.old.inode) × (to.old.inode ≢ file.old.inode) }
-    requires stands { StandsRight (P.region memory.old) tables.now.layout free.old from.old × CanName (P.region memory.old) tables.now.layout cpu from.old.inode from.old }
-    requires to_stands { StandsRight (P.region memory.old) tables.now.layout free.old to.old × CanName (P.region memory.old) tables.now.layout cpu to.old.inode to.old }
-    requires file_stands { StandsRight (P.region memory.old) tables.now.layout free.old file.old × CanName (P.region memory.old) tables.now.layout cpu file.old.inode file.old }
-    requires more { 1 < file.old.numbers.links }
-    requires name { IsName moved.now.name.now }
-    requires other { IsName moved.now.other.now }
+    requires { CanAppendThreeLogs (P.region memory.old) tables.now.layout free.old cpu from.old to.old file.old
+        ((1 < file.old.numbers.links) × IsName moved.now.name.now × IsName moved.now.other.now) }
     ensures lessened { OnOk result (LessensAcross (P.region memory.old) (P.region memory.new) tables.now.layout free.old free.new cpu from.old from.new to.old to.new file.old file.new moved.now.inode
         moved.now.name.now moved.now.other.now moved.now.time) }
     ensures needs { NeedsFree (needed (from.old.tail % 4096) (name_entries Remove moved.now.inode moved.now.name.now moved.now.time)

@@ -6,11 +6,11 @@ ghost use Rattle.nv_logpage.specs.Append.{AreGiven, needed};
 ghost use Rattle.nv_mounted.specs.Held.{Held, Store};
 ghost use Rattle.nv_commit.specs.Stopped.{LeavesEither};
 ghost use Rattle.nv_tree.specs.declared.refusal.Refusal.{Refusal as RefusalValue};
-ghost use Rattle.nv_steps.specs.Grown.{StandsRight};
 ghost use Rattle.nv_steps.specs.Steps.{AppendsLog, LeavesStep, ShowsRow};
 ghost use Rattle.nv_steps.specs.Stopped.{Appended};
 ghost use Rattle.nv_steps.specs.Stores.{StoresIn, one_log};
 ghost use Rattle.nv_steps.specs.Keeping.{NeedsFree, SettlesStep};
+ghost use Rattle.nv_steps.specs.Premises.{CanAppendLog};
 
 use crate::preparing::prepare_log;
 use crate::settling::settle_log;
@@ -38,9 +38,7 @@ pub(crate) fn append_log<P: Pmem>(
     row: &mut Row,
     entries: &[Entry],
 ) -> Result<(), Refusal>
-    requires cpu { cpu < free.old.sup.cpus }
-    requires stands { StandsRight (P.region memory.old) tables.now.layout free.old row.old }
-    requires given { AreGiven entries.now }
+    requires { CanAppendLog (P.region memory.old) tables.now.layout free.old cpu row.old (AreGiven entries.now) }
     ensures appended { OnOk result (AppendsLog (P.region memory.old) (P.region memory.new) tables.now.layout free.old free.new cpu row.old row.new entries.now) }
     ensures needs { NeedsFree (needed (row.old.tail % 4096) entries.now) free.old result }
     ensures room { OnOk result (free.old.room ≤ free.new.room) }

@@ -9,11 +9,11 @@ ghost use Rattle.nv_mounted.specs.Held.{Held, Store};
 ghost use Rattle.nv_commit.specs.Stopped.{LeavesEither};
 ghost use Rattle.nv_tree.specs.declared.refusal.Refusal.{Refusal as RefusalValue};
 ghost use Rattle.nv_steps.specs.Attributes.{HasAttributes, attributes};
-ghost use Rattle.nv_steps.specs.Grown.{StandsRight};
 ghost use Rattle.nv_steps.specs.Steps.{LeavesStep, LogFollows, ShowsRow};
 ghost use Rattle.nv_steps.specs.Stopped.{Attributed};
 ghost use Rattle.nv_steps.specs.Stores.{StoresIn, one_log};
 ghost use Rattle.nv_steps.specs.Keeping.{NeedsFree, SettlesStep};
+ghost use Rattle.nv_steps.specs.Premises.{CanAppendLog};
 
 use crate::appending::append_log;
 use crate::settling::numbers_with;
@@ -38,10 +38,7 @@ pub fn change_attributes<P: Pmem>(
     row: &mut Row,
     attributes: AttrEntry,
 ) -> Result<(), Refusal>
-    requires cpu { cpu < free.old.sup.cpus }
-    requires stands { StandsRight (P.region memory.old) tables.now.layout free.old row.old }
-    requires mode { attributes.mode ≤ 4095 }
-    requires size { attributes.size ≡ row.old.numbers.size }
+    requires { CanAppendLog (P.region memory.old) tables.now.layout free.old cpu row.old ((attributes.mode ≤ 4095) × (attributes.size ≡ row.old.numbers.size)) }
     ensures log { (held : Store) (h : Held) → ShowsRow (P.region memory.old) tables.now.layout held h row.old free.old
         → OnOk result (LogFollows (P.region memory.old) (P.region memory.new) tables.now.layout held h (Attr attributes ∷ []) free.old.pools cpu row.old row.new free.new) }
     ensures row { OnOk result (HasAttributes row.old attributes row.new) }

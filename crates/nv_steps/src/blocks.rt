@@ -1,9 +1,10 @@
 //! Blocks that are taken one by one, as the pages of logs are.
 
-ghost use Rattle.std.specs.Prelude.{◌≡◌, ◌<◌, ◌≤◌, ◌+◌, length, IsTrue, IsFalse, IfOk, IfErr, OnOk, OnErr, vec_len, vec_capacity};
+ghost use Rattle.std.specs.Prelude.{◌<◌, ◌≤◌, ◌+◌, IsTrue, IsFalse, IfOk, IfErr, OnOk, OnErr, vec_len, vec_capacity};
 ghost use Rattle.nv_alloc.specs.Taking.{all_blocks};
 ghost use Rattle.nv_alloc.specs.FreeLists.{Refuses, SameLists};
-ghost use Rattle.nv_steps.specs.Taken.{SamePools, TakesOne, TakesEach, TakesOnto};
+ghost use Rattle.nv_steps.specs.Taken.{SamePools, TakesOne, TakesOnto};
+ghost use Rattle.nv_steps.specs.Readied.{TakesCount};
 
 use nv_alloc::{AllocRefusal, Allocators};
 use nv_super::Run;
@@ -27,8 +28,7 @@ pub(crate) fn take_blocks(
     count: u64,
 ) -> Result<Vec<u64>, AllocRefusal>
     requires cpu { cpu < free.old.sup.cpus }
-    ensures taken { IfOk result (λ blocks. TakesEach free.old cpu blocks.items free.new) }
-    ensures count { IfOk result (λ blocks. length blocks.items ≡ count) }
+    ensures taken { IfOk result (λ blocks. TakesCount free.old cpu blocks.items count free.new) }
     ensures enough { OnOk result (count ≤ all_blocks free.old.pools) }
     ensures room { OnOk result (free.old.room ≤ free.new.room) }
     ensures err { IfErr result (λ refusal. Refuses refusal count free.old.pools) }
@@ -52,8 +52,7 @@ fn take_enough(
     count: u64,
 ) -> Result<Vec<u64>, AllocError>
     requires cpu { cpu < free.old.sup.cpus }
-    ensures taken { IfOk result (λ blocks. TakesEach free.old cpu blocks.items free.new) }
-    ensures count { IfOk result (λ blocks. length blocks.items ≡ count) }
+    ensures taken { IfOk result (λ blocks. TakesCount free.old cpu blocks.items count free.new) }
     ensures room { OnOk result (free.old.room ≤ free.new.room) }
     ensures unchanged { OnErr result (SamePools free.old free.new) }
     ensures room_left { OnErr result (free.old.room ≤ free.new.room + count) }

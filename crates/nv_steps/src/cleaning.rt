@@ -1,28 +1,25 @@
 //! The first page that the log of a row can do without, taken out of it, and such pages that follow one another.
 
-ghost use Rattle.std.specs.Prelude.{◌≡◌, ◌⊎◌, ◌+◌, ◌%◌, ◌<◌, ◌≤◌, ℕ, List, length, true, Option, IfOk, IfErr, IfSome, OnOk, IsTrue};
-ghost use Rattle.nv_region.specs.Region.{HasBlocks, size};
+ghost use Rattle.std.specs.Prelude.{◌≡◌, ◌+◌, ◌<◌, ℕ, List, length, true, Option, IfOk, IfErr, IfSome, OnOk, IsTrue};
+ghost use Rattle.nv_region.specs.Region.{HasBlocks};
 ghost use Rattle.nv_region.specs.Stops.{LeavesOnly, NothingPending};
 ghost use Rattle.nv_super.specs.Layout.{HasAreas};
 ghost use Rattle.nv_alloc.specs.FreeValue.{FreeLists};
 ghost use Rattle.nv_inode.specs.Slot.{is_right_log};
 ghost use Rattle.nv_inode.specs.Numbers.{has_slot};
 ghost use Rattle.nv_logpage.specs.declared.found.Placed.{Placed as PlacedValue};
-ghost use Rattle.nv_logpage.specs.Append.{EndBy};
 ghost use Rattle.nv_logpage.specs.Unlinked.{page_behind};
 ghost use Rattle.nv_deadpages.specs.Dead.{IsFirstDead, IsSaidBy};
 ghost use Rattle.nv_deadpages.specs.InTurn.{AreDeadPages};
 ghost use Rattle.nv_mounted.specs.Held.{Held, Store};
 ghost use Rattle.nv_tree.specs.declared.refusal.Refusal.{Refusal as RefusalValue};
 ghost use Rattle.nv_commit.specs.Stopped.{LeavesEither};
-ghost use Rattle.nv_steps.specs.Cleans.{Cleans, HasLess, IsKnownDead, KeepsFile};
-ghost use Rattle.nv_steps.specs.Grown.{StandsRight};
-ghost use Rattle.nv_steps.specs.LessNames.{AreOwn};
+ghost use Rattle.nv_steps.specs.Cleans.{Cleans, HasLess, IsKnownDead, KeepsFile, RefusesClean};
 ghost use Rattle.nv_steps.specs.Steps.{LeavesStep, ShowsRow};
 ghost use Rattle.nv_steps.specs.Stopped.{PageLess};
 ghost use Rattle.nv_steps.specs.Stores.{StoresIn, one_page_less};
-ghost use Rattle.nv_steps.specs.Taken.{SamePools};
 ghost use Rattle.nv_steps.specs.Keeping.{KeepsStep};
+ghost use Rattle.nv_steps.specs.Premises.{CanClean};
 
 use crate::giving::give_block;
 use crate::slots::slot_of_row;
@@ -76,19 +73,13 @@ pub fn clean_log<P: Pmem>(
     row: &mut Row,
     known: Option<usize>,
 ) -> Result<Option<u64>, Refusal>
-    requires stands { StandsRight (P.region memory.old) tables.now.layout free.old row.old }
-    requires blocks { HasBlocks (P.region memory.old) tables.now.layout.sup.blocks }
-    requires right { is_right_log tables.now.layout.sup row.old.head row.old.tail ≡ true }
-    requires inside { EndBy row.old.pages.items (size (P.region memory.old)) }
-    requires own { AreOwn free.old row.old.pages.items }
-    requires before_last { IfSome known (λ k. k + 1 < length row.old.pages.items) }
+    requires { CanClean (P.region memory.old) tables.now.layout free.old row.old known }
     ensures log { (held : Store) (h : Held) → ShowsRow (P.region memory.old) tables.now.layout held h row.old free.old
         → IsKnownDead tables.now.layout.sup h.kind row.old.inode h.created h.entries h.pages known
         → IfOk result (Cleans (P.region memory.old) (P.region memory.new) tables.now.layout held h row.old row.new free.old free.new) }
     ensures settled { NothingPending (P.region memory.old) (P.may_hold memory.old) → OnOk result (NothingPending (P.region memory.new) (P.may_hold memory.new)) }
-    ensures refused { IfErr result (λ e. (e ≡ RefusalValue.Memory) ⊎ (e ≡ RefusalValue.Stopped)) }
+    ensures refused { IfErr result (λ e. RefusesClean e free.old free.new) }
     // A block is given back once no log leads to it.
-    ensures not_given { IfErr result (λ e. SamePools free.old free.new) }
     ensures unchanged { IfErr result (λ e. (e ≡ RefusalValue.Stopped → ⊥) → LeavesStep memory.old memory.new free.old free.new row.old row.new) }
     ensures kept { KeepsStep P.region P.fuse memory.old memory.new free.old free.new result }
     // Every word outside these places is as it was.

@@ -1,6 +1,6 @@
 //! A new inode and its name, once the blocks for both logs are taken: the commit, and then the rows. No memory is taken.
 
-ghost use Rattle.std.specs.Prelude.{◌≡◌, ◌+◌, ◌*◌, ◌<◌, ◌^◌, [], ◌∷◌, ℕ, List, length, IfOk, IfErr, None};
+ghost use Rattle.std.specs.Prelude.{◌≡◌, ◌*◌, ◌<◌, ◌^◌, [], ◌∷◌, length, IfOk, IfErr, None};
 ghost use Rattle.nv_journal.specs.InOrder.{FirstIsFirst};
 ghost use Rattle.smallvec.specs.SmallVec.{HasRoomFor};
 ghost use Rattle.nv_region.specs.Stops.{LeavesOnly, NothingPending};
@@ -20,6 +20,7 @@ ghost use Rattle.nv_steps.specs.InOrder.{tail_address};
 ghost use Rattle.nv_steps.specs.Stores.{StoresIn, one_more};
 ghost use Rattle.nv_steps.specs.Keeping.{SettlesStep};
 ghost use Rattle.nv_steps.specs.Slots.{slot_in};
+ghost use Rattle.nv_steps.specs.Premises.{CanPutName};
 
 use crate::making::NewName;
 use crate::settling::settle_log;
@@ -50,9 +51,7 @@ pub(crate) fn commit_name<P: Pmem>(
 ) -> Result<Row, Refusal>
     requires can { (l : Layout) × (free : FreeLists) × (after : FreeLists) × (row : RowValue)
         × CanCommitName (P.region memory.old) l free after cpu slot parent row directory.old new.now.inode new.now.name.now new.now.time blocks.now }
-    requires pages { HasRoomFor directory.old.pages (length blocks.now) }
-    requires names { 0 < directory.old.names.room }
-    requires name { IsName new.now.name.now }
+    requires row { CanPutName directory.old blocks.now new.now.name.now }
     ensures made { (l : Layout) (free after : FreeLists) (row : RowValue)
         → CanCommitName (P.region memory.old) l free after cpu slot parent row directory.old new.now.inode new.now.name.now new.now.time blocks.now
         → IfOk result (λ made. MakesNamed (P.region memory.old) (P.region memory.new) l free after cpu row directory.new new.now.kind new.now.mode new.now.time new.now.inode

@@ -1,6 +1,6 @@
 //! A file that gets longer, and ends in a page that has a block: that page goes to a fresh block, with zeros behind the end.
 
-ghost use Rattle.std.specs.Prelude.{◌≡◌, ℕ, ◌<◌, ◌≤◌, ◌+◌, ◌*◌, ◌/◌, ◌%◌, ◌∷◌, [], ◌^◌, length, IfOk, IfErr, OnOk, OnErr, Option, is_err, suc};
+ghost use Rattle.std.specs.Prelude.{◌≡◌, ℕ, ◌<◌, ◌≤◌, ◌+◌, ◌*◌, ◌/◌, ◌∷◌, [], length, IfOk, IfErr, OnOk, OnErr, Option, is_err, suc};
 ghost use Rattle.smallvec.specs.SmallVec.{HasRoomFor};
 ghost use Rattle.nv_region.specs.Region.{size};
 ghost use Rattle.nv_region.specs.Stops.{LeavesOnly, NothingPending};
@@ -8,8 +8,7 @@ ghost use Rattle.nv_region.specs.Stored.{StoresOnly};
 ghost use Rattle.nv_region.specs.Fuses.{KeepsFuse};
 ghost use Rattle.nv_alloc.specs.Taking.{all_blocks};
 ghost use Rattle.nv_alloc.specs.FreeLists.{Refuses};
-ghost use Rattle.nv_logpage.specs.Append.{CanAppend, end_of};
-ghost use Rattle.nv_radix.specs.Pages.{block_at};
+ghost use Rattle.nv_logpage.specs.Append.{end_of};
 ghost use Rattle.nv_mounted.specs.Bytes.{byte_in};
 ghost use Rattle.nv_bytes.specs.Bytes.{byte_after};
 ghost use Rattle.nv_bytes.specs.Storing.{HoldsPage, InBlocks};
@@ -19,12 +18,13 @@ ghost use Rattle.nv_mounted.specs.Blocks.{IsUnowned};
 ghost use Rattle.nv_commit.specs.Extends.{CanExtend};
 ghost use Rattle.nv_commit.specs.Stopped.{LeavesEither};
 ghost use Rattle.nv_tree.specs.declared.refusal.Refusal.{Refusal as RefusalValue};
-ghost use Rattle.nv_steps.specs.Sizes.{CanResize, CopiesEnd, Resizes, blocks_from, end_block, resizing};
+ghost use Rattle.nv_steps.specs.Sizes.{CopiesEnd, Resizes, blocks_from, resizing};
 ghost use Rattle.nv_steps.specs.Steps.{LeavesStep, ShowsRow};
 ghost use Rattle.nv_steps.specs.Stopped.{Resized};
 ghost use Rattle.nv_steps.specs.Stores.{StoresIn, one_log};
 ghost use Rattle.nv_steps.specs.Taken.{SamePools, TakesEach};
 ghost use Rattle.nv_steps.specs.Keeping.{NeedsFree, SettlesStep};
+ghost use Rattle.nv_steps.specs.Premises.{CanCopyPage, CanExtendAt, CanResizeFrom};
 
 use crate::blocks::take_blocks;
 use crate::giving::give_block;
@@ -55,8 +55,7 @@ pub(crate) fn resize_with_copy<P: Pmem>(
     from: u64,
 ) -> Result<(), Refusal>
     requires cpu { cpu < free.old.sup.cpus }
-    requires can { CanResize (P.region memory.old) tables.now.layout free.old row.old attributes }
-    requires ends { end_block (block_at row.old.index) row.old.numbers.size attributes.size ≡ Option.Some from }
+    requires can { CanResizeFrom (P.region memory.old) tables.now.layout free.old row.old attributes (Option.Some from) }
     ensures resized { OnOk result (Resizes (P.region memory.old) (P.region memory.new) tables.now.layout free.old cpu row.old attributes row.new free.new) }
     ensures needs { NeedsFree (blocks_from row.old.tail attributes (Option.Some from)) free.old result }
     ensures kept { SettlesStep P.region P.may_hold P.fuse memory.old memory.new free.old free.new result }
@@ -155,13 +154,7 @@ fn copy_end<P: Pmem>(
     bytes: u64,
     log: &Extension<'_>,
 ) -> Result<u64, Stopped>
-    requires can { CanAppend (P.region memory.old) log.now.tail log.now.entries.now log.now.fresh.now }
-    requires whole { log.now.slot % 8 ≡ 0 }
-    requires inside { log.now.slot + 32 ≤ size (P.region memory.old) }
-    requires from { from * 4096 + 4096 ≤ size (P.region memory.old) }
-    requires apart { from ≡ to → ⊥ }
-    requires to { to * 4096 + 4096 ≤ size (P.region memory.old) }
-    requires page { bytes / 4096 < 2 ^ 32 }
+    requires { CanExtendAt (P.region memory.old) log.now.slot log.now.tail log.now.entries.now log.now.fresh.now (CanCopyPage (P.region memory.old) from to bytes) }
     ensures end { IfOk result (λ new. new ≡ end_of log.now.fresh.now 0 log.now.tail log.now.entries.now) }
     ensures copies { OnOk result (CopiesEnd (P.region memory.old) (P.region memory.new) from to bytes log.now.slot log.now.tail log.now.entries.now log.now.fresh.now) }
     ensures settled { OnOk result (NothingPending (P.region memory.new) (P.may_hold memory.new)) }
@@ -185,10 +178,7 @@ fn copy_end<P: Pmem>(
 /// Copies the page in which a file of so many bytes ends from a block into another, with zeros behind the end. Nothing is
 /// fenced.
 fn copy_page<P: Pmem>(memory: &mut P, from: u64, to: u64, bytes: u64) -> Result<(), Stopped>
-    requires from { from * 4096 + 4096 ≤ size (P.region memory.old) }
-    requires apart { from ≡ to → ⊥ }
-    requires to { to * 4096 + 4096 ≤ size (P.region memory.old) }
-    requires page { bytes / 4096 < 2 ^ 32 }
+    requires { CanCopyPage (P.region memory.old) from to bytes }
     ensures stored { OnOk result (HoldsPage (P.region memory.new) (byte_after 0 [] bytes (byte_in (P.region memory.old) (Option.Some from))) to (bytes / 4096)) }
     ensures wrote { StoresOnly (InBlocks (λ b. b ≡ to)) (P.region memory.old) (P.region memory.new) (P.may_hold memory.old) (P.may_hold memory.new) }
     ensures stopped { is_err result ≡ (P.fuse memory.new).has_burnt }

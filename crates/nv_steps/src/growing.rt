@@ -1,6 +1,6 @@
 //! Two logs that grow together, and the rows that stand for them: all growths first, then the commit, then the rows.
 
-ghost use Rattle.std.specs.Prelude.{◌≡◌, ◌≢◌, ◌+◌, ◌%◌, ◌<◌, ◌≤◌, ℕ, List, [], ◌∷◌, length, IfOk, IfErr, OnOk, OnErr, IsTrue};
+ghost use Rattle.std.specs.Prelude.{◌≡◌, ◌+◌, ◌%◌, ◌<◌, ◌≤◌, ℕ, List, [], ◌∷◌, length, IfOk, IfErr, OnOk, OnErr, IsTrue};
 ghost use Rattle.smallvec.specs.SmallVec.{HasRoomFor};
 ghost use Rattle.nv_region.specs.Stops.{LeavesOnly, NothingPending};
 ghost use Rattle.nv_inode.specs.Numbers.{has_slot};
@@ -10,16 +10,16 @@ ghost use Rattle.nv_outcome.specs.Same.{SameRow};
 ghost use Rattle.nv_mounted.specs.Held.{Held, Store};
 ghost use Rattle.nv_commit.specs.Stopped.{LeavesEither};
 ghost use Rattle.nv_tree.specs.declared.refusal.Refusal.{Refusal as RefusalValue};
-ghost use Rattle.nv_steps.specs.Grown.{StandsRight};
 ghost use Rattle.nv_steps.specs.MoreNames.{AppendsLogs, AreFew, NamesOnce, ReadiesRow};
-ghost use Rattle.nv_steps.specs.NewNames.{CanName};
 ghost use Rattle.nv_steps.specs.Steps.{LeavesStep, ShowsRow};
 ghost use Rattle.nv_steps.specs.Stopped.{AppendedBoth};
 ghost use Rattle.nv_steps.specs.InOrder.{TailIsFirst, tail_address};
-ghost use Rattle.nv_steps.specs.Taken.{SamePools, TakesEach};
+ghost use Rattle.nv_steps.specs.Taken.{SamePools};
 ghost use Rattle.nv_steps.specs.Stores.{StoresIn, two_logs};
 ghost use Rattle.nv_steps.specs.Keeping.{NeedsFree, SettlesStep};
 ghost use Rattle.nv_steps.specs.Slots.{slot_in};
+ghost use Rattle.nv_steps.specs.Premises.{CanAppendLogs};
+ghost use Rattle.nv_steps.specs.Readied.{NeedsRoom, TakesCount};
 
 use crate::blocks::{are_enough, take_blocks};
 use crate::settling::settle_log;
@@ -59,15 +59,11 @@ pub(crate) fn append_logs<P: Pmem>(
     other: &mut Row,
     second: &Growth<'_>,
 ) -> Result<(), Refusal>
-    requires apart { row.old.inode ≢ other.old.inode }
-    requires stands { StandsRight (P.region memory.old) tables.now.layout free.old row.old × CanName (P.region memory.old) tables.now.layout cpu row.old.inode row.old }
-    requires other_stands { StandsRight (P.region memory.old) tables.now.layout free.old other.old × CanName (P.region memory.old) tables.now.layout cpu other.old.inode other.old }
-    requires given { AreFew first.now.entries.now }
-    requires more_given { AreFew second.now.entries.now }
+    requires { CanAppendLogs (P.region memory.old) tables.now.layout free.old cpu row.old other.old (AreFew first.now.entries.now × AreFew second.now.entries.now) }
     ensures appended { OnOk result (AppendsLogs (P.region memory.old) (P.region memory.new) tables.now.layout free.old free.new cpu (row.old ∷ other.old ∷ [])
         (row.new ∷ other.new ∷ []) 0 first.now.entries.now 1 second.now.entries.now) }
-    ensures rooms { OnOk result ((first.now.names ≤ row.new.names.room) × (second.now.names ≤ other.new.names.room)) }
-    ensures needs { NeedsFree (needed (row.old.tail % 4096) first.now.entries.now + needed (other.old.tail % 4096) second.now.entries.now) free.old result }
+    ensures needs { NeedsRoom (needed (row.old.tail % 4096) first.now.entries.now + needed (other.old.tail % 4096) second.now.entries.now)
+        ((first.now.names ≤ row.new.names.room) × (second.now.names ≤ other.new.names.room)) free.old result }
     ensures kept { SettlesStep P.region P.may_hold P.fuse memory.old memory.new free.old free.new result }
     ensures unchanged { IfErr result (λ e. (e ≡ RefusalValue.Stopped → ⊥) → LeavesStep memory.old memory.new free.old free.new row.old row.new × SameRow other.old other.new) }
     ensures inodes { (row.new.inode ≡ row.old.inode) × (other.new.inode ≡ other.old.inode) }
@@ -140,17 +136,15 @@ pub(crate) fn prepare_logs(
     second: &Growth<'_>,
 ) -> Result<Vec<u64>, Refusal>
     requires cpu { cpu < free.old.sup.cpus }
-    requires few { length first.now.entries.now < 4096 }
-    requires more_few { length second.now.entries.now < 4096 }
-    ensures taken { IfOk result (λ blocks. TakesEach free.old cpu blocks.items free.new) }
-    ensures count { IfOk result (λ blocks. length blocks.items ≡ needed (row.old.tail % 4096) first.now.entries.now + needed (other.old.tail % 4096) second.now.entries.now) }
+    requires few { (length first.now.entries.now < 4096) × (length second.now.entries.now < 4096) }
+    ensures taken { IfOk result (λ blocks. TakesCount free.old cpu blocks.items (needed (row.old.tail % 4096) first.now.entries.now + needed (other.old.tail % 4096) second.now.entries.now)
+        free.new) }
     ensures needs { NeedsFree (needed (row.old.tail % 4096) first.now.entries.now + needed (other.old.tail % 4096) second.now.entries.now) free.old result }
     ensures room { OnOk result (free.old.room ≤ free.new.room) }
     ensures goes_on { IfErr result (λ e. e ≡ RefusalValue.Stopped → ⊥) }
     ensures unchanged { OnErr result (SamePools free.old free.new) }
     ensures rows { SameRow row.old row.new × SameRow other.old other.new }
-    ensures ready { OnOk result (ReadiesRow row.old row.new first.now.entries.now first.now.names) }
-    ensures other_ready { OnOk result (ReadiesRow other.old other.new second.now.entries.now second.now.names) }
+    ensures ready { OnOk result (ReadiesRow row.old row.new first.now.entries.now first.now.names × ReadiesRow other.old other.new second.now.entries.now second.now.names) }
 {
     let count = blocks_for(row, first);
     let more = blocks_for(other, second);

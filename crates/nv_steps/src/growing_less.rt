@@ -1,24 +1,23 @@
 //! Two logs that grow while another inode goes, and the rows that stand for them: all growths first, then the commit, then the
 //! rows.
 
-ghost use Rattle.std.specs.Prelude.{◌≡◌, ◌≢◌, ◌+◌, ◌%◌, ◌<◌, ◌≤◌, length, IsTrue, IfOk, IfErr, OnOk, OnErr};
+ghost use Rattle.std.specs.Prelude.{◌≡◌, ◌+◌, ◌%◌, ◌<◌, ◌≤◌, length, IfOk, IfErr, OnOk, OnErr};
 ghost use Rattle.nv_region.specs.Stops.{LeavesOnly, NothingPending};
-ghost use Rattle.nv_inode.specs.Numbers.{has_slot};
 ghost use Rattle.nv_logpage.specs.Append.{needed};
 ghost use Rattle.nv_outcome.specs.Same.{SameRow};
 ghost use Rattle.nv_mounted.specs.Held.{Held, Store};
 ghost use Rattle.nv_commit.specs.Stopped.{LeavesEither};
 ghost use Rattle.nv_tree.specs.declared.refusal.Refusal.{Refusal as RefusalValue};
 ghost use Rattle.nv_steps.specs.Across.{AppendedLogsLess, AppendsLogsLess};
-ghost use Rattle.nv_steps.specs.Grown.{StandsRight};
 ghost use Rattle.nv_steps.specs.MoreNames.{AreFew, ReadiesRow};
-ghost use Rattle.nv_steps.specs.NewNames.{CanName};
 ghost use Rattle.nv_steps.specs.Steps.{LeavesStep, ShowsRow};
 ghost use Rattle.nv_steps.specs.InOrder.{TailIsFirst, TailIsNext, tail_address};
-ghost use Rattle.nv_steps.specs.Taken.{SamePools, TakesEach};
+ghost use Rattle.nv_steps.specs.Taken.{SamePools};
 ghost use Rattle.nv_steps.specs.Stores.{StoresIn, two_less};
 ghost use Rattle.nv_steps.specs.Keeping.{NeedsFree, SettlesStep};
 ghost use Rattle.nv_steps.specs.Slots.{slot_in};
+ghost use Rattle.nv_steps.specs.Premises.{CanAppendLogsLess};
+ghost use Rattle.nv_steps.specs.Readied.{NeedsRoom, TakesCount};
 
 use crate::growing::{Growth, blocks_for, extension, prepare_logs};
 use crate::settling::settle_log;
@@ -49,18 +48,11 @@ pub(crate) fn append_logs_less<P: Pmem>(
     second: &Growth<'_>,
     gone: Displaced,
 ) -> Result<(), Refusal>
-    requires apart { row.old.inode ≢ other.old.inode }
-    requires stands { StandsRight (P.region memory.old) tables.now.layout free.old row.old × CanName (P.region memory.old) tables.now.layout cpu row.old.inode row.old }
-    requires other_stands { StandsRight (P.region memory.old) tables.now.layout free.old other.old × CanName (P.region memory.old) tables.now.layout cpu other.old.inode other.old }
-    requires given { AreFew first.now.entries.now }
-    requires more_given { AreFew second.now.entries.now }
-    requires number { IsTrue (has_slot tables.now.layout gone.inode) }
-    requires differ { row.old.inode ≢ gone.inode }
-    requires other_differs { other.old.inode ≢ gone.inode }
+    requires { CanAppendLogsLess (P.region memory.old) tables.now.layout free.old cpu row.old other.old gone.inode (AreFew first.now.entries.now × AreFew second.now.entries.now) }
     ensures appended { OnOk result (AppendsLogsLess (P.region memory.old) (P.region memory.new) tables.now.layout free.old free.new cpu row.old row.new first.now.entries.now other.old other.new
         second.now.entries.now gone.inode) }
-    ensures rooms { OnOk result ((second.now.names ≤ other.new.names.room) × (gone.blocks ≤ free.new.room)) }
-    ensures needs { NeedsFree (needed (row.old.tail % 4096) first.now.entries.now + needed (other.old.tail % 4096) second.now.entries.now) free.old result }
+    ensures needs { NeedsRoom (needed (row.old.tail % 4096) first.now.entries.now + needed (other.old.tail % 4096) second.now.entries.now)
+        ((second.now.names ≤ other.new.names.room) × (gone.blocks ≤ free.new.room)) free.old result }
     ensures kept { SettlesStep P.region P.may_hold P.fuse memory.old memory.new free.old free.new result }
     ensures unchanged { IfErr result (λ e. (e ≡ RefusalValue.Stopped → ⊥) → LeavesStep memory.old memory.new free.old free.new row.old row.new × SameRow other.old other.new) }
     ensures inodes { (row.new.inode ≡ row.old.inode) × (other.new.inode ≡ other.old.inode) }
@@ -109,17 +101,15 @@ fn prepare_logs_less(
     coming: usize,
 ) -> Result<Vec<u64>, Refusal>
     requires cpu { cpu < free.old.sup.cpus }
-    requires few { length first.now.entries.now < 4096 }
-    requires more_few { length second.now.entries.now < 4096 }
-    ensures taken { IfOk result (λ blocks. TakesEach free.old cpu blocks.items free.new) }
-    ensures count { IfOk result (λ blocks. length blocks.items ≡ needed (row.old.tail % 4096) first.now.entries.now + needed (other.old.tail % 4096) second.now.entries.now) }
+    requires few { (length first.now.entries.now < 4096) × (length second.now.entries.now < 4096) }
+    ensures taken { IfOk result (λ blocks. TakesCount free.old cpu blocks.items (needed (row.old.tail % 4096) first.now.entries.now + needed (other.old.tail % 4096) second.now.entries.now)
+        free.new) }
     ensures needs { NeedsFree (needed (row.old.tail % 4096) first.now.entries.now + needed (other.old.tail % 4096) second.now.entries.now) free.old result }
     ensures room { OnOk result (coming ≤ free.new.room) }
     ensures goes_on { IfErr result (λ e. e ≡ RefusalValue.Stopped → ⊥) }
     ensures unchanged { OnErr result (SamePools free.old free.new) }
     ensures rows { SameRow row.old row.new × SameRow other.old other.new }
-    ensures ready { OnOk result (ReadiesRow row.old row.new first.now.entries.now first.now.names) }
-    ensures other_ready { OnOk result (ReadiesRow other.old other.new second.now.entries.now second.now.names) }
+    ensures ready { OnOk result (ReadiesRow row.old row.new first.now.entries.now first.now.names × ReadiesRow other.old other.new second.now.entries.now second.now.names) }
 {
     if free.reserve(coming).is_err() {
         return Err(Refusal::Memory);

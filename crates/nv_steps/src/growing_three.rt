@@ -1,6 +1,6 @@
 //! Three logs that grow together, and the rows that stand for them: all growths first, then the commit, then the rows.
 
-ghost use Rattle.std.specs.Prelude.{◌≡◌, ◌≢◌, ◌+◌, ◌%◌, ◌<◌, ◌≤◌, length, IfOk, IfErr, OnOk, OnErr};
+ghost use Rattle.std.specs.Prelude.{◌≡◌, ◌+◌, ◌%◌, ◌<◌, ◌≤◌, length, IfOk, IfErr, OnOk, OnErr};
 ghost use Rattle.nv_region.specs.Stops.{LeavesOnly, NothingPending};
 ghost use Rattle.nv_logpage.specs.Append.{needed};
 ghost use Rattle.nv_outcome.specs.Same.{SameRow};
@@ -8,14 +8,14 @@ ghost use Rattle.nv_mounted.specs.Held.{Held, Store};
 ghost use Rattle.nv_commit.specs.Stopped.{LeavesEither};
 ghost use Rattle.nv_tree.specs.declared.refusal.Refusal.{Refusal as RefusalValue};
 ghost use Rattle.nv_steps.specs.Across.{AppendedThreeLogs, AppendsThreeLogs};
-ghost use Rattle.nv_steps.specs.Grown.{StandsRight};
 ghost use Rattle.nv_steps.specs.MoreNames.{AreFew, ReadiesRow};
-ghost use Rattle.nv_steps.specs.NewNames.{CanName};
 ghost use Rattle.nv_steps.specs.Steps.{LeavesStep, ShowsRow};
 ghost use Rattle.nv_steps.specs.InOrder.{TailIsFirst, TailIsNext, tail_address};
-ghost use Rattle.nv_steps.specs.Taken.{SamePools, TakesEach};
+ghost use Rattle.nv_steps.specs.Taken.{SamePools};
 ghost use Rattle.nv_steps.specs.Stores.{StoresIn, three_logs};
 ghost use Rattle.nv_steps.specs.Keeping.{NeedsFree, SettlesStep};
+ghost use Rattle.nv_steps.specs.Premises.{CanAppendThreeLogs};
+ghost use Rattle.nv_steps.specs.Readied.{NeedsRoom, TakesCount};
 
 use crate::blocks::{are_enough, take_blocks};
 use crate::growing::{Growth, blocks_for, extension, make_room};
@@ -46,18 +46,12 @@ pub(crate) fn append_three_logs<P: Pmem>(
     last: &mut Row,
     third: &Growth<'_>,
 ) -> Result<(), Refusal>
-    requires apart { (row.old.inode ≢ other.old.inode) × (row.old.inode ≢ last.old.inode) × (other.old.inode ≢ last.old.inode) }
-    requires stands { StandsRight (P.region memory.old) tables.now.layout free.old row.old × CanName (P.region memory.old) tables.now.layout cpu row.old.inode row.old }
-    requires other_stands { StandsRight (P.region memory.old) tables.now.layout free.old other.old × CanName (P.region memory.old) tables.now.layout cpu other.old.inode other.old }
-    requires last_stands { StandsRight (P.region memory.old) tables.now.layout free.old last.old × CanName (P.region memory.old) tables.now.layout cpu last.old.inode last.old }
-    requires given { AreFew first.now.entries.now }
-    requires more_given { AreFew second.now.entries.now }
-    requires last_given { AreFew third.now.entries.now }
+    requires { CanAppendThreeLogs (P.region memory.old) tables.now.layout free.old cpu row.old other.old last.old
+        (AreFew first.now.entries.now × AreFew second.now.entries.now × AreFew third.now.entries.now) }
     ensures appended { OnOk result (AppendsThreeLogs (P.region memory.old) (P.region memory.new) tables.now.layout free.old free.new cpu row.old row.new first.now.entries.now other.old other.new
         second.now.entries.now last.old last.new third.now.entries.now) }
-    ensures room { OnOk result (second.now.names ≤ other.new.names.room) }
-    ensures needs { NeedsFree (needed (row.old.tail % 4096) first.now.entries.now + needed (other.old.tail % 4096) second.now.entries.now
-        + needed (last.old.tail % 4096) third.now.entries.now) free.old result }
+    ensures needs { NeedsRoom (needed (row.old.tail % 4096) first.now.entries.now + needed (other.old.tail % 4096) second.now.entries.now
+        + needed (last.old.tail % 4096) third.now.entries.now) (second.now.names ≤ other.new.names.room) free.old result }
     ensures kept { SettlesStep P.region P.may_hold P.fuse memory.old memory.new free.old free.new result }
     ensures unchanged { IfErr result (λ e. (e ≡ RefusalValue.Stopped → ⊥) → LeavesStep memory.old memory.new free.old free.new row.old row.new × SameRow other.old other.new
         × SameRow last.old last.new) }
@@ -114,20 +108,16 @@ fn prepare_three(
     third: &Growth<'_>,
 ) -> Result<Vec<u64>, Refusal>
     requires cpu { cpu < free.old.sup.cpus }
-    requires few { length first.now.entries.now < 4096 }
-    requires more_few { length second.now.entries.now < 4096 }
-    requires last_few { length third.now.entries.now < 4096 }
-    ensures taken { IfOk result (λ blocks. TakesEach free.old cpu blocks.items free.new) }
-    ensures count { IfOk result (λ blocks. length blocks.items ≡ needed (row.old.tail % 4096) first.now.entries.now + needed (other.old.tail % 4096) second.now.entries.now
-        + needed (last.old.tail % 4096) third.now.entries.now) }
+    requires few { (length first.now.entries.now < 4096) × (length second.now.entries.now < 4096) × (length third.now.entries.now < 4096) }
+    ensures taken { IfOk result (λ blocks. TakesCount free.old cpu blocks.items (needed (row.old.tail % 4096) first.now.entries.now + needed (other.old.tail % 4096) second.now.entries.now
+        + needed (last.old.tail % 4096) third.now.entries.now) free.new) }
     ensures needs { NeedsFree (needed (row.old.tail % 4096) first.now.entries.now + needed (other.old.tail % 4096) second.now.entries.now
         + needed (last.old.tail % 4096) third.now.entries.now) free.old result }
     ensures goes_on { IfErr result (λ e. e ≡ RefusalValue.Stopped → ⊥) }
     ensures unchanged { OnErr result (SamePools free.old free.new) }
     ensures rows { SameRow row.old row.new × SameRow other.old other.new × SameRow last.old last.new }
-    ensures ready { OnOk result (ReadiesRow row.old row.new first.now.entries.now first.now.names) }
-    ensures other_ready { OnOk result (ReadiesRow other.old other.new second.now.entries.now second.now.names) }
-    ensures last_ready { OnOk result (ReadiesRow last.old last.new third.now.entries.now third.now.names) }
+    ensures ready { OnOk result (ReadiesRow row.old row.new first.now.entries.now first.now.names × ReadiesRow other.old other.new second.now.entries.now second.now.names
+        × ReadiesRow last.old last.new third.now.entries.now third.now.names) }
 {
     let count = blocks_for(row, first);
     let more = blocks_for(other, second);

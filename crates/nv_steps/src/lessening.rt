@@ -9,15 +9,16 @@ ghost use Rattle.nv_outcome.specs.Same.{SameRow};
 ghost use Rattle.nv_mounted.specs.Held.{Held, Store};
 ghost use Rattle.nv_commit.specs.Stopped.{LeavesEither};
 ghost use Rattle.nv_tree.specs.declared.refusal.Refusal.{Refusal as RefusalValue};
-ghost use Rattle.nv_steps.specs.Grown.{HasGrown, StandsRight};
-ghost use Rattle.nv_steps.specs.NewNames.{CanName};
+ghost use Rattle.nv_steps.specs.Grown.{HasGrown};
 ghost use Rattle.nv_steps.specs.Steps.{LeavesStep, ShowsRow};
 ghost use Rattle.nv_steps.specs.InOrder.{TailIsFirst};
 ghost use Rattle.nv_steps.specs.Stores.{StoresIn, one_less};
 ghost use Rattle.nv_steps.specs.Takes.{AppendedLess, AppendsLess};
-ghost use Rattle.nv_steps.specs.Taken.{SamePools, TakesEach};
+ghost use Rattle.nv_steps.specs.Taken.{SamePools};
 ghost use Rattle.nv_steps.specs.Keeping.{NeedsFree, SettlesStep};
 ghost use Rattle.nv_steps.specs.Slots.{slot_in};
+ghost use Rattle.nv_steps.specs.Premises.{CanAppendWith};
+ghost use Rattle.nv_steps.specs.Readied.{NeedsRoom, TakesCount};
 
 use crate::preparing::prepare_log;
 use crate::settling::settle_log;
@@ -47,14 +48,9 @@ pub fn append_less<P: Pmem>(
     gone: u64,
     coming: usize,
 ) -> Result<(), Refusal>
-    requires stands { StandsRight (P.region memory.old) tables.now.layout free.old row.old }
-    requires can { CanName (P.region memory.old) tables.now.layout cpu gone row.old }
-    requires differ { row.old.inode ≢ gone }
-    requires given { AreGiven entries.now }
-    requires some { 0 < length entries.now }
+    requires { CanAppendWith (P.region memory.old) tables.now.layout free.old cpu gone row.old ((row.old.inode ≢ gone) × AreGiven entries.now × (0 < length entries.now)) }
     ensures appended { OnOk result (AppendsLess (P.region memory.old) (P.region memory.new) tables.now.layout free.old free.new cpu row.old row.new gone entries.now) }
-    ensures room { OnOk result (coming ≤ free.new.room) }
-    ensures needs { NeedsFree (needed (row.old.tail % 4096) entries.now) free.old result }
+    ensures needs { NeedsRoom (needed (row.old.tail % 4096) entries.now) (coming ≤ free.new.room) free.old result }
     ensures kept { SettlesStep P.region P.may_hold P.fuse memory.old memory.new free.old free.new result }
     ensures unchanged { IfErr result (λ e. (e ≡ RefusalValue.Stopped → ⊥) → LeavesStep memory.old memory.new free.old free.new row.old row.new) }
     ensures row { (row.new.inode ≡ row.old.inode) × (row.new.names.room ≡ row.old.names.room) }
@@ -96,8 +92,7 @@ fn prepare_cut(
     coming: usize,
 ) -> Result<Vec<u64>, Refusal>
     requires cpu { cpu < free.old.sup.cpus }
-    ensures taken { IfOk result (λ blocks. TakesEach free.old cpu blocks.items free.new) }
-    ensures count { IfOk result (λ blocks. length blocks.items ≡ needed (row.old.tail % 4096) entries.now) }
+    ensures taken { IfOk result (λ blocks. TakesCount free.old cpu blocks.items (needed (row.old.tail % 4096) entries.now) free.new) }
     ensures pages_room { IfOk result (λ blocks. HasRoomFor row.new.pages (length blocks.items)) }
     ensures room { OnOk result (coming ≤ free.new.room) }
     ensures needs { NeedsFree (needed (row.old.tail % 4096) entries.now) free.old result }

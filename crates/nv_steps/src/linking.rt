@@ -1,6 +1,6 @@
 //! One more name of a file, by the rows of the file and of the directory.
 
-ghost use Rattle.std.specs.Prelude.{◌≡◌, ◌≢◌, ◌+◌, ◌%◌, ◌<◌, [], ◌∷◌, Option, Result, IfErr, OnOk};
+ghost use Rattle.std.specs.Prelude.{◌≡◌, ◌+◌, ◌%◌, ◌<◌, [], ◌∷◌, Option, Result, IfErr, OnOk};
 ghost use Rattle.nv_super.specs.Layout.{most_links};
 ghost use Rattle.nv_region.specs.Stops.{LeavesOnly, NothingPending};
 ghost use Rattle.nv_entry.specs.declared.entry.Operation.TheVariants.{Add};
@@ -11,15 +11,14 @@ ghost use Rattle.nv_mounted.specs.Held.{Held, Store};
 ghost use Rattle.nv_commit.specs.Stopped.{LeavesEither};
 ghost use Rattle.nv_tree.specs.Calls.{linked};
 ghost use Rattle.nv_tree.specs.declared.refusal.Refusal.{Refusal as RefusalValue};
-ghost use Rattle.nv_steps.specs.Grown.{StandsRight};
 ghost use Rattle.nv_steps.specs.NameEntries.{links_entries, name_entries};
 ghost use Rattle.nv_steps.specs.MoreNames.{LinksAt};
-ghost use Rattle.nv_steps.specs.NewNames.{CanName};
 ghost use Rattle.nv_steps.specs.Steps.{LeavesStep, ShowsRow};
 ghost use Rattle.nv_steps.specs.Stopped.{Linked};
 ghost use Rattle.nv_steps.specs.InOrder.{TailIsFirst, tail_address};
 ghost use Rattle.nv_steps.specs.Stores.{StoresIn, two_logs};
 ghost use Rattle.nv_steps.specs.Keeping.{NeedsFree, SettlesStep};
+ghost use Rattle.nv_steps.specs.Premises.{CanAppendLogs};
 
 use crate::growing::{Growth, append_logs};
 use crate::settling_names::{add_name, set_links};
@@ -46,19 +45,14 @@ pub fn link_both<P: Pmem>(
     name: &[u8],
     time: u64,
 ) -> Result<(), Refusal>
-    requires apart { file.old.inode ≢ directory.old.inode }
-    requires stands { StandsRight (P.region memory.old) tables.now.layout free.old file.old × CanName (P.region memory.old) tables.now.layout cpu file.old.inode file.old }
-    requires directory_stands { StandsRight (P.region memory.old) tables.now.layout free.old directory.old × CanName (P.region memory.old) tables.now.layout cpu directory.old.inode directory.old }
-    requires few { file.old.numbers.links < most_links }
-    requires name { IsName name.now }
+    requires { CanAppendLogs (P.region memory.old) tables.now.layout free.old cpu file.old directory.old ((file.old.numbers.links < most_links) × IsName name.now) }
     ensures linked { OnOk result (LinksAt (P.region memory.old) (P.region memory.new) tables.now.layout free.old free.new cpu (file.old ∷ directory.old ∷ [])
         (file.new ∷ directory.new ∷ []) 0 1 name.now time) }
     ensures needs { NeedsFree (needed (file.old.tail % 4096) (links_entries (file.old.numbers.links + 1) time)
         + needed (directory.old.tail % 4096) (name_entries Add file.old.inode name.now time)) free.old result }
     ensures kept { SettlesStep P.region P.may_hold P.fuse memory.old memory.new free.old free.new result }
     ensures unchanged { IfErr result (λ e. (e ≡ RefusalValue.Stopped → ⊥) → LeavesStep memory.old memory.new free.old free.new file.old file.new × SameRow directory.old directory.new) }
-    ensures inode { file.new.inode ≡ file.old.inode }
-    ensures directory_inode { directory.new.inode ≡ directory.old.inode }
+    ensures inodes { (file.new.inode ≡ file.old.inode) × (directory.new.inode ≡ directory.old.inode) }
     // Every word outside these places is as it was.
     ensures wrote { (held : Store) (h g : Held) → ShowsRow (P.region memory.old) tables.now.layout held h file.old free.old
         → ShowsRow (P.region memory.old) tables.now.layout held g directory.old free.old

@@ -1,6 +1,6 @@
 //! A new inode and its name, over blocks that are taken for both logs: all growths of memory first, then the commit.
 
-ghost use Rattle.std.specs.Prelude.{◌≡◌, ◌+◌, ◌<◌, ◌≤◌, ◌%◌, length, IfOk, IfErr, OnOk, OnErr, None};
+ghost use Rattle.std.specs.Prelude.{◌≡◌, ◌+◌, ◌<◌, ◌%◌, IfOk, IfErr, OnOk, OnErr, None};
 ghost use Rattle.nv_journal.specs.InOrder.{FirstIsFirst};
 ghost use Rattle.smallvec.specs.SmallVec.{HasRoomFor};
 ghost use Rattle.nv_region.specs.Stops.{LeavesOnly, NothingPending};
@@ -11,16 +11,17 @@ ghost use Rattle.nv_mounted.specs.Held.{Held, Store};
 ghost use Rattle.nv_commit.specs.Stopped.{LeavesEither};
 ghost use Rattle.nv_outcome.specs.Same.{SameRow};
 ghost use Rattle.nv_tree.specs.declared.refusal.Refusal.{Refusal as RefusalValue};
-ghost use Rattle.nv_steps.specs.Grown.{StandsRight};
 ghost use Rattle.nv_steps.specs.NameEntries.{name_entries};
-ghost use Rattle.nv_steps.specs.NewNames.{CanName, MakesNamed};
+ghost use Rattle.nv_steps.specs.NewNames.{MakesNamed};
 ghost use Rattle.nv_steps.specs.Steps.{LeavesStep, ShowsRow};
 ghost use Rattle.nv_steps.specs.Stopped.{Named};
 ghost use Rattle.nv_steps.specs.InOrder.{tail_address};
-ghost use Rattle.nv_steps.specs.Taken.{SamePools, TakesEach};
+ghost use Rattle.nv_steps.specs.Taken.{SamePools};
 ghost use Rattle.nv_steps.specs.Stores.{StoresIn, one_more};
 ghost use Rattle.nv_steps.specs.Keeping.{NeedsFree, SettlesStep};
 ghost use Rattle.nv_steps.specs.Slots.{slot_in};
+ghost use Rattle.nv_steps.specs.Premises.{CanAppendWith};
+ghost use Rattle.nv_steps.specs.Readied.{TakesCount};
 
 use crate::blocks::take_blocks;
 use crate::committing_names::commit_name;
@@ -61,9 +62,7 @@ pub fn make_named<P: Pmem>(
     directory: &mut Row,
     new: &NewName<'_>,
 ) -> Result<Row, Refusal>
-    requires stands { StandsRight (P.region memory.old) tables.now.layout free.old directory.old }
-    requires can { CanName (P.region memory.old) tables.now.layout cpu new.now.inode directory.old }
-    requires name { IsName new.now.name.now }
+    requires { CanAppendWith (P.region memory.old) tables.now.layout free.old cpu new.now.inode directory.old (IsName new.now.name.now) }
     ensures made { IfOk result (λ row. MakesNamed (P.region memory.old) (P.region memory.new) tables.now.layout free.old free.new cpu directory.old directory.new new.now.kind new.now.mode new.now.time
         new.now.inode new.now.name.now row) }
     ensures needs { NeedsFree (1 + needed (directory.old.tail % 4096) (name_entries OperationValue.Add new.now.inode new.now.name.now new.now.time)) free.old result }
@@ -101,8 +100,7 @@ pub(crate) fn prepare_name(
     count: u64,
 ) -> Result<Vec<u64>, Refusal>
     requires cpu { cpu < free.old.sup.cpus }
-    ensures taken { IfOk result (λ blocks. TakesEach free.old cpu blocks.items free.new) }
-    ensures count { IfOk result (λ blocks. length blocks.items ≡ count) }
+    ensures taken { IfOk result (λ blocks. TakesCount free.old cpu blocks.items count free.new) }
     ensures room { OnOk result (HasRoomFor directory.new.pages count) }
     ensures names_room { OnOk result (0 < directory.new.names.room) }
     ensures needs { NeedsFree count free.old result }

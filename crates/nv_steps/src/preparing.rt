@@ -5,7 +5,8 @@ ghost use Rattle.smallvec.specs.SmallVec.{HasRoomFor};
 ghost use Rattle.nv_alloc.specs.FreeLists.{Refuses};
 ghost use Rattle.nv_alloc.specs.Taking.{all_blocks};
 ghost use Rattle.nv_logpage.specs.Append.{needed};
-ghost use Rattle.nv_steps.specs.Taken.{SamePools, TakesEach};
+ghost use Rattle.nv_steps.specs.Taken.{SamePools};
+ghost use Rattle.nv_steps.specs.Readied.{TakesCount};
 
 use crate::blocks::{are_enough, take_blocks};
 use nv_alloc::{AllocRefusal, Allocators};
@@ -26,8 +27,7 @@ pub(crate) fn prepare_log(
     entries: &[Entry],
 ) -> Result<Vec<u64>, AllocRefusal>
     requires cpu { cpu < free.old.sup.cpus }
-    ensures taken { IfOk result (λ fresh. TakesEach free.old cpu fresh.items free.new) }
-    ensures count { IfOk result (λ fresh. length fresh.items ≡ needed (tail % 4096) entries.now) }
+    ensures taken { IfOk result (λ fresh. TakesCount free.old cpu fresh.items (needed (tail % 4096) entries.now) free.new) }
     ensures room { IfOk result (λ fresh. HasRoomFor pages.new (length fresh.items)) }
     ensures given_back { OnOk result (free.old.room ≤ free.new.room) }
     ensures enough { OnOk result (needed (tail % 4096) entries.now ≤ all_blocks free.old.pools) }

@@ -1,19 +1,19 @@
 //! What a write makes ready before it stores: all growths of memory, and the blocks that it takes.
 
-ghost use Rattle.std.specs.Prelude.{◌≡◌, ◌<◌, ◌≤◌, ◌+◌, ◌*◌, ◌%◌, ◌^◌, ℕ, length, Some, IfOk, IfErr, IfSome, OnOk, OnErr};
-ghost use Rattle.std.specs.List.{Contains};
+ghost use Rattle.std.specs.Prelude.{◌≡◌, ◌<◌, ◌≤◌, ◌+◌, ◌*◌, ◌%◌, ℕ, length, Some, IfOk, IfErr, IfSome, OnOk, OnErr};
 ghost use Rattle.nv_super.specs.Layout.{most_pages};
 ghost use Rattle.smallvec.specs.SmallVec.{HasRoomFor};
-ghost use Rattle.nv_super.specs.declared.owners.Run.{Run as RunValue};
 ghost use Rattle.nv_alloc.specs.FreeLists.{SameLists};
-ghost use Rattle.nv_alloc.specs.Taking.{all_blocks, blocks_in};
+ghost use Rattle.nv_alloc.specs.Taking.{all_blocks};
 ghost use Rattle.nv_logpage.specs.Append.{needed};
 ghost use Rattle.nv_outcome.specs.Same.{SameRow};
 ghost use Rattle.nv_radix.specs.Pages.{AreReady, block_at};
 ghost use Rattle.nv_alloc.specs.declared.allocators.AllocRefusal.TheVariants.{NoSpace};
-ghost use Rattle.nv_steps.specs.Taken.{SamePools, TakesEach};
+ghost use Rattle.nv_steps.specs.Taken.{SamePools};
 ghost use Rattle.nv_steps.specs.Writes.{NeedsBlocks, data_blocks, data_entries, replaced_blocks};
 ghost use Rattle.nv_steps.specs.Written.{Prepared};
+ghost use Rattle.nv_steps.specs.Premises.{AreRunsFor, CanPrepare};
+ghost use Rattle.nv_steps.specs.Readied.{TakesCount};
 
 use crate::giving::give_all;
 use crate::planning::{Plan, data_entries, replaced_blocks};
@@ -50,13 +50,9 @@ pub(crate) fn prepare_data(
     row: &mut Row,
     plan: &Plan,
 ) -> Result<Ready, AllocRefusal>
-    requires cpu { cpu < free.old.sup.cpus }
-    requires some { 0 < plan.now.pages }
-    requires pages { plan.now.first + plan.now.pages ≤ most_pages }
-    requires ending { IfSome plan.now.ending (λ p. p < most_pages) }
+    requires { CanPrepare free.old cpu plan.now (0 < plan.now.pages) }
     ensures prepared { IfOk result (λ ready. Prepared free.old cpu row.old.tail plan.now ready.log.entries.items ready.log.fresh.items free.new) }
-    ensures replaced { IfOk result (λ ready. ready.replaced.items ≡ replaced_blocks row.old.index plan.now) }
-    ensures room { IfOk result (λ ready. length ready.replaced.items ≤ free.new.room) }
+    ensures replaced { IfOk result (λ ready. (ready.replaced.items ≡ replaced_blocks row.old.index plan.now) × (length ready.replaced.items ≤ free.new.room)) }
     ensures pages { IfOk result (λ ready. HasRoomFor row.new.pages (length ready.log.fresh.items)) }
     ensures ready { OnOk result (AreReady row.new.index plan.now.first plan.now.pages × IfSome plan.now.ending (λ p. AreReady row.new.index p 1)) }
     ensures enough { OnOk result ((count : ℕ) → NeedsBlocks free.old.pools cpu row.old.tail plan.now count → count ≤ all_blocks free.old.pools) }
@@ -118,15 +114,9 @@ fn prepare_entries(
     plan: &Plan,
     runs: &[Run],
 ) -> Result<Entries, AllocRefusal>
-    requires cpu { cpu < free.old.sup.cpus }
-    requires some { 0 < length runs.now }
-    requires blocks { (r : RunValue) → Contains runs.now r → (0 < r.count) × (r.start < 2 ^ 62) }
-    requires ending { IfSome plan.now.ending (λ p. p < most_pages) }
-    requires pages { plan.now.first + plan.now.pages ≤ most_pages }
-    requires count { blocks_in runs.now ≡ data_blocks plan.now }
+    requires { CanPrepare free.old cpu plan.now (AreRunsFor plan.now runs.now) }
     ensures entries { IfOk result (λ log. log.entries.items ≡ data_entries plan.now runs.now) }
-    ensures taken { IfOk result (λ log. TakesEach free.old cpu log.fresh.items free.new) }
-    ensures count { IfOk result (λ log. length log.fresh.items ≡ needed (row.old.tail % 4096) log.entries.items) }
+    ensures taken { IfOk result (λ log. TakesCount free.old cpu log.fresh.items (needed (row.old.tail % 4096) log.entries.items) free.new) }
     ensures pages { IfOk result (λ log. HasRoomFor row.new.pages (length log.fresh.items)) }
     ensures enough { OnOk result (needed (row.old.tail % 4096) (data_entries plan.now runs.now) ≤ all_blocks free.old.pools) }
     ensures refused { IfErr result (λ e. e ≡ NoSpace → all_blocks free.old.pools < needed (row.old.tail % 4096) (data_entries plan.now runs.now)) }

@@ -8,16 +8,16 @@ ghost use Rattle.nv_names.specs.Names.{IsName};
 ghost use Rattle.nv_mounted.specs.Held.{Held, Store};
 ghost use Rattle.nv_commit.specs.Stopped.{LeavesEither};
 ghost use Rattle.nv_tree.specs.declared.refusal.Refusal.{Refusal as RefusalValue};
-ghost use Rattle.nv_steps.specs.Grown.{StandsRight};
 ghost use Rattle.nv_steps.specs.LessNames.{CutsName};
 ghost use Rattle.nv_steps.specs.NameEntries.{name_entries};
-ghost use Rattle.nv_steps.specs.NewNames.{CanName};
 ghost use Rattle.nv_steps.specs.Steps.{LeavesStep, ShowsRow};
 ghost use Rattle.nv_steps.specs.Stopped.{Cut};
 ghost use Rattle.nv_steps.specs.InOrder.{TailIsFirst};
 ghost use Rattle.nv_steps.specs.Stores.{StoresIn, one_less};
-ghost use Rattle.nv_steps.specs.Keeping.{NeedsFree, SettlesStep};
+ghost use Rattle.nv_steps.specs.Keeping.{SettlesStep};
 ghost use Rattle.nv_steps.specs.Slots.{slot_in};
+ghost use Rattle.nv_steps.specs.Premises.{CanAppendWith};
+ghost use Rattle.nv_steps.specs.Readied.{NeedsRoom};
 
 use crate::lessening::append_less;
 use crate::settling_names::remove_name;
@@ -53,14 +53,11 @@ pub fn cut_name<P: Pmem>(
     directory: &mut Row,
     gone: &Gone<'_>,
 ) -> Result<(), Refusal>
-    requires stands { StandsRight (P.region memory.old) tables.now.layout free.old directory.old }
-    requires can { CanName (P.region memory.old) tables.now.layout cpu gone.now.inode directory.old }
-    requires differ { directory.old.inode ≢ gone.now.inode }
-    requires name { IsName gone.now.name.now }
+    requires { CanAppendWith (P.region memory.old) tables.now.layout free.old cpu gone.now.inode directory.old ((directory.old.inode ≢ gone.now.inode) × IsName gone.now.name.now) }
     ensures cut { OnOk result (CutsName (P.region memory.old) (P.region memory.new) tables.now.layout free.old free.new cpu directory.old directory.new
         gone.now.inode gone.now.time gone.now.name.now) }
-    ensures room { OnOk result (gone.now.blocks ≤ free.new.room) }
-    ensures needs { NeedsFree (needed (directory.old.tail % 4096) (name_entries OperationValue.Remove gone.now.inode gone.now.name.now gone.now.time)) free.old result }
+    ensures needs { NeedsRoom (needed (directory.old.tail % 4096) (name_entries OperationValue.Remove gone.now.inode gone.now.name.now gone.now.time))
+        (gone.now.blocks ≤ free.new.room) free.old result }
     ensures kept { SettlesStep P.region P.may_hold P.fuse memory.old memory.new free.old free.new result }
     ensures unchanged { IfErr result (λ e. (e ≡ RefusalValue.Stopped → ⊥) → LeavesStep memory.old memory.new free.old free.new directory.old directory.new) }
     ensures inode { directory.new.inode ≡ directory.old.inode }

@@ -1,6 +1,6 @@
 //! Another name for an inode, by the rows of one directory or of two.
 
-ghost use Rattle.std.specs.Prelude.{◌≡◌, ◌≢◌, ◌+◌, ◌%◌, ◌<◌, [], ◌∷◌, Option, Result, IfErr, OnOk};
+ghost use Rattle.std.specs.Prelude.{◌≡◌, ◌+◌, ◌%◌, ◌<◌, [], ◌∷◌, Option, Result, IfErr, OnOk};
 ghost use Rattle.nv_region.specs.Stops.{LeavesOnly, NothingPending};
 ghost use Rattle.nv_entry.specs.declared.entry.Operation.TheVariants.{Add, Remove};
 ghost use Rattle.nv_logpage.specs.Append.{needed};
@@ -9,17 +9,16 @@ ghost use Rattle.nv_outcome.specs.Same.{SameRow};
 ghost use Rattle.nv_mounted.specs.Held.{Held, Store};
 ghost use Rattle.nv_commit.specs.Stopped.{LeavesEither};
 ghost use Rattle.nv_tree.specs.declared.refusal.Refusal.{Refusal as RefusalValue};
-ghost use Rattle.nv_steps.specs.Grown.{StandsRight};
 ghost use Rattle.nv_steps.specs.Moves.{MovesWithin, move_entries};
 ghost use Rattle.nv_steps.specs.MoreNames.{GetsName, GrowsTwo};
 ghost use Rattle.nv_steps.specs.NameEntries.{name_entries};
-ghost use Rattle.nv_steps.specs.NewNames.{CanName};
 ghost use Rattle.nv_steps.specs.Steps.{LeavesStep, ShowsRow};
 ghost use Rattle.nv_steps.specs.Stopped.{MovedHere, MovedOver};
 ghost use Rattle.nv_steps.specs.InOrder.{TailIsFirst, tail_address};
 ghost use Rattle.nv_steps.specs.Unlinks.{LosesName};
 ghost use Rattle.nv_steps.specs.Stores.{StoresIn, one_log, two_logs};
 ghost use Rattle.nv_steps.specs.Keeping.{NeedsFree, SettlesStep};
+ghost use Rattle.nv_steps.specs.Premises.{CanAppendLog, CanAppendLogs};
 
 use crate::appending::append_log;
 use crate::blocks::are_enough;
@@ -56,10 +55,7 @@ pub fn move_within<P: Pmem>(
     directory: &mut Row,
     moved: &OtherName<'_>,
 ) -> Result<(), Refusal>
-    requires cpu { cpu < free.old.sup.cpus }
-    requires stands { StandsRight (P.region memory.old) tables.now.layout free.old directory.old }
-    requires name { IsName moved.now.name.now }
-    requires other { IsName moved.now.other.now }
+    requires { CanAppendLog (P.region memory.old) tables.now.layout free.old cpu directory.old (IsName moved.now.name.now × IsName moved.now.other.now) }
     ensures moved { OnOk result (MovesWithin (P.region memory.old) (P.region memory.new) tables.now.layout free.old free.new cpu directory.old directory.new moved.now.inode moved.now.name.now
         moved.now.other.now moved.now.time) }
     ensures needs { NeedsFree (needed (directory.old.tail % 4096) (move_entries moved.now.inode moved.now.name.now moved.now.other.now moved.now.time)) free.old result }
@@ -108,11 +104,7 @@ pub fn move_both<P: Pmem>(
     to: &mut Row,
     moved: &OtherName<'_>,
 ) -> Result<(), Refusal>
-    requires apart { from.old.inode ≢ to.old.inode }
-    requires stands { StandsRight (P.region memory.old) tables.now.layout free.old from.old × CanName (P.region memory.old) tables.now.layout cpu from.old.inode from.old }
-    requires to_stands { StandsRight (P.region memory.old) tables.now.layout free.old to.old × CanName (P.region memory.old) tables.now.layout cpu to.old.inode to.old }
-    requires name { IsName moved.now.name.now }
-    requires other { IsName moved.now.other.now }
+    requires { CanAppendLogs (P.region memory.old) tables.now.layout free.old cpu from.old to.old (IsName moved.now.name.now × IsName moved.now.other.now) }
     ensures moved { OnOk result (GrowsTwo (P.region memory.old) (P.region memory.new) tables.now.layout free.old free.new cpu (from.old ∷ to.old ∷ []) (from.new ∷ to.new ∷ []) 0 from.old
         (name_entries Remove moved.now.inode moved.now.name.now moved.now.time) 1 to.old (name_entries Add moved.now.inode moved.now.other.now moved.now.time) (λ fresh now. LosesName from.old
         moved.now.name.now moved.now.inode moved.now.time fresh now) (λ more now. GetsName to.old moved.now.other.now moved.now.inode moved.now.time more now)) }
@@ -120,8 +112,7 @@ pub fn move_both<P: Pmem>(
         + needed (to.old.tail % 4096) (name_entries Add moved.now.inode moved.now.other.now moved.now.time)) free.old result }
     ensures kept { SettlesStep P.region P.may_hold P.fuse memory.old memory.new free.old free.new result }
     ensures unchanged { IfErr result (λ e. (e ≡ RefusalValue.Stopped → ⊥) → LeavesStep memory.old memory.new free.old free.new from.old from.new × SameRow to.old to.new) }
-    ensures inode { from.new.inode ≡ from.old.inode }
-    ensures to_inode { to.new.inode ≡ to.old.inode }
+    ensures inodes { (from.new.inode ≡ from.old.inode) × (to.new.inode ≡ to.old.inode) }
     // Every word outside these places is as it was.
     ensures wrote { (held : Store) (h g : Held) → ShowsRow (P.region memory.old) tables.now.layout held h from.old free.old → ShowsRow (P.region memory.old) tables.now.layout held g to.old free.old
         → StoresIn tables.now.layout held (two_logs tables.now.layout cpu from.old.inode to.old.inode) (P.region memory.old) (P.region memory.new) }

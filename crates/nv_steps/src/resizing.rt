@@ -12,6 +12,7 @@ ghost use Rattle.nv_steps.specs.Steps.{LeavesStep, ShowsRow};
 ghost use Rattle.nv_steps.specs.Stopped.{Resized};
 ghost use Rattle.nv_steps.specs.Stores.{StoresIn, one_log};
 ghost use Rattle.nv_steps.specs.Keeping.{NeedsFree, SettlesStep};
+ghost use Rattle.nv_steps.specs.Premises.{CanResizeFrom};
 
 use crate::appending::append_log;
 use crate::copying::resize_with_copy;
@@ -84,8 +85,7 @@ fn resize_in_place<P: Pmem>(
     attributes: AttrEntry,
 ) -> Result<(), Refusal>
     requires cpu { cpu < free.old.sup.cpus }
-    requires can { CanResize (P.region memory.old) tables.now.layout free.old row.old attributes }
-    requires stays { end_block (block_at row.old.index) row.old.numbers.size attributes.size ≡ Option.None }
+    requires can { CanResizeFrom (P.region memory.old) tables.now.layout free.old row.old attributes Option.None }
     ensures resized { OnOk result (Resizes (P.region memory.old) (P.region memory.new) tables.now.layout free.old cpu row.old attributes row.new free.new) }
     ensures needs { NeedsFree (blocks_from row.old.tail attributes Option.None) free.old result }
     ensures kept { SettlesStep P.region P.may_hold P.fuse memory.old memory.new free.old free.new result }

@@ -1,22 +1,23 @@
 //! What a write stores: the pages of a file by its entries, the entries behind the log, and the log's tail.
 
-ghost use Rattle.std.specs.Prelude.{◌≡◌, ◌+◌, ◌<◌, ◌≤◌, ◌^◌, ◌%◌, ℕ, length, IfOk, OnOk, is_err, false};
+ghost use Rattle.std.specs.Prelude.{◌≡◌, ◌<◌, ◌≤◌, ℕ, length, IfOk, OnOk, is_err, false};
 ghost use Rattle.nv_region.specs.Region.{size};
 ghost use Rattle.nv_region.specs.Stored.{StoresOnly};
 ghost use Rattle.nv_region.specs.Fuses.{KeepsFuse};
 ghost use Rattle.nv_alloc.specs.Taking.{HasBlock};
-ghost use Rattle.nv_bytes.specs.Bytes.{byte_after, file_byte, LieInside};
-ghost use Rattle.nv_bytes.specs.Storing.{AreFresh, InBlocks};
+ghost use Rattle.nv_bytes.specs.Bytes.{byte_after, file_byte};
+ghost use Rattle.nv_bytes.specs.Storing.{InBlocks};
 ghost use Rattle.nv_region.specs.Stops.{LeavesOnly, NothingPending};
 ghost use Rattle.nv_super.specs.Layout.{Layout};
 ghost use Rattle.nv_mounted.specs.Held.{Held, Store};
 ghost use Rattle.nv_mounted.specs.Blocks.{IsUnowned};
 ghost use Rattle.nv_commit.specs.Extends.{CanExtend};
 ghost use Rattle.nv_commit.specs.Stopped.{LeavesEither};
-ghost use Rattle.nv_logpage.specs.Append.{CanAppend, end_of};
+ghost use Rattle.nv_logpage.specs.Append.{end_of};
 ghost use Rattle.nv_steps.specs.Stores.{StoresIn, one_log};
-ghost use Rattle.nv_steps.specs.Written.{AreSmall, Commits, HoldEntries, entry_blocks};
+ghost use Rattle.nv_steps.specs.Written.{Commits, HoldEntries, entry_blocks};
 ghost use Rattle.nv_bytes.specs.Data.{data_bytes};
+ghost use Rattle.nv_steps.specs.Premises.{CanExtendAt, CanStoreData};
 
 use crate::preparing_data::Entries;
 use nv_bytes::{NewBytes, store_pages};
@@ -35,10 +36,7 @@ pub(crate) fn store_data<P: Pmem>(
     entries: &[Entry],
     change: &NewBytes,
 ) -> Result<(), Stopped>
-    requires mapped { LieInside (P.region memory.old) index.now }
-    requires fresh { AreFresh (P.region memory.old) index.now (entry_blocks entries.now) }
-    requires pages { AreSmall entries.now }
-    requires small { change.now.offset + length (data_bytes change.now.content) ≤ 2 ^ 62 }
+    requires { CanStoreData (P.region memory.old) index.now entries.now change.now.offset (data_bytes change.now.content) }
     ensures stored { OnOk result (HoldEntries (P.region memory.new) (byte_after change.now.offset (data_bytes change.now.content) change.now.size (file_byte (P.region memory.old) index.now))
         entries.now) }
     ensures wrote { StoresOnly (InBlocks (HasBlock (entry_blocks entries.now))) (P.region memory.old) (P.region memory.new) (P.may_hold memory.old) (P.may_hold memory.new) }
@@ -69,13 +67,8 @@ pub(crate) fn commit_data<P: Pmem>(
     log: &Entries,
     change: &NewBytes,
 ) -> Result<u64, Stopped>
-    requires mapped { LieInside (P.region memory.old) index.now }
-    requires fresh { AreFresh (P.region memory.old) index.now (entry_blocks log.now.entries.items) }
-    requires pages { AreSmall log.now.entries.items }
-    requires small { change.now.offset + length (data_bytes change.now.content) ≤ 2 ^ 62 }
-    requires can { CanAppend (P.region memory.old) tail log.now.entries.items log.now.fresh.items }
-    requires whole { slot % 8 ≡ 0 }
-    requires inside { slot + 32 ≤ size (P.region memory.old) }
+    requires { CanExtendAt (P.region memory.old) slot tail log.now.entries.items log.now.fresh.items
+        (CanStoreData (P.region memory.old) index.now log.now.entries.items change.now.offset (data_bytes change.now.content)) }
     ensures end { IfOk result (λ new. new ≡ end_of log.now.fresh.items 0 tail log.now.entries.items) }
     ensures commits { (l : Layout) (inode : ℕ)
         → OnOk result (Commits (P.region memory.old) (P.region memory.new) l inode slot tail

@@ -8,16 +8,14 @@ ghost use Rattle.nv_region.specs.Stops.{LeavesOnly, NothingPending};
 ghost use Rattle.nv_super.specs.Layout.{Layout};
 ghost use Rattle.nv_inode.specs.Growing.{with_block};
 ghost use Rattle.nv_inode.specs.Numbers.{next_number};
-ghost use Rattle.nv_inode.specs.Tables.{HasRoom};
 ghost use Rattle.nv_alloc.specs.FreeValue.{FreeLists};
 ghost use Rattle.nv_entry.specs.declared.entry.Operation.{Operation as OperationValue};
 ghost use Rattle.nv_logpage.specs.Append.{needed};
-ghost use Rattle.nv_names.specs.Names.{IsName, name_at};
+ghost use Rattle.nv_names.specs.Names.{name_at};
 ghost use Rattle.nv_mounted.specs.Held.{Held, Store};
 ghost use Rattle.nv_commit.specs.Stopped.{LeavesEither};
 ghost use Rattle.nv_tree.specs.declared.refusal.Refusal.{Refusal as RefusalValue};
-ghost use Rattle.nv_steps.specs.Grown.{StandsRight};
-ghost use Rattle.nv_steps.specs.GrownTables.{CanGrow, CanNameNext, GrowsAndNames, GrowsAtMost, GrowsTable, LeavesGrown, LeavesTables, ShowsFree, TableGrown, grown_more, one_link};
+ghost use Rattle.nv_steps.specs.GrownTables.{CanGrow, GrowsAndNames, GrowsTable, LeavesGrown, LeavesTables, ShowsFree, TableGrown, grown_more, one_link, GrowsAtMostBeside};
 ghost use Rattle.nv_steps.specs.InOrder.{tail_address};
 ghost use Rattle.nv_steps.specs.Keeping.{NeedsFree, SettlesStep};
 ghost use Rattle.nv_steps.specs.NameEntries.{name_entries};
@@ -25,6 +23,7 @@ ghost use Rattle.nv_steps.specs.Slots.{slot_in};
 ghost use Rattle.nv_steps.specs.Steps.{ShowsRow};
 ghost use Rattle.nv_steps.specs.Stores.{StoresIn};
 ghost use Rattle.nv_steps.specs.Taken.{TakesEach};
+ghost use Rattle.nv_steps.specs.Premises.{CanLinkBlock, CanMakeGrown};
 
 use crate::committing_names::commit_name;
 use crate::making::{NewName, prepare_name};
@@ -53,19 +52,14 @@ pub fn make_grown<P: Pmem>(
     directory: &mut Row,
     new: &NewName<'_>,
 ) -> Result<Row, Refusal>
-    requires stands { StandsRight (P.region memory.old) tables.old.layout free.old directory.old }
-    requires can { CanNameNext (P.region memory.old) tables.old.layout free.old cpu directory.old }
-    requires number { new.now.inode ≡ next_number tables.old.layout cpu }
-    requires name { IsName new.now.name.now }
-    requires room { HasRoom tables.old cpu }
+    requires { CanMakeGrown (P.region memory.old) tables.old free.old cpu directory.old new.now.inode new.now.name.now }
     ensures made { IfOk result (λ row. GrowsAndNames (P.region memory.old) (P.region memory.new) tables.old.layout tables.new.layout free.old free.new cpu directory.old directory.new
         new.now.kind new.now.mode new.now.time new.now.inode new.now.name.now row) }
     ensures needs { NeedsFree (2 + needed (directory.old.tail % 4096) (name_entries OperationValue.Add new.now.inode new.now.name.now new.now.time)) free.old result }
     ensures kept { SettlesStep P.region P.may_hold P.fuse memory.old memory.new free.old free.new result }
     ensures unchanged { IfErr result (λ e. (e ≡ RefusalValue.Stopped → ⊥)
         → LeavesTables memory.old memory.new free.old free.new directory.old directory.new tables.old.layout tables.new.layout) }
-    ensures tables { GrowsAtMost cpu tables.old tables.new }
-    ensures inode { directory.new.inode ≡ directory.old.inode }
+    ensures tables { GrowsAtMostBeside cpu tables.old tables.new directory.old directory.new }
     // Every word outside these places is as it was.
     ensures wrote { (held : Store) (h : Held) → ShowsRow (P.region memory.old) tables.old.layout held h directory.old free.old
         → StoresIn tables.old.layout held (grown_more tables.old.layout cpu directory.old.inode) (P.region memory.old) (P.region memory.new) }
@@ -107,8 +101,7 @@ fn link_table<P: Pmem>(
     cpu: u64,
     block: u64,
 ) -> Result<(), Refusal>
-    requires can { (free : FreeLists) × (after : FreeLists) × CanGrow (P.region memory.old) tables.old.layout free cpu × TakesEach free cpu (block ∷ []) after }
-    requires room { HasRoom tables.old cpu }
+    requires { CanLinkBlock (P.region memory.old) tables.old cpu block }
     ensures grown { (free after : FreeLists) → CanGrow (P.region memory.old) tables.old.layout free cpu → TakesEach free cpu (block ∷ []) after
         → OnOk result (GrowsTable (P.region memory.old) (P.region memory.new) tables.old.layout tables.new.layout free after cpu (next_number tables.old.layout cpu)) }
     ensures layout { OnOk result (tables.new.layout ≡ with_block tables.old.layout cpu block) }

@@ -8,9 +8,7 @@ ghost use Rattle.nv_outcome.specs.Same.{SameRow};
 ghost use Rattle.nv_mounted.specs.Held.{Held, Store};
 ghost use Rattle.nv_commit.specs.Stopped.{LeavesEither};
 ghost use Rattle.nv_tree.specs.declared.refusal.Refusal.{Refusal as RefusalValue};
-ghost use Rattle.nv_steps.specs.Grown.{StandsRight};
 ghost use Rattle.nv_steps.specs.NameEntries.{links_entries};
-ghost use Rattle.nv_steps.specs.NewNames.{CanName};
 ghost use Rattle.nv_steps.specs.Steps.{LeavesStep, ShowsRow};
 ghost use Rattle.nv_steps.specs.InOrder.{TailIsFirst, tail_address};
 ghost use Rattle.nv_steps.specs.Lessens.{Lessened, LessensAt};
@@ -18,6 +16,8 @@ ghost use Rattle.nv_steps.specs.Stores.{StoresIn, one_less, two_logs};
 ghost use Rattle.nv_steps.specs.Takes.{TakesWithin, TookWithin, take_entries};
 ghost use Rattle.nv_steps.specs.Keeping.{NeedsFree, SettlesStep};
 ghost use Rattle.nv_steps.specs.Slots.{slot_in};
+ghost use Rattle.nv_steps.specs.Premises.{CanAppendLogs, CanAppendWith};
+ghost use Rattle.nv_steps.specs.Readied.{NeedsRoom};
 
 use crate::growing::{Growth, append_logs};
 use crate::lessening::append_less;
@@ -55,16 +55,13 @@ pub fn take_within<P: Pmem>(
     moved: &OtherName<'_>,
     gone: Displaced,
 ) -> Result<(), Refusal>
-    requires stands { StandsRight (P.region memory.old) tables.now.layout free.old directory.old }
-    requires can { CanName (P.region memory.old) tables.now.layout cpu gone.inode directory.old }
-    requires differ { directory.old.inode ≢ gone.inode }
-    requires name { IsName moved.now.name.now }
-    requires other { IsName moved.now.other.now }
+    requires { CanAppendWith (P.region memory.old) tables.now.layout free.old cpu gone.inode directory.old
+        ((directory.old.inode ≢ gone.inode) × IsName moved.now.name.now × IsName moved.now.other.now) }
     ensures taken { OnOk result (TakesWithin (P.region memory.old) (P.region memory.new) tables.now.layout free.old free.new cpu directory.old directory.new
         moved.now.inode gone.inode moved.now.name.now
         moved.now.other.now moved.now.time) }
-    ensures room { OnOk result (gone.blocks ≤ free.new.room) }
-    ensures needs { NeedsFree (needed (directory.old.tail % 4096) (take_entries moved.now.inode gone.inode moved.now.name.now moved.now.other.now moved.now.time)) free.old result }
+    ensures needs { NeedsRoom (needed (directory.old.tail % 4096) (take_entries moved.now.inode gone.inode moved.now.name.now moved.now.other.now moved.now.time))
+        (gone.blocks ≤ free.new.room) free.old result }
     ensures kept { SettlesStep P.region P.may_hold P.fuse memory.old memory.new free.old free.new result }
     ensures unchanged { IfErr result (λ e. (e ≡ RefusalValue.Stopped → ⊥) → LeavesStep memory.old memory.new free.old free.new directory.old directory.new) }
     ensures inode { directory.new.inode ≡ directory.old.inode }
@@ -123,20 +120,14 @@ pub fn lessen_within<P: Pmem>(
     file: &mut Row,
     moved: &OtherName<'_>,
 ) -> Result<(), Refusal>
-    requires apart { directory.old.inode ≢ file.old.inode }
-    requires stands { StandsRight (P.region memory.old) tables.now.layout free.old directory.old × CanName (P.region memory.old) tables.now.layout cpu directory.old.inode directory.old }
-    requires file_stands { StandsRight (P.region memory.old) tables.now.layout free.old file.old × CanName (P.region memory.old) tables.now.layout cpu file.old.inode file.old }
-    requires more { 1 < file.old.numbers.links }
-    requires name { IsName moved.now.name.now }
-    requires other { IsName moved.now.other.now }
+    requires { CanAppendLogs (P.region memory.old) tables.now.layout free.old cpu directory.old file.old ((1 < file.old.numbers.links) × IsName moved.now.name.now × IsName moved.now.other.now) }
     ensures lessened { OnOk result (LessensAt (P.region memory.old) (P.region memory.new) tables.now.layout free.old free.new cpu (directory.old ∷ file.old ∷ [])
         (directory.new ∷ file.new ∷ []) 0 1 moved.now.inode moved.now.name.now moved.now.other.now moved.now.time) }
     ensures needs { NeedsFree (needed (directory.old.tail % 4096) (take_entries moved.now.inode file.old.inode moved.now.name.now moved.now.other.now moved.now.time)
         + needed (file.old.tail % 4096) (links_entries (file.old.numbers.links - 1) moved.now.time)) free.old result }
     ensures kept { SettlesStep P.region P.may_hold P.fuse memory.old memory.new free.old free.new result }
     ensures unchanged { IfErr result (λ e. (e ≡ RefusalValue.Stopped → ⊥) → LeavesStep memory.old memory.new free.old free.new directory.old directory.new × SameRow file.old file.new) }
-    ensures inode { directory.new.inode ≡ directory.old.inode }
-    ensures file_inode { file.new.inode ≡ file.old.inode }
+    ensures inodes { (directory.new.inode ≡ directory.old.inode) × (file.new.inode ≡ file.old.inode) }
     // Every word outside these places is as it was.
     ensures wrote { (held : Store) (h f : Held) → ShowsRow (P.region memory.old) tables.now.layout held h directory.old free.old
         → ShowsRow (P.region memory.old) tables.now.layout held f file.old free.old

@@ -1,6 +1,6 @@
 //! One name of a file less that has others, by the rows of the directory and of the file.
 
-ghost use Rattle.std.specs.Prelude.{◌≡◌, ◌≢◌, ◌+◌, ◌-◌, ◌%◌, ◌<◌, [], ◌∷◌, Result, IfErr, OnOk};
+ghost use Rattle.std.specs.Prelude.{◌≡◌, ◌+◌, ◌-◌, ◌%◌, ◌<◌, [], ◌∷◌, Result, IfErr, OnOk};
 ghost use Rattle.nv_region.specs.Stops.{LeavesOnly, NothingPending};
 ghost use Rattle.nv_entry.specs.declared.entry.Operation.TheVariants.{Remove};
 ghost use Rattle.nv_logpage.specs.Append.{needed};
@@ -10,15 +10,14 @@ ghost use Rattle.nv_mounted.specs.Held.{Held, Store};
 ghost use Rattle.nv_commit.specs.Stopped.{LeavesEither};
 ghost use Rattle.nv_tree.specs.Calls.{unlinked};
 ghost use Rattle.nv_tree.specs.declared.refusal.Refusal.{Refusal as RefusalValue};
-ghost use Rattle.nv_steps.specs.Grown.{StandsRight};
 ghost use Rattle.nv_steps.specs.NameEntries.{links_entries, name_entries};
-ghost use Rattle.nv_steps.specs.NewNames.{CanName};
 ghost use Rattle.nv_steps.specs.Steps.{LeavesStep, ShowsRow};
 ghost use Rattle.nv_steps.specs.Stopped.{Unlinked};
 ghost use Rattle.nv_steps.specs.InOrder.{TailIsFirst, tail_address};
 ghost use Rattle.nv_steps.specs.Unlinks.{UnlinksAt};
 ghost use Rattle.nv_steps.specs.Stores.{StoresIn, two_logs};
 ghost use Rattle.nv_steps.specs.Keeping.{NeedsFree, SettlesStep};
+ghost use Rattle.nv_steps.specs.Premises.{CanAppendLogs};
 
 use crate::growing::{Growth, append_logs};
 use crate::settling_names::{remove_name, set_links};
@@ -46,19 +45,14 @@ pub fn unlink_both<P: Pmem>(
     name: &[u8],
     time: u64,
 ) -> Result<(), Refusal>
-    requires apart { directory.old.inode ≢ file.old.inode }
-    requires stands { StandsRight (P.region memory.old) tables.now.layout free.old directory.old × CanName (P.region memory.old) tables.now.layout cpu directory.old.inode directory.old }
-    requires file_stands { StandsRight (P.region memory.old) tables.now.layout free.old file.old × CanName (P.region memory.old) tables.now.layout cpu file.old.inode file.old }
-    requires more { 1 < file.old.numbers.links }
-    requires name { IsName name.now }
+    requires { CanAppendLogs (P.region memory.old) tables.now.layout free.old cpu directory.old file.old ((1 < file.old.numbers.links) × IsName name.now) }
     ensures unlinked { OnOk result (UnlinksAt (P.region memory.old) (P.region memory.new) tables.now.layout free.old free.new cpu (directory.old ∷ file.old ∷ [])
         (directory.new ∷ file.new ∷ []) 0 1 name.now time) }
     ensures needs { NeedsFree (needed (directory.old.tail % 4096) (name_entries Remove file.old.inode name.now time)
         + needed (file.old.tail % 4096) (links_entries (file.old.numbers.links - 1) time)) free.old result }
     ensures kept { SettlesStep P.region P.may_hold P.fuse memory.old memory.new free.old free.new result }
     ensures unchanged { IfErr result (λ e. (e ≡ RefusalValue.Stopped → ⊥) → LeavesStep memory.old memory.new free.old free.new directory.old directory.new × SameRow file.old file.new) }
-    ensures inode { directory.new.inode ≡ directory.old.inode }
-    ensures file_inode { file.new.inode ≡ file.old.inode }
+    ensures inodes { (directory.new.inode ≡ directory.old.inode) × (file.new.inode ≡ file.old.inode) }
     // Every word outside these places is as it was.
     ensures wrote { (held : Store) (h g : Held) → ShowsRow (P.region memory.old) tables.now.layout held h directory.old free.old
         → ShowsRow (P.region memory.old) tables.now.layout held g file.old free.old

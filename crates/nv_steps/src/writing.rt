@@ -1,23 +1,20 @@
 //! New bytes of a file, by its row: all growths first, then the commit, then the row and the free lists.
 
-ghost use Rattle.std.specs.Prelude.{◌≡◌, ◌<◌, ◌≤◌, ◌+◌, ℕ, Result, length, IfErr, OnOk};
-ghost use Rattle.nv_super.specs.Layout.{most_size};
+ghost use Rattle.std.specs.Prelude.{◌≡◌, ◌<◌, ◌≤◌, ℕ, Result, IfErr, OnOk};
 ghost use Rattle.nv_region.specs.Region.{size};
 ghost use Rattle.nv_region.specs.Stops.{LeavesOnly, NothingPending};
-ghost use Rattle.nv_super.specs.declared.kind.Kind.{Kind as KindValue};
 ghost use Rattle.nv_alloc.specs.Taking.{all_blocks};
-ghost use Rattle.nv_radix.specs.Pages.{block_at};
 ghost use Rattle.nv_mounted.specs.Held.{Held, Store};
 ghost use Rattle.nv_commit.specs.Stopped.{LeavesEither};
 ghost use Rattle.nv_tree.specs.declared.refusal.Refusal.{Refusal as RefusalValue};
-ghost use Rattle.nv_steps.specs.Grown.{StandsRight};
 ghost use Rattle.nv_steps.specs.Steps.{LeavesStep, ShowsRow};
 ghost use Rattle.nv_steps.specs.Stopped.{Wrote};
 ghost use Rattle.nv_steps.specs.Stores.{StoresIn, one_log};
-ghost use Rattle.nv_steps.specs.Writes.{NeedsBlocks, plan_of};
-ghost use Rattle.nv_steps.specs.Written.{FileStands, RefusesWrite, WritesFile};
+ghost use Rattle.nv_steps.specs.Writes.{NeedsBlocks};
+ghost use Rattle.nv_steps.specs.Written.{RefusesWrite, WritesFile};
 ghost use Rattle.nv_steps.specs.Keeping.{SettlesStep};
 ghost use Rattle.nv_bytes.specs.Data.{data_bytes};
+ghost use Rattle.nv_steps.specs.Premises.{CanWrite};
 
 use crate::giving::give_all;
 use crate::planning::Plan;
@@ -48,14 +45,7 @@ pub fn change_bytes<P: Pmem>(
     plan: &Plan,
     change: &NewBytes,
 ) -> Result<(), Refusal>
-    requires cpu { cpu < free.old.sup.cpus }
-    requires stands { StandsRight (P.region memory.old) tables.now.layout free.old row.old }
-    requires kind { row.old.kind ≡ KindValue.File }
-    requires file { FileStands (P.region memory.old) tables.now.layout.sup free.old row.old }
-    requires some { 0 < length (data_bytes change.now.content) }
-    requires fits { change.now.offset + length (data_bytes change.now.content) ≤ most_size }
-    requires size { change.now.size ≡ row.old.numbers.size }
-    requires plan { plan.now ≡ plan_of (block_at row.old.index) row.old.numbers.size change.now.offset (length (data_bytes change.now.content)) plan.now.time }
+    requires { CanWrite (P.region memory.old) tables.now.layout free.old cpu row.old plan.now change.now.offset (data_bytes change.now.content) change.now.size }
     ensures writes { OnOk result (WritesFile (P.region memory.old) (P.region memory.new) tables.now.layout free.old free.new cpu plan.now change.now.offset
         (data_bytes change.now.content) row.old row.new) }
     ensures enough { OnOk result ((count : ℕ) → NeedsBlocks free.old.pools cpu row.old.tail plan.now count → count ≤ all_blocks free.old.pools) }

@@ -37,16 +37,14 @@ row-requires g c = c.requires.can.in_use
 pub lend-row-requires : goal.lend-row-requires
 lend-row-requires g c = subst (λ (rows : List Row). IsInUse rows c.args.directory) (sym c.reserve.ensures.rows) c.requires.can.in_use
 
-pub make_named-made-requires-clause-stands : goal.make_named-made-requires-clause-stands
-make_named-made-requires-clause-stands g c = c.requires.can.stands c.lend-row.result (ap (λ (rows : List Row). row_of rows c.args.directory) (sym c.reserve.ensures.rows) ∙ c.lend-row.ensures.row)
-
-pub make_named-made-requires-clause-can : goal.make_named-made-requires-clause-can
-make_named-made-requires-clause-can g c =
-    let can = c.requires.can.can c.lend-row.result (ap (λ (rows : List Row). row_of rows c.args.directory) (sym c.reserve.ensures.rows) ∙ c.lend-row.ensures.row) in
-    record { cpu_below = can.cpu_below; journal_empty = can.journal_empty; number = c.requires.slot; in_data = can.in_data }
-
-pub make_named-made-requires-clause-name : goal.make_named-made-requires-clause-name
-make_named-made-requires-clause-name g c = c.requires.can.good
+pub make_named-made-requires : goal.make_named-made-requires
+make_named-made-requires g c =
+    record {
+      stands = (c.requires.can.stands c.lend-row.result (ap (λ (rows : List Row). row_of rows c.args.directory) (sym c.reserve.ensures.rows) ∙ c.lend-row.ensures.row));
+      can = (let can = c.requires.can.can c.lend-row.result (ap (λ (rows : List Row). row_of rows c.args.directory) (sym c.reserve.ensures.rows) ∙ c.lend-row.ensures.row) in
+          record { cpu_below = can.cpu_below; journal_empty = can.journal_empty; number = c.requires.slot; in_data = can.in_data });
+      given = c.requires.can.good;
+    }
 
 pub give_back-requires : goal.give_back-requires
 give_back-requires g c =

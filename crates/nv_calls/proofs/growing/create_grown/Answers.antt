@@ -49,38 +49,31 @@ reserve_growth-requires-clause-numbers g c = c.requires.can.numbers
 pub lend-row-requires : goal.lend-row-requires
 lend-row-requires g c = subst (λ (rows : List Row). IsInUse rows c.args.directory) (sym c.reserve_growth.ensures.rows) c.requires.can.in_use
 
-pub make_grown-made-requires-clause-stands : goal.make_grown-made-requires-clause-stands
-make_grown-made-requires-clause-stands g c =
-    subst (λ (x : Layout). StandsRight (g.P.Pmem.region c.args.memory.now) x c.args.free.now c.lend-row.result) (sym c.reserve_growth.ensures.layout)
-    (c.requires.can.stands c.lend-row.result (ap (λ (rows : List Row). row_of rows c.args.directory) (sym c.reserve_growth.ensures.rows) ∙ c.lend-row.ensures.row))
-
-pub make_grown-made-requires-clause-can : goal.make_grown-made-requires-clause-can
-make_grown-made-requires-clause-can g c =
-    let can = c.requires.can.can c.lend-row.result (ap (λ (rows : List Row). row_of rows c.args.directory) (sym c.reserve_growth.ensures.rows) ∙ c.lend-row.ensures.row) in
-    subst (λ (x : Layout). CanNameNext (g.P.Pmem.region c.args.memory.now) x c.args.free.now c.args.cpu c.lend-row.result) (sym c.reserve_growth.ensures.layout) (record { grow = c.requires.slot.1; journal_empty = can.journal_empty; in_data = can.in_data })
-
-pub make_grown-made-requires-clause-number : goal.make_grown-made-requires-clause-number
-make_grown-made-requires-clause-number g c = c.requires.slot.0 ∙ ap (λ (x : Layout). next_number x c.args.cpu) (sym c.reserve_growth.ensures.layout)
-
-pub make_grown-made-requires-clause-name : goal.make_grown-made-requires-clause-name
-make_grown-made-requires-clause-name g c = c.requires.can.good
-
-pub make_grown-made-requires-clause-room : goal.make_grown-made-requires-clause-room
-make_grown-made-requires-clause-room g c = not_refused c.reserve_growth.result c.is_err.result c.is_err.ensures.value c.if-is_err.false c.reserve_growth.ensures.table_room
+pub make_grown-made-requires : goal.make_grown-made-requires
+make_grown-made-requires g c =
+    record {
+      stands = (subst (λ (x : Layout). StandsRight (g.P.Pmem.region c.args.memory.now) x c.args.free.now c.lend-row.result) (sym c.reserve_growth.ensures.layout)
+          (c.requires.can.stands c.lend-row.result (ap (λ (rows : List Row). row_of rows c.args.directory) (sym c.reserve_growth.ensures.rows) ∙ c.lend-row.ensures.row)));
+      can = (let can = c.requires.can.can c.lend-row.result (ap (λ (rows : List Row). row_of rows c.args.directory) (sym c.reserve_growth.ensures.rows) ∙ c.lend-row.ensures.row) in
+          subst (λ (x : Layout). CanNameNext (g.P.Pmem.region c.args.memory.now) x c.args.free.now c.args.cpu c.lend-row.result) (sym c.reserve_growth.ensures.layout) (record { grow = c.requires.slot.1; journal_empty = can.journal_empty; in_data = can.in_data }));
+      number = (c.requires.slot.0 ∙ ap (λ (x : Layout). next_number x c.args.cpu) (sym c.reserve_growth.ensures.layout));
+      is_name = c.requires.can.good;
+      room = (not_refused c.reserve_growth.result c.is_err.result c.is_err.ensures.value c.if-is_err.false c.reserve_growth.ensures.table_room);
+    }
 
 pub give_back-requires : goal.give_back-requires
 give_back-requires g c =
-    last_used c.reserve_growth.new.rows.items c.lend-row.new.self.items c.args.directory c.make_grown-made.new.directory (in_use c.reserve_growth.new.rows.items c.args.directory c.lend-row.result c.lend-row.ensures.row) c.lend-row.ensures.lent (c.make_grown-made.ensures.inode ∙ c.lend-row.ensures.number)
+    last_used c.reserve_growth.new.rows.items c.lend-row.new.self.items c.args.directory c.make_grown-made.new.directory (in_use c.reserve_growth.new.rows.items c.args.directory c.lend-row.result c.lend-row.ensures.row) c.lend-row.ensures.lent (c.make_grown-made.ensures.tables.inode ∙ c.lend-row.ensures.number)
 
 pub grow_rows-requires-clause-cpu : goal.grow_rows-requires-clause-cpu
 grow_rows-requires-clause-cpu g c =
     let can = c.requires.slot.1 in
-    let grew = c.make_grown-made.ensures.tables in
+    let grew = c.make_grown-made.ensures.tables.tables in
     subst (λ (s : Super). c.args.cpu < s.cpus) (sym (sup_kept c.args.cpu grew.layout ∙ ap (λ (x : Layout). x.sup) c.reserve_growth.ensures.layout)) can.cpu_below
 
 pub grow_rows-requires-clause-numbers : goal.grow_rows-requires-clause-numbers
 grow_rows-requires-clause-numbers g c =
-    let grew = c.make_grown-made.ensures.tables in
+    let grew = c.make_grown-made.ensures.tables.tables in
     (c.reserve_growth.new.tables.layout, subst (λ (x : Layout). IsLaid x) (sym c.reserve_growth.ensures.layout) c.are_laid.ensures, subst (λ (x : Layout). HasNumbersOf x c.give_back.new.self) (sym c.reserve_growth.ensures.layout) (numbers_kept (c.give_back.ensures.sup ∙ c.lend-row.ensures.sup ∙ c.reserve_growth.ensures.sup) (c.give_back.ensures.sizes ∙ c.lend-row.ensures.sizes ∙ c.reserve_growth.ensures.sizes) c.requires.can.numbers), grew.layout)
 
 pub grow_rows-requires-clause-space : goal.grow_rows-requires-clause-space
@@ -97,7 +90,7 @@ insert-requires-clause-within g c =
 
 pub insert-requires-clause-vacant : goal.insert-requires-clause-vacant
 insert-requires-clause-vacant g c =
-    let back = gave_back c.reserve_growth.ensures.rows c.lend-row.ensures.row c.lend-row.ensures.lent (c.grow_rows.ensures.rows ∙ c.give_back.ensures.rows) (c.make_grown-made.ensures.inode ∙ c.lend-row.ensures.number) in
+    let back = gave_back c.reserve_growth.ensures.rows c.lend-row.ensures.row c.lend-row.ensures.lent (c.grow_rows.ensures.rows ∙ c.give_back.ensures.rows) (c.make_grown-made.ensures.tables.inode ∙ c.lend-row.ensures.number) in
     ap (row_of c.grow_rows.new.rows.items) c.in_ok-made.ensures.made.makes.row.inode ∙ back.vacant c.args.new.now.inode c.requires.can.unused
 
 -- ---- too few blocks
@@ -153,13 +146,13 @@ pub returns-in_err-made-clause-kept : goal.returns-in_err-made-clause-kept
 returns-in_err-made-clause-kept g c =
     let w = err_from_is_err_and c.from_residual.result c.from_residual.ensures.1 in
     let can = c.requires.slot.1 in
-    let grew = c.make_grown-made.ensures.tables in
+    let grew = c.make_grown-made.ensures.tables.tables in
     record {
       step = kept_refused c.from_residual.result c.in_err-made.field-0.0 w.0 w.1 w.2 c.in_err-made.ensures.kept;
       unchanged = refused_by c.from_residual.result c.in_err-made.field-0.0 w.0
           (λ (e : Refusal). (e ≡ Stopped → ⊥) → LeavesRows c.args.memory.now c.make_grown-made.new.memory c.args.free.now c.make_grown-made.new.free c.args.rows.now.items c.grow_rows.new.rows.items × (c.make_grown-made.new.tables.layout ≡ c.args.tables.now.layout)) w.1 w.2
           (λ off. (let left = c.in_err-made.ensures.unchanged off in (
-            left_back (gave_back c.reserve_growth.ensures.rows c.lend-row.ensures.row c.lend-row.ensures.lent (c.grow_rows.ensures.rows ∙ c.give_back.ensures.rows) (c.make_grown-made.ensures.inode ∙ c.lend-row.ensures.number)) left.step,
+            left_back (gave_back c.reserve_growth.ensures.rows c.lend-row.ensures.row c.lend-row.ensures.lent (c.grow_rows.ensures.rows ∙ c.give_back.ensures.rows) (c.make_grown-made.ensures.tables.inode ∙ c.lend-row.ensures.number)) left.step,
             left.layout ∙ c.reserve_growth.ensures.layout,
           )));
       numbers = c.grow_rows.ensures.numbers;
@@ -186,7 +179,7 @@ returns-in_err-made-clause-any_stop g c row held h is shows absent settled left 
 
 pub returns-clause-created : goal.returns-clause-created
 returns-clause-created g c =
-    let back = gave_back c.reserve_growth.ensures.rows c.lend-row.ensures.row c.lend-row.ensures.lent (c.grow_rows.ensures.rows ∙ c.give_back.ensures.rows) (c.make_grown-made.ensures.inode ∙ c.lend-row.ensures.number) in
+    let back = gave_back c.reserve_growth.ensures.rows c.lend-row.ensures.row c.lend-row.ensures.lent (c.grow_rows.ensures.rows ∙ c.give_back.ensures.rows) (c.make_grown-made.ensures.tables.inode ∙ c.lend-row.ensures.number) in
     let made = c.in_ok-made.ensures.made in
     record {
       mid = made.middle;
@@ -210,7 +203,7 @@ returns-clause-enough g c row is =
 pub returns-clause-kept : goal.returns-clause-kept
 returns-clause-kept g c =
     let can = c.requires.slot.1 in
-    let grew = c.make_grown-made.ensures.tables in
+    let grew = c.make_grown-made.ensures.tables.tables in
     record {
       step = kept_done c.in_ok-made.ensures.kept;
       unchanged = tt;

@@ -22,29 +22,21 @@ use Rattle.nv_steps.specs.Stores.{StoresIn, two_logs}
 pub lend-directory-requires : goal.lend-directory-requires
 lend-directory-requires g c = used_still c.args.rows.now.items c.lend-file.new.self.items c.args.named.now.target c.args.named.now.directory c.requires.apart c.requires.target c.lend-file.ensures.lent c.requires.directory
 
-pub link_both-done-requires-clause-stands : goal.link_both-done-requires-clause-stands
-link_both-done-requires-clause-stands g c = c.requires.stands c.lend-file.result c.lend-file.ensures.row
-
-pub link_both-done-requires-clause-directory_stands : goal.link_both-done-requires-clause-directory_stands
-link_both-done-requires-clause-directory_stands g c =
-    let there = row_stays c.args.rows.now.items c.lend-file.new.self.items c.args.named.now.target c.args.named.now.directory c.requires.apart c.requires.target c.lend-file.ensures.lent c.lend-directory.result c.lend-directory.ensures.row in
-    c.requires.directory_stands c.lend-directory.result there
-
 pub give_back-requires : goal.give_back-requires
 give_back-requires g c =
     let used = used_still c.args.rows.now.items c.lend-file.new.self.items c.args.named.now.target c.args.named.now.directory c.requires.apart c.requires.target c.lend-file.ensures.lent c.requires.directory in
-    last_used c.lend-file.new.self.items c.lend-directory.new.self.items c.args.named.now.directory c.link_both-done.new.directory used c.lend-directory.ensures.lent (c.link_both-done.ensures.directory_inode ∙ c.lend-directory.ensures.number)
+    last_used c.lend-file.new.self.items c.lend-directory.new.self.items c.args.named.now.directory c.link_both-done.new.directory used c.lend-directory.ensures.lent (c.link_both-done.ensures.inodes.1 ∙ c.lend-directory.ensures.number)
 
 pub give_back-requires-2 : goal.give_back-requires-2
 give_back-requires-2 g c =
     first_used c.args.rows.now.items c.lend-file.new.self.items c.lend-directory.new.self.items c.give_back.new.self.items c.args.named.now.target c.args.named.now.directory c.link_both-done.new.file c.link_both-done.new.directory c.requires.apart c.requires.target c.requires.directory c.lend-file.ensures.lent c.lend-directory.ensures.lent
-    (c.link_both-done.ensures.directory_inode ∙ c.lend-directory.ensures.number) c.give_back.ensures.rows (c.link_both-done.ensures.inode ∙ c.lend-file.ensures.number)
+    (c.link_both-done.ensures.inodes.1 ∙ c.lend-directory.ensures.number) c.give_back.ensures.rows (c.link_both-done.ensures.inodes.0 ∙ c.lend-file.ensures.number)
 
 pub returns-clause-linked : goal.returns-clause-linked
 returns-clause-linked g c =
     let there = row_stays c.args.rows.now.items c.lend-file.new.self.items c.args.named.now.target c.args.named.now.directory c.requires.apart c.requires.target c.lend-file.ensures.lent c.lend-directory.result c.lend-directory.ensures.row in
     let put = back_two c.args.rows.now.items c.lend-file.new.self.items c.lend-directory.new.self.items c.give_back.new.self.items c.give_back-2.new.self.items c.args.named.now.target c.args.named.now.directory c.link_both-done.new.file c.link_both-done.new.directory c.requires.apart c.requires.target c.requires.directory
-    c.lend-file.ensures.lent c.lend-directory.ensures.lent (c.link_both-done.ensures.directory_inode ∙ c.lend-directory.ensures.number) c.give_back.ensures.rows (c.link_both-done.ensures.inode ∙ c.lend-file.ensures.number) c.give_back-2.ensures.rows in
+    c.lend-file.ensures.lent c.lend-directory.ensures.lent (c.link_both-done.ensures.inodes.1 ∙ c.lend-directory.ensures.number) c.give_back.ensures.rows (c.link_both-done.ensures.inodes.0 ∙ c.lend-file.ensures.number) c.give_back-2.ensures.rows in
     on_ok_weaker c.link_both-done.result (λ (step : LinksAt (g.P.Pmem.region c.args.memory.now) (g.P.Pmem.region c.link_both-done.new.memory) c.args.tables.now.layout c.args.free.now c.link_both-done.new.free c.args.cpu (c.lend-file.result ∷ c.lend-directory.result ∷ []) (c.link_both-done.new.file ∷ c.link_both-done.new.directory ∷ []) 0 1 c.args.named.now.name.now c.args.time). record { file = step.file; directory = step.directory; step = lifted c.args.rows.now.items c.give_back-2.new.self.items c.args.named.now.target c.args.named.now.directory c.lend-file.result c.lend-directory.result c.link_both-done.new.file c.link_both-done.new.directory c.requires.apart c.lend-file.ensures.row there put step.step }) c.link_both-done.ensures.linked
 
 pub returns-clause-enough : goal.returns-clause-enough
@@ -67,7 +59,7 @@ returns-clause-kept g c =
       step = c.link_both-done.ensures.kept;
       unchanged = let there = row_stays c.args.rows.now.items c.lend-file.new.self.items c.args.named.now.target c.args.named.now.directory c.requires.apart c.requires.target c.lend-file.ensures.lent c.lend-directory.result c.lend-directory.ensures.row in
           let put = back_two c.args.rows.now.items c.lend-file.new.self.items c.lend-directory.new.self.items c.give_back.new.self.items c.give_back-2.new.self.items c.args.named.now.target c.args.named.now.directory c.link_both-done.new.file c.link_both-done.new.directory c.requires.apart c.requires.target c.requires.directory
-          c.lend-file.ensures.lent c.lend-directory.ensures.lent (c.link_both-done.ensures.directory_inode ∙ c.lend-directory.ensures.number) c.give_back.ensures.rows (c.link_both-done.ensures.inode ∙ c.lend-file.ensures.number) c.give_back-2.ensures.rows in
+          c.lend-file.ensures.lent c.lend-directory.ensures.lent (c.link_both-done.ensures.inodes.1 ∙ c.lend-directory.ensures.number) c.give_back.ensures.rows (c.link_both-done.ensures.inodes.0 ∙ c.lend-file.ensures.number) c.give_back-2.ensures.rows in
           IfErr-weaker c.link_both-done.result _ _ (λ (e : Refusal) told off. (let left = told off in left_two c.args.rows.now.items c.give_back-2.new.self.items c.args.named.now.target c.args.named.now.directory c.lend-file.result c.lend-directory.result c.link_both-done.new.file c.link_both-done.new.directory c.requires.apart c.lend-file.ensures.row there put c.args.memory.now c.link_both-done.new.memory c.args.free.now c.link_both-done.new.free left.0 left.1)) c.link_both-done.ensures.unchanged;
       tables = (c.give_back-2.ensures.sup ∙ c.give_back.ensures.sup ∙ c.lend-directory.ensures.sup ∙ c.lend-file.ensures.sup, c.give_back-2.ensures.sizes ∙ c.give_back.ensures.sizes ∙ c.lend-directory.ensures.sizes ∙ c.lend-file.ensures.sizes);
     }
@@ -90,3 +82,13 @@ pub returns-clause-wrote : goal.returns-clause-wrote
 returns-clause-wrote g c file directory held f h at other_at here other =
     of_lent c.args.rows.now.items c.lend-file.new.self.items c.args.named.now.target c.args.named.now.directory c.requires.apart c.requires.target c.lend-file.ensures.lent (λ (r d : Row). ShowsRow (g.P.Pmem.region c.args.memory.now) c.args.tables.now.layout held f r c.args.free.now → ShowsRow (g.P.Pmem.region c.args.memory.now) c.args.tables.now.layout held h d c.args.free.now → StoresIn c.args.tables.now.layout held (two_logs c.args.tables.now.layout c.args.cpu r.inode d.inode) (g.P.Pmem.region c.args.memory.now) (g.P.Pmem.region c.link_both-done.new.memory))
     c.lend-file.result c.lend-directory.result file directory c.lend-file.ensures.row c.lend-directory.ensures.row (λ seen seen_other. c.link_both-done.ensures.wrote held f h seen seen_other) at other_at here other
+
+pub link_both-done-requires : goal.link_both-done-requires
+link_both-done-requires g c =
+    record {
+      apart = (λ same. c.requires.apart (sym c.lend-file.ensures.number ∙ same ∙ c.lend-directory.ensures.number));
+      stands = (c.requires.stands c.lend-file.result c.lend-file.ensures.row);
+      other_stands = (let there = row_stays c.args.rows.now.items c.lend-file.new.self.items c.args.named.now.target c.args.named.now.directory c.requires.apart c.requires.target c.lend-file.ensures.lent c.lend-directory.result c.lend-directory.ensures.row in
+          c.requires.directory_stands c.lend-directory.result there);
+      given = ((c.requires.few c.lend-file.result c.lend-file.ensures.row), c.requires.name);
+    }

@@ -31,18 +31,18 @@ pub give_back-requires : goal.give_back-requires
 give_back-requires g c =
     last_used c.args.rows.now.items c.lend-directory.new.self.items c.args.named.now.directory c.cut_name-cut.new.directory (in_use c.args.rows.now.items c.args.named.now.directory c.lend-directory.result c.lend-directory.ensures.row) c.lend-directory.ensures.lent (c.cut_name-cut.ensures.inode ∙ c.lend-directory.ensures.number)
 
-pub cut_name-cut-requires-clause-stands : goal.cut_name-cut-requires-clause-stands
-cut_name-cut-requires-clause-stands g c = c.requires.stands c.lend-directory.result c.lend-directory.ensures.row
-
-pub cut_name-cut-requires-clause-can : goal.cut_name-cut-requires-clause-can
-cut_name-cut-requires-clause-can g c =
-    let number = numbered c.args.rows.now.items c.args.named.now.target c.row.result.now c.row.ensures in
-    subst (λ (i : ℕ). CanName (g.P.Pmem.region c.args.memory.now) c.args.tables.now.layout c.args.cpu i c.lend-directory.result) number (c.requires.can c.lend-directory.result c.row.result.now c.lend-directory.ensures.row c.row.ensures).0
-
-pub cut_name-cut-requires-clause-differ : goal.cut_name-cut-requires-clause-differ
-cut_name-cut-requires-clause-differ g c =
-    let number = numbered c.args.rows.now.items c.args.named.now.target c.row.result.now c.row.ensures in
-    λ same. (c.requires.can c.lend-directory.result c.row.result.now c.lend-directory.ensures.row c.row.ensures).1 (same ∙ sym number)
+pub cut_name-cut-requires : goal.cut_name-cut-requires
+cut_name-cut-requires g c =
+    record {
+      stands = (c.requires.stands c.lend-directory.result c.lend-directory.ensures.row);
+      can = (let number = numbered c.args.rows.now.items c.args.named.now.target c.row.result.now c.row.ensures in
+          subst (λ (i : ℕ). CanName (g.P.Pmem.region c.args.memory.now) c.args.tables.now.layout c.args.cpu i c.lend-directory.result) number (c.requires.can c.lend-directory.result c.row.result.now c.lend-directory.ensures.row c.row.ensures).0);
+      given = (
+        (let number = numbered c.args.rows.now.items c.args.named.now.target c.row.result.now c.row.ensures in
+            λ same. (c.requires.can c.lend-directory.result c.row.result.now c.lend-directory.ensures.row c.row.ensures).1 (same ∙ sym number)),
+        c.requires.name,
+      );
+    }
 
 pub returns-in_err-cut-clause-refused : goal.returns-in_err-cut-clause-refused
 returns-in_err-cut-clause-refused g c row gone at gone_at =
@@ -86,7 +86,7 @@ give_row-requires-clause-room g c =
     let apart : c.args.named.now.directory ≢ c.args.named.now.target = (λ same. (c.requires.can c.lend-directory.result c.row.result.now c.lend-directory.ensures.row c.row.ensures).1 (c.lend-directory.ensures.number ∙ same ∙ sym (numbered rows c.args.named.now.target c.row.result.now c.row.ensures))) in
     let there = sym (other_row rows c.lend-directory.new.self.items c.give_back.new.self.items c.args.named.now.directory c.lend-directory.result c.cut_name-cut.new.directory c.lend-directory.ensures.row c.lend-directory.ensures.lent (c.cut_name-cut.ensures.inode ∙ c.lend-directory.ensures.number) c.give_back.ensures.rows c.args.named.now.target apart) ∙ c.take.ensures.row in
     let same : c.row.result.now ≡ c.take.result = same_Some _ _ (sym c.row.ensures ∙ there) in
-    subst (λ (r : Row). length r.pages.items + div_ceil r.numbers.size 4096 ≤ c.cut_name-cut.new.free.room) same (subst (λ (n : ℕ). n ≤ c.cut_name-cut.new.free.room) c.most_blocks.ensures c.in_ok-cut.ensures.room)
+    subst (λ (r : Row). length r.pages.items + div_ceil r.numbers.size 4096 ≤ c.cut_name-cut.new.free.room) same (subst (λ (n : ℕ). n ≤ c.cut_name-cut.new.free.room) c.most_blocks.ensures c.in_ok-cut.ensures.needs.room)
 
 pub returns-clause-removed : goal.returns-clause-removed
 returns-clause-removed g c =

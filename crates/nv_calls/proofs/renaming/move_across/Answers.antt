@@ -9,7 +9,7 @@ use Rattle.nv_alloc.specs.Taking.{all_blocks}
 use Rattle.nv_rows.proofs.Places.{at_place, numbered, back_two, row_in_use}
 use Rattle.nv_tree.specs.declared.refusal.Refusal.{Refusal}
 use Rattle.nv_region.specs.Stops.{LeavesOnly}
-use Rattle.nv_names.specs.Names.{name_at}
+use Rattle.nv_names.specs.Names.{IsName, name_at}
 use Rattle.nv_scan.specs.declared.piece.Row.{Row}
 use Rattle.nv_commit.specs.Stopped.{LeavesEither}
 use Rattle.nv_steps.specs.Stopped.{MovedOver}
@@ -23,33 +23,32 @@ use Rattle.nv_steps.specs.Stores.{StoresIn, two_logs}
 pub lend-to-requires : goal.lend-to-requires
 lend-to-requires g c = used_still c.args.rows.now.items c.lend-from.new.self.items c.args.moved.now.from.directory c.args.moved.now.directory c.requires.apart c.requires.from c.lend-from.ensures.lent c.requires.directory
 
-pub move_both-done-requires-clause-apart : goal.move_both-done-requires-clause-apart
-move_both-done-requires-clause-apart g c = λ same. c.requires.apart (sym c.lend-from.ensures.number ∙ same ∙ c.lend-to.ensures.number)
-
-pub move_both-done-requires-clause-stands : goal.move_both-done-requires-clause-stands
-move_both-done-requires-clause-stands g c = c.requires.stands c.lend-from.result c.lend-from.ensures.row
-
-pub move_both-done-requires-clause-to_stands : goal.move_both-done-requires-clause-to_stands
-move_both-done-requires-clause-to_stands g c =
-    let there = row_stays c.args.rows.now.items c.lend-from.new.self.items c.args.moved.now.from.directory c.args.moved.now.directory c.requires.apart c.requires.from c.lend-from.ensures.lent c.lend-to.result c.lend-to.ensures.row in
-    c.requires.other_stands c.lend-to.result there
+pub move_both-done-requires : goal.move_both-done-requires
+move_both-done-requires g c =
+    record {
+      apart = (λ same. c.requires.apart (sym c.lend-from.ensures.number ∙ same ∙ c.lend-to.ensures.number));
+      stands = (c.requires.stands c.lend-from.result c.lend-from.ensures.row);
+      other_stands = (let there = row_stays c.args.rows.now.items c.lend-from.new.self.items c.args.moved.now.from.directory c.args.moved.now.directory c.requires.apart c.requires.from c.lend-from.ensures.lent c.lend-to.result c.lend-to.ensures.row in
+          c.requires.to_stands c.lend-to.result there);
+      given = ((subst IsName (sym c.other_name-other.ensures.name) c.requires.name), (subst IsName (sym c.other_name-other.ensures.other) c.requires.other));
+    }
 
 pub give_back-requires : goal.give_back-requires
 give_back-requires g c =
     let used = used_still c.args.rows.now.items c.lend-from.new.self.items c.args.moved.now.from.directory c.args.moved.now.directory c.requires.apart c.requires.from c.lend-from.ensures.lent c.requires.directory in
-    last_used c.lend-from.new.self.items c.lend-to.new.self.items c.args.moved.now.directory c.move_both-done.new.to used c.lend-to.ensures.lent (c.move_both-done.ensures.to_inode ∙ c.lend-to.ensures.number)
+    last_used c.lend-from.new.self.items c.lend-to.new.self.items c.args.moved.now.directory c.move_both-done.new.to used c.lend-to.ensures.lent (c.move_both-done.ensures.inodes.1 ∙ c.lend-to.ensures.number)
 
 pub give_back-requires-2 : goal.give_back-requires-2
 give_back-requires-2 g c =
     first_used c.args.rows.now.items c.lend-from.new.self.items c.lend-to.new.self.items c.give_back.new.self.items c.args.moved.now.from.directory c.args.moved.now.directory c.move_both-done.new.from c.move_both-done.new.to c.requires.apart c.requires.from c.requires.directory c.lend-from.ensures.lent c.lend-to.ensures.lent
-    (c.move_both-done.ensures.to_inode ∙ c.lend-to.ensures.number) c.give_back.ensures.rows (c.move_both-done.ensures.inode ∙ c.lend-from.ensures.number)
+    (c.move_both-done.ensures.inodes.1 ∙ c.lend-to.ensures.number) c.give_back.ensures.rows (c.move_both-done.ensures.inodes.0 ∙ c.lend-from.ensures.number)
 
 pub returns-clause-moved : goal.returns-clause-moved
 returns-clause-moved g c =
     let rows = c.args.rows.now.items in
     let there = row_stays rows c.lend-from.new.self.items c.args.moved.now.from.directory c.args.moved.now.directory c.requires.apart c.requires.from c.lend-from.ensures.lent c.lend-to.result c.lend-to.ensures.row in
     let put = back_two rows c.lend-from.new.self.items c.lend-to.new.self.items c.give_back.new.self.items c.give_back-2.new.self.items c.args.moved.now.from.directory c.args.moved.now.directory c.move_both-done.new.from c.move_both-done.new.to c.requires.apart c.requires.from c.requires.directory
-    c.lend-from.ensures.lent c.lend-to.ensures.lent (c.move_both-done.ensures.to_inode ∙ c.lend-to.ensures.number) c.give_back.ensures.rows (c.move_both-done.ensures.inode ∙ c.lend-from.ensures.number) c.give_back-2.ensures.rows in
+    c.lend-from.ensures.lent c.lend-to.ensures.lent (c.move_both-done.ensures.inodes.1 ∙ c.lend-to.ensures.number) c.give_back.ensures.rows (c.move_both-done.ensures.inodes.0 ∙ c.lend-from.ensures.number) c.give_back-2.ensures.rows in
     let target = row_in_use rows c.args.moved.now.from.target c.requires.target in
     let number = c.other_name-other.ensures.inode ∙ sym (numbered rows c.args.moved.now.from.target target.0 target.1) in
     on_ok_weaker c.move_both-done.result (λ step. moves_across target.0 (at_place rows c.args.moved.now.from.target ∙ target.1) number c.other_name-other.ensures.name c.other_name-other.ensures.other c.other_name-other.ensures.time
@@ -78,7 +77,7 @@ returns-clause-kept g c =
       unchanged = let rows = c.args.rows.now.items in
           let there = row_stays rows c.lend-from.new.self.items c.args.moved.now.from.directory c.args.moved.now.directory c.requires.apart c.requires.from c.lend-from.ensures.lent c.lend-to.result c.lend-to.ensures.row in
           let put = back_two rows c.lend-from.new.self.items c.lend-to.new.self.items c.give_back.new.self.items c.give_back-2.new.self.items c.args.moved.now.from.directory c.args.moved.now.directory c.move_both-done.new.from c.move_both-done.new.to c.requires.apart c.requires.from c.requires.directory
-          c.lend-from.ensures.lent c.lend-to.ensures.lent (c.move_both-done.ensures.to_inode ∙ c.lend-to.ensures.number) c.give_back.ensures.rows (c.move_both-done.ensures.inode ∙ c.lend-from.ensures.number) c.give_back-2.ensures.rows in
+          c.lend-from.ensures.lent c.lend-to.ensures.lent (c.move_both-done.ensures.inodes.1 ∙ c.lend-to.ensures.number) c.give_back.ensures.rows (c.move_both-done.ensures.inodes.0 ∙ c.lend-from.ensures.number) c.give_back-2.ensures.rows in
           IfErr-weaker c.move_both-done.result _ _ (λ (e : Refusal) told off. (let left = told off in left_two rows c.give_back-2.new.self.items c.args.moved.now.from.directory c.args.moved.now.directory c.lend-from.result c.lend-to.result c.move_both-done.new.from c.move_both-done.new.to c.requires.apart c.lend-from.ensures.row there put c.args.memory.now c.move_both-done.new.memory c.args.free.now c.move_both-done.new.free left.0 left.1)) c.move_both-done.ensures.unchanged;
       tables = (c.give_back-2.ensures.sup ∙ c.give_back.ensures.sup ∙ c.lend-to.ensures.sup ∙ c.lend-from.ensures.sup, c.give_back-2.ensures.sizes ∙ c.give_back.ensures.sizes ∙ c.lend-to.ensures.sizes ∙ c.lend-from.ensures.sizes);
     }

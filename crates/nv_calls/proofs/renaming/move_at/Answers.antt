@@ -5,7 +5,7 @@ use Rattle.nv_alloc.specs.Taking.{all_blocks}
 use Rattle.nv_rows.specs.Rows.{place_in, row_of}
 use Rattle.nv_rows.proofs.Places.{at_place, back_one, in_use, numbered, places_apart, row_in_use}
 use Rattle.nv_tree.specs.declared.refusal.Refusal.{Refusal}
-use Rattle.nv_names.specs.Names.{name_at}
+use Rattle.nv_names.specs.Names.{IsName, name_at}
 use Rattle.nv_scan.specs.declared.piece.Row.{Row}
 use Rattle.nv_steps.specs.Stopped.{MovedHere, MovedOver}
 use Rattle.nv_steps.specs.Steps.{RefusesStep, ShowsRow}
@@ -22,6 +22,14 @@ pub give_back-requires : goal.give_back-requires
 give_back-requires g c =
     last_used c.args.rows.now.items c.lend-directory.new.self.items c.args.moved.now.directory c.move_within-done.new.directory (in_use c.args.rows.now.items c.args.moved.now.directory c.lend-directory.result c.lend-directory.ensures.row) c.lend-directory.ensures.lent (c.move_within-done.ensures.inode ∙ c.lend-directory.ensures.number)
 
+pub move_across-requires : goal.move_across-requires
+move_across-requires g c =
+    record {
+      move = record { from = c.requires.from; directory = c.requires.directory; stands = c.requires.stands; to_stands = c.requires.other_stands; name = c.requires.name; other = c.requires.other };
+      target = c.requires.target;
+      apart = c.if-moved.true;
+    }
+
 pub returns-then-moved-clause-moved : goal.returns-then-moved-clause-moved
 returns-then-moved-clause-moved g c =
     on_ok_weaker c.move_across.result (λ step. inr (places_apart c.args.rows.now.items c.args.moved.now.from.directory c.args.moved.now.directory c.requires.from c.requires.directory c.if-moved.true, step)) c.move_across.ensures.moved
@@ -35,9 +43,6 @@ pub returns-then-moved-clause-refused : goal.returns-then-moved-clause-refused
 returns-then-moved-clause-refused g c from to inode at other_at inode_at =
     let apart = places_apart c.args.rows.now.items c.args.moved.now.from.directory c.args.moved.now.directory c.requires.from c.requires.directory c.if-moved.true in
     IfErr-weaker c.move_across.result _ _ (λ (e : Refusal). subst (λ (n : ℕ). RefusesStep e n c.args.free.now) (sym (across_count (place_in c.args.rows.now.items c.args.moved.now.from.directory) (place_in c.args.rows.now.items c.args.moved.now.directory) from to inode.inode c.args.moved.now.from.name.now c.args.moved.now.name.now c.args.time apart))) (c.move_across.ensures.refused from to inode at other_at inode_at)
-
-pub move_within-done-requires-clause-stands : goal.move_within-done-requires-clause-stands
-move_within-done-requires-clause-stands g c = (c.requires.other_stands c.lend-directory.result c.lend-directory.ensures.row).0
 
 pub returns-clause-moved : goal.returns-clause-moved
 returns-clause-moved g c =
@@ -110,3 +115,11 @@ returns-clause-within_wrote g c to held k other_at other same =
     let two : c.lend-directory.result ≡ to = same_Some _ _ (sym c.lend-directory.ensures.row ∙ other_at) in
     subst (λ (r : Row). ShowsRow (g.P.Pmem.region c.args.memory.now) c.args.tables.now.layout held k r c.args.free.now → StoresIn c.args.tables.now.layout held (one_log c.args.tables.now.layout r.inode) (g.P.Pmem.region c.args.memory.now) (g.P.Pmem.region c.move_within-done.new.memory)) two
     (λ shows. c.move_within-done.ensures.wrote held k shows) other
+
+pub move_within-done-requires : goal.move_within-done-requires
+move_within-done-requires g c =
+    record {
+      cpu_below = c.requires.cpu;
+      stands = ((c.requires.other_stands c.lend-directory.result c.lend-directory.ensures.row).0);
+      given = ((subst IsName (sym c.other_name-other.ensures.name) c.requires.name), (subst IsName (sym c.other_name-other.ensures.other) c.requires.other));
+    }

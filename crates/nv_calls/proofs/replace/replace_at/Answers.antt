@@ -28,38 +28,37 @@ use Rattle.nv_calls.proofs.ReplacePlaces.{free_places, here_places, last_by, ove
 use Rattle.nv_calls.proofs.Stopped.{left_made}
 use Rattle.nv_calls.proofs.replace.replace_at.Goals as goal
 
-pub replace_over-requires-clause-there : goal.replace_over-requires-clause-there
-replace_over-requires-clause-there g c = c.requires.there c.in-Some.there c.in-Some.is
+pub replace_over-requires : goal.replace_over-requires
+replace_over-requires g c =
+    record {
+      take = record {
+        move = record { from = c.requires.from; directory = c.requires.directory; stands = c.requires.stands; to_stands = c.requires.other_stands; name = c.requires.name; other = c.requires.other };
+        there = c.requires.there c.in-Some.there c.in-Some.is;
+        apart = (let both = c.requires.apart c.in-Some.there c.in-Some.is c.if-there-moved.false in (c.if-moved.true, both.0, both.1));
+        number = c.requires.number c.in-Some.there c.in-Some.is;
+        owns = λ row at. c.requires.owns c.in-Some.there row c.in-Some.is at;
+      };
+      there_stands = λ row at. c.requires.there_stands c.in-Some.there row c.in-Some.is at;
+    }
 
-pub replace_over-requires-clause-apart : goal.replace_over-requires-clause-apart
-replace_over-requires-clause-apart g c = (let both = c.requires.apart c.in-Some.there c.in-Some.is c.if-there-moved.false in (c.if-moved.true, both.0, both.1))
-
-pub replace_over-requires-clause-there_stands : goal.replace_over-requires-clause-there_stands
-replace_over-requires-clause-there_stands g c row at = c.requires.there_stands c.in-Some.there row c.in-Some.is at
-
-pub replace_over-requires-clause-number : goal.replace_over-requires-clause-number
-replace_over-requires-clause-number g c = c.requires.number c.in-Some.there c.in-Some.is
-
-pub replace_over-requires-clause-owns : goal.replace_over-requires-clause-owns
-replace_over-requires-clause-owns g c row at = c.requires.owns c.in-Some.there row c.in-Some.is at
-
-pub replace_within-requires-clause-there : goal.replace_within-requires-clause-there
-replace_within-requires-clause-there g c = c.requires.there c.in-Some.there c.in-Some.is
-
-pub replace_within-requires-clause-apart : goal.replace_within-requires-clause-apart
-replace_within-requires-clause-apart g c = (let both = c.requires.apart c.in-Some.there c.in-Some.is c.if-there-moved.false in both.1)
-
-pub replace_within-requires-clause-there_stands : goal.replace_within-requires-clause-there_stands
-replace_within-requires-clause-there_stands g c row at = c.requires.there_stands c.in-Some.there row c.in-Some.is at
-
-pub replace_within-requires-clause-can : goal.replace_within-requires-clause-can
-replace_within-requires-clause-can g c row file at file_at =
-    let number = numbered c.args.rows.now.items c.in-Some.there file file_at in
-    let both = c.requires.apart c.in-Some.there c.in-Some.is c.if-there-moved.false in
-    (subst (λ (n : ℕ). CanName (g.P.Pmem.region c.args.memory.now) c.args.tables.now.layout c.args.cpu n row) (sym number) (c.requires.can c.in-Some.there row c.in-Some.is at), λ same. both.1 (sym (numbered c.args.rows.now.items c.args.moved.now.directory row at) ∙ same ∙ number))
-
-pub replace_within-requires-clause-owns : goal.replace_within-requires-clause-owns
-replace_within-requires-clause-owns g c row at = c.requires.owns c.in-Some.there row c.in-Some.is at
+pub replace_within-requires : goal.replace_within-requires
+replace_within-requires g c =
+    record {
+      release = record {
+        directory = c.requires.directory;
+        target = c.requires.there c.in-Some.there c.in-Some.is;
+        apart = (let both = c.requires.apart c.in-Some.there c.in-Some.is c.if-there-moved.false in both.1);
+        stands = c.requires.other_stands;
+        file_stands = λ row at. c.requires.there_stands c.in-Some.there row c.in-Some.is at;
+        can = λ row file at file_at.
+            let number = numbered c.args.rows.now.items c.in-Some.there file file_at in
+            let both = c.requires.apart c.in-Some.there c.in-Some.is c.if-there-moved.false in
+            (subst (λ (n : ℕ). CanName (g.P.Pmem.region c.args.memory.now) c.args.tables.now.layout c.args.cpu n row) (sym number) (c.requires.can c.in-Some.there row c.in-Some.is at), λ same. both.1 (sym (numbered c.args.rows.now.items c.args.moved.now.directory row at) ∙ same ∙ number));
+        owns = λ row at. c.requires.owns c.in-Some.there row c.in-Some.is at;
+        name = c.requires.name;
+      };
+      other = c.requires.other;
+    }
 
 pub returns-in_default-clause-replaced : goal.returns-in_default-clause-replaced
 returns-in_default-clause-replaced g c =
@@ -116,12 +115,12 @@ returns-then-moved-clause-needs g c from to at to_at =
           let file = row_in_use c.args.rows.now.items c.in-Some.there (c.requires.there c.in-Some.there c.in-Some.is) in
           let number = numbered c.args.rows.now.items c.in-Some.there file.0 file.1 in
           let same = count_over (place_in c.args.rows.now.items c.args.moved.now.from.directory) (place_in c.args.rows.now.items c.args.moved.now.directory) from to file.0 c.args.moved.now.from.target c.args.moved.now.from.name.now c.args.moved.now.name.now c.args.time (λ same. c.if-there-moved.false (sym number ∙ same)) (places_apart c.args.rows.now.items c.args.moved.now.from.directory c.args.moved.now.directory c.requires.from c.requires.directory c.if-moved.true) ∙ ap (λ (o : Option Row). replace_count (place_in c.args.rows.now.items c.args.moved.now.from.directory) (place_in c.args.rows.now.items c.args.moved.now.directory) from to o c.args.moved.now.from.target c.args.moved.now.from.name.now c.args.moved.now.name.now c.args.time) (sym (row_there c.args.rows.now.items c.args.had c.in-Some.there file.0 c.in-Some.is file.1)) in
-          on_ok_weaker c.replace_over.result (subst (λ (n : ℕ). n ≤ all_blocks c.args.free.now.pools) same) (c.replace_over.ensures.enough from to file.0 at to_at file.1);
+          on_ok_weaker c.replace_over.result (subst (λ (n : ℕ). n ≤ all_blocks c.args.free.now.pools) same) (c.replace_over.ensures.needs from to file.0 at to_at file.1).enough;
       refused =
           let file = row_in_use c.args.rows.now.items c.in-Some.there (c.requires.there c.in-Some.there c.in-Some.is) in
           let number = numbered c.args.rows.now.items c.in-Some.there file.0 file.1 in
           let same = count_over (place_in c.args.rows.now.items c.args.moved.now.from.directory) (place_in c.args.rows.now.items c.args.moved.now.directory) from to file.0 c.args.moved.now.from.target c.args.moved.now.from.name.now c.args.moved.now.name.now c.args.time (λ same. c.if-there-moved.false (sym number ∙ same)) (places_apart c.args.rows.now.items c.args.moved.now.from.directory c.args.moved.now.directory c.requires.from c.requires.directory c.if-moved.true) ∙ ap (λ (o : Option Row). replace_count (place_in c.args.rows.now.items c.args.moved.now.from.directory) (place_in c.args.rows.now.items c.args.moved.now.directory) from to o c.args.moved.now.from.target c.args.moved.now.from.name.now c.args.moved.now.name.now c.args.time) (sym (row_there c.args.rows.now.items c.args.had c.in-Some.there file.0 c.in-Some.is file.1)) in
-          IfErr-weaker c.replace_over.result _ _ (λ (e : Refusal) refused. subst (λ (n : ℕ). RefusesStep e n c.args.free.now) same refused) (c.replace_over.ensures.refused from to file.0 at to_at file.1);
+          IfErr-weaker c.replace_over.result _ _ (λ (e : Refusal) refused. subst (λ (n : ℕ). RefusesStep e n c.args.free.now) same refused) (c.replace_over.ensures.needs from to file.0 at to_at file.1).refused;
     }
 
 pub returns-clause-needs : goal.returns-clause-needs
@@ -131,12 +130,12 @@ returns-clause-needs g c from to at to_at =
           let file = row_in_use c.args.rows.now.items c.in-Some.there (c.requires.there c.in-Some.there c.in-Some.is) in
           let number = numbered c.args.rows.now.items c.in-Some.there file.0 file.1 in
           let same = count_here (place_in c.args.rows.now.items c.args.moved.now.from.directory) (place_in c.args.rows.now.items c.args.moved.now.directory) from to file.0 c.args.moved.now.from.target c.args.moved.now.from.name.now c.args.moved.now.name.now c.args.time (λ same. c.if-there-moved.false (sym number ∙ same)) (ap (place_in c.args.rows.now.items) c.if-moved.false) ∙ ap (λ (o : Option Row). replace_count (place_in c.args.rows.now.items c.args.moved.now.from.directory) (place_in c.args.rows.now.items c.args.moved.now.directory) from to o c.args.moved.now.from.target c.args.moved.now.from.name.now c.args.moved.now.name.now c.args.time) (sym (row_there c.args.rows.now.items c.args.had c.in-Some.there file.0 c.in-Some.is file.1)) in
-          on_ok_weaker c.replace_within.result (subst (λ (n : ℕ). n ≤ all_blocks c.args.free.now.pools) same) (c.replace_within.ensures.enough from file.0 (sym (ap (row_of c.args.rows.now.items) c.if-moved.false) ∙ at) file.1);
+          on_ok_weaker c.replace_within.result (subst (λ (n : ℕ). n ≤ all_blocks c.args.free.now.pools) same) (c.replace_within.ensures.needs from file.0 (sym (ap (row_of c.args.rows.now.items) c.if-moved.false) ∙ at) file.1).enough;
       refused =
           let file = row_in_use c.args.rows.now.items c.in-Some.there (c.requires.there c.in-Some.there c.in-Some.is) in
           let number = numbered c.args.rows.now.items c.in-Some.there file.0 file.1 in
           let same = count_here (place_in c.args.rows.now.items c.args.moved.now.from.directory) (place_in c.args.rows.now.items c.args.moved.now.directory) from to file.0 c.args.moved.now.from.target c.args.moved.now.from.name.now c.args.moved.now.name.now c.args.time (λ same. c.if-there-moved.false (sym number ∙ same)) (ap (place_in c.args.rows.now.items) c.if-moved.false) ∙ ap (λ (o : Option Row). replace_count (place_in c.args.rows.now.items c.args.moved.now.from.directory) (place_in c.args.rows.now.items c.args.moved.now.directory) from to o c.args.moved.now.from.target c.args.moved.now.from.name.now c.args.moved.now.name.now c.args.time) (sym (row_there c.args.rows.now.items c.args.had c.in-Some.there file.0 c.in-Some.is file.1)) in
-          IfErr-weaker c.replace_within.result _ _ (λ (e : Refusal) refused. subst (λ (n : ℕ). RefusesStep e n c.args.free.now) same refused) (c.replace_within.ensures.refused from file.0 (sym (ap (row_of c.args.rows.now.items) c.if-moved.false) ∙ at) file.1);
+          IfErr-weaker c.replace_within.result _ _ (λ (e : Refusal) refused. subst (λ (n : ℕ). RefusesStep e n c.args.free.now) same refused) (c.replace_within.ensures.needs from file.0 (sym (ap (row_of c.args.rows.now.items) c.if-moved.false) ∙ at) file.1).refused;
     }
 
 pub returns-in_default-clause-any_stop : goal.returns-in_default-clause-any_stop

@@ -12,26 +12,44 @@ use Rattle.nv_calls.proofs.ReplaceAt.{stays_at, blocks_go, blocks_stay, more_lin
 use Rattle.nv_calls.proofs.Stopped.{left_made}
 use Rattle.nv_calls.proofs.replacing.replace_within.Goals as goal
 
-pub lessen_at-requires-clause-more : goal.lessen_at-requires-clause-more
-lessen_at-requires-clause-more g c file there =
-    more_links file (stays_at true c.args.rows.now.items (place_in c.args.rows.now.items c.args.there) c.row.result.now c.keeps_others.result (at_place c.args.rows.now.items c.args.there ∙ c.row.ensures) c.keeps_others.ensures c.if-keeps_others.true file (at_place c.args.rows.now.items c.args.there ∙ there))
+pub lessen_at-requires-clause-can : goal.lessen_at-requires-clause-can
+lessen_at-requires-clause-can g c =
+    record {
+      directory = c.requires.directory;
+      target = c.requires.target;
+      apart = c.requires.apart;
+      more = λ file there.
+          more_links file (stays_at true c.args.rows.now.items (place_in c.args.rows.now.items c.args.there) c.row.result.now c.keeps_others.result (at_place c.args.rows.now.items c.args.there ∙ c.row.ensures) c.keeps_others.ensures c.if-keeps_others.true file (at_place c.args.rows.now.items c.args.there ∙ there));
+      stands = c.requires.stands;
+      file_stands = c.requires.file_stands;
+      name = c.requires.name;
+    }
 
-pub take_at-requires-clause-stands : goal.take_at-requires-clause-stands
-take_at-requires-clause-stands g c row at = (c.requires.stands row at).0
+pub take_at-requires-clause-can : goal.take_at-requires-clause-can
+take_at-requires-clause-can g c =
+    record {
+      directory = c.requires.directory;
+      target = c.requires.target;
+      stands = λ row at. (c.requires.stands row at).0;
+      can = c.requires.can;
+      owns = c.requires.owns;
+      name = c.requires.name;
+    }
 
 pub returns-then-keeps_others-clause-replaced : goal.returns-then-keeps_others-clause-replaced
 returns-then-keeps_others-clause-replaced g c =
     on_ok_weaker c.lessen_at.result (λ step. inl (stays_at true c.args.rows.now.items (place_in c.args.rows.now.items c.args.there) c.row.result.now c.keeps_others.result (at_place c.args.rows.now.items c.args.there ∙ c.row.ensures) c.keeps_others.ensures c.if-keeps_others.true, step)) c.lessen_at.ensures.lessened
 
-pub returns-then-keeps_others-clause-enough : goal.returns-then-keeps_others-clause-enough
-returns-then-keeps_others-clause-enough g c row file at there =
-    let same = blocks_stay row file c.args.moved.now.from.target c.args.moved.now.from.name.now c.args.moved.now.name.now c.args.time (stays_at true c.args.rows.now.items (place_in c.args.rows.now.items c.args.there) c.row.result.now c.keeps_others.result (at_place c.args.rows.now.items c.args.there ∙ c.row.ensures) c.keeps_others.ensures c.if-keeps_others.true file (at_place c.args.rows.now.items c.args.there ∙ there)) in
-    on_ok_weaker c.lessen_at.result (λ enough. subst (λ (n : ℕ). n ≤ all_blocks c.args.free.now.pools) same enough) (c.lessen_at.ensures.enough row file at there)
-
-pub returns-then-keeps_others-clause-refused : goal.returns-then-keeps_others-clause-refused
-returns-then-keeps_others-clause-refused g c row file at there =
-    let same = blocks_stay row file c.args.moved.now.from.target c.args.moved.now.from.name.now c.args.moved.now.name.now c.args.time (stays_at true c.args.rows.now.items (place_in c.args.rows.now.items c.args.there) c.row.result.now c.keeps_others.result (at_place c.args.rows.now.items c.args.there ∙ c.row.ensures) c.keeps_others.ensures c.if-keeps_others.true file (at_place c.args.rows.now.items c.args.there ∙ there)) in
-    IfErr-weaker c.lessen_at.result _ _ (λ (e : Refusal) refused. subst (λ (n : ℕ). RefusesStep e n c.args.free.now) same refused) (c.lessen_at.ensures.refused row file at there)
+pub returns-then-keeps_others-clause-needs : goal.returns-then-keeps_others-clause-needs
+returns-then-keeps_others-clause-needs g c row file at there =
+    record {
+      enough =
+          let same = blocks_stay row file c.args.moved.now.from.target c.args.moved.now.from.name.now c.args.moved.now.name.now c.args.time (stays_at true c.args.rows.now.items (place_in c.args.rows.now.items c.args.there) c.row.result.now c.keeps_others.result (at_place c.args.rows.now.items c.args.there ∙ c.row.ensures) c.keeps_others.ensures c.if-keeps_others.true file (at_place c.args.rows.now.items c.args.there ∙ there)) in
+          on_ok_weaker c.lessen_at.result (λ enough. subst (λ (n : ℕ). n ≤ all_blocks c.args.free.now.pools) same enough) (c.lessen_at.ensures.enough row file at there);
+      refused =
+          let same = blocks_stay row file c.args.moved.now.from.target c.args.moved.now.from.name.now c.args.moved.now.name.now c.args.time (stays_at true c.args.rows.now.items (place_in c.args.rows.now.items c.args.there) c.row.result.now c.keeps_others.result (at_place c.args.rows.now.items c.args.there ∙ c.row.ensures) c.keeps_others.ensures c.if-keeps_others.true file (at_place c.args.rows.now.items c.args.there ∙ there)) in
+          IfErr-weaker c.lessen_at.result _ _ (λ (e : Refusal) refused. subst (λ (n : ℕ). RefusesStep e n c.args.free.now) same refused) (c.lessen_at.ensures.refused row file at there);
+    }
 
 pub returns-then-keeps_others-clause-any_stop : goal.returns-then-keeps_others-clause-any_stop
 returns-then-keeps_others-clause-any_stop g c row file held h f at there here other settled left may =
@@ -58,15 +76,16 @@ pub returns-else-keeps_others-clause-replaced : goal.returns-else-keeps_others-c
 returns-else-keeps_others-clause-replaced g c =
     on_ok_weaker c.take_at.result (λ step. inr (stays_at false c.args.rows.now.items (place_in c.args.rows.now.items c.args.there) c.row.result.now c.keeps_others.result (at_place c.args.rows.now.items c.args.there ∙ c.row.ensures) c.keeps_others.ensures c.if-keeps_others.false, step)) c.take_at.ensures.taken
 
-pub returns-else-keeps_others-clause-enough : goal.returns-else-keeps_others-clause-enough
-returns-else-keeps_others-clause-enough g c row file at there =
-    let same = blocks_go row file c.args.moved.now.from.target c.args.moved.now.from.name.now c.args.moved.now.name.now c.args.time (stays_at false c.args.rows.now.items (place_in c.args.rows.now.items c.args.there) c.row.result.now c.keeps_others.result (at_place c.args.rows.now.items c.args.there ∙ c.row.ensures) c.keeps_others.ensures c.if-keeps_others.false file (at_place c.args.rows.now.items c.args.there ∙ there)) in
-    on_ok_weaker c.take_at.result (λ enough. subst (λ (n : ℕ). n ≤ all_blocks c.args.free.now.pools) same enough) (c.take_at.ensures.enough row file at there)
-
-pub returns-else-keeps_others-clause-refused : goal.returns-else-keeps_others-clause-refused
-returns-else-keeps_others-clause-refused g c row file at there =
-    let same = blocks_go row file c.args.moved.now.from.target c.args.moved.now.from.name.now c.args.moved.now.name.now c.args.time (stays_at false c.args.rows.now.items (place_in c.args.rows.now.items c.args.there) c.row.result.now c.keeps_others.result (at_place c.args.rows.now.items c.args.there ∙ c.row.ensures) c.keeps_others.ensures c.if-keeps_others.false file (at_place c.args.rows.now.items c.args.there ∙ there)) in
-    IfErr-weaker c.take_at.result _ _ (λ (e : Refusal) refused. subst (λ (n : ℕ). RefusesStep e n c.args.free.now) same refused) (c.take_at.ensures.refused row file at there)
+pub returns-else-keeps_others-clause-needs : goal.returns-else-keeps_others-clause-needs
+returns-else-keeps_others-clause-needs g c row file at there =
+    record {
+      enough =
+          let same = blocks_go row file c.args.moved.now.from.target c.args.moved.now.from.name.now c.args.moved.now.name.now c.args.time (stays_at false c.args.rows.now.items (place_in c.args.rows.now.items c.args.there) c.row.result.now c.keeps_others.result (at_place c.args.rows.now.items c.args.there ∙ c.row.ensures) c.keeps_others.ensures c.if-keeps_others.false file (at_place c.args.rows.now.items c.args.there ∙ there)) in
+          on_ok_weaker c.take_at.result (λ enough. subst (λ (n : ℕ). n ≤ all_blocks c.args.free.now.pools) same enough) (c.take_at.ensures.enough row file at there);
+      refused =
+          let same = blocks_go row file c.args.moved.now.from.target c.args.moved.now.from.name.now c.args.moved.now.name.now c.args.time (stays_at false c.args.rows.now.items (place_in c.args.rows.now.items c.args.there) c.row.result.now c.keeps_others.result (at_place c.args.rows.now.items c.args.there ∙ c.row.ensures) c.keeps_others.ensures c.if-keeps_others.false file (at_place c.args.rows.now.items c.args.there ∙ there)) in
+          IfErr-weaker c.take_at.result _ _ (λ (e : Refusal) refused. subst (λ (n : ℕ). RefusesStep e n c.args.free.now) same refused) (c.take_at.ensures.refused row file at there);
+    }
 
 pub returns-else-keeps_others-clause-any_stop : goal.returns-else-keeps_others-clause-any_stop
 returns-else-keeps_others-clause-any_stop g c row file held h f at there here other settled left may =

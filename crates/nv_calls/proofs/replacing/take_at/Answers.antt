@@ -1,4 +1,5 @@
 use Rattle.std.proofs.Common.{◌≡◌, ◌≢◌, ◌∙◌, ◌+◌, ◌%◌, ◌≤◌, ℕ, List, length, subst, sym}
+use Rattle.nv_names.specs.Names.{IsName}
 use Rattle.std.specs.Int.{div_ceil}
 use Rattle.std.proofs.lemmas.Option.{same_Some}
 use Rattle.std.proofs.lemmas.Result.{err_from_is_err_and}
@@ -29,18 +30,19 @@ pub give_back-requires : goal.give_back-requires
 give_back-requires g c =
     last_used c.args.rows.now.items c.lend-directory.new.self.items c.args.moved.now.directory c.take_within-taken.new.directory (in_use c.args.rows.now.items c.args.moved.now.directory c.lend-directory.result c.lend-directory.ensures.row) c.lend-directory.ensures.lent (c.take_within-taken.ensures.inode ∙ c.lend-directory.ensures.number)
 
-pub take_within-taken-requires-clause-stands : goal.take_within-taken-requires-clause-stands
-take_within-taken-requires-clause-stands g c = c.requires.stands c.lend-directory.result c.lend-directory.ensures.row
-
-pub take_within-taken-requires-clause-can : goal.take_within-taken-requires-clause-can
-take_within-taken-requires-clause-can g c =
-    let number = numbered c.args.rows.now.items c.args.there c.row.result.now c.row.ensures in
-    subst (λ (i : ℕ). CanName (g.P.Pmem.region c.args.memory.now) c.args.tables.now.layout c.args.cpu i c.lend-directory.result) number (c.requires.can c.lend-directory.result c.row.result.now c.lend-directory.ensures.row c.row.ensures).0
-
-pub take_within-taken-requires-clause-differ : goal.take_within-taken-requires-clause-differ
-take_within-taken-requires-clause-differ g c =
-    let number = numbered c.args.rows.now.items c.args.there c.row.result.now c.row.ensures in
-    λ same. (c.requires.can c.lend-directory.result c.row.result.now c.lend-directory.ensures.row c.row.ensures).1 (same ∙ sym number)
+pub take_within-taken-requires : goal.take_within-taken-requires
+take_within-taken-requires g c =
+    record {
+      stands = (c.requires.can.stands c.lend-directory.result c.lend-directory.ensures.row);
+      can = (let number = numbered c.args.rows.now.items c.args.there c.row.result.now c.row.ensures in
+          subst (λ (i : ℕ). CanName (g.P.Pmem.region c.args.memory.now) c.args.tables.now.layout c.args.cpu i c.lend-directory.result) number (c.requires.can.can c.lend-directory.result c.row.result.now c.lend-directory.ensures.row c.row.ensures).0);
+      given = (
+        (let number = numbered c.args.rows.now.items c.args.there c.row.result.now c.row.ensures in
+            λ same. (c.requires.can.can c.lend-directory.result c.row.result.now c.lend-directory.ensures.row c.row.ensures).1 (same ∙ sym number)),
+        (subst IsName (sym c.other_name-other.ensures.name) c.requires.can.name),
+        (subst IsName (sym c.other_name-other.ensures.other) c.requires.other),
+      );
+    }
 
 pub returns-in_err-taken-clause-refused : goal.returns-in_err-taken-clause-refused
 returns-in_err-taken-clause-refused g c row gone at gone_at =
@@ -63,26 +65,26 @@ returns-in_err-taken-clause-kept g c =
 
 pub take-requires : goal.take-requires
 take-requires g c =
-    let apart : c.args.moved.now.directory ≢ c.args.there = (λ same. (c.requires.can c.lend-directory.result c.row.result.now c.lend-directory.ensures.row c.row.ensures).1 (c.lend-directory.ensures.number ∙ same ∙ sym (numbered c.args.rows.now.items c.args.there c.row.result.now c.row.ensures))) in
-    other_used c.args.rows.now.items c.lend-directory.new.self.items c.give_back.new.self.items c.args.moved.now.directory c.lend-directory.result c.take_within-taken.new.directory c.lend-directory.ensures.row c.lend-directory.ensures.lent (c.take_within-taken.ensures.inode ∙ c.lend-directory.ensures.number) c.give_back.ensures.rows c.args.there apart c.requires.there
+    let apart : c.args.moved.now.directory ≢ c.args.there = (λ same. (c.requires.can.can c.lend-directory.result c.row.result.now c.lend-directory.ensures.row c.row.ensures).1 (c.lend-directory.ensures.number ∙ same ∙ sym (numbered c.args.rows.now.items c.args.there c.row.result.now c.row.ensures))) in
+    other_used c.args.rows.now.items c.lend-directory.new.self.items c.give_back.new.self.items c.args.moved.now.directory c.lend-directory.result c.take_within-taken.new.directory c.lend-directory.ensures.row c.lend-directory.ensures.lent (c.take_within-taken.ensures.inode ∙ c.lend-directory.ensures.number) c.give_back.ensures.rows c.args.there apart c.requires.can.target
 
 pub give_row-requires-clause-own : goal.give_row-requires-clause-own
 give_row-requires-clause-own g c =
-    let apart : c.args.moved.now.directory ≢ c.args.there = (λ same. (c.requires.can c.lend-directory.result c.row.result.now c.lend-directory.ensures.row c.row.ensures).1 (c.lend-directory.ensures.number ∙ same ∙ sym (numbered c.args.rows.now.items c.args.there c.row.result.now c.row.ensures))) in
+    let apart : c.args.moved.now.directory ≢ c.args.there = (λ same. (c.requires.can.can c.lend-directory.result c.row.result.now c.lend-directory.ensures.row c.row.ensures).1 (c.lend-directory.ensures.number ∙ same ∙ sym (numbered c.args.rows.now.items c.args.there c.row.result.now c.row.ensures))) in
     let at_there = sym (other_row c.args.rows.now.items c.lend-directory.new.self.items c.give_back.new.self.items c.args.moved.now.directory c.lend-directory.result c.take_within-taken.new.directory c.lend-directory.ensures.row c.lend-directory.ensures.lent (c.take_within-taken.ensures.inode ∙ c.lend-directory.ensures.number) c.give_back.ensures.rows c.args.there apart) ∙ c.take.ensures.row in
     let taken = c.in_ok-taken.ensures.taken in
-    owns_taken taken.taken (c.requires.owns c.take.result at_there)
+    owns_taken taken.taken (c.requires.can.owns c.take.result at_there)
 
 pub give_row-requires-clause-room : goal.give_row-requires-clause-room
 give_row-requires-clause-room g c =
-    let apart : c.args.moved.now.directory ≢ c.args.there = (λ same. (c.requires.can c.lend-directory.result c.row.result.now c.lend-directory.ensures.row c.row.ensures).1 (c.lend-directory.ensures.number ∙ same ∙ sym (numbered c.args.rows.now.items c.args.there c.row.result.now c.row.ensures))) in
+    let apart : c.args.moved.now.directory ≢ c.args.there = (λ same. (c.requires.can.can c.lend-directory.result c.row.result.now c.lend-directory.ensures.row c.row.ensures).1 (c.lend-directory.ensures.number ∙ same ∙ sym (numbered c.args.rows.now.items c.args.there c.row.result.now c.row.ensures))) in
     let at_there = sym (other_row c.args.rows.now.items c.lend-directory.new.self.items c.give_back.new.self.items c.args.moved.now.directory c.lend-directory.result c.take_within-taken.new.directory c.lend-directory.ensures.row c.lend-directory.ensures.lent (c.take_within-taken.ensures.inode ∙ c.lend-directory.ensures.number) c.give_back.ensures.rows c.args.there apart) ∙ c.take.ensures.row in
     let same : c.row.result.now ≡ c.take.result = same_Some _ _ (sym c.row.ensures ∙ at_there) in
-    subst (λ (r : Row). length r.pages.items + div_ceil r.numbers.size 4096 ≤ c.take_within-taken.new.free.room) same (subst (λ (n : ℕ). n ≤ c.take_within-taken.new.free.room) c.most_blocks.ensures c.in_ok-taken.ensures.room)
+    subst (λ (r : Row). length r.pages.items + div_ceil r.numbers.size 4096 ≤ c.take_within-taken.new.free.room) same (subst (λ (n : ℕ). n ≤ c.take_within-taken.new.free.room) c.most_blocks.ensures c.in_ok-taken.ensures.needs.room)
 
 pub returns-clause-taken : goal.returns-clause-taken
 returns-clause-taken g c =
-    let apart : c.args.moved.now.directory ≢ c.args.there = (λ same. (c.requires.can c.lend-directory.result c.row.result.now c.lend-directory.ensures.row c.row.ensures).1 (c.lend-directory.ensures.number ∙ same ∙ sym (numbered c.args.rows.now.items c.args.there c.row.result.now c.row.ensures))) in
+    let apart : c.args.moved.now.directory ≢ c.args.there = (λ same. (c.requires.can.can c.lend-directory.result c.row.result.now c.lend-directory.ensures.row c.row.ensures).1 (c.lend-directory.ensures.number ∙ same ∙ sym (numbered c.args.rows.now.items c.args.there c.row.result.now c.row.ensures))) in
     let at_there = sym (other_row c.args.rows.now.items c.lend-directory.new.self.items c.give_back.new.self.items c.args.moved.now.directory c.lend-directory.result c.take_within-taken.new.directory c.lend-directory.ensures.row c.lend-directory.ensures.lent (c.take_within-taken.ensures.inode ∙ c.lend-directory.ensures.number) c.give_back.ensures.rows c.args.there apart) ∙ c.take.ensures.row in
     record {
       row = c.lend-directory.result;

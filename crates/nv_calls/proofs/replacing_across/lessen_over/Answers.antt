@@ -1,4 +1,5 @@
-use Rattle.std.proofs.Common.{◌∙◌, ◌+◌, ◌-◌, ◌%◌, ◌≤◌, ℕ, List, sym}
+use Rattle.std.proofs.Common.{◌∙◌, ◌+◌, ◌-◌, ◌%◌, ◌≤◌, ℕ, List, sym, subst}
+use Rattle.nv_names.specs.Names.{IsName}
 use Rattle.std.proofs.lemmas.Result.{IfErr-weaker, on_ok_weaker}
 use Rattle.nv_region.specs.Stops.{LeavesOnly}
 use Rattle.nv_alloc.specs.Taking.{all_blocks}
@@ -24,24 +25,19 @@ lend-to-requires g c = used_still c.args.rows.now.items c.lend-from.new.self.ite
 pub lend-file-requires : goal.lend-file-requires
 lend-file-requires g c = third_still c.args.rows.now.items c.lend-from.new.self.items c.lend-to.new.self.items c.args.moved.now.from.directory c.args.moved.now.directory c.args.there c.requires.apart.0 c.requires.apart.1 c.requires.apart.2 c.requires.from c.requires.directory c.requires.there c.lend-from.ensures.lent c.lend-to.ensures.lent
 
-pub lessen_across-done-requires-clause-apart : goal.lessen_across-done-requires-clause-apart
-lessen_across-done-requires-clause-apart g c = (
-  λ same. c.requires.apart.0 (sym c.lend-from.ensures.number ∙ same ∙ c.lend-to.ensures.number),
-  λ same. c.requires.apart.1 (sym c.lend-from.ensures.number ∙ same ∙ c.lend-file.ensures.number),
-  λ same. c.requires.apart.2 (sym c.lend-to.ensures.number ∙ same ∙ c.lend-file.ensures.number),
-)
-
-pub lessen_across-done-requires-clause-stands : goal.lessen_across-done-requires-clause-stands
-lessen_across-done-requires-clause-stands g c = c.requires.stands c.lend-from.result c.lend-from.ensures.row
-
-pub lessen_across-done-requires-clause-to_stands : goal.lessen_across-done-requires-clause-to_stands
-lessen_across-done-requires-clause-to_stands g c = c.requires.to_stands c.lend-to.result (row_stays c.args.rows.now.items c.lend-from.new.self.items c.args.moved.now.from.directory c.args.moved.now.directory c.requires.apart.0 c.requires.from c.lend-from.ensures.lent c.lend-to.result c.lend-to.ensures.row)
-
-pub lessen_across-done-requires-clause-file_stands : goal.lessen_across-done-requires-clause-file_stands
-lessen_across-done-requires-clause-file_stands g c = c.requires.file_stands c.lend-file.result (third_stays c.args.rows.now.items c.lend-from.new.self.items c.lend-to.new.self.items c.args.moved.now.from.directory c.args.moved.now.directory c.args.there c.requires.apart.0 c.requires.apart.1 c.requires.apart.2 c.requires.from c.requires.directory c.requires.there c.lend-from.ensures.lent c.lend-to.ensures.lent c.lend-file.result c.lend-file.ensures.row)
-
-pub lessen_across-done-requires-clause-more : goal.lessen_across-done-requires-clause-more
-lessen_across-done-requires-clause-more g c = c.requires.more c.lend-file.result (third_stays c.args.rows.now.items c.lend-from.new.self.items c.lend-to.new.self.items c.args.moved.now.from.directory c.args.moved.now.directory c.args.there c.requires.apart.0 c.requires.apart.1 c.requires.apart.2 c.requires.from c.requires.directory c.requires.there c.lend-from.ensures.lent c.lend-to.ensures.lent c.lend-file.result c.lend-file.ensures.row)
+pub lessen_across-done-requires : goal.lessen_across-done-requires
+lessen_across-done-requires g c =
+    record {
+      apart = ((
+        λ same. c.requires.apart.0 (sym c.lend-from.ensures.number ∙ same ∙ c.lend-to.ensures.number),
+        λ same. c.requires.apart.1 (sym c.lend-from.ensures.number ∙ same ∙ c.lend-file.ensures.number),
+        λ same. c.requires.apart.2 (sym c.lend-to.ensures.number ∙ same ∙ c.lend-file.ensures.number),
+      ));
+      stands = (c.requires.stands c.lend-from.result c.lend-from.ensures.row);
+      other_stands = (c.requires.to_stands c.lend-to.result (row_stays c.args.rows.now.items c.lend-from.new.self.items c.args.moved.now.from.directory c.args.moved.now.directory c.requires.apart.0 c.requires.from c.lend-from.ensures.lent c.lend-to.result c.lend-to.ensures.row));
+      last_stands = (c.requires.file_stands c.lend-file.result (third_stays c.args.rows.now.items c.lend-from.new.self.items c.lend-to.new.self.items c.args.moved.now.from.directory c.args.moved.now.directory c.args.there c.requires.apart.0 c.requires.apart.1 c.requires.apart.2 c.requires.from c.requires.directory c.requires.there c.lend-from.ensures.lent c.lend-to.ensures.lent c.lend-file.result c.lend-file.ensures.row));
+      given = ((c.requires.more c.lend-file.result (third_stays c.args.rows.now.items c.lend-from.new.self.items c.lend-to.new.self.items c.args.moved.now.from.directory c.args.moved.now.directory c.args.there c.requires.apart.0 c.requires.apart.1 c.requires.apart.2 c.requires.from c.requires.directory c.requires.there c.lend-from.ensures.lent c.lend-to.ensures.lent c.lend-file.result c.lend-file.ensures.row)), (subst IsName (sym c.other_name-other.ensures.name) c.requires.name), (subst IsName (sym c.other_name-other.ensures.other) c.requires.other));
+    }
 
 pub give_back-requires : goal.give_back-requires
 give_back-requires g c = last_given c.args.rows.now.items c.lend-from.new.self.items c.lend-to.new.self.items c.args.moved.now.from.directory c.args.moved.now.directory c.args.there c.requires.apart.0 c.requires.apart.1 c.requires.apart.2 c.requires.from c.requires.directory c.requires.there c.lend-from.ensures.lent c.lend-to.ensures.lent c.lend-file.new.self.items c.lessen_across-done.new.file c.lend-file.ensures.lent (c.lessen_across-done.ensures.inodes.2 ∙ c.lend-file.ensures.number)

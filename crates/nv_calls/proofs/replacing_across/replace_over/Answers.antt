@@ -11,23 +11,34 @@ use Rattle.nv_calls.proofs.ReplaceAt.{more_links, over_blocks_go, over_blocks_st
 use Rattle.nv_calls.proofs.Stopped.{left_made}
 use Rattle.nv_calls.proofs.replacing_across.replace_over.Goals as goal
 
-pub lessen_over-requires-clause-more : goal.lessen_over-requires-clause-more
-lessen_over-requires-clause-more g c file there =
-    more_links file (stays_at true c.args.rows.now.items (place_in c.args.rows.now.items c.args.there) c.row.result.now c.keeps_others.result (at_place c.args.rows.now.items c.args.there ∙ c.row.ensures) c.keeps_others.ensures c.if-keeps_others.true file (at_place c.args.rows.now.items c.args.there ∙ there))
+pub lessen_over-requires : goal.lessen_over-requires
+lessen_over-requires g c =
+    record {
+      move = c.requires.take.move;
+      there = c.requires.there;
+      apart = c.requires.apart;
+      file_stands = c.requires.there_stands;
+      more = λ file there.
+          more_links file (stays_at true c.args.rows.now.items (place_in c.args.rows.now.items c.args.there) c.row.result.now c.keeps_others.result (at_place c.args.rows.now.items c.args.there ∙ c.row.ensures) c.keeps_others.ensures c.if-keeps_others.true file (at_place c.args.rows.now.items c.args.there ∙ there));
+    }
+
+pub take_over-requires : goal.take_over-requires
+take_over-requires g c = c.requires.take
 
 pub returns-then-keeps_others-clause-replaced : goal.returns-then-keeps_others-clause-replaced
 returns-then-keeps_others-clause-replaced g c =
     on_ok_weaker c.lessen_over.result (λ step. inl (stays_at true c.args.rows.now.items (place_in c.args.rows.now.items c.args.there) c.row.result.now c.keeps_others.result (at_place c.args.rows.now.items c.args.there ∙ c.row.ensures) c.keeps_others.ensures c.if-keeps_others.true, step)) c.lessen_over.ensures.lessened
 
-pub returns-then-keeps_others-clause-enough : goal.returns-then-keeps_others-clause-enough
-returns-then-keeps_others-clause-enough g c from to file at to_at there =
-    let same = over_blocks_stay from to file c.args.moved.now.from.target c.args.moved.now.from.name.now c.args.moved.now.name.now c.args.time (stays_at true c.args.rows.now.items (place_in c.args.rows.now.items c.args.there) c.row.result.now c.keeps_others.result (at_place c.args.rows.now.items c.args.there ∙ c.row.ensures) c.keeps_others.ensures c.if-keeps_others.true file (at_place c.args.rows.now.items c.args.there ∙ there)) in
-    on_ok_weaker c.lessen_over.result (λ enough. subst (λ (n : ℕ). n ≤ all_blocks c.args.free.now.pools) same enough) (c.lessen_over.ensures.enough from to file at to_at there)
-
-pub returns-then-keeps_others-clause-refused : goal.returns-then-keeps_others-clause-refused
-returns-then-keeps_others-clause-refused g c from to file at to_at there =
-    let same = over_blocks_stay from to file c.args.moved.now.from.target c.args.moved.now.from.name.now c.args.moved.now.name.now c.args.time (stays_at true c.args.rows.now.items (place_in c.args.rows.now.items c.args.there) c.row.result.now c.keeps_others.result (at_place c.args.rows.now.items c.args.there ∙ c.row.ensures) c.keeps_others.ensures c.if-keeps_others.true file (at_place c.args.rows.now.items c.args.there ∙ there)) in
-    IfErr-weaker c.lessen_over.result _ _ (λ (e : Refusal) refused. subst (λ (n : ℕ). RefusesStep e n c.args.free.now) same refused) (c.lessen_over.ensures.refused from to file at to_at there)
+pub returns-then-keeps_others-clause-needs : goal.returns-then-keeps_others-clause-needs
+returns-then-keeps_others-clause-needs g c from to file at to_at there =
+    record {
+      enough =
+          let same = over_blocks_stay from to file c.args.moved.now.from.target c.args.moved.now.from.name.now c.args.moved.now.name.now c.args.time (stays_at true c.args.rows.now.items (place_in c.args.rows.now.items c.args.there) c.row.result.now c.keeps_others.result (at_place c.args.rows.now.items c.args.there ∙ c.row.ensures) c.keeps_others.ensures c.if-keeps_others.true file (at_place c.args.rows.now.items c.args.there ∙ there)) in
+          on_ok_weaker c.lessen_over.result (λ enough. subst (λ (n : ℕ). n ≤ all_blocks c.args.free.now.pools) same enough) (c.lessen_over.ensures.enough from to file at to_at there);
+      refused =
+          let same = over_blocks_stay from to file c.args.moved.now.from.target c.args.moved.now.from.name.now c.args.moved.now.name.now c.args.time (stays_at true c.args.rows.now.items (place_in c.args.rows.now.items c.args.there) c.row.result.now c.keeps_others.result (at_place c.args.rows.now.items c.args.there ∙ c.row.ensures) c.keeps_others.ensures c.if-keeps_others.true file (at_place c.args.rows.now.items c.args.there ∙ there)) in
+          IfErr-weaker c.lessen_over.result _ _ (λ (e : Refusal) refused. subst (λ (n : ℕ). RefusesStep e n c.args.free.now) same refused) (c.lessen_over.ensures.refused from to file at to_at there);
+    }
 
 pub returns-then-keeps_others-clause-any_stop : goal.returns-then-keeps_others-clause-any_stop
 returns-then-keeps_others-clause-any_stop g c from to file held h k f at to_at there here other last settled left may =
@@ -54,15 +65,16 @@ pub returns-else-keeps_others-clause-replaced : goal.returns-else-keeps_others-c
 returns-else-keeps_others-clause-replaced g c =
     on_ok_weaker c.take_over.result (λ step. inr (stays_at false c.args.rows.now.items (place_in c.args.rows.now.items c.args.there) c.row.result.now c.keeps_others.result (at_place c.args.rows.now.items c.args.there ∙ c.row.ensures) c.keeps_others.ensures c.if-keeps_others.false, step)) c.take_over.ensures.taken
 
-pub returns-else-keeps_others-clause-enough : goal.returns-else-keeps_others-clause-enough
-returns-else-keeps_others-clause-enough g c from to file at to_at there =
-    let same = over_blocks_go from to file c.args.moved.now.from.target c.args.moved.now.from.name.now c.args.moved.now.name.now c.args.time (stays_at false c.args.rows.now.items (place_in c.args.rows.now.items c.args.there) c.row.result.now c.keeps_others.result (at_place c.args.rows.now.items c.args.there ∙ c.row.ensures) c.keeps_others.ensures c.if-keeps_others.false file (at_place c.args.rows.now.items c.args.there ∙ there)) in
-    on_ok_weaker c.take_over.result (λ enough. subst (λ (n : ℕ). n ≤ all_blocks c.args.free.now.pools) same enough) (c.take_over.ensures.enough from to file at to_at there)
-
-pub returns-else-keeps_others-clause-refused : goal.returns-else-keeps_others-clause-refused
-returns-else-keeps_others-clause-refused g c from to file at to_at there =
-    let same = over_blocks_go from to file c.args.moved.now.from.target c.args.moved.now.from.name.now c.args.moved.now.name.now c.args.time (stays_at false c.args.rows.now.items (place_in c.args.rows.now.items c.args.there) c.row.result.now c.keeps_others.result (at_place c.args.rows.now.items c.args.there ∙ c.row.ensures) c.keeps_others.ensures c.if-keeps_others.false file (at_place c.args.rows.now.items c.args.there ∙ there)) in
-    IfErr-weaker c.take_over.result _ _ (λ (e : Refusal) refused. subst (λ (n : ℕ). RefusesStep e n c.args.free.now) same refused) (c.take_over.ensures.refused from to file at to_at there)
+pub returns-else-keeps_others-clause-needs : goal.returns-else-keeps_others-clause-needs
+returns-else-keeps_others-clause-needs g c from to file at to_at there =
+    record {
+      enough =
+          let same = over_blocks_go from to file c.args.moved.now.from.target c.args.moved.now.from.name.now c.args.moved.now.name.now c.args.time (stays_at false c.args.rows.now.items (place_in c.args.rows.now.items c.args.there) c.row.result.now c.keeps_others.result (at_place c.args.rows.now.items c.args.there ∙ c.row.ensures) c.keeps_others.ensures c.if-keeps_others.false file (at_place c.args.rows.now.items c.args.there ∙ there)) in
+          on_ok_weaker c.take_over.result (λ enough. subst (λ (n : ℕ). n ≤ all_blocks c.args.free.now.pools) same enough) (c.take_over.ensures.enough from to file at to_at there);
+      refused =
+          let same = over_blocks_go from to file c.args.moved.now.from.target c.args.moved.now.from.name.now c.args.moved.now.name.now c.args.time (stays_at false c.args.rows.now.items (place_in c.args.rows.now.items c.args.there) c.row.result.now c.keeps_others.result (at_place c.args.rows.now.items c.args.there ∙ c.row.ensures) c.keeps_others.ensures c.if-keeps_others.false file (at_place c.args.rows.now.items c.args.there ∙ there)) in
+          IfErr-weaker c.take_over.result _ _ (λ (e : Refusal) refused. subst (λ (n : ℕ). RefusesStep e n c.args.free.now) same refused) (c.take_over.ensures.refused from to file at to_at there);
+    }
 
 pub returns-else-keeps_others-clause-any_stop : goal.returns-else-keeps_others-clause-any_stop
 returns-else-keeps_others-clause-any_stop g c from to file held h k f at to_at there here other last settled left may =

@@ -1,4 +1,5 @@
 use Rattle.std.proofs.Common.{◌≡◌, ◌∙◌, ◌+◌, ◌≤◌, ℕ, List, length, subst, sym}
+use Rattle.nv_names.specs.Names.{IsName}
 use Rattle.std.specs.Int.{div_ceil}
 use Rattle.std.proofs.lemmas.Option.{same_Some}
 use Rattle.std.proofs.lemmas.Result.{err_from_is_err_and}
@@ -26,20 +27,19 @@ use Rattle.nv_steps.specs.Slots.{slot_in}
 pub lend-to-requires : goal.lend-to-requires
 lend-to-requires g c = used_still c.args.rows.now.items c.lend-from.new.self.items c.args.moved.now.from.directory c.args.moved.now.directory c.requires.apart.0 c.requires.from c.lend-from.ensures.lent c.requires.directory
 
-pub take_across-taken-requires-clause-apart : goal.take_across-taken-requires-clause-apart
-take_across-taken-requires-clause-apart g c = λ same. c.requires.apart.0 (sym c.lend-from.ensures.number ∙ same ∙ c.lend-to.ensures.number)
-
-pub take_across-taken-requires-clause-stands : goal.take_across-taken-requires-clause-stands
-take_across-taken-requires-clause-stands g c = c.requires.stands c.lend-from.result c.lend-from.ensures.row
-
-pub take_across-taken-requires-clause-to_stands : goal.take_across-taken-requires-clause-to_stands
-take_across-taken-requires-clause-to_stands g c = c.requires.to_stands c.lend-to.result (row_stays c.args.rows.now.items c.lend-from.new.self.items c.args.moved.now.from.directory c.args.moved.now.directory c.requires.apart.0 c.requires.from c.lend-from.ensures.lent c.lend-to.result c.lend-to.ensures.row)
-
-pub take_across-taken-requires-clause-differ : goal.take_across-taken-requires-clause-differ
-take_across-taken-requires-clause-differ g c = λ same. c.requires.apart.1 (sym c.lend-from.ensures.number ∙ same)
-
-pub take_across-taken-requires-clause-to_differs : goal.take_across-taken-requires-clause-to_differs
-take_across-taken-requires-clause-to_differs g c = λ same. c.requires.apart.2 (sym c.lend-to.ensures.number ∙ same)
+pub take_across-taken-requires : goal.take_across-taken-requires
+take_across-taken-requires g c =
+    record {
+      logs = record {
+        apart = (λ same. c.requires.apart.0 (sym c.lend-from.ensures.number ∙ same ∙ c.lend-to.ensures.number));
+        stands = (c.requires.stands c.lend-from.result c.lend-from.ensures.row);
+        other_stands = (c.requires.to_stands c.lend-to.result (row_stays c.args.rows.now.items c.lend-from.new.self.items c.args.moved.now.from.directory c.args.moved.now.directory c.requires.apart.0 c.requires.from c.lend-from.ensures.lent c.lend-to.result c.lend-to.ensures.row));
+        given = ((subst IsName (sym c.other_name-other.ensures.name) c.requires.name), (subst IsName (sym c.other_name-other.ensures.other) c.requires.other));
+      };
+      number = c.requires.number;
+      differ = (λ same. c.requires.apart.1 (sym c.lend-from.ensures.number ∙ same));
+      other_differs = (λ same. c.requires.apart.2 (sym c.lend-to.ensures.number ∙ same));
+    }
 
 pub give_back-requires : goal.give_back-requires
 give_back-requires g c =
@@ -74,7 +74,7 @@ give_row-requires-clause-room g c =
     c.lend-from.ensures.lent c.lend-to.ensures.lent (c.take_across-taken.ensures.inodes.1 ∙ c.lend-to.ensures.number) c.give_back.ensures.rows (c.take_across-taken.ensures.inodes.0 ∙ c.lend-from.ensures.number) c.give_back-2.ensures.rows in
     let at_there = sym (third_row c.args.rows.now.items c.give_back-2.new.self.items c.args.moved.now.from.directory c.args.moved.now.directory c.lend-from.result c.lend-to.result c.take_across-taken.new.from c.take_across-taken.new.to c.requires.apart.0 c.lend-from.ensures.row to_at (c.take_across-taken.ensures.inodes.0 ∙ c.lend-from.ensures.number) (c.take_across-taken.ensures.inodes.1 ∙ c.lend-to.ensures.number) put c.args.there c.requires.apart.1 c.requires.apart.2) ∙ c.take.ensures.row in
     let same : c.row.result.now ≡ c.take.result = same_Some _ _ (sym c.row.ensures ∙ at_there) in
-    subst (λ (r : Row). length r.pages.items + div_ceil r.numbers.size 4096 ≤ c.take_across-taken.new.free.room) same (subst (λ (n : ℕ). n ≤ c.take_across-taken.new.free.room) c.most_blocks.ensures c.in_ok-taken.ensures.room)
+    subst (λ (r : Row). length r.pages.items + div_ceil r.numbers.size 4096 ≤ c.take_across-taken.new.free.room) same (subst (λ (n : ℕ). n ≤ c.take_across-taken.new.free.room) c.most_blocks.ensures c.in_ok-taken.ensures.needs.room)
 
 pub returns-clause-taken : goal.returns-clause-taken
 returns-clause-taken g c =

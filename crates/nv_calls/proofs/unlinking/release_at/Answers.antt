@@ -11,6 +11,18 @@ use Rattle.nv_calls.proofs.Stopped.{left_made}
 use Rattle.nv_calls.proofs.Released.{all_last, all_more, blocks_last, blocks_more}
 use Rattle.nv_calls.proofs.unlinking.release_at.Goals as goal
 
+pub unlink_at-requires : goal.unlink_at-requires
+unlink_at-requires g c =
+    record {
+      directory = c.requires.directory;
+      target = c.requires.target;
+      apart = c.requires.apart;
+      more = λ file there. all_more c.args.rows.now.items (place_in c.args.rows.now.items c.args.named.now.target) c.row.result.now (at_place c.args.rows.now.items c.args.named.now.target ∙ c.row.ensures) c.has_more_links.result c.has_more_links.ensures c.if-has_more_links.true file (at_place c.args.rows.now.items c.args.named.now.target ∙ there);
+      stands = c.requires.stands;
+      file_stands = c.requires.file_stands;
+      name = c.requires.name;
+    }
+
 pub remove_named-requires-clause-stands : goal.remove_named-requires-clause-stands
 remove_named-requires-clause-stands g c row at = (c.requires.stands row at).0
 

@@ -21,34 +21,21 @@ use Rattle.nv_steps.specs.Stores.{StoresIn, two_logs}
 pub lend-file-requires : goal.lend-file-requires
 lend-file-requires g c = used_still c.args.rows.now.items c.lend-directory.new.self.items c.args.named.now.directory c.args.named.now.target c.requires.apart c.requires.directory c.lend-directory.ensures.lent c.requires.target
 
-pub unlink_both-done-requires-clause-stands : goal.unlink_both-done-requires-clause-stands
-unlink_both-done-requires-clause-stands g c = c.requires.stands c.lend-directory.result c.lend-directory.ensures.row
-
-pub unlink_both-done-requires-clause-file_stands : goal.unlink_both-done-requires-clause-file_stands
-unlink_both-done-requires-clause-file_stands g c =
-    let there = row_stays c.args.rows.now.items c.lend-directory.new.self.items c.args.named.now.directory c.args.named.now.target c.requires.apart c.requires.directory c.lend-directory.ensures.lent c.lend-file.result c.lend-file.ensures.row in
-    c.requires.file_stands c.lend-file.result there
-
-pub unlink_both-done-requires-clause-more : goal.unlink_both-done-requires-clause-more
-unlink_both-done-requires-clause-more g c =
-    let there = row_stays c.args.rows.now.items c.lend-directory.new.self.items c.args.named.now.directory c.args.named.now.target c.requires.apart c.requires.directory c.lend-directory.ensures.lent c.lend-file.result c.lend-file.ensures.row in
-    c.requires.more c.lend-file.result there
-
 pub give_back-requires : goal.give_back-requires
 give_back-requires g c =
     let used = used_still c.args.rows.now.items c.lend-directory.new.self.items c.args.named.now.directory c.args.named.now.target c.requires.apart c.requires.directory c.lend-directory.ensures.lent c.requires.target in
-    last_used c.lend-directory.new.self.items c.lend-file.new.self.items c.args.named.now.target c.unlink_both-done.new.file used c.lend-file.ensures.lent (c.unlink_both-done.ensures.file_inode ∙ c.lend-file.ensures.number)
+    last_used c.lend-directory.new.self.items c.lend-file.new.self.items c.args.named.now.target c.unlink_both-done.new.file used c.lend-file.ensures.lent (c.unlink_both-done.ensures.inodes.1 ∙ c.lend-file.ensures.number)
 
 pub give_back-requires-2 : goal.give_back-requires-2
 give_back-requires-2 g c =
     first_used c.args.rows.now.items c.lend-directory.new.self.items c.lend-file.new.self.items c.give_back.new.self.items c.args.named.now.directory c.args.named.now.target c.unlink_both-done.new.directory c.unlink_both-done.new.file c.requires.apart c.requires.directory c.requires.target c.lend-directory.ensures.lent c.lend-file.ensures.lent
-    (c.unlink_both-done.ensures.file_inode ∙ c.lend-file.ensures.number) c.give_back.ensures.rows (c.unlink_both-done.ensures.inode ∙ c.lend-directory.ensures.number)
+    (c.unlink_both-done.ensures.inodes.1 ∙ c.lend-file.ensures.number) c.give_back.ensures.rows (c.unlink_both-done.ensures.inodes.0 ∙ c.lend-directory.ensures.number)
 
 pub returns-clause-unlinked : goal.returns-clause-unlinked
 returns-clause-unlinked g c =
     let there = row_stays c.args.rows.now.items c.lend-directory.new.self.items c.args.named.now.directory c.args.named.now.target c.requires.apart c.requires.directory c.lend-directory.ensures.lent c.lend-file.result c.lend-file.ensures.row in
     let put = back_two c.args.rows.now.items c.lend-directory.new.self.items c.lend-file.new.self.items c.give_back.new.self.items c.give_back-2.new.self.items c.args.named.now.directory c.args.named.now.target c.unlink_both-done.new.directory c.unlink_both-done.new.file c.requires.apart c.requires.directory c.requires.target
-    c.lend-directory.ensures.lent c.lend-file.ensures.lent (c.unlink_both-done.ensures.file_inode ∙ c.lend-file.ensures.number) c.give_back.ensures.rows (c.unlink_both-done.ensures.inode ∙ c.lend-directory.ensures.number) c.give_back-2.ensures.rows in
+    c.lend-directory.ensures.lent c.lend-file.ensures.lent (c.unlink_both-done.ensures.inodes.1 ∙ c.lend-file.ensures.number) c.give_back.ensures.rows (c.unlink_both-done.ensures.inodes.0 ∙ c.lend-directory.ensures.number) c.give_back-2.ensures.rows in
     on_ok_weaker c.unlink_both-done.result (λ (step : UnlinksAt (g.P.Pmem.region c.args.memory.now) (g.P.Pmem.region c.unlink_both-done.new.memory) c.args.tables.now.layout c.args.free.now c.unlink_both-done.new.free c.args.cpu (c.lend-directory.result ∷ c.lend-file.result ∷ []) (c.unlink_both-done.new.directory ∷ c.unlink_both-done.new.file ∷ []) 0 1 c.args.named.now.name.now c.args.time). record { directory = step.directory; file = step.file; step = lifted c.args.rows.now.items c.give_back-2.new.self.items c.args.named.now.directory c.args.named.now.target c.lend-directory.result c.lend-file.result c.unlink_both-done.new.directory c.unlink_both-done.new.file c.requires.apart c.lend-directory.ensures.row there put step.step }) c.unlink_both-done.ensures.unlinked
 
 pub returns-clause-enough : goal.returns-clause-enough
@@ -71,7 +58,7 @@ returns-clause-kept g c =
       step = c.unlink_both-done.ensures.kept;
       unchanged = let there = row_stays c.args.rows.now.items c.lend-directory.new.self.items c.args.named.now.directory c.args.named.now.target c.requires.apart c.requires.directory c.lend-directory.ensures.lent c.lend-file.result c.lend-file.ensures.row in
           let put = back_two c.args.rows.now.items c.lend-directory.new.self.items c.lend-file.new.self.items c.give_back.new.self.items c.give_back-2.new.self.items c.args.named.now.directory c.args.named.now.target c.unlink_both-done.new.directory c.unlink_both-done.new.file c.requires.apart c.requires.directory c.requires.target
-          c.lend-directory.ensures.lent c.lend-file.ensures.lent (c.unlink_both-done.ensures.file_inode ∙ c.lend-file.ensures.number) c.give_back.ensures.rows (c.unlink_both-done.ensures.inode ∙ c.lend-directory.ensures.number) c.give_back-2.ensures.rows in
+          c.lend-directory.ensures.lent c.lend-file.ensures.lent (c.unlink_both-done.ensures.inodes.1 ∙ c.lend-file.ensures.number) c.give_back.ensures.rows (c.unlink_both-done.ensures.inodes.0 ∙ c.lend-directory.ensures.number) c.give_back-2.ensures.rows in
           IfErr-weaker c.unlink_both-done.result _ _ (λ (e : Refusal) told off. (let left = told off in left_two c.args.rows.now.items c.give_back-2.new.self.items c.args.named.now.directory c.args.named.now.target c.lend-directory.result c.lend-file.result c.unlink_both-done.new.directory c.unlink_both-done.new.file c.requires.apart c.lend-directory.ensures.row there put c.args.memory.now c.unlink_both-done.new.memory c.args.free.now c.unlink_both-done.new.free left.0 left.1)) c.unlink_both-done.ensures.unchanged;
       tables = (c.give_back-2.ensures.sup ∙ c.give_back.ensures.sup ∙ c.lend-file.ensures.sup ∙ c.lend-directory.ensures.sup, c.give_back-2.ensures.sizes ∙ c.give_back.ensures.sizes ∙ c.lend-file.ensures.sizes ∙ c.lend-directory.ensures.sizes);
     }
@@ -94,3 +81,17 @@ pub returns-clause-wrote : goal.returns-clause-wrote
 returns-clause-wrote g c row file held h f at other_at here other =
     of_lent c.args.rows.now.items c.lend-directory.new.self.items c.args.named.now.directory c.args.named.now.target c.requires.apart c.requires.directory c.lend-directory.ensures.lent (λ (r d : Row). ShowsRow (g.P.Pmem.region c.args.memory.now) c.args.tables.now.layout held h r c.args.free.now → ShowsRow (g.P.Pmem.region c.args.memory.now) c.args.tables.now.layout held f d c.args.free.now → StoresIn c.args.tables.now.layout held (two_logs c.args.tables.now.layout c.args.cpu r.inode d.inode) (g.P.Pmem.region c.args.memory.now) (g.P.Pmem.region c.unlink_both-done.new.memory))
     c.lend-directory.result c.lend-file.result row file c.lend-directory.ensures.row c.lend-file.ensures.row (λ seen seen_other. c.unlink_both-done.ensures.wrote held h f seen seen_other) at other_at here other
+
+pub unlink_both-done-requires : goal.unlink_both-done-requires
+unlink_both-done-requires g c =
+    record {
+      apart = (λ same. c.requires.apart (sym c.lend-directory.ensures.number ∙ same ∙ c.lend-file.ensures.number));
+      stands = (c.requires.stands c.lend-directory.result c.lend-directory.ensures.row);
+      other_stands = (let there = row_stays c.args.rows.now.items c.lend-directory.new.self.items c.args.named.now.directory c.args.named.now.target c.requires.apart c.requires.directory c.lend-directory.ensures.lent c.lend-file.result c.lend-file.ensures.row in
+          c.requires.file_stands c.lend-file.result there);
+      given = (
+        (let there = row_stays c.args.rows.now.items c.lend-directory.new.self.items c.args.named.now.directory c.args.named.now.target c.requires.apart c.requires.directory c.lend-directory.ensures.lent c.lend-file.result c.lend-file.ensures.row in
+            c.requires.more c.lend-file.result there),
+        c.requires.name,
+      );
+    }

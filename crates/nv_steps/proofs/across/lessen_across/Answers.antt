@@ -21,37 +21,29 @@ use Rattle.nv_steps.proofs.Kept.{kept_done, kept_refused}
 use Rattle.nv_steps.proofs.TookAcross.{both_as, few_two}
 use Rattle.nv_steps.proofs.across.lessen_across.Goals as goal
 
-pub append_three_logs-requires-clause-apart : goal.append_three_logs-requires-clause-apart
-append_three_logs-requires-clause-apart g c = c.requires.apart
-
-pub append_three_logs-requires-clause-stands : goal.append_three_logs-requires-clause-stands
-append_three_logs-requires-clause-stands g c = c.requires.stands
-
-pub append_three_logs-requires-clause-other_stands : goal.append_three_logs-requires-clause-other_stands
-append_three_logs-requires-clause-other_stands g c = c.requires.to_stands
-
-pub append_three_logs-requires-clause-last_stands : goal.append_three_logs-requires-clause-last_stands
-append_three_logs-requires-clause-last_stands g c = c.requires.file_stands
-
-pub append_three_logs-requires-clause-given : goal.append_three_logs-requires-clause-given
-append_three_logs-requires-clause-given g c = subst (λ (x : Entry). AreFew (x ∷ [])) (sym c.name_entry.ensures) (few_one _ refl)
-
-pub append_three_logs-requires-clause-more_given : goal.append_three_logs-requires-clause-more_given
-append_three_logs-requires-clause-more_given g c =
-    let two : c.name_entry-2.result ∷ c.name_entry-3.result ∷ [] ≡ handed_entries c.args.moved.now.inode c.args.file.now.inode c.args.moved.now.other.now c.args.moved.now.time = (λ t. c.name_entry-2.ensures t ∷ c.name_entry-3.ensures t ∷ []) in
-    subst AreFew (sym two) (few_two _ _ refl refl)
-
-pub append_three_logs-requires-clause-last_given : goal.append_three_logs-requires-clause-last_given
-append_three_logs-requires-clause-last_given g c = few_one _ refl
+pub append_three_logs-requires : goal.append_three_logs-requires
+append_three_logs-requires g c =
+    record {
+      apart = c.requires.apart;
+      stands = c.requires.stands;
+      other_stands = c.requires.other_stands;
+      last_stands = c.requires.last_stands;
+      given = (
+        (subst (λ (x : Entry). AreFew (x ∷ [])) (sym c.name_entry.ensures) (few_one _ refl)),
+        (let two : c.name_entry-2.result ∷ c.name_entry-3.result ∷ [] ≡ handed_entries c.args.moved.now.inode c.args.file.now.inode c.args.moved.now.other.now c.args.moved.now.time = (λ t. c.name_entry-2.ensures t ∷ c.name_entry-3.ensures t ∷ []) in
+            subst AreFew (sym two) (few_two _ _ refl refl)),
+        (few_one _ refl),
+      );
+    }
 
 pub name_entry-requires : goal.name_entry-requires
-name_entry-requires g c = record { some = c.requires.name.some; fits = c.requires.name.short }
+name_entry-requires g c = record { some = c.requires.given.1.some; fits = c.requires.given.1.short }
 
 pub name_entry-requires-2 : goal.name_entry-requires-2
-name_entry-requires-2 g c = record { some = c.requires.other.some; fits = c.requires.other.short }
+name_entry-requires-2 g c = record { some = c.requires.given.2.some; fits = c.requires.given.2.short }
 
 pub name_entry-requires-3 : goal.name_entry-requires-3
-name_entry-requires-3 g c = record { some = c.requires.other.some; fits = c.requires.other.short }
+name_entry-requires-3 g c = record { some = c.requires.given.2.some; fits = c.requires.given.2.short }
 
 pub returns-clause-lessened : goal.returns-clause-lessened
 returns-clause-lessened g c =
@@ -141,4 +133,4 @@ returns-in_err-append_three_logs-clause-any_stop g c held h k f here there also 
     (both_as (λ (es fs : List Entry). LeavesEither (g.P.Pmem.region c.args.memory.now) c.args.tables.now.layout held (AppendedThreeLogs (g.P.Pmem.region c.args.memory.now) c.args.tables.now.layout c.args.free.now c.args.cpu c.args.from.now es c.args.to.now fs c.args.file.now (links_entries (c.args.file.now.numbers.links - 1) c.args.moved.now.time)) left) one two (c.append_three_logs.ensures.any_stop held h k f here there also settled left may))
 
 pub add_name-requires-clause-room : goal.add_name-requires-clause-room
-add_name-requires-clause-room g c = omega (arith, c.in_ok-append_three_logs.ensures.room, c.remove_name-2.ensures.room)
+add_name-requires-clause-room g c = omega (arith, c.in_ok-append_three_logs.ensures.needs.room, c.remove_name-2.ensures.room)

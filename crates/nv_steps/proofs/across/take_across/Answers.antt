@@ -21,40 +21,32 @@ use Rattle.nv_steps.proofs.TookAcross.{both_as, few_two, left_across, takes_acro
 use Rattle.nv_steps.specs.Slots.{slot_in}
 use Rattle.nv_steps.proofs.across.take_across.Goals as goal
 
-pub append_logs_less-requires-clause-apart : goal.append_logs_less-requires-clause-apart
-append_logs_less-requires-clause-apart g c = c.requires.apart
-
-pub append_logs_less-requires-clause-stands : goal.append_logs_less-requires-clause-stands
-append_logs_less-requires-clause-stands g c = c.requires.stands
-
-pub append_logs_less-requires-clause-other_stands : goal.append_logs_less-requires-clause-other_stands
-append_logs_less-requires-clause-other_stands g c = c.requires.to_stands
-
-pub append_logs_less-requires-clause-given : goal.append_logs_less-requires-clause-given
-append_logs_less-requires-clause-given g c = subst (λ (x : Entry). AreFew (x ∷ [])) (sym c.name_entry.ensures) (few_one _ refl)
-
-pub append_logs_less-requires-clause-more_given : goal.append_logs_less-requires-clause-more_given
-append_logs_less-requires-clause-more_given g c =
-    let two : c.name_entry-2.result ∷ c.name_entry-3.result ∷ [] ≡ handed_entries c.args.moved.now.inode c.args.gone.inode c.args.moved.now.other.now c.args.moved.now.time = (λ t. c.name_entry-2.ensures t ∷ c.name_entry-3.ensures t ∷ []) in
-    subst AreFew (sym two) (few_two _ _ refl refl)
-
-pub append_logs_less-requires-clause-number : goal.append_logs_less-requires-clause-number
-append_logs_less-requires-clause-number g c = c.requires.number
-
-pub append_logs_less-requires-clause-differ : goal.append_logs_less-requires-clause-differ
-append_logs_less-requires-clause-differ g c = c.requires.differ
-
-pub append_logs_less-requires-clause-other_differs : goal.append_logs_less-requires-clause-other_differs
-append_logs_less-requires-clause-other_differs g c = c.requires.to_differs
+pub append_logs_less-requires : goal.append_logs_less-requires
+append_logs_less-requires g c =
+    record {
+      logs = record {
+        apart = c.requires.apart;
+        stands = c.requires.stands;
+        other_stands = c.requires.other_stands;
+        given = (
+          (subst (λ (x : Entry). AreFew (x ∷ [])) (sym c.name_entry.ensures) (few_one _ refl)),
+          (let two : c.name_entry-2.result ∷ c.name_entry-3.result ∷ [] ≡ handed_entries c.args.moved.now.inode c.args.gone.inode c.args.moved.now.other.now c.args.moved.now.time = (λ t. c.name_entry-2.ensures t ∷ c.name_entry-3.ensures t ∷ []) in
+              subst AreFew (sym two) (few_two _ _ refl refl)),
+        );
+      };
+      number = c.requires.number;
+      differ = c.requires.differ;
+      other_differs = c.requires.other_differs;
+    }
 
 pub name_entry-requires : goal.name_entry-requires
-name_entry-requires g c = record { some = c.requires.name.some; fits = c.requires.name.short }
+name_entry-requires g c = record { some = c.requires.given.0.some; fits = c.requires.given.0.short }
 
 pub name_entry-requires-2 : goal.name_entry-requires-2
-name_entry-requires-2 g c = record { some = c.requires.other.some; fits = c.requires.other.short }
+name_entry-requires-2 g c = record { some = c.requires.given.1.some; fits = c.requires.given.1.short }
 
 pub name_entry-requires-3 : goal.name_entry-requires-3
-name_entry-requires-3 g c = record { some = c.requires.other.some; fits = c.requires.other.short }
+name_entry-requires-3 g c = record { some = c.requires.given.1.some; fits = c.requires.given.1.short }
 
 pub returns-clause-taken : goal.returns-clause-taken
 returns-clause-taken g c =
@@ -64,16 +56,16 @@ returns-clause-taken g c =
     (both_as (λ (es fs : List Entry). AppendsLogsLess (g.P.Pmem.region c.args.memory.now) (g.P.Pmem.region c.append_logs_less.new.memory) c.args.tables.now.layout c.args.free.now c.append_logs_less.new.free c.args.cpu c.args.from.now c.append_logs_less.new.row es c.args.to.now c.append_logs_less.new.other fs c.args.gone.inode) one two c.in_ok-append_logs_less.ensures.appended)
     (c.length.ensures.value ∙ ap entry_length c.name_entry-3.ensures) c.remove_name.ensures.row c.remove_name.ensures.once c.remove_name-2.ensures.row c.remove_name-2.ensures.once c.add_name.ensures.row c.add_name.ensures.once
 
-pub returns-clause-room : goal.returns-clause-room
-returns-clause-room g c = c.in_ok-append_logs_less.ensures.rooms.1
-
 pub returns-clause-needs : goal.returns-clause-needs
 returns-clause-needs g c =
     record {
-      enough = let one : c.name_entry.result ∷ [] ≡ name_entries Remove c.args.moved.now.inode c.args.moved.now.name.now c.args.moved.now.time = (λ t. c.name_entry.ensures t ∷ []) in
-          let two : c.name_entry-2.result ∷ c.name_entry-3.result ∷ [] ≡ handed_entries c.args.moved.now.inode c.args.gone.inode c.args.moved.now.other.now c.args.moved.now.time = (λ t. c.name_entry-2.ensures t ∷ c.name_entry-3.ensures t ∷ []) in
-          both_as (λ (es fs : List Entry). needed (c.args.from.now.tail % 4096) es + needed (c.args.to.now.tail % 4096) fs ≤ all_blocks c.args.free.now.pools) one two c.in_ok-append_logs_less.ensures.needs.enough;
-      refused = tt;
+      needs = record {
+        enough = let one : c.name_entry.result ∷ [] ≡ name_entries Remove c.args.moved.now.inode c.args.moved.now.name.now c.args.moved.now.time = (λ t. c.name_entry.ensures t ∷ []) in
+            let two : c.name_entry-2.result ∷ c.name_entry-3.result ∷ [] ≡ handed_entries c.args.moved.now.inode c.args.gone.inode c.args.moved.now.other.now c.args.moved.now.time = (λ t. c.name_entry-2.ensures t ∷ c.name_entry-3.ensures t ∷ []) in
+            both_as (λ (es fs : List Entry). needed (c.args.from.now.tail % 4096) es + needed (c.args.to.now.tail % 4096) fs ≤ all_blocks c.args.free.now.pools) one two c.in_ok-append_logs_less.ensures.needs.enough;
+        refused = tt;
+      };
+      room = c.in_ok-append_logs_less.ensures.needs.room.1;
     }
 
 pub returns-clause-kept : goal.returns-clause-kept
@@ -96,18 +88,18 @@ returns-in_err-append_logs_less-clause-inodes g c = (c.in_err-append_logs_less.e
 pub returns-in_err-append_logs_less-clause-taken : goal.returns-in_err-append_logs_less-clause-taken
 returns-in_err-append_logs_less-clause-taken g c = IfOk-from_err c.from_residual.result _ c.from_residual.ensures.0
 
-pub returns-in_err-append_logs_less-clause-room : goal.returns-in_err-append_logs_less-clause-room
-returns-in_err-append_logs_less-clause-room g c = IfOk-from_err c.from_residual.result _ c.from_residual.ensures.0
-
 pub returns-in_err-append_logs_less-clause-needs : goal.returns-in_err-append_logs_less-clause-needs
 returns-in_err-append_logs_less-clause-needs g c =
     record {
-      enough = IfOk-from_err c.from_residual.result _ c.from_residual.ensures.0;
-      refused = let w = err_from_is_err_and c.from_residual.result c.from_residual.ensures.1 in
-          let one : c.name_entry.result ∷ [] ≡ name_entries Remove c.args.moved.now.inode c.args.moved.now.name.now c.args.moved.now.time = (λ t. c.name_entry.ensures t ∷ []) in
-          let two : c.name_entry-2.result ∷ c.name_entry-3.result ∷ [] ≡ handed_entries c.args.moved.now.inode c.args.gone.inode c.args.moved.now.other.now c.args.moved.now.time = (λ t. c.name_entry-2.ensures t ∷ c.name_entry-3.ensures t ∷ []) in
-          refused_by c.from_residual.result c.in_err-append_logs_less.field-0.0 w.0 (λ (e : Refusal). RefusesStep e (needed (c.args.from.now.tail % 4096) (name_entries Remove c.args.moved.now.inode c.args.moved.now.name.now c.args.moved.now.time) + needed (c.args.to.now.tail % 4096) (handed_entries c.args.moved.now.inode c.args.gone.inode c.args.moved.now.other.now c.args.moved.now.time)) c.args.free.now) w.1 w.2
-          (both_as (λ (es fs : List Entry). RefusesStep c.in_err-append_logs_less.field-0.0 (needed (c.args.from.now.tail % 4096) es + needed (c.args.to.now.tail % 4096) fs) c.args.free.now) one two c.in_err-append_logs_less.ensures.needs.refused);
+      needs = record {
+        enough = IfOk-from_err c.from_residual.result _ c.from_residual.ensures.0;
+        refused = let w = err_from_is_err_and c.from_residual.result c.from_residual.ensures.1 in
+            let one : c.name_entry.result ∷ [] ≡ name_entries Remove c.args.moved.now.inode c.args.moved.now.name.now c.args.moved.now.time = (λ t. c.name_entry.ensures t ∷ []) in
+            let two : c.name_entry-2.result ∷ c.name_entry-3.result ∷ [] ≡ handed_entries c.args.moved.now.inode c.args.gone.inode c.args.moved.now.other.now c.args.moved.now.time = (λ t. c.name_entry-2.ensures t ∷ c.name_entry-3.ensures t ∷ []) in
+            refused_by c.from_residual.result c.in_err-append_logs_less.field-0.0 w.0 (λ (e : Refusal). RefusesStep e (needed (c.args.from.now.tail % 4096) (name_entries Remove c.args.moved.now.inode c.args.moved.now.name.now c.args.moved.now.time) + needed (c.args.to.now.tail % 4096) (handed_entries c.args.moved.now.inode c.args.gone.inode c.args.moved.now.other.now c.args.moved.now.time)) c.args.free.now) w.1 w.2
+            (both_as (λ (es fs : List Entry). RefusesStep c.in_err-append_logs_less.field-0.0 (needed (c.args.from.now.tail % 4096) es + needed (c.args.to.now.tail % 4096) fs) c.args.free.now) one two c.in_err-append_logs_less.ensures.needs.refused);
+      };
+      room = IfOk-from_err c.from_residual.result _ c.from_residual.ensures.0;
     }
 
 pub returns-in_err-append_logs_less-clause-unchanged : goal.returns-in_err-append_logs_less-clause-unchanged
@@ -150,4 +142,4 @@ returns-in_err-append_logs_less-clause-any_stop g c held h k here there settled 
     (both_as (λ (es fs : List Entry). LeavesEither (g.P.Pmem.region c.args.memory.now) c.args.tables.now.layout held (AppendedLogsLess (g.P.Pmem.region c.args.memory.now) c.args.tables.now.layout c.args.free.now c.args.cpu c.args.from.now es c.args.to.now fs c.args.gone.inode) left) one two (c.append_logs_less.ensures.any_stop held h k here there settled left may))
 
 pub add_name-requires-clause-room : goal.add_name-requires-clause-room
-add_name-requires-clause-room g c = omega (arith, c.in_ok-append_logs_less.ensures.rooms.0, c.remove_name-2.ensures.room)
+add_name-requires-clause-room g c = omega (arith, c.in_ok-append_logs_less.ensures.needs.room.0, c.remove_name-2.ensures.room)

@@ -14,12 +14,12 @@ use Rattle.nv_steps.proofs.TakenBlocks.{taken_sup}
 use Rattle.nv_steps.proofs.appending.append_log.Goals as goal
 
 pub extend_log-requires-clause-can : goal.extend_log-requires-clause-can
-extend_log-requires-clause-can g c = rw c.deref.ensures.value (can_append c.args.entries.now c.requires.stands c.in-Ok.ensures.taken c.in-Ok.ensures.count c.requires.given)
+extend_log-requires-clause-can g c = rw c.deref.ensures.value (can_append c.args.entries.now c.requires.stands c.in-Ok.ensures.taken.each c.in-Ok.ensures.taken.count_is c.requires.given)
 
 pub returns-in-Ok-extend_log-clause-appended : goal.returns-in-Ok-extend_log-clause-appended
 returns-in-Ok-extend_log-clause-appended g c =
     let settled = c.settle_log.ensures in
-    appends_log c.args.entries.now c.in-Ok.fresh.items c.deref.result.now c.slot_of_row-slot.result c.in-Ok-extend_log.end c.deref.ensures.value c.slot_of_row-slot.ensures.value c.in-Ok.ensures.taken c.in-Ok.ensures.count c.in-Ok-extend_log.ensures.end
+    appends_log c.args.entries.now c.in-Ok.fresh.items c.deref.result.now c.slot_of_row-slot.result c.in-Ok-extend_log.end c.deref.ensures.value c.slot_of_row-slot.ensures.value c.in-Ok.ensures.taken.each c.in-Ok.ensures.taken.count_is c.in-Ok-extend_log.ensures.end
     (record {
       inode = settled.inode;
       kind = settled.kind;
@@ -37,9 +37,9 @@ returns-in-Ok-extend_log-clause-kept g c =
     record {
       keeps = record {
         stopped = tt;
-        lists = taken_sup c.in-Ok.ensures.taken;
+        lists = taken_sup c.in-Ok.ensures.taken.each;
         length = mixed_size c.extend_log.ensures.kept.wrote.mixed;
-        keeps_fuse = keeps_within (stores_within_region c.args.entries.now c.deref.result.now c.slot_of_row-slot.result c.requires.stands c.in-Ok.ensures.taken c.in-Ok.ensures.count c.requires.given c.deref.ensures.value c.slot_of_row-slot.ensures.value) c.extend_log.ensures.kept.keeps_fuse;
+        keeps_fuse = keeps_within (stores_within_region c.args.entries.now c.deref.result.now c.slot_of_row-slot.result c.requires.stands c.in-Ok.ensures.taken.each c.in-Ok.ensures.taken.count_is c.requires.given c.deref.ensures.value c.slot_of_row-slot.ensures.value) c.extend_log.ensures.kept.keeps_fuse;
       };
       settled = c.in-Ok-extend_log.ensures.kept.settled;
     }
@@ -49,9 +49,9 @@ returns-clause-kept g c =
     record {
       keeps = record {
         stopped = grind (arith, common_steps);
-        lists = taken_sup c.in-Ok.ensures.taken;
+        lists = taken_sup c.in-Ok.ensures.taken.each;
         length = mixed_size c.extend_log.ensures.kept.wrote.mixed;
-        keeps_fuse = keeps_within (stores_within_region c.args.entries.now c.deref.result.now c.slot_of_row-slot.result c.requires.stands c.in-Ok.ensures.taken c.in-Ok.ensures.count c.requires.given c.deref.ensures.value c.slot_of_row-slot.ensures.value) c.extend_log.ensures.kept.keeps_fuse;
+        keeps_fuse = keeps_within (stores_within_region c.args.entries.now c.deref.result.now c.slot_of_row-slot.result c.requires.stands c.in-Ok.ensures.taken.each c.in-Ok.ensures.taken.count_is c.requires.given c.deref.ensures.value c.slot_of_row-slot.ensures.value) c.extend_log.ensures.kept.keeps_fuse;
       };
       settled = tt;
     }
@@ -157,12 +157,12 @@ returns-in-Err-Memory-clause-any_stop g c held h shows some settled = still _ _ 
 
 pub returns-in-Ok-extend_log-clause-any_stop : goal.returns-in-Ok-extend_log-clause-any_stop
 returns-in-Ok-extend_log-clause-any_stop g c held h shows some settled =
-    left_log c.args.entries.now c.in-Ok.fresh.items c.deref.result.now c.slot_of_row-slot.result c.deref.ensures.value c.slot_of_row-slot.ensures.value shows c.requires.stands.lists c.in-Ok.ensures.taken c.in-Ok.ensures.count c.requires.given some
+    left_log c.args.entries.now c.in-Ok.fresh.items c.deref.result.now c.slot_of_row-slot.result c.deref.ensures.value c.slot_of_row-slot.ensures.value shows c.requires.stands.lists c.in-Ok.ensures.taken.each c.in-Ok.ensures.taken.count_is c.requires.given some
     _ _ _ c.extend_log.ensures.kept.wrote settled (λ can. (c.extend_log.ensures.moments c.args.tables.now.layout held c.args.row.now.inode h can).any_stop)
 
 pub returns-clause-any_stop : goal.returns-clause-any_stop
 returns-clause-any_stop g c held h shows some settled =
-    left_log c.args.entries.now c.in-Ok.fresh.items c.deref.result.now c.slot_of_row-slot.result c.deref.ensures.value c.slot_of_row-slot.ensures.value shows c.requires.stands.lists c.in-Ok.ensures.taken c.in-Ok.ensures.count c.requires.given some
+    left_log c.args.entries.now c.in-Ok.fresh.items c.deref.result.now c.slot_of_row-slot.result c.deref.ensures.value c.slot_of_row-slot.ensures.value shows c.requires.stands.lists c.in-Ok.ensures.taken.each c.in-Ok.ensures.taken.count_is c.requires.given some
     _ _ _ c.extend_log.ensures.kept.wrote settled (λ can. (c.extend_log.ensures.moments c.args.tables.now.layout held c.args.row.now.inode h can).any_stop)
 
 pub returns-in-Err-NoSpace-clause-wrote : goal.returns-in-Err-NoSpace-clause-wrote
@@ -172,7 +172,9 @@ pub returns-in-Err-Memory-clause-wrote : goal.returns-in-Err-Memory-clause-wrote
 returns-in-Err-Memory-clause-wrote g c held h shows some at whole away = refl
 
 pub returns-in-Ok-extend_log-clause-wrote : goal.returns-in-Ok-extend_log-clause-wrote
-returns-in-Ok-extend_log-clause-wrote g c held h shows some = log_stores c.args.entries.now c.in-Ok.fresh.items c.deref.result.now c.slot_of_row-slot.result c.deref.ensures.value c.slot_of_row-slot.ensures.value shows c.requires.stands.lists c.in-Ok.ensures.taken c.in-Ok.ensures.count c.requires.given some (g.P.Pmem.region c.extend_log.new.memory) c.extend_log.ensures.kept.wrote.mixed
+returns-in-Ok-extend_log-clause-wrote g c held h shows some =
+    log_stores c.args.entries.now c.in-Ok.fresh.items c.deref.result.now c.slot_of_row-slot.result c.deref.ensures.value c.slot_of_row-slot.ensures.value shows c.requires.stands.lists c.in-Ok.ensures.taken.each c.in-Ok.ensures.taken.count_is c.requires.given some (g.P.Pmem.region c.extend_log.new.memory) c.extend_log.ensures.kept.wrote.mixed
 
 pub returns-clause-wrote : goal.returns-clause-wrote
-returns-clause-wrote g c held h shows some = log_stores c.args.entries.now c.in-Ok.fresh.items c.deref.result.now c.slot_of_row-slot.result c.deref.ensures.value c.slot_of_row-slot.ensures.value shows c.requires.stands.lists c.in-Ok.ensures.taken c.in-Ok.ensures.count c.requires.given some (g.P.Pmem.region c.extend_log.new.memory) c.extend_log.ensures.kept.wrote.mixed
+returns-clause-wrote g c held h shows some =
+    log_stores c.args.entries.now c.in-Ok.fresh.items c.deref.result.now c.slot_of_row-slot.result c.deref.ensures.value c.slot_of_row-slot.ensures.value shows c.requires.stands.lists c.in-Ok.ensures.taken.each c.in-Ok.ensures.taken.count_is c.requires.given some (g.P.Pmem.region c.extend_log.new.memory) c.extend_log.ensures.kept.wrote.mixed

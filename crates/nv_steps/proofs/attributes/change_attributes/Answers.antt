@@ -12,16 +12,16 @@ use Rattle.nv_steps.proofs.Stopped.{left_attributes}
 use Rattle.nv_steps.proofs.attributes.change_attributes.Goals as goal
 
 pub returns-clause-log : goal.returns-clause-log
-returns-clause-log g c held h shows = rw c.numbers_with-row.ensures (attributes_follow c.args.attributes shows c.requires.stands.lists c.in_ok-append_log.ensures.appended c.requires.mode c.requires.size)
+returns-clause-log g c held h shows =
+    rw c.numbers_with-row.ensures (attributes_follow c.args.attributes shows c.requires.stands.lists c.in_ok-append_log.ensures.appended c.requires.given.0 c.requires.given.1)
 
-pub append_log-requires-clause-cpu : goal.append_log-requires-clause-cpu
-append_log-requires-clause-cpu g c = c.requires.cpu
-
-pub append_log-requires-clause-stands : goal.append_log-requires-clause-stands
-append_log-requires-clause-stands g c = c.requires.stands
-
-pub append_log-requires-clause-given : goal.append_log-requires-clause-given
-append_log-requires-clause-given g c = (refl, tt)
+pub append_log-requires : goal.append_log-requires
+append_log-requires g c =
+    record {
+      cpu_below = c.requires.cpu_below;
+      stands = c.requires.stands;
+      given = ((refl, tt));
+    }
 
 pub returns-in_err-append_log-clause-log : goal.returns-in_err-append_log-clause-log
 returns-in_err-append_log-clause-log g c held h shows = IfOk-from_err c.from_residual.result _ c.from_residual.ensures.0
@@ -51,7 +51,7 @@ pub returns-in_err-append_log-clause-inode : goal.returns-in_err-append_log-clau
 returns-in_err-append_log-clause-inode g c = c.in_err-append_log.ensures.inode
 
 pub returns-clause-row : goal.returns-clause-row
-returns-clause-row g c = has_attributes c.args.attributes c.in_ok-append_log.ensures.appended.row c.numbers_with-row.ensures c.requires.size
+returns-clause-row g c = has_attributes c.args.attributes c.in_ok-append_log.ensures.appended.row c.numbers_with-row.ensures c.requires.given.1
 
 pub returns-clause-needs : goal.returns-clause-needs
 returns-clause-needs g c =
@@ -71,11 +71,11 @@ returns-clause-inode g c = c.in_ok-append_log.ensures.inode
 
 pub returns-in_err-append_log-clause-any_stop : goal.returns-in_err-append_log-clause-any_stop
 returns-in_err-append_log-clause-any_stop g c held h shows settled left may =
-    left_attributes c.args.attributes c.requires.stands.lists c.requires.mode c.requires.size left (c.in_err-append_log.ensures.any_stop held h shows (omega arith) settled left may)
+    left_attributes c.args.attributes c.requires.stands.lists c.requires.given.0 c.requires.given.1 left (c.in_err-append_log.ensures.any_stop held h shows (omega arith) settled left may)
 
 pub returns-clause-any_stop : goal.returns-clause-any_stop
 returns-clause-any_stop g c held h shows settled left may =
-    left_attributes c.args.attributes c.requires.stands.lists c.requires.mode c.requires.size left (c.in_ok-append_log.ensures.any_stop held h shows (omega arith) settled left may)
+    left_attributes c.args.attributes c.requires.stands.lists c.requires.given.0 c.requires.given.1 left (c.in_ok-append_log.ensures.any_stop held h shows (omega arith) settled left may)
 
 pub returns-in_err-append_log-clause-wrote : goal.returns-in_err-append_log-clause-wrote
 returns-in_err-append_log-clause-wrote g c held h shows = c.in_err-append_log.ensures.wrote held h shows (omega arith)

@@ -7,14 +7,14 @@ use Rattle.nv_steps.proofs.blocks.take_enough.Goals as goal
 
 pub returns-clause-taken : goal.returns-clause-taken
 returns-clause-taken c =
-    from_nothing c.args.free.now c.reserve.new.self c.take_each.new.free c.args.cpu c.args.count c.in_ok-blocks.blocks.items c.take_each.new.blocks.items
-    (record { sup = c.reserve.ensures.same.sup; pools = c.reserve.ensures.same.pools }) c.reserve.ensures.sound c.in_ok-blocks.ensures.items c.in_ok-take_each.ensures.ok
+    record {
+      each = from_nothing c.args.free.now c.reserve.new.self c.take_each.new.free c.args.cpu c.args.count c.in_ok-blocks.blocks.items c.take_each.new.blocks.items
+          (record { sup = c.reserve.ensures.same.sup; pools = c.reserve.ensures.same.pools }) c.reserve.ensures.sound c.in_ok-blocks.ensures.items c.in_ok-take_each.ensures.ok;
+      count_is = let onto = c.in_ok-take_each.ensures.ok in ap (λ (xs : List ℕ). length xs) (onto.all ∙ ap (λ (xs : List ℕ). xs ++ onto.more) c.in_ok-blocks.ensures.items) ∙ onto.count_is;
+    }
 
 pub returns-in_err-blocks-clause-taken : goal.returns-in_err-blocks-clause-taken
 returns-in_err-blocks-clause-taken c = IfOk-from_err c.from_residual.result _ c.from_residual.ensures.0
-
-pub returns-in_err-blocks-clause-count : goal.returns-in_err-blocks-clause-count
-returns-in_err-blocks-clause-count c = IfOk-from_err c.from_residual.result _ c.from_residual.ensures.0
 
 pub returns-in_err-blocks-clause-room : goal.returns-in_err-blocks-clause-room
 returns-in_err-blocks-clause-room c = IfOk-from_err c.from_residual.result _ c.from_residual.ensures.0
@@ -22,17 +22,11 @@ returns-in_err-blocks-clause-room c = IfOk-from_err c.from_residual.result _ c.f
 pub returns-in_err-reserve-clause-taken : goal.returns-in_err-reserve-clause-taken
 returns-in_err-reserve-clause-taken c = IfOk-from_err c.from_residual-in_err-reserve.result _ c.from_residual-in_err-reserve.ensures.0
 
-pub returns-in_err-reserve-clause-count : goal.returns-in_err-reserve-clause-count
-returns-in_err-reserve-clause-count c = IfOk-from_err c.from_residual-in_err-reserve.result _ c.from_residual-in_err-reserve.ensures.0
-
 pub returns-in_err-reserve-clause-room : goal.returns-in_err-reserve-clause-room
 returns-in_err-reserve-clause-room c = IfOk-from_err c.from_residual-in_err-reserve.result _ c.from_residual-in_err-reserve.ensures.0
 
 pub returns-in_err-take_each-clause-taken : goal.returns-in_err-take_each-clause-taken
 returns-in_err-take_each-clause-taken c = IfOk-from_err c.from_residual-in_err-take_each.result _ c.from_residual-in_err-take_each.ensures.0
-
-pub returns-in_err-take_each-clause-count : goal.returns-in_err-take_each-clause-count
-returns-in_err-take_each-clause-count c = IfOk-from_err c.from_residual-in_err-take_each.result _ c.from_residual-in_err-take_each.ensures.0
 
 pub returns-in_err-take_each-clause-room : goal.returns-in_err-take_each-clause-room
 returns-in_err-take_each-clause-room c = IfOk-from_err c.from_residual-in_err-take_each.result _ c.from_residual-in_err-take_each.ensures.0
@@ -63,9 +57,6 @@ take_each-requires-clause-room c = c.in_ok-reserve.ensures.room
 
 pub take_each-requires-clause-space : goal.take_each-requires-clause-space
 take_each-requires-clause-space c = omega (arith, c.in_ok-blocks.ensures.len, c.in_ok-blocks.ensures.capacity)
-
-pub returns-clause-count : goal.returns-clause-count
-returns-clause-count c = let onto = c.in_ok-take_each.ensures.ok in ap (λ (xs : List ℕ). length xs) (onto.all ∙ ap (λ (xs : List ℕ). xs ++ onto.more) c.in_ok-blocks.ensures.items) ∙ onto.count_is
 
 pub returns-clause-room : goal.returns-clause-room
 returns-clause-room c = let same = c.reserve.ensures.same in omega (arith, same.room, c.in_ok-take_each.ensures.room)

@@ -10,7 +10,7 @@ use Rattle.nv_steps.proofs.NumbersOwed.{ends_behind, others_fit}
 use Rattle.nv_steps.proofs.committing_names.commit_name.Goals as goal
 
 pub name_entry-requires : goal.name_entry-requires
-name_entry-requires g c = record { some = c.requires.name.some; fits = c.requires.name.short }
+name_entry-requires g c = record { some = c.requires.row.is_name.some; fits = c.requires.row.is_name.short }
 
 pub make_inode-requires-clause-empty : goal.make_inode-requires-clause-empty
 make_inode-requires-clause-empty g c = let k = c.requires.can.4 in k.can.journal_empty
@@ -66,13 +66,13 @@ pub overflow_sub-end : goal.overflow_sub-end
 overflow_sub-end g c = ends_behind c.in-Ok.end c.length.result (take (length c.args.blocks.now - 1) (drop 1 c.args.blocks.now)) c.args.directory.now.tail c.name_entry.result c.in-Ok.ensures.ends.1 c.length.ensures.value
 
 pub settle_name-requires-clause-pages : goal.settle_name-requires-clause-pages
-settle_name-requires-clause-pages g c = others_fit _ _ c.args.blocks.now _ (all_others c.args.blocks.now (length c.args.blocks.now) refl) c.requires.pages
+settle_name-requires-clause-pages g c = others_fit _ _ c.args.blocks.now _ (all_others c.args.blocks.now (length c.args.blocks.now) refl) c.requires.row.pages
 
 pub settle_name-requires-clause-names : goal.settle_name-requires-clause-names
-settle_name-requires-clause-names g c = c.requires.names
+settle_name-requires-clause-names g c = c.requires.row.names
 
 pub settle_name-requires-clause-name : goal.settle_name-requires-clause-name
-settle_name-requires-clause-name g c = c.requires.name
+settle_name-requires-clause-name g c = c.requires.row.is_name
 
 pub returns-clause-made : goal.returns-clause-made
 returns-clause-made g c l free after row k =

@@ -16,23 +16,15 @@ pub returns-clause-copies : goal.returns-clause-copies
 returns-clause-copies g c = copies_end c.args.from c.args.to c.args.bytes c.extend_log.result c.in_ok-copy_page.ensures.stored c.in_ok-copy_page.ensures.wrote.mixed c.extend_log.ensures.shows c.extend_log.ensures.kept.wrote.mixed
 
 pub returns-clause-keeps_fuse : goal.returns-clause-keeps_fuse
-returns-clause-keeps_fuse g c = keeps_more (λ limit past. ((λ j below. (let inside = c.requires.can.inside j below in omega (arith, past, inside))), omega (arith, past, c.requires.inside)))
-    (keeps_within (λ limit past. omega (arith, past, c.requires.to)) c.copy_page.ensures.keeps_fuse) c.extend_log.ensures.kept.keeps_fuse
+returns-clause-keeps_fuse g c =
+    keeps_more (λ limit past. ((λ j below. (let inside = c.requires.can.inside j below in omega (arith, past, inside))), omega (arith, past, c.requires.inside)))
+    (keeps_within (λ limit past. omega (arith, past, c.requires.given.to_inside)) c.copy_page.ensures.keeps_fuse) c.extend_log.ensures.kept.keeps_fuse
 
 pub returns-clause-length : goal.returns-clause-length
 returns-clause-length g c = mixed_size c.extend_log.ensures.kept.wrote.mixed ∙ mixed_size c.copy_page.ensures.wrote.mixed
 
-pub copy_page-requires-clause-from : goal.copy_page-requires-clause-from
-copy_page-requires-clause-from g c = c.requires.from
-
-pub copy_page-requires-clause-apart : goal.copy_page-requires-clause-apart
-copy_page-requires-clause-apart g c = c.requires.apart
-
-pub copy_page-requires-clause-to : goal.copy_page-requires-clause-to
-copy_page-requires-clause-to g c = c.requires.to
-
-pub copy_page-requires-clause-page : goal.copy_page-requires-clause-page
-copy_page-requires-clause-page g c = c.requires.page
+pub copy_page-requires : goal.copy_page-requires
+copy_page-requires g c = c.requires.given
 
 pub extend_log-requires-clause-can : goal.extend_log-requires-clause-can
 extend_log-requires-clause-can g c =
@@ -77,7 +69,7 @@ pub returns-in_err-copy_page-clause-length : goal.returns-in_err-copy_page-claus
 returns-in_err-copy_page-clause-length g c = mixed_size c.copy_page.ensures.wrote.mixed
 
 pub returns-in_err-copy_page-clause-keeps_fuse : goal.returns-in_err-copy_page-clause-keeps_fuse
-returns-in_err-copy_page-clause-keeps_fuse g c = keeps_within (λ limit past. omega (arith, past, c.requires.to)) c.copy_page.ensures.keeps_fuse
+returns-in_err-copy_page-clause-keeps_fuse g c = keeps_within (λ limit past. omega (arith, past, c.requires.given.to_inside)) c.copy_page.ensures.keeps_fuse
 
 pub returns-in_err-copy_page-clause-any_stop : goal.returns-in_err-copy_page-clause-any_stop
 returns-in_err-copy_page-clause-any_stop g c l held i h can free settled =

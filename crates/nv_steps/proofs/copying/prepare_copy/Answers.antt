@@ -4,7 +4,8 @@ use Rattle.nv_steps.proofs.GivenPages.{first_taken}
 use Rattle.nv_steps.proofs.copying.prepare_copy.Goals as goal
 
 pub returns-clause-taken : goal.returns-clause-taken
-returns-clause-taken c = first_taken c.reserve-else-is_err.ensures.same c.in_ok-blocks.ensures.taken (omega (arith, c.in_ok-blocks.ensures.count)) c.remove-to.ensures.value c.remove-to.ensures.items
+returns-clause-taken c =
+    first_taken c.reserve-else-is_err.ensures.same c.in_ok-blocks.ensures.taken.each (omega (arith, c.in_ok-blocks.ensures.taken.count_is)) c.remove-to.ensures.value c.remove-to.ensures.items
 
 pub returns-in_err-blocks-clause-taken : goal.returns-in_err-blocks-clause-taken
 returns-in_err-blocks-clause-taken c = IfOk-from_err c.from_residual.result _ c.from_residual.ensures.0

@@ -4,31 +4,31 @@ use Rattle.nv_commit.proofs.Left.{still}
 use Rattle.nv_steps.specs.Stopped.{Resized}
 use Rattle.nv_steps.proofs.CopiedEnd.{copy_resizes}
 use Rattle.nv_steps.proofs.CopyStops.{copied_stores, left_copied}
-use Rattle.nv_steps.proofs.CopyOwed.{copies_as, copy_appends, end_ready, ends_as, from_joins, numbered, to_differs, to_inside}
+use Rattle.nv_steps.proofs.CopyOwed.{copies_as, copy_appends, end_ready, ends_as, from_inside, from_joins, numbered, page_small, to_differs, to_inside}
 use Rattle.nv_steps.proofs.Refusals.{memory_goes_on, no_space_goes_on}
 use Rattle.nv_steps.proofs.Kept.{nothing_stored}
 use Rattle.nv_steps.proofs.TakenBlocks.{taken_sup}
 use Rattle.nv_steps.proofs.copying.resize_with_copy.Goals as goal
 
-pub copy_end-requires-clause-can : goal.copy_end-requires-clause-can
-copy_end-requires-clause-can g c = rw (c.deref.ensures.value, c.copy_entries-entries.ensures) (copy_appends c.requires.can c.in-Ok.ensures.taken _ (let count = c.in-Ok.ensures.count in omega (arith, count)) (refl, (refl, tt)))
-
-pub copy_end-requires-clause-apart : goal.copy_end-requires-clause-apart
-copy_end-requires-clause-apart g c = to_differs c.requires.can c.in-Ok.ensures.taken c.requires.ends
-
-pub copy_end-requires-clause-to : goal.copy_end-requires-clause-to
-copy_end-requires-clause-to g c = to_inside c.requires.can c.in-Ok.ensures.taken
+pub copy_end-requires : goal.copy_end-requires
+copy_end-requires g c =
+    record {
+      can = (rw (c.deref.ensures.value, c.copy_entries-entries.ensures) (copy_appends c.requires.can.can c.in-Ok.ensures.taken _ (let count = c.in-Ok.ensures.count in omega (arith, count)) (refl, (refl, tt))));
+      whole = omega (arith, c.slot_of_row-slot.ensures.whole);
+      inside = (let stands = c.requires.can.can.stands in let blocks = stands.blocks in omega (arith, c.slot_of_row-slot.ensures.inside, blocks));
+      given = record { from_inside = from_inside c.requires.can.can c.in-Ok.ensures.taken c.requires.can.ends; apart = (to_differs c.requires.can.can c.in-Ok.ensures.taken c.requires.can.ends); to_inside = (to_inside c.requires.can.can c.in-Ok.ensures.taken); page = page_small c.requires.can.can c.in-Ok.ensures.taken c.requires.can.ends };
+    }
 
 pub give_block-requires-clause-can : goal.give_block-requires-clause-can
-give_block-requires-clause-can g c = from_joins c.requires.can c.in-Ok.ensures.taken c.requires.ends
+give_block-requires-clause-can g c = from_joins c.requires.can.can c.in-Ok.ensures.taken c.requires.can.ends
 
 pub set_run-requires-clause-ready : goal.set_run-requires-clause-ready
-set_run-requires-clause-ready g c = end_ready c.requires.can c.in-Ok.ensures.taken c.requires.ends c.settle_log.ensures.index
+set_run-requires-clause-ready g c = end_ready c.requires.can.can c.in-Ok.ensures.taken c.requires.can.ends c.settle_log.ensures.index
 
 pub returns-in-Ok-copy_end-clause-resized : goal.returns-in-Ok-copy_end-clause-resized
 returns-in-Ok-copy_end-clause-resized g c =
     let settled = c.settle_log.ensures in
-    copy_resizes c.args.attributes c.requires.can c.args.from _ c.in-Ok-copy_end.end c.requires.ends c.in-Ok.ensures.taken (let count = c.in-Ok.ensures.count in omega (arith, count))
+    copy_resizes c.args.attributes c.requires.can.can c.args.from _ c.in-Ok-copy_end.end c.requires.can.ends c.in-Ok.ensures.taken (let count = c.in-Ok.ensures.count in omega (arith, count))
     (copies_as c.slot_of_row-slot.ensures.value c.copy_entries-entries.ensures c.deref.ensures.value c.in-Ok-copy_end.ensures.copies)
     (ends_as c.args.row.now.tail c.deref.ensures.value c.copy_entries-entries.ensures c.in-Ok-copy_end.ensures.end)
     (record {
@@ -136,7 +136,7 @@ pub returns-in-Err-Memory-clause-inode : goal.returns-in-Err-Memory-clause-inode
 returns-in-Err-Memory-clause-inode g c = refl
 
 pub slot_of_row-slot-requires : goal.slot_of_row-slot-requires
-slot_of_row-slot-requires g c = c.requires.can.stands.number
+slot_of_row-slot-requires g c = c.requires.can.can.stands.number
 
 pub returns-in-Err-NoSpace-clause-any_stop : goal.returns-in-Err-NoSpace-clause-any_stop
 returns-in-Err-NoSpace-clause-any_stop g c held h shows settled = still _ _ c.args.tables.now.layout held (Resized (g.P.Pmem.region c.args.memory.now) c.args.tables.now.layout c.args.free.now c.args.cpu c.args.row.now c.args.attributes) shows.sound settled
@@ -146,12 +146,12 @@ returns-in-Err-Memory-clause-any_stop g c held h shows settled = still _ _ c.arg
 
 pub returns-in-Ok-copy_end-clause-any_stop : goal.returns-in-Ok-copy_end-clause-any_stop
 returns-in-Ok-copy_end-clause-any_stop g c held h shows settled =
-    left_copied c.args.attributes c.requires.can c.args.from _ c.requires.ends c.in-Ok.ensures.taken (let count = c.in-Ok.ensures.count in omega (arith, count)) shows c.slot_of_row-slot.ensures.value c.copy_entries-entries.ensures c.deref.ensures.value _ _
+    left_copied c.args.attributes c.requires.can.can c.args.from _ c.requires.can.ends c.in-Ok.ensures.taken (let count = c.in-Ok.ensures.count in omega (arith, count)) shows c.slot_of_row-slot.ensures.value c.copy_entries-entries.ensures c.deref.ensures.value _ _
     (λ can free. c.copy_end.ensures.any_stop c.args.tables.now.layout held c.args.row.now.inode h can free settled)
 
 pub returns-clause-any_stop : goal.returns-clause-any_stop
 returns-clause-any_stop g c held h shows settled =
-    left_copied c.args.attributes c.requires.can c.args.from _ c.requires.ends c.in-Ok.ensures.taken (let count = c.in-Ok.ensures.count in omega (arith, count)) shows c.slot_of_row-slot.ensures.value c.copy_entries-entries.ensures c.deref.ensures.value _ _
+    left_copied c.args.attributes c.requires.can.can c.args.from _ c.requires.can.ends c.in-Ok.ensures.taken (let count = c.in-Ok.ensures.count in omega (arith, count)) shows c.slot_of_row-slot.ensures.value c.copy_entries-entries.ensures c.deref.ensures.value _ _
     (λ can free. c.copy_end.ensures.any_stop c.args.tables.now.layout held c.args.row.now.inode h can free settled)
 
 pub returns-in-Err-NoSpace-clause-wrote : goal.returns-in-Err-NoSpace-clause-wrote
@@ -162,10 +162,10 @@ returns-in-Err-Memory-clause-wrote g c held h shows at whole away = refl
 
 pub returns-in-Ok-copy_end-clause-wrote : goal.returns-in-Ok-copy_end-clause-wrote
 returns-in-Ok-copy_end-clause-wrote g c held h shows =
-    copied_stores c.args.attributes c.requires.can c.args.from _ c.requires.ends c.in-Ok.ensures.taken (let count = c.in-Ok.ensures.count in omega (arith, count)) shows c.slot_of_row-slot.ensures.value c.copy_entries-entries.ensures c.deref.ensures.value (g.P.Pmem.region c.copy_end.new.memory)
+    copied_stores c.args.attributes c.requires.can.can c.args.from _ c.requires.can.ends c.in-Ok.ensures.taken (let count = c.in-Ok.ensures.count in omega (arith, count)) shows c.slot_of_row-slot.ensures.value c.copy_entries-entries.ensures c.deref.ensures.value (g.P.Pmem.region c.copy_end.new.memory)
     (λ can free. c.copy_end.ensures.wrote c.args.tables.now.layout held c.args.row.now.inode h can free)
 
 pub returns-clause-wrote : goal.returns-clause-wrote
 returns-clause-wrote g c held h shows =
-    copied_stores c.args.attributes c.requires.can c.args.from _ c.requires.ends c.in-Ok.ensures.taken (let count = c.in-Ok.ensures.count in omega (arith, count)) shows c.slot_of_row-slot.ensures.value c.copy_entries-entries.ensures c.deref.ensures.value (g.P.Pmem.region c.copy_end.new.memory)
+    copied_stores c.args.attributes c.requires.can.can c.args.from _ c.requires.can.ends c.in-Ok.ensures.taken (let count = c.in-Ok.ensures.count in omega (arith, count)) shows c.slot_of_row-slot.ensures.value c.copy_entries-entries.ensures c.deref.ensures.value (g.P.Pmem.region c.copy_end.new.memory)
     (λ can free. c.copy_end.ensures.wrote c.args.tables.now.layout held c.args.row.now.inode h can free)

@@ -28,20 +28,20 @@ prepare_logs-requires-clause-cpu g c =
 
 pub extend_two-requires-clause-first : goal.extend_two-requires-clause-first
 extend_two-requires-clause-first g c =
-    first_commits c.in_ok-blocks.ensures.ready c.in_ok-blocks.ensures.other_ready c.requires.stands c.requires.other_stands c.in_ok-blocks.ensures.taken c.in_ok-blocks.ensures.count c.requires.apart c.requires.given.given c.requires.more_given.given c.requires.given.some c.requires.more_given.some c.blocks_for-count.ensures c.deref.ensures.value c.split_at.ensures.front c.split_at.ensures.back c.extension-one.result c.extension-two.result c.extension-one.ensures.slot c.extension-one.ensures.tail c.extension-one.ensures.entries c.extension-one.ensures.fresh c.extension-two.ensures.slot c.extension-two.ensures.tail c.extension-two.ensures.entries c.extension-two.ensures.fresh
+    first_commits c.in_ok-blocks.ensures.ready.0 c.in_ok-blocks.ensures.ready.1 c.requires.stands c.requires.other_stands c.in_ok-blocks.ensures.taken.each c.in_ok-blocks.ensures.taken.count_is c.requires.apart c.requires.given.0.given c.requires.given.1.given c.requires.given.0.some c.requires.given.1.some c.blocks_for-count.ensures c.deref.ensures.value c.split_at.ensures.front c.split_at.ensures.back c.extension-one.result c.extension-two.result c.extension-one.ensures.slot c.extension-one.ensures.tail c.extension-one.ensures.entries c.extension-one.ensures.fresh c.extension-two.ensures.slot c.extension-two.ensures.tail c.extension-two.ensures.entries c.extension-two.ensures.fresh
 
 pub extend_two-requires-clause-second : goal.extend_two-requires-clause-second
 extend_two-requires-clause-second g c =
-    second_commits c.in_ok-blocks.ensures.ready c.in_ok-blocks.ensures.other_ready c.requires.stands c.requires.other_stands c.in_ok-blocks.ensures.taken c.in_ok-blocks.ensures.count c.requires.apart c.requires.given.given c.requires.more_given.given c.requires.given.some c.requires.more_given.some c.blocks_for-count.ensures c.deref.ensures.value c.split_at.ensures.front c.split_at.ensures.back c.extension-one.result c.extension-two.result c.extension-one.ensures.slot c.extension-one.ensures.tail c.extension-one.ensures.entries c.extension-one.ensures.fresh c.extension-two.ensures.slot c.extension-two.ensures.tail c.extension-two.ensures.entries c.extension-two.ensures.fresh
+    second_commits c.in_ok-blocks.ensures.ready.0 c.in_ok-blocks.ensures.ready.1 c.requires.stands c.requires.other_stands c.in_ok-blocks.ensures.taken.each c.in_ok-blocks.ensures.taken.count_is c.requires.apart c.requires.given.0.given c.requires.given.1.given c.requires.given.0.some c.requires.given.1.some c.blocks_for-count.ensures c.deref.ensures.value c.split_at.ensures.front c.split_at.ensures.back c.extension-one.result c.extension-two.result c.extension-one.ensures.slot c.extension-one.ensures.tail c.extension-one.ensures.entries c.extension-one.ensures.fresh c.extension-two.ensures.slot c.extension-two.ensures.tail c.extension-two.ensures.entries c.extension-two.ensures.fresh
 
 pub returns-in_default-clause-kept : goal.returns-in_default-clause-kept
 returns-in_default-clause-kept g c =
     record {
       keeps = record {
         stopped = grind (arith, common_steps);
-        lists = taken_sup c.in_ok-blocks.ensures.taken;
+        lists = taken_sup c.in_ok-blocks.ensures.taken.each;
         length = mixed_size c.extend_two.ensures.kept.wrote.mixed;
-        keeps_fuse = keeps_within (both_within c.in_ok-blocks.ensures.ready c.in_ok-blocks.ensures.other_ready c.requires.stands c.requires.other_stands c.in_ok-blocks.ensures.taken c.in_ok-blocks.ensures.count c.requires.apart c.requires.given.given c.requires.more_given.given c.requires.given.some c.requires.more_given.some c.blocks_for-count.ensures c.deref.ensures.value c.split_at.ensures.front c.split_at.ensures.back c.extension-one.result c.extension-two.result c.extension-one.ensures.slot c.extension-one.ensures.tail c.extension-one.ensures.entries c.extension-one.ensures.fresh c.extension-two.ensures.slot c.extension-two.ensures.tail c.extension-two.ensures.entries c.extension-two.ensures.fresh) c.extend_two.ensures.kept.keeps_fuse;
+        keeps_fuse = keeps_within (both_within c.in_ok-blocks.ensures.ready.0 c.in_ok-blocks.ensures.ready.1 c.requires.stands c.requires.other_stands c.in_ok-blocks.ensures.taken.each c.in_ok-blocks.ensures.taken.count_is c.requires.apart c.requires.given.0.given c.requires.given.1.given c.requires.given.0.some c.requires.given.1.some c.blocks_for-count.ensures c.deref.ensures.value c.split_at.ensures.front c.split_at.ensures.back c.extension-one.result c.extension-two.result c.extension-one.ensures.slot c.extension-one.ensures.tail c.extension-one.ensures.entries c.extension-one.ensures.fresh c.extension-two.ensures.slot c.extension-two.ensures.tail c.extension-two.ensures.entries c.extension-two.ensures.fresh) c.extend_two.ensures.kept.keeps_fuse;
       };
       settled = tt;
     }
@@ -51,49 +51,39 @@ returns-clause-kept g c =
     record {
       keeps = record {
         stopped = tt;
-        lists = taken_sup c.in_ok-blocks.ensures.taken;
+        lists = taken_sup c.in_ok-blocks.ensures.taken.each;
         length = mixed_size c.extend_two.ensures.kept.wrote.mixed;
-        keeps_fuse = keeps_within (both_within c.in_ok-blocks.ensures.ready c.in_ok-blocks.ensures.other_ready c.requires.stands c.requires.other_stands c.in_ok-blocks.ensures.taken c.in_ok-blocks.ensures.count c.requires.apart c.requires.given.given c.requires.more_given.given c.requires.given.some c.requires.more_given.some c.blocks_for-count.ensures c.deref.ensures.value c.split_at.ensures.front c.split_at.ensures.back c.extension-one.result c.extension-two.result c.extension-one.ensures.slot c.extension-one.ensures.tail c.extension-one.ensures.entries c.extension-one.ensures.fresh c.extension-two.ensures.slot c.extension-two.ensures.tail c.extension-two.ensures.entries c.extension-two.ensures.fresh) c.extend_two.ensures.kept.keeps_fuse;
+        keeps_fuse = keeps_within (both_within c.in_ok-blocks.ensures.ready.0 c.in_ok-blocks.ensures.ready.1 c.requires.stands c.requires.other_stands c.in_ok-blocks.ensures.taken.each c.in_ok-blocks.ensures.taken.count_is c.requires.apart c.requires.given.0.given c.requires.given.1.given c.requires.given.0.some c.requires.given.1.some c.blocks_for-count.ensures c.deref.ensures.value c.split_at.ensures.front c.split_at.ensures.back c.extension-one.result c.extension-two.result c.extension-one.ensures.slot c.extension-one.ensures.tail c.extension-one.ensures.entries c.extension-one.ensures.fresh c.extension-two.ensures.slot c.extension-two.ensures.tail c.extension-two.ensures.entries c.extension-two.ensures.fresh) c.extend_two.ensures.kept.keeps_fuse;
       };
       settled = c.in-Ok.ensures.kept.settled;
     }
 
 pub settle_log-requires : goal.settle_log-requires
 settle_log-requires g c =
-    first_room c.in_ok-blocks.ensures.ready c.in_ok-blocks.ensures.other_ready c.requires.stands c.requires.other_stands c.in_ok-blocks.ensures.taken c.in_ok-blocks.ensures.count c.requires.apart c.requires.given.given c.requires.more_given.given c.requires.given.some c.requires.more_given.some c.blocks_for-count.ensures c.deref.ensures.value c.split_at.ensures.front c.split_at.ensures.back
+    first_room c.in_ok-blocks.ensures.ready.0 c.in_ok-blocks.ensures.ready.1 c.requires.stands c.requires.other_stands c.in_ok-blocks.ensures.taken.each c.in_ok-blocks.ensures.taken.count_is c.requires.apart c.requires.given.0.given c.requires.given.1.given c.requires.given.0.some c.requires.given.1.some c.blocks_for-count.ensures c.deref.ensures.value c.split_at.ensures.front c.split_at.ensures.back
 
 pub settle_log-requires-2 : goal.settle_log-requires-2
 settle_log-requires-2 g c =
-    second_room c.in_ok-blocks.ensures.ready c.in_ok-blocks.ensures.other_ready c.requires.stands c.requires.other_stands c.in_ok-blocks.ensures.taken c.in_ok-blocks.ensures.count c.requires.apart c.requires.given.given c.requires.more_given.given c.requires.given.some c.requires.more_given.some c.blocks_for-count.ensures c.deref.ensures.value c.split_at.ensures.front c.split_at.ensures.back
+    second_room c.in_ok-blocks.ensures.ready.0 c.in_ok-blocks.ensures.ready.1 c.requires.stands c.requires.other_stands c.in_ok-blocks.ensures.taken.each c.in_ok-blocks.ensures.taken.count_is c.requires.apart c.requires.given.0.given c.requires.given.1.given c.requires.given.0.some c.requires.given.1.some c.blocks_for-count.ensures c.deref.ensures.value c.split_at.ensures.front c.split_at.ensures.back
 
 pub returns-clause-appended : goal.returns-clause-appended
 returns-clause-appended g c =
     let ends = c.in-Ok.ensures.ends in
-    appends_logs c.in_ok-blocks.ensures.ready c.in_ok-blocks.ensures.other_ready c.requires.stands c.requires.other_stands c.in_ok-blocks.ensures.taken c.in_ok-blocks.ensures.count c.requires.apart c.requires.given.given c.requires.more_given.given c.requires.given.some c.requires.more_given.some c.blocks_for-count.ensures c.deref.ensures.value c.split_at.ensures.front c.split_at.ensures.back c.extension-one.result c.extension-two.result c.extension-one.ensures.slot c.extension-one.ensures.tail c.extension-one.ensures.entries c.extension-one.ensures.fresh c.extension-two.ensures.slot c.extension-two.ensures.tail c.extension-two.ensures.entries c.extension-two.ensures.fresh ends.0 ends.1 c.settle_log.ensures c.settle_log-2.ensures
+    appends_logs c.in_ok-blocks.ensures.ready.0 c.in_ok-blocks.ensures.ready.1 c.requires.stands c.requires.other_stands c.in_ok-blocks.ensures.taken.each c.in_ok-blocks.ensures.taken.count_is c.requires.apart c.requires.given.0.given c.requires.given.1.given c.requires.given.0.some c.requires.given.1.some c.blocks_for-count.ensures c.deref.ensures.value c.split_at.ensures.front c.split_at.ensures.back c.extension-one.result c.extension-two.result c.extension-one.ensures.slot c.extension-one.ensures.tail c.extension-one.ensures.entries c.extension-one.ensures.fresh c.extension-two.ensures.slot c.extension-two.ensures.tail c.extension-two.ensures.entries c.extension-two.ensures.fresh ends.0 ends.1 c.settle_log.ensures c.settle_log-2.ensures
     (λ held a b h k can. c.in-Ok.ensures.shows c.args.tables.now.layout held a b h k can) c.extend_two.ensures.kept.wrote.mixed
 
-pub returns-clause-rooms : goal.returns-clause-rooms
-returns-clause-rooms g c = (
-  let ready = c.in_ok-blocks.ensures.ready in
-      let grown = c.settle_log.ensures in
-      subst (λ (names : Names). c.args.first.now.names ≤ names.room) (sym grown.names) ready.names_room,
-  let ready = c.in_ok-blocks.ensures.other_ready in
-      let grown = c.settle_log-2.ensures in
-      subst (λ (names : Names). c.args.second.now.names ≤ names.room) (sym grown.names) ready.names_room,
-)
-
 pub prepare_logs-requires-clause-few : goal.prepare_logs-requires-clause-few
-prepare_logs-requires-clause-few g c = c.requires.given.few
-
-pub prepare_logs-requires-clause-more_few : goal.prepare_logs-requires-clause-more_few
-prepare_logs-requires-clause-more_few g c = c.requires.more_given.few
+prepare_logs-requires-clause-few g c = (c.requires.given.0.few, c.requires.given.1.few)
 
 pub returns-in_err-blocks-clause-needs : goal.returns-in_err-blocks-clause-needs
 returns-in_err-blocks-clause-needs g c =
     record {
-      enough = IfOk-from_err c.from_residual.result _ c.from_residual.ensures.0;
-      refused = let w = err_from_is_err_and c.from_residual.result c.from_residual.ensures.1 in
-          refused_by c.from_residual.result c.in_err-blocks.field-0.0 w.0 (λ (e : Refusal). RefusesStep e (needed (c.args.row.now.tail % 4096) c.args.first.now.entries.now + needed (c.args.other.now.tail % 4096) c.args.second.now.entries.now) c.args.free.now) w.1 w.2 c.in_err-blocks.ensures.needs.refused;
+      needs = record {
+        enough = IfOk-from_err c.from_residual.result _ c.from_residual.ensures.0;
+        refused = let w = err_from_is_err_and c.from_residual.result c.from_residual.ensures.1 in
+            refused_by c.from_residual.result c.in_err-blocks.field-0.0 w.0 (λ (e : Refusal). RefusesStep e (needed (c.args.row.now.tail % 4096) c.args.first.now.entries.now + needed (c.args.other.now.tail % 4096) c.args.second.now.entries.now) c.args.free.now) w.1 w.2 c.in_err-blocks.ensures.needs.refused;
+      };
+      room = IfOk-from_err c.from_residual.result _ c.from_residual.ensures.0;
     }
 
 pub returns-in_err-blocks-clause-unchanged : goal.returns-in_err-blocks-clause-unchanged
@@ -113,14 +103,14 @@ returns-in_err-blocks-clause-inodes g c = (c.in_err-blocks.ensures.rows.0.inode,
 pub returns-in_default-clause-appended : goal.returns-in_default-clause-appended
 returns-in_default-clause-appended g c = tt
 
-pub returns-in_default-clause-rooms : goal.returns-in_default-clause-rooms
-returns-in_default-clause-rooms g c = tt
-
 pub returns-in_default-clause-needs : goal.returns-in_default-clause-needs
 returns-in_default-clause-needs g c =
     record {
-      enough = tt;
-      refused = inr (inl refl);
+      needs = record {
+        enough = tt;
+        refused = inr (inl refl);
+      };
+      room = tt;
     }
 
 pub returns-in_default-clause-unchanged : goal.returns-in_default-clause-unchanged
@@ -132,8 +122,18 @@ returns-in_default-clause-inodes g c = (c.in_ok-blocks.ensures.rows.0.inode, c.i
 pub returns-clause-needs : goal.returns-clause-needs
 returns-clause-needs g c =
     record {
-      enough = c.in_ok-blocks.ensures.needs.enough;
-      refused = tt;
+      needs = record {
+        enough = c.in_ok-blocks.ensures.needs.enough;
+        refused = tt;
+      };
+      room = (
+        let ready = c.in_ok-blocks.ensures.ready.0 in
+            let grown = c.settle_log.ensures in
+            subst (λ (names : Names). c.args.first.now.names ≤ names.room) (sym grown.names) ready.names_room,
+        let ready = c.in_ok-blocks.ensures.ready.1 in
+            let grown = c.settle_log-2.ensures in
+            subst (λ (names : Names). c.args.second.now.names ≤ names.room) (sym grown.names) ready.names_room,
+      );
     }
 
 pub returns-clause-unchanged : goal.returns-clause-unchanged
@@ -145,20 +145,17 @@ returns-clause-inodes g c = (c.settle_log.ensures.inode ∙ c.in_ok-blocks.ensur
 pub returns-in_err-blocks-clause-appended : goal.returns-in_err-blocks-clause-appended
 returns-in_err-blocks-clause-appended g c = IfOk-from_err c.from_residual.result _ c.from_residual.ensures.0
 
-pub returns-in_err-blocks-clause-rooms : goal.returns-in_err-blocks-clause-rooms
-returns-in_err-blocks-clause-rooms g c = IfOk-from_err c.from_residual.result _ c.from_residual.ensures.0
-
 pub returns-in_err-blocks-clause-any_stop : goal.returns-in_err-blocks-clause-any_stop
 returns-in_err-blocks-clause-any_stop g c held h k here there settled = still _ _ c.args.tables.now.layout held (AppendedBoth (g.P.Pmem.region c.args.memory.now) c.args.tables.now.layout c.args.free.now c.args.cpu c.args.row.now c.args.first.now.entries.now c.args.other.now c.args.second.now.entries.now) here.sound settled
 
 pub returns-in_default-clause-any_stop : goal.returns-in_default-clause-any_stop
 returns-in_default-clause-any_stop g c held h k here there settled =
-    left_logs c.in_ok-blocks.ensures.ready c.in_ok-blocks.ensures.other_ready c.requires.stands c.requires.other_stands c.in_ok-blocks.ensures.taken c.in_ok-blocks.ensures.count c.requires.apart c.requires.given.given c.requires.more_given.given c.requires.given.some c.requires.more_given.some c.blocks_for-count.ensures c.deref.ensures.value c.split_at.ensures.front c.split_at.ensures.back c.extension-one.result c.extension-two.result c.extension-one.ensures.slot c.extension-one.ensures.tail c.extension-one.ensures.entries c.extension-one.ensures.fresh c.extension-two.ensures.slot c.extension-two.ensures.tail c.extension-two.ensures.entries c.extension-two.ensures.fresh
+    left_logs c.in_ok-blocks.ensures.ready.0 c.in_ok-blocks.ensures.ready.1 c.requires.stands c.requires.other_stands c.in_ok-blocks.ensures.taken.each c.in_ok-blocks.ensures.taken.count_is c.requires.apart c.requires.given.0.given c.requires.given.1.given c.requires.given.0.some c.requires.given.1.some c.blocks_for-count.ensures c.deref.ensures.value c.split_at.ensures.front c.split_at.ensures.back c.extension-one.result c.extension-two.result c.extension-one.ensures.slot c.extension-one.ensures.tail c.extension-one.ensures.entries c.extension-one.ensures.fresh c.extension-two.ensures.slot c.extension-two.ensures.tail c.extension-two.ensures.entries c.extension-two.ensures.fresh
     here there _ _ _ c.extend_two.ensures.kept.wrote settled (λ a b f e can pending. (c.extend_two.ensures.moments c.args.tables.now.layout held a b f e can).any_stop pending)
 
 pub returns-clause-any_stop : goal.returns-clause-any_stop
 returns-clause-any_stop g c held h k here there settled =
-    left_logs c.in_ok-blocks.ensures.ready c.in_ok-blocks.ensures.other_ready c.requires.stands c.requires.other_stands c.in_ok-blocks.ensures.taken c.in_ok-blocks.ensures.count c.requires.apart c.requires.given.given c.requires.more_given.given c.requires.given.some c.requires.more_given.some c.blocks_for-count.ensures c.deref.ensures.value c.split_at.ensures.front c.split_at.ensures.back c.extension-one.result c.extension-two.result c.extension-one.ensures.slot c.extension-one.ensures.tail c.extension-one.ensures.entries c.extension-one.ensures.fresh c.extension-two.ensures.slot c.extension-two.ensures.tail c.extension-two.ensures.entries c.extension-two.ensures.fresh
+    left_logs c.in_ok-blocks.ensures.ready.0 c.in_ok-blocks.ensures.ready.1 c.requires.stands c.requires.other_stands c.in_ok-blocks.ensures.taken.each c.in_ok-blocks.ensures.taken.count_is c.requires.apart c.requires.given.0.given c.requires.given.1.given c.requires.given.0.some c.requires.given.1.some c.blocks_for-count.ensures c.deref.ensures.value c.split_at.ensures.front c.split_at.ensures.back c.extension-one.result c.extension-two.result c.extension-one.ensures.slot c.extension-one.ensures.tail c.extension-one.ensures.entries c.extension-one.ensures.fresh c.extension-two.ensures.slot c.extension-two.ensures.tail c.extension-two.ensures.entries c.extension-two.ensures.fresh
     here there _ _ _ c.extend_two.ensures.kept.wrote settled (λ a b f e can pending. (c.extend_two.ensures.moments c.args.tables.now.layout held a b f e can).any_stop pending)
 
 pub returns-in_err-blocks-clause-in_order : goal.returns-in_err-blocks-clause-in_order
@@ -166,19 +163,19 @@ returns-in_err-blocks-clause-in_order g c held h k here there = inl refl
 
 pub returns-in_default-clause-in_order : goal.returns-in_default-clause-in_order
 returns-in_default-clause-in_order g c held h k here there =
-    logs_in_order c.in_ok-blocks.ensures.ready c.in_ok-blocks.ensures.other_ready c.requires.stands c.requires.other_stands c.in_ok-blocks.ensures.taken c.in_ok-blocks.ensures.count c.requires.apart c.requires.given.given c.requires.more_given.given c.requires.given.some c.requires.more_given.some c.blocks_for-count.ensures c.deref.ensures.value c.split_at.ensures.front c.split_at.ensures.back c.extension-one.result c.extension-two.result c.extension-one.ensures.slot c.extension-one.ensures.tail c.extension-one.ensures.entries c.extension-one.ensures.fresh c.extension-two.ensures.slot c.extension-two.ensures.tail c.extension-two.ensures.entries c.extension-two.ensures.fresh here there (λ a b f e can. c.extend_two.ensures.in_order c.args.tables.now.layout held a b f e can)
+    logs_in_order c.in_ok-blocks.ensures.ready.0 c.in_ok-blocks.ensures.ready.1 c.requires.stands c.requires.other_stands c.in_ok-blocks.ensures.taken.each c.in_ok-blocks.ensures.taken.count_is c.requires.apart c.requires.given.0.given c.requires.given.1.given c.requires.given.0.some c.requires.given.1.some c.blocks_for-count.ensures c.deref.ensures.value c.split_at.ensures.front c.split_at.ensures.back c.extension-one.result c.extension-two.result c.extension-one.ensures.slot c.extension-one.ensures.tail c.extension-one.ensures.entries c.extension-one.ensures.fresh c.extension-two.ensures.slot c.extension-two.ensures.tail c.extension-two.ensures.entries c.extension-two.ensures.fresh here there (λ a b f e can. c.extend_two.ensures.in_order c.args.tables.now.layout held a b f e can)
 
 pub returns-clause-in_order : goal.returns-clause-in_order
 returns-clause-in_order g c held h k here there =
-    logs_in_order c.in_ok-blocks.ensures.ready c.in_ok-blocks.ensures.other_ready c.requires.stands c.requires.other_stands c.in_ok-blocks.ensures.taken c.in_ok-blocks.ensures.count c.requires.apart c.requires.given.given c.requires.more_given.given c.requires.given.some c.requires.more_given.some c.blocks_for-count.ensures c.deref.ensures.value c.split_at.ensures.front c.split_at.ensures.back c.extension-one.result c.extension-two.result c.extension-one.ensures.slot c.extension-one.ensures.tail c.extension-one.ensures.entries c.extension-one.ensures.fresh c.extension-two.ensures.slot c.extension-two.ensures.tail c.extension-two.ensures.entries c.extension-two.ensures.fresh here there (λ a b f e can. c.extend_two.ensures.in_order c.args.tables.now.layout held a b f e can)
+    logs_in_order c.in_ok-blocks.ensures.ready.0 c.in_ok-blocks.ensures.ready.1 c.requires.stands c.requires.other_stands c.in_ok-blocks.ensures.taken.each c.in_ok-blocks.ensures.taken.count_is c.requires.apart c.requires.given.0.given c.requires.given.1.given c.requires.given.0.some c.requires.given.1.some c.blocks_for-count.ensures c.deref.ensures.value c.split_at.ensures.front c.split_at.ensures.back c.extension-one.result c.extension-two.result c.extension-one.ensures.slot c.extension-one.ensures.tail c.extension-one.ensures.entries c.extension-one.ensures.fresh c.extension-two.ensures.slot c.extension-two.ensures.tail c.extension-two.ensures.entries c.extension-two.ensures.fresh here there (λ a b f e can. c.extend_two.ensures.in_order c.args.tables.now.layout held a b f e can)
 
 pub returns-in_err-blocks-clause-wrote : goal.returns-in_err-blocks-clause-wrote
 returns-in_err-blocks-clause-wrote g c held h k here there = stores_nothing c.args.tables.now.layout held (two_logs c.args.tables.now.layout c.args.cpu c.args.row.now.inode c.args.other.now.inode) (g.P.Pmem.region c.args.memory.now)
 
 pub returns-in_default-clause-wrote : goal.returns-in_default-clause-wrote
 returns-in_default-clause-wrote g c held h k here there =
-    logs_store c.in_ok-blocks.ensures.ready c.in_ok-blocks.ensures.other_ready c.requires.stands c.requires.other_stands c.in_ok-blocks.ensures.taken c.in_ok-blocks.ensures.count c.requires.apart c.requires.given.given c.requires.more_given.given c.requires.given.some c.requires.more_given.some c.blocks_for-count.ensures c.deref.ensures.value c.split_at.ensures.front c.split_at.ensures.back c.extension-one.result c.extension-two.result c.extension-one.ensures.slot c.extension-one.ensures.tail c.extension-one.ensures.entries c.extension-one.ensures.fresh c.extension-two.ensures.slot c.extension-two.ensures.tail c.extension-two.ensures.entries c.extension-two.ensures.fresh here there c.extend_two.ensures.kept.wrote.mixed
+    logs_store c.in_ok-blocks.ensures.ready.0 c.in_ok-blocks.ensures.ready.1 c.requires.stands c.requires.other_stands c.in_ok-blocks.ensures.taken.each c.in_ok-blocks.ensures.taken.count_is c.requires.apart c.requires.given.0.given c.requires.given.1.given c.requires.given.0.some c.requires.given.1.some c.blocks_for-count.ensures c.deref.ensures.value c.split_at.ensures.front c.split_at.ensures.back c.extension-one.result c.extension-two.result c.extension-one.ensures.slot c.extension-one.ensures.tail c.extension-one.ensures.entries c.extension-one.ensures.fresh c.extension-two.ensures.slot c.extension-two.ensures.tail c.extension-two.ensures.entries c.extension-two.ensures.fresh here there c.extend_two.ensures.kept.wrote.mixed
 
 pub returns-clause-wrote : goal.returns-clause-wrote
 returns-clause-wrote g c held h k here there =
-    logs_store c.in_ok-blocks.ensures.ready c.in_ok-blocks.ensures.other_ready c.requires.stands c.requires.other_stands c.in_ok-blocks.ensures.taken c.in_ok-blocks.ensures.count c.requires.apart c.requires.given.given c.requires.more_given.given c.requires.given.some c.requires.more_given.some c.blocks_for-count.ensures c.deref.ensures.value c.split_at.ensures.front c.split_at.ensures.back c.extension-one.result c.extension-two.result c.extension-one.ensures.slot c.extension-one.ensures.tail c.extension-one.ensures.entries c.extension-one.ensures.fresh c.extension-two.ensures.slot c.extension-two.ensures.tail c.extension-two.ensures.entries c.extension-two.ensures.fresh here there c.extend_two.ensures.kept.wrote.mixed
+    logs_store c.in_ok-blocks.ensures.ready.0 c.in_ok-blocks.ensures.ready.1 c.requires.stands c.requires.other_stands c.in_ok-blocks.ensures.taken.each c.in_ok-blocks.ensures.taken.count_is c.requires.apart c.requires.given.0.given c.requires.given.1.given c.requires.given.0.some c.requires.given.1.some c.blocks_for-count.ensures c.deref.ensures.value c.split_at.ensures.front c.split_at.ensures.back c.extension-one.result c.extension-two.result c.extension-one.ensures.slot c.extension-one.ensures.tail c.extension-one.ensures.entries c.extension-one.ensures.fresh c.extension-two.ensures.slot c.extension-two.ensures.tail c.extension-two.ensures.entries c.extension-two.ensures.fresh here there c.extend_two.ensures.kept.wrote.mixed

@@ -8,33 +8,32 @@ pub overflow_add-both : goal.overflow_add-both
 overflow_add-both c =
     let one = needed_few (c.args.row.now.tail % 4096) c.args.first.now.entries.now in
     let other = needed_few (c.args.other.now.tail % 4096) c.args.second.now.entries.now in
-    omega (arith, one, other, c.requires.few, c.requires.more_few, c.blocks_for-count.ensures, c.blocks_for-more.ensures)
+    omega (arith, one, other, c.requires.few.0, c.requires.few.1, c.blocks_for-count.ensures, c.blocks_for-more.ensures)
 
 pub returns-in-Ok-take_blocks-clause-ready : goal.returns-in-Ok-take_blocks-clause-ready
-returns-in-Ok-take_blocks-clause-ready c =
-    let room = c.in-Ok.ensures.pages in
-    record {
-      same = c.make_room.ensures.row;
-      once = c.in-Ok.ensures.once;
-      room = omega (arith, room, c.blocks_for-count.ensures);
-      names_room = c.in-Ok.ensures.names;
-    }
-
-pub returns-in-Ok-take_blocks-clause-other_ready : goal.returns-in-Ok-take_blocks-clause-other_ready
-returns-in-Ok-take_blocks-clause-other_ready c =
-    let room = c.in-Ok-make_room.ensures.pages in
-    record {
-      same = c.make_room-2.ensures.row;
-      once = c.in-Ok-make_room.ensures.once;
-      room = omega (arith, room, c.blocks_for-more.ensures);
-      names_room = c.in-Ok-make_room.ensures.names;
-    }
+returns-in-Ok-take_blocks-clause-ready c = (
+  (let room = c.in-Ok.ensures.pages in
+      record {
+        same = c.make_room.ensures.row;
+        once = c.in-Ok.ensures.once;
+        room = omega (arith, room, c.blocks_for-count.ensures);
+        names_room = c.in-Ok.ensures.names;
+      }),
+  (let room = c.in-Ok-make_room.ensures.pages in
+      record {
+        same = c.make_room-2.ensures.row;
+        once = c.in-Ok-make_room.ensures.once;
+        room = omega (arith, room, c.blocks_for-more.ensures);
+        names_room = c.in-Ok-make_room.ensures.names;
+      }),
+)
 
 pub returns-in-Ok-take_blocks-clause-taken : goal.returns-in-Ok-take_blocks-clause-taken
-returns-in-Ok-take_blocks-clause-taken c = c.in-Ok-take_blocks.ensures.taken
-
-pub returns-in-Ok-take_blocks-clause-count : goal.returns-in-Ok-take_blocks-clause-count
-returns-in-Ok-take_blocks-clause-count c = c.in-Ok-take_blocks.ensures.count ∙ (λ t. c.blocks_for-count.ensures t + c.blocks_for-more.ensures t)
+returns-in-Ok-take_blocks-clause-taken c =
+    record {
+      each = c.in-Ok-take_blocks.ensures.taken.each;
+      count_is = c.in-Ok-take_blocks.ensures.taken.count_is ∙ (λ t. c.blocks_for-count.ensures t + c.blocks_for-more.ensures t);
+    }
 
 pub returns-in-Ok-take_blocks-clause-needs : goal.returns-in-Ok-take_blocks-clause-needs
 returns-in-Ok-take_blocks-clause-needs c =
@@ -61,9 +60,6 @@ take_blocks-requires c = record { cpu = c.requires.cpu }
 pub returns-in-Err-NoSpace-clause-taken : goal.returns-in-Err-NoSpace-clause-taken
 returns-in-Err-NoSpace-clause-taken c = tt
 
-pub returns-in-Err-NoSpace-clause-count : goal.returns-in-Err-NoSpace-clause-count
-returns-in-Err-NoSpace-clause-count c = tt
-
 pub returns-in-Err-NoSpace-clause-needs : goal.returns-in-Err-NoSpace-clause-needs
 returns-in-Err-NoSpace-clause-needs c =
     record {
@@ -73,9 +69,6 @@ returns-in-Err-NoSpace-clause-needs c =
 
 pub returns-in-Err-NoSpace-clause-ready : goal.returns-in-Err-NoSpace-clause-ready
 returns-in-Err-NoSpace-clause-ready c = tt
-
-pub returns-in-Err-NoSpace-clause-other_ready : goal.returns-in-Err-NoSpace-clause-other_ready
-returns-in-Err-NoSpace-clause-other_ready c = tt
 
 pub returns-in-Err-NoSpace-clause-room : goal.returns-in-Err-NoSpace-clause-room
 returns-in-Err-NoSpace-clause-room c = tt
@@ -92,9 +85,6 @@ returns-in-Err-NoSpace-clause-rows c = (c.make_room.ensures.row, c.make_room-2.e
 pub returns-in-Err-Memory-clause-taken : goal.returns-in-Err-Memory-clause-taken
 returns-in-Err-Memory-clause-taken c = tt
 
-pub returns-in-Err-Memory-clause-count : goal.returns-in-Err-Memory-clause-count
-returns-in-Err-Memory-clause-count c = tt
-
 pub returns-in-Err-Memory-clause-needs : goal.returns-in-Err-Memory-clause-needs
 returns-in-Err-Memory-clause-needs c =
     record {
@@ -104,9 +94,6 @@ returns-in-Err-Memory-clause-needs c =
 
 pub returns-in-Err-Memory-clause-ready : goal.returns-in-Err-Memory-clause-ready
 returns-in-Err-Memory-clause-ready c = tt
-
-pub returns-in-Err-Memory-clause-other_ready : goal.returns-in-Err-Memory-clause-other_ready
-returns-in-Err-Memory-clause-other_ready c = tt
 
 pub returns-in-Err-Memory-clause-room : goal.returns-in-Err-Memory-clause-room
 returns-in-Err-Memory-clause-room c = tt
@@ -123,9 +110,6 @@ returns-in-Err-Memory-clause-rows c = (c.make_room.ensures.row, c.make_room-2.en
 pub returns-in_default-clause-taken : goal.returns-in_default-clause-taken
 returns-in_default-clause-taken c = tt
 
-pub returns-in_default-clause-count : goal.returns-in_default-clause-count
-returns-in_default-clause-count c = tt
-
 pub returns-in_default-clause-needs : goal.returns-in_default-clause-needs
 returns-in_default-clause-needs c =
     record {
@@ -135,9 +119,6 @@ returns-in_default-clause-needs c =
 
 pub returns-in_default-clause-ready : goal.returns-in_default-clause-ready
 returns-in_default-clause-ready c = tt
-
-pub returns-in_default-clause-other_ready : goal.returns-in_default-clause-other_ready
-returns-in_default-clause-other_ready c = tt
 
 pub returns-in_default-clause-room : goal.returns-in_default-clause-room
 returns-in_default-clause-room c = tt
@@ -154,9 +135,6 @@ returns-in_default-clause-rows c = (c.make_room.ensures.row, record { inode = re
 pub returns-in_default-make_room-clause-taken : goal.returns-in_default-make_room-clause-taken
 returns-in_default-make_room-clause-taken c = tt
 
-pub returns-in_default-make_room-clause-count : goal.returns-in_default-make_room-clause-count
-returns-in_default-make_room-clause-count c = tt
-
 pub returns-in_default-make_room-clause-needs : goal.returns-in_default-make_room-clause-needs
 returns-in_default-make_room-clause-needs c =
     record {
@@ -166,9 +144,6 @@ returns-in_default-make_room-clause-needs c =
 
 pub returns-in_default-make_room-clause-ready : goal.returns-in_default-make_room-clause-ready
 returns-in_default-make_room-clause-ready c = tt
-
-pub returns-in_default-make_room-clause-other_ready : goal.returns-in_default-make_room-clause-other_ready
-returns-in_default-make_room-clause-other_ready c = tt
 
 pub returns-in_default-make_room-clause-room : goal.returns-in_default-make_room-clause-room
 returns-in_default-make_room-clause-room c = tt
@@ -185,9 +160,6 @@ returns-in_default-make_room-clause-rows c = (c.make_room.ensures.row, c.make_ro
 pub returns-then-not-are_enough-clause-taken : goal.returns-then-not-are_enough-clause-taken
 returns-then-not-are_enough-clause-taken c = tt
 
-pub returns-then-not-are_enough-clause-count : goal.returns-then-not-are_enough-clause-count
-returns-then-not-are_enough-clause-count c = tt
-
 pub returns-then-not-are_enough-clause-needs : goal.returns-then-not-are_enough-clause-needs
 returns-then-not-are_enough-clause-needs c =
     record {
@@ -197,9 +169,6 @@ returns-then-not-are_enough-clause-needs c =
 
 pub returns-then-not-are_enough-clause-ready : goal.returns-then-not-are_enough-clause-ready
 returns-then-not-are_enough-clause-ready c = tt
-
-pub returns-then-not-are_enough-clause-other_ready : goal.returns-then-not-are_enough-clause-other_ready
-returns-then-not-are_enough-clause-other_ready c = tt
 
 pub returns-then-not-are_enough-clause-room : goal.returns-then-not-are_enough-clause-room
 returns-then-not-are_enough-clause-room c = tt

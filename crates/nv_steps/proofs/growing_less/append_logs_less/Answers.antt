@@ -28,10 +28,7 @@ prepare_logs_less-requires-clause-cpu g c =
     subst (λ (s : Super). c.args.cpu < s.cpus) (sym stands.lists) can.cpu_below
 
 pub prepare_logs_less-requires-clause-few : goal.prepare_logs_less-requires-clause-few
-prepare_logs_less-requires-clause-few g c = c.requires.given.few
-
-pub prepare_logs_less-requires-clause-more_few : goal.prepare_logs_less-requires-clause-more_few
-prepare_logs_less-requires-clause-more_few g c = c.requires.more_given.few
+prepare_logs_less-requires-clause-few g c = (c.requires.given.0.few, c.requires.given.1.few)
 
 pub slot_of_row-slot-requires : goal.slot_of_row-slot-requires
 slot_of_row-slot-requires g c = c.requires.number
@@ -41,50 +38,51 @@ replace_inode-requires-clause-empty g c = let can = c.requires.stands.1 in can.j
 
 pub replace_inode-requires-clause-first : goal.replace_inode-requires-clause-first
 replace_inode-requires-clause-first g c =
-    let owed = (owes_two c.in_ok-blocks.ensures.ready c.in_ok-blocks.ensures.other_ready c.requires.stands c.requires.other_stands c.in_ok-blocks.ensures.taken c.in_ok-blocks.ensures.count c.requires.apart c.requires.given c.requires.more_given c.blocks_for-count.ensures c.deref.ensures.value c.split_at.ensures.front c.split_at.ensures.back c.extension-one.result c.extension-two.result c.extension-one.ensures.slot c.extension-one.ensures.tail c.extension-one.ensures.entries c.extension-one.ensures.fresh c.extension-two.ensures.slot c.extension-two.ensures.tail c.extension-two.ensures.entries c.extension-two.ensures.fresh) in
+    let owed = (owes_two c.in_ok-blocks.ensures.ready.0 c.in_ok-blocks.ensures.ready.1 c.requires.stands c.requires.other_stands c.in_ok-blocks.ensures.taken.each c.in_ok-blocks.ensures.taken.count_is c.requires.apart c.requires.given.0 c.requires.given.1 c.blocks_for-count.ensures c.deref.ensures.value c.split_at.ensures.front c.split_at.ensures.back c.extension-one.result c.extension-two.result c.extension-one.ensures.slot c.extension-one.ensures.tail c.extension-one.ensures.entries c.extension-one.ensures.fresh c.extension-two.ensures.slot c.extension-two.ensures.tail c.extension-two.ensures.entries c.extension-two.ensures.fresh) in
     commits owed.one
 
 pub replace_inode-requires-clause-second : goal.replace_inode-requires-clause-second
 replace_inode-requires-clause-second g c =
-    let owed = (owes_two c.in_ok-blocks.ensures.ready c.in_ok-blocks.ensures.other_ready c.requires.stands c.requires.other_stands c.in_ok-blocks.ensures.taken c.in_ok-blocks.ensures.count c.requires.apart c.requires.given c.requires.more_given c.blocks_for-count.ensures c.deref.ensures.value c.split_at.ensures.front c.split_at.ensures.back c.extension-one.result c.extension-two.result c.extension-one.ensures.slot c.extension-one.ensures.tail c.extension-one.ensures.entries c.extension-one.ensures.fresh c.extension-two.ensures.slot c.extension-two.ensures.tail c.extension-two.ensures.entries c.extension-two.ensures.fresh) in
+    let owed = (owes_two c.in_ok-blocks.ensures.ready.0 c.in_ok-blocks.ensures.ready.1 c.requires.stands c.requires.other_stands c.in_ok-blocks.ensures.taken.each c.in_ok-blocks.ensures.taken.count_is c.requires.apart c.requires.given.0 c.requires.given.1 c.blocks_for-count.ensures c.deref.ensures.value c.split_at.ensures.front c.split_at.ensures.back c.extension-one.result c.extension-two.result c.extension-one.ensures.slot c.extension-one.ensures.tail c.extension-one.ensures.entries c.extension-one.ensures.fresh c.extension-two.ensures.slot c.extension-two.ensures.tail c.extension-two.ensures.entries c.extension-two.ensures.fresh) in
     commits owed.two
 
 pub replace_inode-requires-clause-slot : goal.replace_inode-requires-clause-slot
-replace_inode-requires-clause-slot g c = record {
-  whole = (gone_whole (owes_two c.in_ok-blocks.ensures.ready c.in_ok-blocks.ensures.other_ready c.requires.stands c.requires.other_stands c.in_ok-blocks.ensures.taken c.in_ok-blocks.ensures.count c.requires.apart c.requires.given c.requires.more_given c.blocks_for-count.ensures c.deref.ensures.value c.split_at.ensures.front c.split_at.ensures.back c.extension-one.result c.extension-two.result c.extension-one.ensures.slot c.extension-one.ensures.tail c.extension-one.ensures.entries c.extension-one.ensures.fresh c.extension-two.ensures.slot c.extension-two.ensures.tail c.extension-two.ensures.entries c.extension-two.ensures.fresh) c.args.gone.inode c.slot_of_row-slot.result c.requires.number c.slot_of_row-slot.ensures.value);
-  inside = (gone_inside (owes_two c.in_ok-blocks.ensures.ready c.in_ok-blocks.ensures.other_ready c.requires.stands c.requires.other_stands c.in_ok-blocks.ensures.taken c.in_ok-blocks.ensures.count c.requires.apart c.requires.given c.requires.more_given c.blocks_for-count.ensures c.deref.ensures.value c.split_at.ensures.front c.split_at.ensures.back c.extension-one.result c.extension-two.result c.extension-one.ensures.slot c.extension-one.ensures.tail c.extension-one.ensures.entries c.extension-one.ensures.fresh c.extension-two.ensures.slot c.extension-two.ensures.tail c.extension-two.ensures.entries c.extension-two.ensures.fresh) c.args.gone.inode c.slot_of_row-slot.result c.requires.number c.slot_of_row-slot.ensures.value);
-  behind = (gone_behind (owes_two c.in_ok-blocks.ensures.ready c.in_ok-blocks.ensures.other_ready c.requires.stands c.requires.other_stands c.in_ok-blocks.ensures.taken c.in_ok-blocks.ensures.count c.requires.apart c.requires.given c.requires.more_given c.blocks_for-count.ensures c.deref.ensures.value c.split_at.ensures.front c.split_at.ensures.back c.extension-one.result c.extension-two.result c.extension-one.ensures.slot c.extension-one.ensures.tail c.extension-one.ensures.entries c.extension-one.ensures.fresh c.extension-two.ensures.slot c.extension-two.ensures.tail c.extension-two.ensures.entries c.extension-two.ensures.fresh) c.args.gone.inode c.slot_of_row-slot.result c.requires.number c.slot_of_row-slot.ensures.value);
-}
+replace_inode-requires-clause-slot g c =
+    record {
+      whole = (gone_whole (owes_two c.in_ok-blocks.ensures.ready.0 c.in_ok-blocks.ensures.ready.1 c.requires.stands c.requires.other_stands c.in_ok-blocks.ensures.taken.each c.in_ok-blocks.ensures.taken.count_is c.requires.apart c.requires.given.0 c.requires.given.1 c.blocks_for-count.ensures c.deref.ensures.value c.split_at.ensures.front c.split_at.ensures.back c.extension-one.result c.extension-two.result c.extension-one.ensures.slot c.extension-one.ensures.tail c.extension-one.ensures.entries c.extension-one.ensures.fresh c.extension-two.ensures.slot c.extension-two.ensures.tail c.extension-two.ensures.entries c.extension-two.ensures.fresh) c.args.gone.inode c.slot_of_row-slot.result c.requires.number c.slot_of_row-slot.ensures.value);
+      inside = (gone_inside (owes_two c.in_ok-blocks.ensures.ready.0 c.in_ok-blocks.ensures.ready.1 c.requires.stands c.requires.other_stands c.in_ok-blocks.ensures.taken.each c.in_ok-blocks.ensures.taken.count_is c.requires.apart c.requires.given.0 c.requires.given.1 c.blocks_for-count.ensures c.deref.ensures.value c.split_at.ensures.front c.split_at.ensures.back c.extension-one.result c.extension-two.result c.extension-one.ensures.slot c.extension-one.ensures.tail c.extension-one.ensures.entries c.extension-one.ensures.fresh c.extension-two.ensures.slot c.extension-two.ensures.tail c.extension-two.ensures.entries c.extension-two.ensures.fresh) c.args.gone.inode c.slot_of_row-slot.result c.requires.number c.slot_of_row-slot.ensures.value);
+      behind = (gone_behind (owes_two c.in_ok-blocks.ensures.ready.0 c.in_ok-blocks.ensures.ready.1 c.requires.stands c.requires.other_stands c.in_ok-blocks.ensures.taken.each c.in_ok-blocks.ensures.taken.count_is c.requires.apart c.requires.given.0 c.requires.given.1 c.blocks_for-count.ensures c.deref.ensures.value c.split_at.ensures.front c.split_at.ensures.back c.extension-one.result c.extension-two.result c.extension-one.ensures.slot c.extension-one.ensures.tail c.extension-one.ensures.entries c.extension-one.ensures.fresh c.extension-two.ensures.slot c.extension-two.ensures.tail c.extension-two.ensures.entries c.extension-two.ensures.fresh) c.args.gone.inode c.slot_of_row-slot.result c.requires.number c.slot_of_row-slot.ensures.value);
+    }
 
 pub settle_log-requires : goal.settle_log-requires
 settle_log-requires g c =
-    let owed = (owes_two c.in_ok-blocks.ensures.ready c.in_ok-blocks.ensures.other_ready c.requires.stands c.requires.other_stands c.in_ok-blocks.ensures.taken c.in_ok-blocks.ensures.count c.requires.apart c.requires.given c.requires.more_given c.blocks_for-count.ensures c.deref.ensures.value c.split_at.ensures.front c.split_at.ensures.back c.extension-one.result c.extension-two.result c.extension-one.ensures.slot c.extension-one.ensures.tail c.extension-one.ensures.entries c.extension-one.ensures.fresh c.extension-two.ensures.slot c.extension-two.ensures.tail c.extension-two.ensures.entries c.extension-two.ensures.fresh) in
+    let owed = (owes_two c.in_ok-blocks.ensures.ready.0 c.in_ok-blocks.ensures.ready.1 c.requires.stands c.requires.other_stands c.in_ok-blocks.ensures.taken.each c.in_ok-blocks.ensures.taken.count_is c.requires.apart c.requires.given.0 c.requires.given.1 c.blocks_for-count.ensures c.deref.ensures.value c.split_at.ensures.front c.split_at.ensures.back c.extension-one.result c.extension-two.result c.extension-one.ensures.slot c.extension-one.ensures.tail c.extension-one.ensures.entries c.extension-one.ensures.fresh c.extension-two.ensures.slot c.extension-two.ensures.tail c.extension-two.ensures.entries c.extension-two.ensures.fresh) in
     has_room owed.one c.extension-one.ensures.fresh
 
 pub settle_log-requires-2 : goal.settle_log-requires-2
 settle_log-requires-2 g c =
-    let owed = (owes_two c.in_ok-blocks.ensures.ready c.in_ok-blocks.ensures.other_ready c.requires.stands c.requires.other_stands c.in_ok-blocks.ensures.taken c.in_ok-blocks.ensures.count c.requires.apart c.requires.given c.requires.more_given c.blocks_for-count.ensures c.deref.ensures.value c.split_at.ensures.front c.split_at.ensures.back c.extension-one.result c.extension-two.result c.extension-one.ensures.slot c.extension-one.ensures.tail c.extension-one.ensures.entries c.extension-one.ensures.fresh c.extension-two.ensures.slot c.extension-two.ensures.tail c.extension-two.ensures.entries c.extension-two.ensures.fresh) in
+    let owed = (owes_two c.in_ok-blocks.ensures.ready.0 c.in_ok-blocks.ensures.ready.1 c.requires.stands c.requires.other_stands c.in_ok-blocks.ensures.taken.each c.in_ok-blocks.ensures.taken.count_is c.requires.apart c.requires.given.0 c.requires.given.1 c.blocks_for-count.ensures c.deref.ensures.value c.split_at.ensures.front c.split_at.ensures.back c.extension-one.result c.extension-two.result c.extension-one.ensures.slot c.extension-one.ensures.tail c.extension-one.ensures.entries c.extension-one.ensures.fresh c.extension-two.ensures.slot c.extension-two.ensures.tail c.extension-two.ensures.entries c.extension-two.ensures.fresh) in
     has_room owed.two c.extension-two.ensures.fresh
 
 pub returns-clause-appended : goal.returns-clause-appended
 returns-clause-appended g c =
     let ends = c.in-Ok.ensures.ends in
-    appends_less (owes_two c.in_ok-blocks.ensures.ready c.in_ok-blocks.ensures.other_ready c.requires.stands c.requires.other_stands c.in_ok-blocks.ensures.taken c.in_ok-blocks.ensures.count c.requires.apart c.requires.given c.requires.more_given c.blocks_for-count.ensures c.deref.ensures.value c.split_at.ensures.front c.split_at.ensures.back c.extension-one.result c.extension-two.result c.extension-one.ensures.slot c.extension-one.ensures.tail c.extension-one.ensures.entries c.extension-one.ensures.fresh c.extension-two.ensures.slot c.extension-two.ensures.tail c.extension-two.ensures.entries c.extension-two.ensures.fresh) c.args.gone.inode c.slot_of_row-slot.result c.requires.number c.slot_of_row-slot.ensures.value c.requires.differ c.requires.other_differs
+    appends_less (owes_two c.in_ok-blocks.ensures.ready.0 c.in_ok-blocks.ensures.ready.1 c.requires.stands c.requires.other_stands c.in_ok-blocks.ensures.taken.each c.in_ok-blocks.ensures.taken.count_is c.requires.apart c.requires.given.0 c.requires.given.1 c.blocks_for-count.ensures c.deref.ensures.value c.split_at.ensures.front c.split_at.ensures.back c.extension-one.result c.extension-two.result c.extension-one.ensures.slot c.extension-one.ensures.tail c.extension-one.ensures.entries c.extension-one.ensures.fresh c.extension-two.ensures.slot c.extension-two.ensures.tail c.extension-two.ensures.entries c.extension-two.ensures.fresh) c.args.gone.inode c.slot_of_row-slot.result c.requires.number c.slot_of_row-slot.ensures.value c.requires.differ c.requires.other_differs
     c.settle_log.ensures c.extension-one.ensures.fresh ends.0 c.settle_log-2.ensures c.extension-two.ensures.fresh ends.1 (λ held a b h k can. c.in-Ok.ensures.shows c.args.tables.now.layout held a b c.args.gone.inode h k can) c.replace_inode.ensures.kept.wrote.mixed
-
-pub returns-clause-rooms : goal.returns-clause-rooms
-returns-clause-rooms g c = (
-  let ready = c.in_ok-blocks.ensures.other_ready in
-      let grown = c.settle_log-2.ensures in
-      subst (λ (names : Names). c.args.second.now.names ≤ names.room) (sym grown.names) ready.names_room,
-  c.in_ok-blocks.ensures.room,
-)
 
 pub returns-clause-needs : goal.returns-clause-needs
 returns-clause-needs g c =
     record {
-      enough = c.in_ok-blocks.ensures.needs.enough;
-      refused = tt;
+      needs = record {
+        enough = c.in_ok-blocks.ensures.needs.enough;
+        refused = tt;
+      };
+      room = (
+        let ready = c.in_ok-blocks.ensures.ready.1 in
+            let grown = c.settle_log-2.ensures in
+            subst (λ (names : Names). c.args.second.now.names ≤ names.room) (sym grown.names) ready.names_room,
+        c.in_ok-blocks.ensures.room,
+      );
     }
 
 pub returns-clause-kept : goal.returns-clause-kept
@@ -92,9 +90,9 @@ returns-clause-kept g c =
     record {
       keeps = record {
         stopped = tt;
-        lists = taken_sup c.in_ok-blocks.ensures.taken;
+        lists = taken_sup c.in_ok-blocks.ensures.taken.each;
         length = mixed_size c.replace_inode.ensures.kept.wrote.mixed;
-        keeps_fuse = keeps_within (less_within (owes_two c.in_ok-blocks.ensures.ready c.in_ok-blocks.ensures.other_ready c.requires.stands c.requires.other_stands c.in_ok-blocks.ensures.taken c.in_ok-blocks.ensures.count c.requires.apart c.requires.given c.requires.more_given c.blocks_for-count.ensures c.deref.ensures.value c.split_at.ensures.front c.split_at.ensures.back c.extension-one.result c.extension-two.result c.extension-one.ensures.slot c.extension-one.ensures.tail c.extension-one.ensures.entries c.extension-one.ensures.fresh c.extension-two.ensures.slot c.extension-two.ensures.tail c.extension-two.ensures.entries c.extension-two.ensures.fresh) c.args.gone.inode c.slot_of_row-slot.result c.requires.number c.slot_of_row-slot.ensures.value) c.replace_inode.ensures.kept.keeps_fuse;
+        keeps_fuse = keeps_within (less_within (owes_two c.in_ok-blocks.ensures.ready.0 c.in_ok-blocks.ensures.ready.1 c.requires.stands c.requires.other_stands c.in_ok-blocks.ensures.taken.each c.in_ok-blocks.ensures.taken.count_is c.requires.apart c.requires.given.0 c.requires.given.1 c.blocks_for-count.ensures c.deref.ensures.value c.split_at.ensures.front c.split_at.ensures.back c.extension-one.result c.extension-two.result c.extension-one.ensures.slot c.extension-one.ensures.tail c.extension-one.ensures.entries c.extension-one.ensures.fresh c.extension-two.ensures.slot c.extension-two.ensures.tail c.extension-two.ensures.entries c.extension-two.ensures.fresh) c.args.gone.inode c.slot_of_row-slot.result c.requires.number c.slot_of_row-slot.ensures.value) c.replace_inode.ensures.kept.keeps_fuse;
       };
       settled = c.in-Ok.ensures.kept.settled;
     }
@@ -108,14 +106,14 @@ returns-clause-inodes g c = (c.settle_log.ensures.inode ∙ c.in_ok-blocks.ensur
 pub returns-in_default-clause-appended : goal.returns-in_default-clause-appended
 returns-in_default-clause-appended g c = tt
 
-pub returns-in_default-clause-rooms : goal.returns-in_default-clause-rooms
-returns-in_default-clause-rooms g c = tt
-
 pub returns-in_default-clause-needs : goal.returns-in_default-clause-needs
 returns-in_default-clause-needs g c =
     record {
-      enough = tt;
-      refused = inr (inl refl);
+      needs = record {
+        enough = tt;
+        refused = inr (inl refl);
+      };
+      room = tt;
     }
 
 pub returns-in_default-clause-kept : goal.returns-in_default-clause-kept
@@ -123,9 +121,9 @@ returns-in_default-clause-kept g c =
     record {
       keeps = record {
         stopped = grind (arith, common_steps);
-        lists = taken_sup c.in_ok-blocks.ensures.taken;
+        lists = taken_sup c.in_ok-blocks.ensures.taken.each;
         length = mixed_size c.replace_inode.ensures.kept.wrote.mixed;
-        keeps_fuse = keeps_within (less_within (owes_two c.in_ok-blocks.ensures.ready c.in_ok-blocks.ensures.other_ready c.requires.stands c.requires.other_stands c.in_ok-blocks.ensures.taken c.in_ok-blocks.ensures.count c.requires.apart c.requires.given c.requires.more_given c.blocks_for-count.ensures c.deref.ensures.value c.split_at.ensures.front c.split_at.ensures.back c.extension-one.result c.extension-two.result c.extension-one.ensures.slot c.extension-one.ensures.tail c.extension-one.ensures.entries c.extension-one.ensures.fresh c.extension-two.ensures.slot c.extension-two.ensures.tail c.extension-two.ensures.entries c.extension-two.ensures.fresh) c.args.gone.inode c.slot_of_row-slot.result c.requires.number c.slot_of_row-slot.ensures.value) c.replace_inode.ensures.kept.keeps_fuse;
+        keeps_fuse = keeps_within (less_within (owes_two c.in_ok-blocks.ensures.ready.0 c.in_ok-blocks.ensures.ready.1 c.requires.stands c.requires.other_stands c.in_ok-blocks.ensures.taken.each c.in_ok-blocks.ensures.taken.count_is c.requires.apart c.requires.given.0 c.requires.given.1 c.blocks_for-count.ensures c.deref.ensures.value c.split_at.ensures.front c.split_at.ensures.back c.extension-one.result c.extension-two.result c.extension-one.ensures.slot c.extension-one.ensures.tail c.extension-one.ensures.entries c.extension-one.ensures.fresh c.extension-two.ensures.slot c.extension-two.ensures.tail c.extension-two.ensures.entries c.extension-two.ensures.fresh) c.args.gone.inode c.slot_of_row-slot.result c.requires.number c.slot_of_row-slot.ensures.value) c.replace_inode.ensures.kept.keeps_fuse;
       };
       settled = tt;
     }
@@ -138,44 +136,44 @@ returns-in_default-clause-inodes g c = (c.in_ok-blocks.ensures.rows.0.inode, c.i
 
 pub returns-clause-wrote : goal.returns-clause-wrote
 returns-clause-wrote g c held h k here there =
-    less_stored (owes_two c.in_ok-blocks.ensures.ready c.in_ok-blocks.ensures.other_ready c.requires.stands c.requires.other_stands c.in_ok-blocks.ensures.taken c.in_ok-blocks.ensures.count c.requires.apart c.requires.given c.requires.more_given c.blocks_for-count.ensures c.deref.ensures.value c.split_at.ensures.front c.split_at.ensures.back c.extension-one.result c.extension-two.result c.extension-one.ensures.slot c.extension-one.ensures.tail c.extension-one.ensures.entries c.extension-one.ensures.fresh c.extension-two.ensures.slot c.extension-two.ensures.tail c.extension-two.ensures.entries c.extension-two.ensures.fresh) c.args.gone.inode c.slot_of_row-slot.result c.requires.number c.slot_of_row-slot.ensures.value c.requires.differ c.requires.other_differs here there c.replace_inode.ensures.kept.wrote.mixed
+    less_stored (owes_two c.in_ok-blocks.ensures.ready.0 c.in_ok-blocks.ensures.ready.1 c.requires.stands c.requires.other_stands c.in_ok-blocks.ensures.taken.each c.in_ok-blocks.ensures.taken.count_is c.requires.apart c.requires.given.0 c.requires.given.1 c.blocks_for-count.ensures c.deref.ensures.value c.split_at.ensures.front c.split_at.ensures.back c.extension-one.result c.extension-two.result c.extension-one.ensures.slot c.extension-one.ensures.tail c.extension-one.ensures.entries c.extension-one.ensures.fresh c.extension-two.ensures.slot c.extension-two.ensures.tail c.extension-two.ensures.entries c.extension-two.ensures.fresh) c.args.gone.inode c.slot_of_row-slot.result c.requires.number c.slot_of_row-slot.ensures.value c.requires.differ c.requires.other_differs here there c.replace_inode.ensures.kept.wrote.mixed
 
 pub returns-clause-in_order : goal.returns-clause-in_order
 returns-clause-in_order g c held h k here there =
-    less_ordered (owes_two c.in_ok-blocks.ensures.ready c.in_ok-blocks.ensures.other_ready c.requires.stands c.requires.other_stands c.in_ok-blocks.ensures.taken c.in_ok-blocks.ensures.count c.requires.apart c.requires.given c.requires.more_given c.blocks_for-count.ensures c.deref.ensures.value c.split_at.ensures.front c.split_at.ensures.back c.extension-one.result c.extension-two.result c.extension-one.ensures.slot c.extension-one.ensures.tail c.extension-one.ensures.entries c.extension-one.ensures.fresh c.extension-two.ensures.slot c.extension-two.ensures.tail c.extension-two.ensures.entries c.extension-two.ensures.fresh) c.args.gone.inode c.slot_of_row-slot.result c.requires.number c.slot_of_row-slot.ensures.value c.requires.differ c.requires.other_differs here there
+    less_ordered (owes_two c.in_ok-blocks.ensures.ready.0 c.in_ok-blocks.ensures.ready.1 c.requires.stands c.requires.other_stands c.in_ok-blocks.ensures.taken.each c.in_ok-blocks.ensures.taken.count_is c.requires.apart c.requires.given.0 c.requires.given.1 c.blocks_for-count.ensures c.deref.ensures.value c.split_at.ensures.front c.split_at.ensures.back c.extension-one.result c.extension-two.result c.extension-one.ensures.slot c.extension-one.ensures.tail c.extension-one.ensures.entries c.extension-one.ensures.fresh c.extension-two.ensures.slot c.extension-two.ensures.tail c.extension-two.ensures.entries c.extension-two.ensures.fresh) c.args.gone.inode c.slot_of_row-slot.result c.requires.number c.slot_of_row-slot.ensures.value c.requires.differ c.requires.other_differs here there
     (λ a b f e can. c.replace_inode.ensures.in_order c.args.tables.now.layout held a b c.args.gone.inode f e can)
 
 pub returns-clause-any_stop : goal.returns-clause-any_stop
 returns-clause-any_stop g c held h k here there settled =
-    left_less (owes_two c.in_ok-blocks.ensures.ready c.in_ok-blocks.ensures.other_ready c.requires.stands c.requires.other_stands c.in_ok-blocks.ensures.taken c.in_ok-blocks.ensures.count c.requires.apart c.requires.given c.requires.more_given c.blocks_for-count.ensures c.deref.ensures.value c.split_at.ensures.front c.split_at.ensures.back c.extension-one.result c.extension-two.result c.extension-one.ensures.slot c.extension-one.ensures.tail c.extension-one.ensures.entries c.extension-one.ensures.fresh c.extension-two.ensures.slot c.extension-two.ensures.tail c.extension-two.ensures.entries c.extension-two.ensures.fresh) c.args.gone.inode c.slot_of_row-slot.result c.requires.number c.slot_of_row-slot.ensures.value c.requires.differ c.requires.other_differs here there _ _ _ c.replace_inode.ensures.kept.wrote settled
+    left_less (owes_two c.in_ok-blocks.ensures.ready.0 c.in_ok-blocks.ensures.ready.1 c.requires.stands c.requires.other_stands c.in_ok-blocks.ensures.taken.each c.in_ok-blocks.ensures.taken.count_is c.requires.apart c.requires.given.0 c.requires.given.1 c.blocks_for-count.ensures c.deref.ensures.value c.split_at.ensures.front c.split_at.ensures.back c.extension-one.result c.extension-two.result c.extension-one.ensures.slot c.extension-one.ensures.tail c.extension-one.ensures.entries c.extension-one.ensures.fresh c.extension-two.ensures.slot c.extension-two.ensures.tail c.extension-two.ensures.entries c.extension-two.ensures.fresh) c.args.gone.inode c.slot_of_row-slot.result c.requires.number c.slot_of_row-slot.ensures.value c.requires.differ c.requires.other_differs here there _ _ _ c.replace_inode.ensures.kept.wrote settled
     (λ a b f e can pending. (c.replace_inode.ensures.moments c.args.tables.now.layout held a b c.args.gone.inode f e can).any_stop pending)
 
 pub returns-in_default-clause-wrote : goal.returns-in_default-clause-wrote
 returns-in_default-clause-wrote g c held h k here there =
-    less_stored (owes_two c.in_ok-blocks.ensures.ready c.in_ok-blocks.ensures.other_ready c.requires.stands c.requires.other_stands c.in_ok-blocks.ensures.taken c.in_ok-blocks.ensures.count c.requires.apart c.requires.given c.requires.more_given c.blocks_for-count.ensures c.deref.ensures.value c.split_at.ensures.front c.split_at.ensures.back c.extension-one.result c.extension-two.result c.extension-one.ensures.slot c.extension-one.ensures.tail c.extension-one.ensures.entries c.extension-one.ensures.fresh c.extension-two.ensures.slot c.extension-two.ensures.tail c.extension-two.ensures.entries c.extension-two.ensures.fresh) c.args.gone.inode c.slot_of_row-slot.result c.requires.number c.slot_of_row-slot.ensures.value c.requires.differ c.requires.other_differs here there c.replace_inode.ensures.kept.wrote.mixed
+    less_stored (owes_two c.in_ok-blocks.ensures.ready.0 c.in_ok-blocks.ensures.ready.1 c.requires.stands c.requires.other_stands c.in_ok-blocks.ensures.taken.each c.in_ok-blocks.ensures.taken.count_is c.requires.apart c.requires.given.0 c.requires.given.1 c.blocks_for-count.ensures c.deref.ensures.value c.split_at.ensures.front c.split_at.ensures.back c.extension-one.result c.extension-two.result c.extension-one.ensures.slot c.extension-one.ensures.tail c.extension-one.ensures.entries c.extension-one.ensures.fresh c.extension-two.ensures.slot c.extension-two.ensures.tail c.extension-two.ensures.entries c.extension-two.ensures.fresh) c.args.gone.inode c.slot_of_row-slot.result c.requires.number c.slot_of_row-slot.ensures.value c.requires.differ c.requires.other_differs here there c.replace_inode.ensures.kept.wrote.mixed
 
 pub returns-in_default-clause-in_order : goal.returns-in_default-clause-in_order
 returns-in_default-clause-in_order g c held h k here there =
-    less_ordered (owes_two c.in_ok-blocks.ensures.ready c.in_ok-blocks.ensures.other_ready c.requires.stands c.requires.other_stands c.in_ok-blocks.ensures.taken c.in_ok-blocks.ensures.count c.requires.apart c.requires.given c.requires.more_given c.blocks_for-count.ensures c.deref.ensures.value c.split_at.ensures.front c.split_at.ensures.back c.extension-one.result c.extension-two.result c.extension-one.ensures.slot c.extension-one.ensures.tail c.extension-one.ensures.entries c.extension-one.ensures.fresh c.extension-two.ensures.slot c.extension-two.ensures.tail c.extension-two.ensures.entries c.extension-two.ensures.fresh) c.args.gone.inode c.slot_of_row-slot.result c.requires.number c.slot_of_row-slot.ensures.value c.requires.differ c.requires.other_differs here there
+    less_ordered (owes_two c.in_ok-blocks.ensures.ready.0 c.in_ok-blocks.ensures.ready.1 c.requires.stands c.requires.other_stands c.in_ok-blocks.ensures.taken.each c.in_ok-blocks.ensures.taken.count_is c.requires.apart c.requires.given.0 c.requires.given.1 c.blocks_for-count.ensures c.deref.ensures.value c.split_at.ensures.front c.split_at.ensures.back c.extension-one.result c.extension-two.result c.extension-one.ensures.slot c.extension-one.ensures.tail c.extension-one.ensures.entries c.extension-one.ensures.fresh c.extension-two.ensures.slot c.extension-two.ensures.tail c.extension-two.ensures.entries c.extension-two.ensures.fresh) c.args.gone.inode c.slot_of_row-slot.result c.requires.number c.slot_of_row-slot.ensures.value c.requires.differ c.requires.other_differs here there
     (λ a b f e can. c.replace_inode.ensures.in_order c.args.tables.now.layout held a b c.args.gone.inode f e can)
 
 pub returns-in_default-clause-any_stop : goal.returns-in_default-clause-any_stop
 returns-in_default-clause-any_stop g c held h k here there settled =
-    left_less (owes_two c.in_ok-blocks.ensures.ready c.in_ok-blocks.ensures.other_ready c.requires.stands c.requires.other_stands c.in_ok-blocks.ensures.taken c.in_ok-blocks.ensures.count c.requires.apart c.requires.given c.requires.more_given c.blocks_for-count.ensures c.deref.ensures.value c.split_at.ensures.front c.split_at.ensures.back c.extension-one.result c.extension-two.result c.extension-one.ensures.slot c.extension-one.ensures.tail c.extension-one.ensures.entries c.extension-one.ensures.fresh c.extension-two.ensures.slot c.extension-two.ensures.tail c.extension-two.ensures.entries c.extension-two.ensures.fresh) c.args.gone.inode c.slot_of_row-slot.result c.requires.number c.slot_of_row-slot.ensures.value c.requires.differ c.requires.other_differs here there _ _ _ c.replace_inode.ensures.kept.wrote settled
+    left_less (owes_two c.in_ok-blocks.ensures.ready.0 c.in_ok-blocks.ensures.ready.1 c.requires.stands c.requires.other_stands c.in_ok-blocks.ensures.taken.each c.in_ok-blocks.ensures.taken.count_is c.requires.apart c.requires.given.0 c.requires.given.1 c.blocks_for-count.ensures c.deref.ensures.value c.split_at.ensures.front c.split_at.ensures.back c.extension-one.result c.extension-two.result c.extension-one.ensures.slot c.extension-one.ensures.tail c.extension-one.ensures.entries c.extension-one.ensures.fresh c.extension-two.ensures.slot c.extension-two.ensures.tail c.extension-two.ensures.entries c.extension-two.ensures.fresh) c.args.gone.inode c.slot_of_row-slot.result c.requires.number c.slot_of_row-slot.ensures.value c.requires.differ c.requires.other_differs here there _ _ _ c.replace_inode.ensures.kept.wrote settled
     (λ a b f e can pending. (c.replace_inode.ensures.moments c.args.tables.now.layout held a b c.args.gone.inode f e can).any_stop pending)
 
 pub returns-in_err-blocks-clause-appended : goal.returns-in_err-blocks-clause-appended
 returns-in_err-blocks-clause-appended g c = IfOk-from_err c.from_residual.result _ c.from_residual.ensures.0
 
-pub returns-in_err-blocks-clause-rooms : goal.returns-in_err-blocks-clause-rooms
-returns-in_err-blocks-clause-rooms g c = IfOk-from_err c.from_residual.result _ c.from_residual.ensures.0
-
 pub returns-in_err-blocks-clause-needs : goal.returns-in_err-blocks-clause-needs
 returns-in_err-blocks-clause-needs g c =
     record {
-      enough = IfOk-from_err c.from_residual.result _ c.from_residual.ensures.0;
-      refused = let w = err_from_is_err_and c.from_residual.result c.from_residual.ensures.1 in
-          refused_by c.from_residual.result c.in_err-blocks.field-0.0 w.0 (λ (e : Refusal). RefusesStep e (needed (c.args.row.now.tail % 4096) c.args.first.now.entries.now + needed (c.args.other.now.tail % 4096) c.args.second.now.entries.now) c.args.free.now) w.1 w.2 c.in_err-blocks.ensures.needs.refused;
+      needs = record {
+        enough = IfOk-from_err c.from_residual.result _ c.from_residual.ensures.0;
+        refused = let w = err_from_is_err_and c.from_residual.result c.from_residual.ensures.1 in
+            refused_by c.from_residual.result c.in_err-blocks.field-0.0 w.0 (λ (e : Refusal). RefusesStep e (needed (c.args.row.now.tail % 4096) c.args.first.now.entries.now + needed (c.args.other.now.tail % 4096) c.args.second.now.entries.now) c.args.free.now) w.1 w.2 c.in_err-blocks.ensures.needs.refused;
+      };
+      room = IfOk-from_err c.from_residual.result _ c.from_residual.ensures.0;
     }
 
 pub returns-in_err-blocks-clause-kept : goal.returns-in_err-blocks-clause-kept

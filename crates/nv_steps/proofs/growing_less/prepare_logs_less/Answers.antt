@@ -9,13 +9,12 @@ use Rattle.nv_steps.proofs.Reserved.{refused_since, same_since, taken_since}
 use Rattle.nv_steps.proofs.growing_less.prepare_logs_less.Goals as goal
 
 pub prepare_logs-requires : goal.prepare_logs-requires
-prepare_logs-requires c = record { cpu = subst (λ (s : Super). c.args.cpu < s.cpus) (sym c.reserve.ensures.same.sup) c.requires.cpu; few = c.requires.few; more_few = c.requires.more_few }
+prepare_logs-requires c =
+    record { cpu = subst (λ (s : Super). c.args.cpu < s.cpus) (sym c.reserve.ensures.same.sup) c.requires.cpu; few = (c.requires.few.0, c.requires.few.1) }
 
 pub returns-clause-taken : goal.returns-clause-taken
-returns-clause-taken c = IfOk-weaker c.prepare_logs.result _ _ (λ blocks taken. taken_since c.reserve.ensures.same taken) c.prepare_logs.ensures.taken
-
-pub returns-clause-count : goal.returns-clause-count
-returns-clause-count c = c.prepare_logs.ensures.count
+returns-clause-taken c =
+    IfOk-weaker c.prepare_logs.result _ _ (λ blocks taken. record { each = taken_since c.reserve.ensures.same taken.each; count_is = taken.count_is }) c.prepare_logs.ensures.taken
 
 pub returns-clause-needs : goal.returns-clause-needs
 returns-clause-needs c =
@@ -41,14 +40,8 @@ returns-clause-rows c = (c.prepare_logs.ensures.rows.0, c.prepare_logs.ensures.r
 pub returns-clause-ready : goal.returns-clause-ready
 returns-clause-ready c = c.prepare_logs.ensures.ready
 
-pub returns-clause-other_ready : goal.returns-clause-other_ready
-returns-clause-other_ready c = c.prepare_logs.ensures.other_ready
-
 pub returns-then-is_err-clause-taken : goal.returns-then-is_err-clause-taken
 returns-then-is_err-clause-taken c = tt
-
-pub returns-then-is_err-clause-count : goal.returns-then-is_err-clause-count
-returns-then-is_err-clause-count c = tt
 
 pub returns-then-is_err-clause-needs : goal.returns-then-is_err-clause-needs
 returns-then-is_err-clause-needs c =
@@ -62,9 +55,6 @@ returns-then-is_err-clause-room c = tt
 
 pub returns-then-is_err-clause-ready : goal.returns-then-is_err-clause-ready
 returns-then-is_err-clause-ready c = tt
-
-pub returns-then-is_err-clause-other_ready : goal.returns-then-is_err-clause-other_ready
-returns-then-is_err-clause-other_ready c = tt
 
 pub returns-then-is_err-clause-goes_on : goal.returns-then-is_err-clause-goes_on
 returns-then-is_err-clause-goes_on c = memory_goes_on

@@ -28,68 +28,61 @@ prepare_three-requires-clause-cpu g c =
     subst (λ (s : Super). c.args.cpu < s.cpus) (sym stands.lists) can.cpu_below
 
 pub prepare_three-requires-clause-few : goal.prepare_three-requires-clause-few
-prepare_three-requires-clause-few g c = c.requires.given.few
-
-pub prepare_three-requires-clause-more_few : goal.prepare_three-requires-clause-more_few
-prepare_three-requires-clause-more_few g c = c.requires.more_given.few
-
-pub prepare_three-requires-clause-last_few : goal.prepare_three-requires-clause-last_few
-prepare_three-requires-clause-last_few g c = c.requires.last_given.few
+prepare_three-requires-clause-few g c = (c.requires.given.0.few, c.requires.given.1.few, c.requires.given.2.few)
 
 pub extend_three-requires-clause-empty : goal.extend_three-requires-clause-empty
 extend_three-requires-clause-empty g c = let can = c.requires.stands.1 in can.journal_empty
 
 pub extend_three-requires-clause-first : goal.extend_three-requires-clause-first
 extend_three-requires-clause-first g c =
-    let owed = (owes_three c.in_ok-blocks.ensures.ready c.in_ok-blocks.ensures.other_ready c.in_ok-blocks.ensures.last_ready c.requires.stands c.requires.other_stands c.requires.last_stands c.in_ok-blocks.ensures.taken c.in_ok-blocks.ensures.count c.requires.apart c.requires.given c.requires.more_given c.requires.last_given c.blocks_for-count.ensures c.deref.ensures.value c.split_at.ensures.front c.split_at.ensures.back c.blocks_for-next.ensures c.split_at-2.ensures.front c.split_at-2.ensures.back c.extension-one.result c.extension-two.result c.extension-three.result c.extension-one.ensures.slot c.extension-one.ensures.tail c.extension-one.ensures.entries c.extension-one.ensures.fresh c.extension-two.ensures.slot c.extension-two.ensures.tail c.extension-two.ensures.entries c.extension-two.ensures.fresh c.extension-three.ensures.slot c.extension-three.ensures.tail c.extension-three.ensures.entries c.extension-three.ensures.fresh) in
+    let owed = (owes_three c.in_ok-blocks.ensures.ready.0 c.in_ok-blocks.ensures.ready.1 c.in_ok-blocks.ensures.ready.2 c.requires.stands c.requires.other_stands c.requires.last_stands c.in_ok-blocks.ensures.taken.each c.in_ok-blocks.ensures.taken.count_is c.requires.apart c.requires.given.0 c.requires.given.1 c.requires.given.2 c.blocks_for-count.ensures c.deref.ensures.value c.split_at.ensures.front c.split_at.ensures.back c.blocks_for-next.ensures c.split_at-2.ensures.front c.split_at-2.ensures.back c.extension-one.result c.extension-two.result c.extension-three.result c.extension-one.ensures.slot c.extension-one.ensures.tail c.extension-one.ensures.entries c.extension-one.ensures.fresh c.extension-two.ensures.slot c.extension-two.ensures.tail c.extension-two.ensures.entries c.extension-two.ensures.fresh c.extension-three.ensures.slot c.extension-three.ensures.tail c.extension-three.ensures.entries c.extension-three.ensures.fresh) in
     let both = owed.both in
     commits both.one
 
 pub extend_three-requires-clause-second : goal.extend_three-requires-clause-second
 extend_three-requires-clause-second g c =
-    let owed = (owes_three c.in_ok-blocks.ensures.ready c.in_ok-blocks.ensures.other_ready c.in_ok-blocks.ensures.last_ready c.requires.stands c.requires.other_stands c.requires.last_stands c.in_ok-blocks.ensures.taken c.in_ok-blocks.ensures.count c.requires.apart c.requires.given c.requires.more_given c.requires.last_given c.blocks_for-count.ensures c.deref.ensures.value c.split_at.ensures.front c.split_at.ensures.back c.blocks_for-next.ensures c.split_at-2.ensures.front c.split_at-2.ensures.back c.extension-one.result c.extension-two.result c.extension-three.result c.extension-one.ensures.slot c.extension-one.ensures.tail c.extension-one.ensures.entries c.extension-one.ensures.fresh c.extension-two.ensures.slot c.extension-two.ensures.tail c.extension-two.ensures.entries c.extension-two.ensures.fresh c.extension-three.ensures.slot c.extension-three.ensures.tail c.extension-three.ensures.entries c.extension-three.ensures.fresh) in
+    let owed = (owes_three c.in_ok-blocks.ensures.ready.0 c.in_ok-blocks.ensures.ready.1 c.in_ok-blocks.ensures.ready.2 c.requires.stands c.requires.other_stands c.requires.last_stands c.in_ok-blocks.ensures.taken.each c.in_ok-blocks.ensures.taken.count_is c.requires.apart c.requires.given.0 c.requires.given.1 c.requires.given.2 c.blocks_for-count.ensures c.deref.ensures.value c.split_at.ensures.front c.split_at.ensures.back c.blocks_for-next.ensures c.split_at-2.ensures.front c.split_at-2.ensures.back c.extension-one.result c.extension-two.result c.extension-three.result c.extension-one.ensures.slot c.extension-one.ensures.tail c.extension-one.ensures.entries c.extension-one.ensures.fresh c.extension-two.ensures.slot c.extension-two.ensures.tail c.extension-two.ensures.entries c.extension-two.ensures.fresh c.extension-three.ensures.slot c.extension-three.ensures.tail c.extension-three.ensures.entries c.extension-three.ensures.fresh) in
     let both = owed.both in
     commits both.two
 
 pub extend_three-requires-clause-third : goal.extend_three-requires-clause-third
 extend_three-requires-clause-third g c =
-    let owed = (owes_three c.in_ok-blocks.ensures.ready c.in_ok-blocks.ensures.other_ready c.in_ok-blocks.ensures.last_ready c.requires.stands c.requires.other_stands c.requires.last_stands c.in_ok-blocks.ensures.taken c.in_ok-blocks.ensures.count c.requires.apart c.requires.given c.requires.more_given c.requires.last_given c.blocks_for-count.ensures c.deref.ensures.value c.split_at.ensures.front c.split_at.ensures.back c.blocks_for-next.ensures c.split_at-2.ensures.front c.split_at-2.ensures.back c.extension-one.result c.extension-two.result c.extension-three.result c.extension-one.ensures.slot c.extension-one.ensures.tail c.extension-one.ensures.entries c.extension-one.ensures.fresh c.extension-two.ensures.slot c.extension-two.ensures.tail c.extension-two.ensures.entries c.extension-two.ensures.fresh c.extension-three.ensures.slot c.extension-three.ensures.tail c.extension-three.ensures.entries c.extension-three.ensures.fresh) in
+    let owed = (owes_three c.in_ok-blocks.ensures.ready.0 c.in_ok-blocks.ensures.ready.1 c.in_ok-blocks.ensures.ready.2 c.requires.stands c.requires.other_stands c.requires.last_stands c.in_ok-blocks.ensures.taken.each c.in_ok-blocks.ensures.taken.count_is c.requires.apart c.requires.given.0 c.requires.given.1 c.requires.given.2 c.blocks_for-count.ensures c.deref.ensures.value c.split_at.ensures.front c.split_at.ensures.back c.blocks_for-next.ensures c.split_at-2.ensures.front c.split_at-2.ensures.back c.extension-one.result c.extension-two.result c.extension-three.result c.extension-one.ensures.slot c.extension-one.ensures.tail c.extension-one.ensures.entries c.extension-one.ensures.fresh c.extension-two.ensures.slot c.extension-two.ensures.tail c.extension-two.ensures.entries c.extension-two.ensures.fresh c.extension-three.ensures.slot c.extension-three.ensures.tail c.extension-three.ensures.entries c.extension-three.ensures.fresh) in
     commits owed.three
 
 pub settle_log-requires : goal.settle_log-requires
 settle_log-requires g c =
-    let owed = (owes_three c.in_ok-blocks.ensures.ready c.in_ok-blocks.ensures.other_ready c.in_ok-blocks.ensures.last_ready c.requires.stands c.requires.other_stands c.requires.last_stands c.in_ok-blocks.ensures.taken c.in_ok-blocks.ensures.count c.requires.apart c.requires.given c.requires.more_given c.requires.last_given c.blocks_for-count.ensures c.deref.ensures.value c.split_at.ensures.front c.split_at.ensures.back c.blocks_for-next.ensures c.split_at-2.ensures.front c.split_at-2.ensures.back c.extension-one.result c.extension-two.result c.extension-three.result c.extension-one.ensures.slot c.extension-one.ensures.tail c.extension-one.ensures.entries c.extension-one.ensures.fresh c.extension-two.ensures.slot c.extension-two.ensures.tail c.extension-two.ensures.entries c.extension-two.ensures.fresh c.extension-three.ensures.slot c.extension-three.ensures.tail c.extension-three.ensures.entries c.extension-three.ensures.fresh) in
+    let owed = (owes_three c.in_ok-blocks.ensures.ready.0 c.in_ok-blocks.ensures.ready.1 c.in_ok-blocks.ensures.ready.2 c.requires.stands c.requires.other_stands c.requires.last_stands c.in_ok-blocks.ensures.taken.each c.in_ok-blocks.ensures.taken.count_is c.requires.apart c.requires.given.0 c.requires.given.1 c.requires.given.2 c.blocks_for-count.ensures c.deref.ensures.value c.split_at.ensures.front c.split_at.ensures.back c.blocks_for-next.ensures c.split_at-2.ensures.front c.split_at-2.ensures.back c.extension-one.result c.extension-two.result c.extension-three.result c.extension-one.ensures.slot c.extension-one.ensures.tail c.extension-one.ensures.entries c.extension-one.ensures.fresh c.extension-two.ensures.slot c.extension-two.ensures.tail c.extension-two.ensures.entries c.extension-two.ensures.fresh c.extension-three.ensures.slot c.extension-three.ensures.tail c.extension-three.ensures.entries c.extension-three.ensures.fresh) in
     let both = owed.both in
     has_room both.one c.extension-one.ensures.fresh
 
 pub settle_log-requires-2 : goal.settle_log-requires-2
 settle_log-requires-2 g c =
-    let owed = (owes_three c.in_ok-blocks.ensures.ready c.in_ok-blocks.ensures.other_ready c.in_ok-blocks.ensures.last_ready c.requires.stands c.requires.other_stands c.requires.last_stands c.in_ok-blocks.ensures.taken c.in_ok-blocks.ensures.count c.requires.apart c.requires.given c.requires.more_given c.requires.last_given c.blocks_for-count.ensures c.deref.ensures.value c.split_at.ensures.front c.split_at.ensures.back c.blocks_for-next.ensures c.split_at-2.ensures.front c.split_at-2.ensures.back c.extension-one.result c.extension-two.result c.extension-three.result c.extension-one.ensures.slot c.extension-one.ensures.tail c.extension-one.ensures.entries c.extension-one.ensures.fresh c.extension-two.ensures.slot c.extension-two.ensures.tail c.extension-two.ensures.entries c.extension-two.ensures.fresh c.extension-three.ensures.slot c.extension-three.ensures.tail c.extension-three.ensures.entries c.extension-three.ensures.fresh) in
+    let owed = (owes_three c.in_ok-blocks.ensures.ready.0 c.in_ok-blocks.ensures.ready.1 c.in_ok-blocks.ensures.ready.2 c.requires.stands c.requires.other_stands c.requires.last_stands c.in_ok-blocks.ensures.taken.each c.in_ok-blocks.ensures.taken.count_is c.requires.apart c.requires.given.0 c.requires.given.1 c.requires.given.2 c.blocks_for-count.ensures c.deref.ensures.value c.split_at.ensures.front c.split_at.ensures.back c.blocks_for-next.ensures c.split_at-2.ensures.front c.split_at-2.ensures.back c.extension-one.result c.extension-two.result c.extension-three.result c.extension-one.ensures.slot c.extension-one.ensures.tail c.extension-one.ensures.entries c.extension-one.ensures.fresh c.extension-two.ensures.slot c.extension-two.ensures.tail c.extension-two.ensures.entries c.extension-two.ensures.fresh c.extension-three.ensures.slot c.extension-three.ensures.tail c.extension-three.ensures.entries c.extension-three.ensures.fresh) in
     let both = owed.both in
     has_room both.two c.extension-two.ensures.fresh
 
 pub settle_log-requires-3 : goal.settle_log-requires-3
 settle_log-requires-3 g c =
-    let owed = (owes_three c.in_ok-blocks.ensures.ready c.in_ok-blocks.ensures.other_ready c.in_ok-blocks.ensures.last_ready c.requires.stands c.requires.other_stands c.requires.last_stands c.in_ok-blocks.ensures.taken c.in_ok-blocks.ensures.count c.requires.apart c.requires.given c.requires.more_given c.requires.last_given c.blocks_for-count.ensures c.deref.ensures.value c.split_at.ensures.front c.split_at.ensures.back c.blocks_for-next.ensures c.split_at-2.ensures.front c.split_at-2.ensures.back c.extension-one.result c.extension-two.result c.extension-three.result c.extension-one.ensures.slot c.extension-one.ensures.tail c.extension-one.ensures.entries c.extension-one.ensures.fresh c.extension-two.ensures.slot c.extension-two.ensures.tail c.extension-two.ensures.entries c.extension-two.ensures.fresh c.extension-three.ensures.slot c.extension-three.ensures.tail c.extension-three.ensures.entries c.extension-three.ensures.fresh) in
+    let owed = (owes_three c.in_ok-blocks.ensures.ready.0 c.in_ok-blocks.ensures.ready.1 c.in_ok-blocks.ensures.ready.2 c.requires.stands c.requires.other_stands c.requires.last_stands c.in_ok-blocks.ensures.taken.each c.in_ok-blocks.ensures.taken.count_is c.requires.apart c.requires.given.0 c.requires.given.1 c.requires.given.2 c.blocks_for-count.ensures c.deref.ensures.value c.split_at.ensures.front c.split_at.ensures.back c.blocks_for-next.ensures c.split_at-2.ensures.front c.split_at-2.ensures.back c.extension-one.result c.extension-two.result c.extension-three.result c.extension-one.ensures.slot c.extension-one.ensures.tail c.extension-one.ensures.entries c.extension-one.ensures.fresh c.extension-two.ensures.slot c.extension-two.ensures.tail c.extension-two.ensures.entries c.extension-two.ensures.fresh c.extension-three.ensures.slot c.extension-three.ensures.tail c.extension-three.ensures.entries c.extension-three.ensures.fresh) in
     has_room owed.three c.extension-three.ensures.fresh
 
 pub returns-clause-appended : goal.returns-clause-appended
 returns-clause-appended g c =
     let ends = c.in-Ok.ensures.ends in
-    appends_three (owes_three c.in_ok-blocks.ensures.ready c.in_ok-blocks.ensures.other_ready c.in_ok-blocks.ensures.last_ready c.requires.stands c.requires.other_stands c.requires.last_stands c.in_ok-blocks.ensures.taken c.in_ok-blocks.ensures.count c.requires.apart c.requires.given c.requires.more_given c.requires.last_given c.blocks_for-count.ensures c.deref.ensures.value c.split_at.ensures.front c.split_at.ensures.back c.blocks_for-next.ensures c.split_at-2.ensures.front c.split_at-2.ensures.back c.extension-one.result c.extension-two.result c.extension-three.result c.extension-one.ensures.slot c.extension-one.ensures.tail c.extension-one.ensures.entries c.extension-one.ensures.fresh c.extension-two.ensures.slot c.extension-two.ensures.tail c.extension-two.ensures.entries c.extension-two.ensures.fresh c.extension-three.ensures.slot c.extension-three.ensures.tail c.extension-three.ensures.entries c.extension-three.ensures.fresh)
+    appends_three (owes_three c.in_ok-blocks.ensures.ready.0 c.in_ok-blocks.ensures.ready.1 c.in_ok-blocks.ensures.ready.2 c.requires.stands c.requires.other_stands c.requires.last_stands c.in_ok-blocks.ensures.taken.each c.in_ok-blocks.ensures.taken.count_is c.requires.apart c.requires.given.0 c.requires.given.1 c.requires.given.2 c.blocks_for-count.ensures c.deref.ensures.value c.split_at.ensures.front c.split_at.ensures.back c.blocks_for-next.ensures c.split_at-2.ensures.front c.split_at-2.ensures.back c.extension-one.result c.extension-two.result c.extension-three.result c.extension-one.ensures.slot c.extension-one.ensures.tail c.extension-one.ensures.entries c.extension-one.ensures.fresh c.extension-two.ensures.slot c.extension-two.ensures.tail c.extension-two.ensures.entries c.extension-two.ensures.fresh c.extension-three.ensures.slot c.extension-three.ensures.tail c.extension-three.ensures.entries c.extension-three.ensures.fresh)
     c.settle_log.ensures c.extension-one.ensures.fresh ends.0 c.settle_log-2.ensures c.extension-two.ensures.fresh ends.1 c.settle_log-3.ensures c.extension-three.ensures.fresh ends.2 (λ held i j k h m f can. c.in-Ok.ensures.shows c.args.tables.now.layout held i j k h m f can) c.extend_three.ensures.kept.wrote.mixed
-
-pub returns-clause-room : goal.returns-clause-room
-returns-clause-room g c =
-    let ready = c.in_ok-blocks.ensures.other_ready in
-    let grown = c.settle_log-2.ensures in
-    subst (λ (names : Names). c.args.second.now.names ≤ names.room) (sym grown.names) ready.names_room
 
 pub returns-clause-needs : goal.returns-clause-needs
 returns-clause-needs g c =
     record {
-      enough = c.in_ok-blocks.ensures.needs.enough;
-      refused = tt;
+      needs = record {
+        enough = c.in_ok-blocks.ensures.needs.enough;
+        refused = tt;
+      };
+      room = let ready = c.in_ok-blocks.ensures.ready.1 in
+          let grown = c.settle_log-2.ensures in
+          subst (λ (names : Names). c.args.second.now.names ≤ names.room) (sym grown.names) ready.names_room;
     }
 
 pub returns-clause-kept : goal.returns-clause-kept
@@ -97,9 +90,9 @@ returns-clause-kept g c =
     record {
       keeps = record {
         stopped = tt;
-        lists = taken_sup c.in_ok-blocks.ensures.taken;
+        lists = taken_sup c.in_ok-blocks.ensures.taken.each;
         length = mixed_size c.extend_three.ensures.kept.wrote.mixed;
-        keeps_fuse = keeps_within (three_within (owes_three c.in_ok-blocks.ensures.ready c.in_ok-blocks.ensures.other_ready c.in_ok-blocks.ensures.last_ready c.requires.stands c.requires.other_stands c.requires.last_stands c.in_ok-blocks.ensures.taken c.in_ok-blocks.ensures.count c.requires.apart c.requires.given c.requires.more_given c.requires.last_given c.blocks_for-count.ensures c.deref.ensures.value c.split_at.ensures.front c.split_at.ensures.back c.blocks_for-next.ensures c.split_at-2.ensures.front c.split_at-2.ensures.back c.extension-one.result c.extension-two.result c.extension-three.result c.extension-one.ensures.slot c.extension-one.ensures.tail c.extension-one.ensures.entries c.extension-one.ensures.fresh c.extension-two.ensures.slot c.extension-two.ensures.tail c.extension-two.ensures.entries c.extension-two.ensures.fresh c.extension-three.ensures.slot c.extension-three.ensures.tail c.extension-three.ensures.entries c.extension-three.ensures.fresh)) c.extend_three.ensures.kept.keeps_fuse;
+        keeps_fuse = keeps_within (three_within (owes_three c.in_ok-blocks.ensures.ready.0 c.in_ok-blocks.ensures.ready.1 c.in_ok-blocks.ensures.ready.2 c.requires.stands c.requires.other_stands c.requires.last_stands c.in_ok-blocks.ensures.taken.each c.in_ok-blocks.ensures.taken.count_is c.requires.apart c.requires.given.0 c.requires.given.1 c.requires.given.2 c.blocks_for-count.ensures c.deref.ensures.value c.split_at.ensures.front c.split_at.ensures.back c.blocks_for-next.ensures c.split_at-2.ensures.front c.split_at-2.ensures.back c.extension-one.result c.extension-two.result c.extension-three.result c.extension-one.ensures.slot c.extension-one.ensures.tail c.extension-one.ensures.entries c.extension-one.ensures.fresh c.extension-two.ensures.slot c.extension-two.ensures.tail c.extension-two.ensures.entries c.extension-two.ensures.fresh c.extension-three.ensures.slot c.extension-three.ensures.tail c.extension-three.ensures.entries c.extension-three.ensures.fresh)) c.extend_three.ensures.kept.keeps_fuse;
       };
       settled = c.in-Ok.ensures.kept.settled;
     }
@@ -118,14 +111,14 @@ returns-clause-inodes g c =
 pub returns-in_default-clause-appended : goal.returns-in_default-clause-appended
 returns-in_default-clause-appended g c = tt
 
-pub returns-in_default-clause-room : goal.returns-in_default-clause-room
-returns-in_default-clause-room g c = tt
-
 pub returns-in_default-clause-needs : goal.returns-in_default-clause-needs
 returns-in_default-clause-needs g c =
     record {
-      enough = tt;
-      refused = inr (inl refl);
+      needs = record {
+        enough = tt;
+        refused = inr (inl refl);
+      };
+      room = tt;
     }
 
 pub returns-in_default-clause-kept : goal.returns-in_default-clause-kept
@@ -133,9 +126,9 @@ returns-in_default-clause-kept g c =
     record {
       keeps = record {
         stopped = grind (arith, common_steps);
-        lists = taken_sup c.in_ok-blocks.ensures.taken;
+        lists = taken_sup c.in_ok-blocks.ensures.taken.each;
         length = mixed_size c.extend_three.ensures.kept.wrote.mixed;
-        keeps_fuse = keeps_within (three_within (owes_three c.in_ok-blocks.ensures.ready c.in_ok-blocks.ensures.other_ready c.in_ok-blocks.ensures.last_ready c.requires.stands c.requires.other_stands c.requires.last_stands c.in_ok-blocks.ensures.taken c.in_ok-blocks.ensures.count c.requires.apart c.requires.given c.requires.more_given c.requires.last_given c.blocks_for-count.ensures c.deref.ensures.value c.split_at.ensures.front c.split_at.ensures.back c.blocks_for-next.ensures c.split_at-2.ensures.front c.split_at-2.ensures.back c.extension-one.result c.extension-two.result c.extension-three.result c.extension-one.ensures.slot c.extension-one.ensures.tail c.extension-one.ensures.entries c.extension-one.ensures.fresh c.extension-two.ensures.slot c.extension-two.ensures.tail c.extension-two.ensures.entries c.extension-two.ensures.fresh c.extension-three.ensures.slot c.extension-three.ensures.tail c.extension-three.ensures.entries c.extension-three.ensures.fresh)) c.extend_three.ensures.kept.keeps_fuse;
+        keeps_fuse = keeps_within (three_within (owes_three c.in_ok-blocks.ensures.ready.0 c.in_ok-blocks.ensures.ready.1 c.in_ok-blocks.ensures.ready.2 c.requires.stands c.requires.other_stands c.requires.last_stands c.in_ok-blocks.ensures.taken.each c.in_ok-blocks.ensures.taken.count_is c.requires.apart c.requires.given.0 c.requires.given.1 c.requires.given.2 c.blocks_for-count.ensures c.deref.ensures.value c.split_at.ensures.front c.split_at.ensures.back c.blocks_for-next.ensures c.split_at-2.ensures.front c.split_at-2.ensures.back c.extension-one.result c.extension-two.result c.extension-three.result c.extension-one.ensures.slot c.extension-one.ensures.tail c.extension-one.ensures.entries c.extension-one.ensures.fresh c.extension-two.ensures.slot c.extension-two.ensures.tail c.extension-two.ensures.entries c.extension-two.ensures.fresh c.extension-three.ensures.slot c.extension-three.ensures.tail c.extension-three.ensures.entries c.extension-three.ensures.fresh)) c.extend_three.ensures.kept.keeps_fuse;
       };
       settled = tt;
     }
@@ -153,44 +146,44 @@ returns-in_default-clause-inodes g c =
 
 pub returns-clause-wrote : goal.returns-clause-wrote
 returns-clause-wrote g c held h m f here there also =
-    three_stored (owes_three c.in_ok-blocks.ensures.ready c.in_ok-blocks.ensures.other_ready c.in_ok-blocks.ensures.last_ready c.requires.stands c.requires.other_stands c.requires.last_stands c.in_ok-blocks.ensures.taken c.in_ok-blocks.ensures.count c.requires.apart c.requires.given c.requires.more_given c.requires.last_given c.blocks_for-count.ensures c.deref.ensures.value c.split_at.ensures.front c.split_at.ensures.back c.blocks_for-next.ensures c.split_at-2.ensures.front c.split_at-2.ensures.back c.extension-one.result c.extension-two.result c.extension-three.result c.extension-one.ensures.slot c.extension-one.ensures.tail c.extension-one.ensures.entries c.extension-one.ensures.fresh c.extension-two.ensures.slot c.extension-two.ensures.tail c.extension-two.ensures.entries c.extension-two.ensures.fresh c.extension-three.ensures.slot c.extension-three.ensures.tail c.extension-three.ensures.entries c.extension-three.ensures.fresh) here there also c.extend_three.ensures.kept.wrote.mixed
+    three_stored (owes_three c.in_ok-blocks.ensures.ready.0 c.in_ok-blocks.ensures.ready.1 c.in_ok-blocks.ensures.ready.2 c.requires.stands c.requires.other_stands c.requires.last_stands c.in_ok-blocks.ensures.taken.each c.in_ok-blocks.ensures.taken.count_is c.requires.apart c.requires.given.0 c.requires.given.1 c.requires.given.2 c.blocks_for-count.ensures c.deref.ensures.value c.split_at.ensures.front c.split_at.ensures.back c.blocks_for-next.ensures c.split_at-2.ensures.front c.split_at-2.ensures.back c.extension-one.result c.extension-two.result c.extension-three.result c.extension-one.ensures.slot c.extension-one.ensures.tail c.extension-one.ensures.entries c.extension-one.ensures.fresh c.extension-two.ensures.slot c.extension-two.ensures.tail c.extension-two.ensures.entries c.extension-two.ensures.fresh c.extension-three.ensures.slot c.extension-three.ensures.tail c.extension-three.ensures.entries c.extension-three.ensures.fresh) here there also c.extend_three.ensures.kept.wrote.mixed
 
 pub returns-clause-in_order : goal.returns-clause-in_order
 returns-clause-in_order g c held h m f here there also =
-    three_ordered (owes_three c.in_ok-blocks.ensures.ready c.in_ok-blocks.ensures.other_ready c.in_ok-blocks.ensures.last_ready c.requires.stands c.requires.other_stands c.requires.last_stands c.in_ok-blocks.ensures.taken c.in_ok-blocks.ensures.count c.requires.apart c.requires.given c.requires.more_given c.requires.last_given c.blocks_for-count.ensures c.deref.ensures.value c.split_at.ensures.front c.split_at.ensures.back c.blocks_for-next.ensures c.split_at-2.ensures.front c.split_at-2.ensures.back c.extension-one.result c.extension-two.result c.extension-three.result c.extension-one.ensures.slot c.extension-one.ensures.tail c.extension-one.ensures.entries c.extension-one.ensures.fresh c.extension-two.ensures.slot c.extension-two.ensures.tail c.extension-two.ensures.entries c.extension-two.ensures.fresh c.extension-three.ensures.slot c.extension-three.ensures.tail c.extension-three.ensures.entries c.extension-three.ensures.fresh) here there also
+    three_ordered (owes_three c.in_ok-blocks.ensures.ready.0 c.in_ok-blocks.ensures.ready.1 c.in_ok-blocks.ensures.ready.2 c.requires.stands c.requires.other_stands c.requires.last_stands c.in_ok-blocks.ensures.taken.each c.in_ok-blocks.ensures.taken.count_is c.requires.apart c.requires.given.0 c.requires.given.1 c.requires.given.2 c.blocks_for-count.ensures c.deref.ensures.value c.split_at.ensures.front c.split_at.ensures.back c.blocks_for-next.ensures c.split_at-2.ensures.front c.split_at-2.ensures.back c.extension-one.result c.extension-two.result c.extension-three.result c.extension-one.ensures.slot c.extension-one.ensures.tail c.extension-one.ensures.entries c.extension-one.ensures.fresh c.extension-two.ensures.slot c.extension-two.ensures.tail c.extension-two.ensures.entries c.extension-two.ensures.fresh c.extension-three.ensures.slot c.extension-three.ensures.tail c.extension-three.ensures.entries c.extension-three.ensures.fresh) here there also
     (λ i j k a b d can. c.extend_three.ensures.in_order c.args.tables.now.layout held i j k a b d can)
 
 pub returns-clause-any_stop : goal.returns-clause-any_stop
 returns-clause-any_stop g c held h m f here there also settled =
-    left_three (owes_three c.in_ok-blocks.ensures.ready c.in_ok-blocks.ensures.other_ready c.in_ok-blocks.ensures.last_ready c.requires.stands c.requires.other_stands c.requires.last_stands c.in_ok-blocks.ensures.taken c.in_ok-blocks.ensures.count c.requires.apart c.requires.given c.requires.more_given c.requires.last_given c.blocks_for-count.ensures c.deref.ensures.value c.split_at.ensures.front c.split_at.ensures.back c.blocks_for-next.ensures c.split_at-2.ensures.front c.split_at-2.ensures.back c.extension-one.result c.extension-two.result c.extension-three.result c.extension-one.ensures.slot c.extension-one.ensures.tail c.extension-one.ensures.entries c.extension-one.ensures.fresh c.extension-two.ensures.slot c.extension-two.ensures.tail c.extension-two.ensures.entries c.extension-two.ensures.fresh c.extension-three.ensures.slot c.extension-three.ensures.tail c.extension-three.ensures.entries c.extension-three.ensures.fresh) here there also _ _ _ c.extend_three.ensures.kept.wrote settled
+    left_three (owes_three c.in_ok-blocks.ensures.ready.0 c.in_ok-blocks.ensures.ready.1 c.in_ok-blocks.ensures.ready.2 c.requires.stands c.requires.other_stands c.requires.last_stands c.in_ok-blocks.ensures.taken.each c.in_ok-blocks.ensures.taken.count_is c.requires.apart c.requires.given.0 c.requires.given.1 c.requires.given.2 c.blocks_for-count.ensures c.deref.ensures.value c.split_at.ensures.front c.split_at.ensures.back c.blocks_for-next.ensures c.split_at-2.ensures.front c.split_at-2.ensures.back c.extension-one.result c.extension-two.result c.extension-three.result c.extension-one.ensures.slot c.extension-one.ensures.tail c.extension-one.ensures.entries c.extension-one.ensures.fresh c.extension-two.ensures.slot c.extension-two.ensures.tail c.extension-two.ensures.entries c.extension-two.ensures.fresh c.extension-three.ensures.slot c.extension-three.ensures.tail c.extension-three.ensures.entries c.extension-three.ensures.fresh) here there also _ _ _ c.extend_three.ensures.kept.wrote settled
     (λ i j k a b d can pending. (c.extend_three.ensures.moments c.args.tables.now.layout held i j k a b d can).any_stop pending)
 
 pub returns-in_default-clause-wrote : goal.returns-in_default-clause-wrote
 returns-in_default-clause-wrote g c held h m f here there also =
-    three_stored (owes_three c.in_ok-blocks.ensures.ready c.in_ok-blocks.ensures.other_ready c.in_ok-blocks.ensures.last_ready c.requires.stands c.requires.other_stands c.requires.last_stands c.in_ok-blocks.ensures.taken c.in_ok-blocks.ensures.count c.requires.apart c.requires.given c.requires.more_given c.requires.last_given c.blocks_for-count.ensures c.deref.ensures.value c.split_at.ensures.front c.split_at.ensures.back c.blocks_for-next.ensures c.split_at-2.ensures.front c.split_at-2.ensures.back c.extension-one.result c.extension-two.result c.extension-three.result c.extension-one.ensures.slot c.extension-one.ensures.tail c.extension-one.ensures.entries c.extension-one.ensures.fresh c.extension-two.ensures.slot c.extension-two.ensures.tail c.extension-two.ensures.entries c.extension-two.ensures.fresh c.extension-three.ensures.slot c.extension-three.ensures.tail c.extension-three.ensures.entries c.extension-three.ensures.fresh) here there also c.extend_three.ensures.kept.wrote.mixed
+    three_stored (owes_three c.in_ok-blocks.ensures.ready.0 c.in_ok-blocks.ensures.ready.1 c.in_ok-blocks.ensures.ready.2 c.requires.stands c.requires.other_stands c.requires.last_stands c.in_ok-blocks.ensures.taken.each c.in_ok-blocks.ensures.taken.count_is c.requires.apart c.requires.given.0 c.requires.given.1 c.requires.given.2 c.blocks_for-count.ensures c.deref.ensures.value c.split_at.ensures.front c.split_at.ensures.back c.blocks_for-next.ensures c.split_at-2.ensures.front c.split_at-2.ensures.back c.extension-one.result c.extension-two.result c.extension-three.result c.extension-one.ensures.slot c.extension-one.ensures.tail c.extension-one.ensures.entries c.extension-one.ensures.fresh c.extension-two.ensures.slot c.extension-two.ensures.tail c.extension-two.ensures.entries c.extension-two.ensures.fresh c.extension-three.ensures.slot c.extension-three.ensures.tail c.extension-three.ensures.entries c.extension-three.ensures.fresh) here there also c.extend_three.ensures.kept.wrote.mixed
 
 pub returns-in_default-clause-in_order : goal.returns-in_default-clause-in_order
 returns-in_default-clause-in_order g c held h m f here there also =
-    three_ordered (owes_three c.in_ok-blocks.ensures.ready c.in_ok-blocks.ensures.other_ready c.in_ok-blocks.ensures.last_ready c.requires.stands c.requires.other_stands c.requires.last_stands c.in_ok-blocks.ensures.taken c.in_ok-blocks.ensures.count c.requires.apart c.requires.given c.requires.more_given c.requires.last_given c.blocks_for-count.ensures c.deref.ensures.value c.split_at.ensures.front c.split_at.ensures.back c.blocks_for-next.ensures c.split_at-2.ensures.front c.split_at-2.ensures.back c.extension-one.result c.extension-two.result c.extension-three.result c.extension-one.ensures.slot c.extension-one.ensures.tail c.extension-one.ensures.entries c.extension-one.ensures.fresh c.extension-two.ensures.slot c.extension-two.ensures.tail c.extension-two.ensures.entries c.extension-two.ensures.fresh c.extension-three.ensures.slot c.extension-three.ensures.tail c.extension-three.ensures.entries c.extension-three.ensures.fresh) here there also
+    three_ordered (owes_three c.in_ok-blocks.ensures.ready.0 c.in_ok-blocks.ensures.ready.1 c.in_ok-blocks.ensures.ready.2 c.requires.stands c.requires.other_stands c.requires.last_stands c.in_ok-blocks.ensures.taken.each c.in_ok-blocks.ensures.taken.count_is c.requires.apart c.requires.given.0 c.requires.given.1 c.requires.given.2 c.blocks_for-count.ensures c.deref.ensures.value c.split_at.ensures.front c.split_at.ensures.back c.blocks_for-next.ensures c.split_at-2.ensures.front c.split_at-2.ensures.back c.extension-one.result c.extension-two.result c.extension-three.result c.extension-one.ensures.slot c.extension-one.ensures.tail c.extension-one.ensures.entries c.extension-one.ensures.fresh c.extension-two.ensures.slot c.extension-two.ensures.tail c.extension-two.ensures.entries c.extension-two.ensures.fresh c.extension-three.ensures.slot c.extension-three.ensures.tail c.extension-three.ensures.entries c.extension-three.ensures.fresh) here there also
     (λ i j k a b d can. c.extend_three.ensures.in_order c.args.tables.now.layout held i j k a b d can)
 
 pub returns-in_default-clause-any_stop : goal.returns-in_default-clause-any_stop
 returns-in_default-clause-any_stop g c held h m f here there also settled =
-    left_three (owes_three c.in_ok-blocks.ensures.ready c.in_ok-blocks.ensures.other_ready c.in_ok-blocks.ensures.last_ready c.requires.stands c.requires.other_stands c.requires.last_stands c.in_ok-blocks.ensures.taken c.in_ok-blocks.ensures.count c.requires.apart c.requires.given c.requires.more_given c.requires.last_given c.blocks_for-count.ensures c.deref.ensures.value c.split_at.ensures.front c.split_at.ensures.back c.blocks_for-next.ensures c.split_at-2.ensures.front c.split_at-2.ensures.back c.extension-one.result c.extension-two.result c.extension-three.result c.extension-one.ensures.slot c.extension-one.ensures.tail c.extension-one.ensures.entries c.extension-one.ensures.fresh c.extension-two.ensures.slot c.extension-two.ensures.tail c.extension-two.ensures.entries c.extension-two.ensures.fresh c.extension-three.ensures.slot c.extension-three.ensures.tail c.extension-three.ensures.entries c.extension-three.ensures.fresh) here there also _ _ _ c.extend_three.ensures.kept.wrote settled
+    left_three (owes_three c.in_ok-blocks.ensures.ready.0 c.in_ok-blocks.ensures.ready.1 c.in_ok-blocks.ensures.ready.2 c.requires.stands c.requires.other_stands c.requires.last_stands c.in_ok-blocks.ensures.taken.each c.in_ok-blocks.ensures.taken.count_is c.requires.apart c.requires.given.0 c.requires.given.1 c.requires.given.2 c.blocks_for-count.ensures c.deref.ensures.value c.split_at.ensures.front c.split_at.ensures.back c.blocks_for-next.ensures c.split_at-2.ensures.front c.split_at-2.ensures.back c.extension-one.result c.extension-two.result c.extension-three.result c.extension-one.ensures.slot c.extension-one.ensures.tail c.extension-one.ensures.entries c.extension-one.ensures.fresh c.extension-two.ensures.slot c.extension-two.ensures.tail c.extension-two.ensures.entries c.extension-two.ensures.fresh c.extension-three.ensures.slot c.extension-three.ensures.tail c.extension-three.ensures.entries c.extension-three.ensures.fresh) here there also _ _ _ c.extend_three.ensures.kept.wrote settled
     (λ i j k a b d can pending. (c.extend_three.ensures.moments c.args.tables.now.layout held i j k a b d can).any_stop pending)
 
 pub returns-in_err-blocks-clause-appended : goal.returns-in_err-blocks-clause-appended
 returns-in_err-blocks-clause-appended g c = IfOk-from_err c.from_residual.result _ c.from_residual.ensures.0
 
-pub returns-in_err-blocks-clause-room : goal.returns-in_err-blocks-clause-room
-returns-in_err-blocks-clause-room g c = IfOk-from_err c.from_residual.result _ c.from_residual.ensures.0
-
 pub returns-in_err-blocks-clause-needs : goal.returns-in_err-blocks-clause-needs
 returns-in_err-blocks-clause-needs g c =
     record {
-      enough = IfOk-from_err c.from_residual.result _ c.from_residual.ensures.0;
-      refused = let w = err_from_is_err_and c.from_residual.result c.from_residual.ensures.1 in
-          refused_by c.from_residual.result c.in_err-blocks.field-0.0 w.0 (λ (e : Refusal). RefusesStep e (needed (c.args.row.now.tail % 4096) c.args.first.now.entries.now + needed (c.args.other.now.tail % 4096) c.args.second.now.entries.now + needed (c.args.last.now.tail % 4096) c.args.third.now.entries.now) c.args.free.now) w.1 w.2 c.in_err-blocks.ensures.needs.refused;
+      needs = record {
+        enough = IfOk-from_err c.from_residual.result _ c.from_residual.ensures.0;
+        refused = let w = err_from_is_err_and c.from_residual.result c.from_residual.ensures.1 in
+            refused_by c.from_residual.result c.in_err-blocks.field-0.0 w.0 (λ (e : Refusal). RefusesStep e (needed (c.args.row.now.tail % 4096) c.args.first.now.entries.now + needed (c.args.other.now.tail % 4096) c.args.second.now.entries.now + needed (c.args.last.now.tail % 4096) c.args.third.now.entries.now) c.args.free.now) w.1 w.2 c.in_err-blocks.ensures.needs.refused;
+      };
+      room = IfOk-from_err c.from_residual.result _ c.from_residual.ensures.0;
     }
 
 pub returns-in_err-blocks-clause-kept : goal.returns-in_err-blocks-clause-kept

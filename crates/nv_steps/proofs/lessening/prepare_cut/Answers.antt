@@ -10,10 +10,11 @@ pub prepare_log-requires : goal.prepare_log-requires
 prepare_log-requires c = record { cpu = subst (λ (s : Super). c.args.cpu < s.cpus) (sym c.reserve.ensures.same.sup) c.requires.cpu }
 
 pub returns-in-Ok-clause-taken : goal.returns-in-Ok-clause-taken
-returns-in-Ok-clause-taken c = let taken = c.in-Ok.ensures.taken in let same = c.reserve.ensures.same in record { from = taken.from; same = record { sup = taken.same.sup ∙ same.sup; pools = taken.same.pools ∙ same.pools }; sound = taken.sound; each = taken.each }
-
-pub returns-in-Ok-clause-count : goal.returns-in-Ok-clause-count
-returns-in-Ok-clause-count c = c.in-Ok.ensures.count
+returns-in-Ok-clause-taken c =
+    record {
+      each = let taken = c.in-Ok.ensures.taken.each in let same = c.reserve.ensures.same in record { from = taken.from; same = record { sup = taken.same.sup ∙ same.sup; pools = taken.same.pools ∙ same.pools }; sound = taken.sound; each = taken.each };
+      count_is = c.in-Ok.ensures.taken.count_is;
+    }
 
 pub returns-in-Ok-clause-pages_room : goal.returns-in-Ok-clause-pages_room
 returns-in-Ok-clause-pages_room c = c.in-Ok.ensures.room
@@ -43,9 +44,6 @@ returns-in-Ok-clause-unchanged c = tt
 pub returns-in-Err-NoSpace-clause-taken : goal.returns-in-Err-NoSpace-clause-taken
 returns-in-Err-NoSpace-clause-taken c = tt
 
-pub returns-in-Err-NoSpace-clause-count : goal.returns-in-Err-NoSpace-clause-count
-returns-in-Err-NoSpace-clause-count c = tt
-
 pub returns-in-Err-NoSpace-clause-pages_room : goal.returns-in-Err-NoSpace-clause-pages_room
 returns-in-Err-NoSpace-clause-pages_room c = tt
 
@@ -74,9 +72,6 @@ returns-in-Err-NoSpace-clause-unchanged c = let left = c.in-Err-NoSpace.ensures.
 pub returns-in-Err-Memory-clause-taken : goal.returns-in-Err-Memory-clause-taken
 returns-in-Err-Memory-clause-taken c = tt
 
-pub returns-in-Err-Memory-clause-count : goal.returns-in-Err-Memory-clause-count
-returns-in-Err-Memory-clause-count c = tt
-
 pub returns-in-Err-Memory-clause-pages_room : goal.returns-in-Err-Memory-clause-pages_room
 returns-in-Err-Memory-clause-pages_room c = tt
 
@@ -104,9 +99,6 @@ returns-in-Err-Memory-clause-unchanged c = let left = c.in-Err-Memory.ensures.un
 
 pub returns-then-is_err-clause-taken : goal.returns-then-is_err-clause-taken
 returns-then-is_err-clause-taken c = tt
-
-pub returns-then-is_err-clause-count : goal.returns-then-is_err-clause-count
-returns-then-is_err-clause-count c = tt
 
 pub returns-then-is_err-clause-pages_room : goal.returns-then-is_err-clause-pages_room
 returns-then-is_err-clause-pages_room c = tt

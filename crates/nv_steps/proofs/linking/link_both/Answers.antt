@@ -35,20 +35,14 @@ returns-clause-linked g c =
     let both = subst (λ (x : Entry). AppendsLogs (g.P.Pmem.region c.args.memory.now) (g.P.Pmem.region c.append_logs.new.memory) c.args.tables.now.layout c.args.free.now c.append_logs.new.free c.args.cpu (c.args.file.now ∷ c.args.directory.now ∷ []) (c.append_logs.new.row ∷ c.append_logs.new.other ∷ []) 0 (links_entries (c.args.file.now.numbers.links + 1) c.args.time) 1 (x ∷ [])) c.name_entry.ensures grew in
     links_at_places c.args.file.now both refl (λ e. omega (arith, e)) c.append_logs.new.row c.append_logs.new.other c.append_logs.new.other c.length.result refl c.set_links.ensures refl (c.length.ensures.value ∙ ap entry_length c.name_entry.ensures) refl c.add_name.ensures.row c.add_name.ensures.once
 
-pub append_logs-requires-clause-apart : goal.append_logs-requires-clause-apart
-append_logs-requires-clause-apart g c = c.requires.apart
-
-pub append_logs-requires-clause-stands : goal.append_logs-requires-clause-stands
-append_logs-requires-clause-stands g c = c.requires.stands
-
-pub append_logs-requires-clause-other_stands : goal.append_logs-requires-clause-other_stands
-append_logs-requires-clause-other_stands g c = c.requires.directory_stands
-
-pub append_logs-requires-clause-given : goal.append_logs-requires-clause-given
-append_logs-requires-clause-given g c = few_one _ refl
-
-pub append_logs-requires-clause-more_given : goal.append_logs-requires-clause-more_given
-append_logs-requires-clause-more_given g c = subst (λ (x : Entry). AreFew (x ∷ [])) (sym c.name_entry.ensures) (few_one _ refl)
+pub append_logs-requires : goal.append_logs-requires
+append_logs-requires g c =
+    record {
+      apart = c.requires.apart;
+      stands = c.requires.stands;
+      other_stands = c.requires.other_stands;
+      given = ((few_one _ refl), (subst (λ (x : Entry). AreFew (x ∷ [])) (sym c.name_entry.ensures) (few_one _ refl)));
+    }
 
 pub returns-in_err-append_logs-clause-unchanged : goal.returns-in_err-append_logs-clause-unchanged
 returns-in_err-append_logs-clause-unchanged g c =
@@ -60,11 +54,8 @@ returns-in_err-append_logs-clause-kept g c =
     let w = err_from_is_err_and c.from_residual.result c.from_residual.ensures.1 in
     kept_refused c.from_residual.result c.in_err-append_logs.field-0.0 w.0 w.1 w.2 c.in_err-append_logs.ensures.kept
 
-pub returns-in_err-append_logs-clause-inode : goal.returns-in_err-append_logs-clause-inode
-returns-in_err-append_logs-clause-inode g c = c.in_err-append_logs.ensures.inodes.0
-
-pub returns-in_err-append_logs-clause-directory_inode : goal.returns-in_err-append_logs-clause-directory_inode
-returns-in_err-append_logs-clause-directory_inode g c = c.in_err-append_logs.ensures.inodes.1
+pub returns-in_err-append_logs-clause-inodes : goal.returns-in_err-append_logs-clause-inodes
+returns-in_err-append_logs-clause-inodes g c = (c.in_err-append_logs.ensures.inodes.0, c.in_err-append_logs.ensures.inodes.1)
 
 pub returns-clause-needs : goal.returns-clause-needs
 returns-clause-needs g c =
@@ -79,17 +70,14 @@ returns-clause-kept g c = kept_done c.in_ok-append_logs.ensures.kept
 pub returns-clause-unchanged : goal.returns-clause-unchanged
 returns-clause-unchanged g c = tt
 
-pub returns-clause-inode : goal.returns-clause-inode
-returns-clause-inode g c = c.set_links.ensures.rest.inode ∙ c.in_ok-append_logs.ensures.inodes.0
-
-pub returns-clause-directory_inode : goal.returns-clause-directory_inode
-returns-clause-directory_inode g c = c.add_name.ensures.row.rest.inode ∙ c.in_ok-append_logs.ensures.inodes.1
+pub returns-clause-inodes : goal.returns-clause-inodes
+returns-clause-inodes g c = ((c.set_links.ensures.rest.inode ∙ c.in_ok-append_logs.ensures.inodes.0), (c.add_name.ensures.row.rest.inode ∙ c.in_ok-append_logs.ensures.inodes.1))
 
 pub returns-in_err-append_logs-clause-linked : goal.returns-in_err-append_logs-clause-linked
 returns-in_err-append_logs-clause-linked g c = IfOk-from_err c.from_residual.result _ c.from_residual.ensures.0
 
 pub name_entry-requires : goal.name_entry-requires
-name_entry-requires g c = record { some = c.requires.name.some; fits = c.requires.name.short }
+name_entry-requires g c = record { some = c.requires.given.1.some; fits = c.requires.given.1.short }
 
 pub returns-in_err-append_logs-clause-any_stop : goal.returns-in_err-append_logs-clause-any_stop
 returns-in_err-append_logs-clause-any_stop g c held h k here there absent settled left may =

@@ -24,7 +24,7 @@ use Rattle.nv_steps.proofs.TakenBlocks.{taken_sup}
 use Rattle.nv_steps.proofs.making.make_named.Goals as goal
 
 pub name_entry-requires : goal.name_entry-requires
-name_entry-requires g c = record { some = c.requires.name.some; fits = c.requires.name.short }
+name_entry-requires g c = record { some = c.requires.given.some; fits = c.requires.given.short }
 
 pub overflow_add-count : goal.overflow_add-count
 overflow_add-count g c = let few = needed_one (c.args.directory.now.tail % 4096) (c.name_entry.result ∷ []) refl in omega (arith, few, c.pages_needed-count.ensures)
@@ -77,38 +77,33 @@ slot_of_row-parent-requires g c = subst (λ (i : ℕ). IsTrue (has_slot c.args.t
 pub commit_name-requires-clause-can : goal.commit_name-requires-clause-can
 commit_name-requires-clause-can g c =
     let count : length c.deref.result.now ≡ 1 + needed (c.args.directory.now.tail % 4096) (name_entries Add c.args.new.now.inode c.args.new.now.name.now c.args.new.now.time) =
-    ap (λ (xs : List ℕ). length xs) c.deref.ensures.value ∙ c.in_ok-blocks.ensures.count ∙ ap (λ (n : ℕ). 1 + n) (c.pages_needed-count.ensures ∙ ap (λ (e : Entry). needed (c.args.directory.now.tail % 4096) (e ∷ [])) c.name_entry.ensures) in
+    ap (λ (xs : List ℕ). length xs) c.deref.ensures.value ∙ c.in_ok-blocks.ensures.taken.count_is ∙ ap (λ (n : ℕ). 1 + n) (c.pages_needed-count.ensures ∙ ap (λ (e : Entry). needed (c.args.directory.now.tail % 4096) (e ∷ [])) c.name_entry.ensures) in
     let can : CanCommitName (g.P.Pmem.region c.args.memory.now) c.args.tables.now.layout c.args.free.now c.prepare_name.new.free c.args.cpu c.slot_of_row-slot.result c.slot_of_row-parent.result c.args.directory.now c.prepare_name.new.directory c.args.new.now.inode c.args.new.now.name.now c.args.new.now.time c.deref.result.now = record {
       stands = c.requires.stands;
       can = c.requires.can;
       slot_is = c.slot_of_row-slot.ensures.value;
       parent_is = c.slot_of_row-parent.ensures.value;
-      taken = subst (λ (xs : List ℕ). TakesEach c.args.free.now c.args.cpu xs c.prepare_name.new.free) (sym c.deref.ensures.value) c.in_ok-blocks.ensures.taken;
+      taken = subst (λ (xs : List ℕ). TakesEach c.args.free.now c.args.cpu xs c.prepare_name.new.free) (sym c.deref.ensures.value) c.in_ok-blocks.ensures.taken.each;
       count = count;
       same = c.in_ok-blocks.ensures.row;
       once = c.in_ok-blocks.ensures.once;
     } in
     (c.args.tables.now.layout, c.args.free.now, c.prepare_name.new.free, c.args.directory.now, can)
 
-pub commit_name-requires-clause-pages : goal.commit_name-requires-clause-pages
-commit_name-requires-clause-pages g c = subst (λ (n : ℕ). HasRoomFor c.prepare_name.new.directory.pages n) (sym (ap (λ (xs : List ℕ). length xs) c.deref.ensures.value ∙ c.in_ok-blocks.ensures.count)) c.in_ok-blocks.ensures.room
-
-pub commit_name-requires-clause-names : goal.commit_name-requires-clause-names
-commit_name-requires-clause-names g c = c.in_ok-blocks.ensures.names_room
-
-pub commit_name-requires-clause-name : goal.commit_name-requires-clause-name
-commit_name-requires-clause-name g c = c.requires.name
+pub commit_name-requires-clause-row : goal.commit_name-requires-clause-row
+commit_name-requires-clause-row g c =
+    record { pages = (subst (λ (n : ℕ). HasRoomFor c.prepare_name.new.directory.pages n) (sym (ap (λ (xs : List ℕ). length xs) c.deref.ensures.value ∙ c.in_ok-blocks.ensures.taken.count_is)) c.in_ok-blocks.ensures.room); names = c.in_ok-blocks.ensures.names_room; is_name = c.requires.given }
 
 pub returns-clause-made : goal.returns-clause-made
 returns-clause-made g c =
     let count : length c.deref.result.now ≡ 1 + needed (c.args.directory.now.tail % 4096) (name_entries Add c.args.new.now.inode c.args.new.now.name.now c.args.new.now.time) =
-    ap (λ (xs : List ℕ). length xs) c.deref.ensures.value ∙ c.in_ok-blocks.ensures.count ∙ ap (λ (n : ℕ). 1 + n) (c.pages_needed-count.ensures ∙ ap (λ (e : Entry). needed (c.args.directory.now.tail % 4096) (e ∷ [])) c.name_entry.ensures) in
+    ap (λ (xs : List ℕ). length xs) c.deref.ensures.value ∙ c.in_ok-blocks.ensures.taken.count_is ∙ ap (λ (n : ℕ). 1 + n) (c.pages_needed-count.ensures ∙ ap (λ (e : Entry). needed (c.args.directory.now.tail % 4096) (e ∷ [])) c.name_entry.ensures) in
     let can : CanCommitName (g.P.Pmem.region c.args.memory.now) c.args.tables.now.layout c.args.free.now c.prepare_name.new.free c.args.cpu c.slot_of_row-slot.result c.slot_of_row-parent.result c.args.directory.now c.prepare_name.new.directory c.args.new.now.inode c.args.new.now.name.now c.args.new.now.time c.deref.result.now = record {
       stands = c.requires.stands;
       can = c.requires.can;
       slot_is = c.slot_of_row-slot.ensures.value;
       parent_is = c.slot_of_row-parent.ensures.value;
-      taken = subst (λ (xs : List ℕ). TakesEach c.args.free.now c.args.cpu xs c.prepare_name.new.free) (sym c.deref.ensures.value) c.in_ok-blocks.ensures.taken;
+      taken = subst (λ (xs : List ℕ). TakesEach c.args.free.now c.args.cpu xs c.prepare_name.new.free) (sym c.deref.ensures.value) c.in_ok-blocks.ensures.taken.each;
       count = count;
       same = c.in_ok-blocks.ensures.row;
       once = c.in_ok-blocks.ensures.once;
@@ -123,7 +118,7 @@ returns-clause-needs g c =
     }
 
 pub returns-clause-kept : goal.returns-clause-kept
-returns-clause-kept g c = c.commit_name.ensures.kept c.args.free.now c.prepare_name.new.free (taken_sup c.in_ok-blocks.ensures.taken)
+returns-clause-kept g c = c.commit_name.ensures.kept c.args.free.now c.prepare_name.new.free (taken_sup c.in_ok-blocks.ensures.taken.each)
 
 pub returns-clause-unchanged : goal.returns-clause-unchanged
 returns-clause-unchanged g c =
@@ -135,13 +130,13 @@ returns-clause-inode g c = c.commit_name.ensures.inode ∙ c.in_ok-blocks.ensure
 pub returns-clause-wrote : goal.returns-clause-wrote
 returns-clause-wrote g c held h shows out =
     let count : length c.deref.result.now ≡ 1 + needed (c.args.directory.now.tail % 4096) (name_entries Add c.args.new.now.inode c.args.new.now.name.now c.args.new.now.time) =
-    ap (λ (xs : List ℕ). length xs) c.deref.ensures.value ∙ c.in_ok-blocks.ensures.count ∙ ap (λ (n : ℕ). 1 + n) (c.pages_needed-count.ensures ∙ ap (λ (e : Entry). needed (c.args.directory.now.tail % 4096) (e ∷ [])) c.name_entry.ensures) in
+    ap (λ (xs : List ℕ). length xs) c.deref.ensures.value ∙ c.in_ok-blocks.ensures.taken.count_is ∙ ap (λ (n : ℕ). 1 + n) (c.pages_needed-count.ensures ∙ ap (λ (e : Entry). needed (c.args.directory.now.tail % 4096) (e ∷ [])) c.name_entry.ensures) in
     let can : CanCommitName (g.P.Pmem.region c.args.memory.now) c.args.tables.now.layout c.args.free.now c.prepare_name.new.free c.args.cpu c.slot_of_row-slot.result c.slot_of_row-parent.result c.args.directory.now c.prepare_name.new.directory c.args.new.now.inode c.args.new.now.name.now c.args.new.now.time c.deref.result.now = record {
       stands = c.requires.stands;
       can = c.requires.can;
       slot_is = c.slot_of_row-slot.ensures.value;
       parent_is = c.slot_of_row-parent.ensures.value;
-      taken = subst (λ (xs : List ℕ). TakesEach c.args.free.now c.args.cpu xs c.prepare_name.new.free) (sym c.deref.ensures.value) c.in_ok-blocks.ensures.taken;
+      taken = subst (λ (xs : List ℕ). TakesEach c.args.free.now c.args.cpu xs c.prepare_name.new.free) (sym c.deref.ensures.value) c.in_ok-blocks.ensures.taken.each;
       count = count;
       same = c.in_ok-blocks.ensures.row;
       once = c.in_ok-blocks.ensures.once;
@@ -151,13 +146,13 @@ returns-clause-wrote g c held h shows out =
 pub returns-clause-in_order : goal.returns-clause-in_order
 returns-clause-in_order g c held h shows out =
     let count : length c.deref.result.now ≡ 1 + needed (c.args.directory.now.tail % 4096) (name_entries Add c.args.new.now.inode c.args.new.now.name.now c.args.new.now.time) =
-    ap (λ (xs : List ℕ). length xs) c.deref.ensures.value ∙ c.in_ok-blocks.ensures.count ∙ ap (λ (n : ℕ). 1 + n) (c.pages_needed-count.ensures ∙ ap (λ (e : Entry). needed (c.args.directory.now.tail % 4096) (e ∷ [])) c.name_entry.ensures) in
+    ap (λ (xs : List ℕ). length xs) c.deref.ensures.value ∙ c.in_ok-blocks.ensures.taken.count_is ∙ ap (λ (n : ℕ). 1 + n) (c.pages_needed-count.ensures ∙ ap (λ (e : Entry). needed (c.args.directory.now.tail % 4096) (e ∷ [])) c.name_entry.ensures) in
     let can : CanCommitName (g.P.Pmem.region c.args.memory.now) c.args.tables.now.layout c.args.free.now c.prepare_name.new.free c.args.cpu c.slot_of_row-slot.result c.slot_of_row-parent.result c.args.directory.now c.prepare_name.new.directory c.args.new.now.inode c.args.new.now.name.now c.args.new.now.time c.deref.result.now = record {
       stands = c.requires.stands;
       can = c.requires.can;
       slot_is = c.slot_of_row-slot.ensures.value;
       parent_is = c.slot_of_row-parent.ensures.value;
-      taken = subst (λ (xs : List ℕ). TakesEach c.args.free.now c.args.cpu xs c.prepare_name.new.free) (sym c.deref.ensures.value) c.in_ok-blocks.ensures.taken;
+      taken = subst (λ (xs : List ℕ). TakesEach c.args.free.now c.args.cpu xs c.prepare_name.new.free) (sym c.deref.ensures.value) c.in_ok-blocks.ensures.taken.each;
       count = count;
       same = c.in_ok-blocks.ensures.row;
       once = c.in_ok-blocks.ensures.once;
@@ -167,13 +162,13 @@ returns-clause-in_order g c held h shows out =
 pub returns-clause-any_stop : goal.returns-clause-any_stop
 returns-clause-any_stop g c held h shows out absent settled =
     let count : length c.deref.result.now ≡ 1 + needed (c.args.directory.now.tail % 4096) (name_entries Add c.args.new.now.inode c.args.new.now.name.now c.args.new.now.time) =
-    ap (λ (xs : List ℕ). length xs) c.deref.ensures.value ∙ c.in_ok-blocks.ensures.count ∙ ap (λ (n : ℕ). 1 + n) (c.pages_needed-count.ensures ∙ ap (λ (e : Entry). needed (c.args.directory.now.tail % 4096) (e ∷ [])) c.name_entry.ensures) in
+    ap (λ (xs : List ℕ). length xs) c.deref.ensures.value ∙ c.in_ok-blocks.ensures.taken.count_is ∙ ap (λ (n : ℕ). 1 + n) (c.pages_needed-count.ensures ∙ ap (λ (e : Entry). needed (c.args.directory.now.tail % 4096) (e ∷ [])) c.name_entry.ensures) in
     let can : CanCommitName (g.P.Pmem.region c.args.memory.now) c.args.tables.now.layout c.args.free.now c.prepare_name.new.free c.args.cpu c.slot_of_row-slot.result c.slot_of_row-parent.result c.args.directory.now c.prepare_name.new.directory c.args.new.now.inode c.args.new.now.name.now c.args.new.now.time c.deref.result.now = record {
       stands = c.requires.stands;
       can = c.requires.can;
       slot_is = c.slot_of_row-slot.ensures.value;
       parent_is = c.slot_of_row-parent.ensures.value;
-      taken = subst (λ (xs : List ℕ). TakesEach c.args.free.now c.args.cpu xs c.prepare_name.new.free) (sym c.deref.ensures.value) c.in_ok-blocks.ensures.taken;
+      taken = subst (λ (xs : List ℕ). TakesEach c.args.free.now c.args.cpu xs c.prepare_name.new.free) (sym c.deref.ensures.value) c.in_ok-blocks.ensures.taken.each;
       count = count;
       same = c.in_ok-blocks.ensures.row;
       once = c.in_ok-blocks.ensures.once;

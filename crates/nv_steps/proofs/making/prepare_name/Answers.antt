@@ -8,9 +8,6 @@ take_blocks-requires c = record { cpu = c.requires.cpu }
 pub returns-in-Ok-clause-taken : goal.returns-in-Ok-clause-taken
 returns-in-Ok-clause-taken c = c.in-Ok.ensures.taken
 
-pub returns-in-Ok-clause-count : goal.returns-in-Ok-clause-count
-returns-in-Ok-clause-count c = c.in-Ok.ensures.count
-
 pub returns-in-Ok-clause-room : goal.returns-in-Ok-clause-room
 returns-in-Ok-clause-room c = (not_refused c.make_room.result c.is_err.result c.is_err.ensures.value c.if-is_err.false c.make_room.ensures.pages)
 
@@ -38,9 +35,6 @@ returns-in-Ok-clause-unchanged c = tt
 
 pub returns-in-Err-NoSpace-clause-taken : goal.returns-in-Err-NoSpace-clause-taken
 returns-in-Err-NoSpace-clause-taken c = tt
-
-pub returns-in-Err-NoSpace-clause-count : goal.returns-in-Err-NoSpace-clause-count
-returns-in-Err-NoSpace-clause-count c = tt
 
 pub returns-in-Err-NoSpace-clause-room : goal.returns-in-Err-NoSpace-clause-room
 returns-in-Err-NoSpace-clause-room c = tt
@@ -70,9 +64,6 @@ returns-in-Err-NoSpace-clause-unchanged c = c.in-Err-NoSpace.ensures.unchanged
 pub returns-in-Err-Memory-clause-taken : goal.returns-in-Err-Memory-clause-taken
 returns-in-Err-Memory-clause-taken c = tt
 
-pub returns-in-Err-Memory-clause-count : goal.returns-in-Err-Memory-clause-count
-returns-in-Err-Memory-clause-count c = tt
-
 pub returns-in-Err-Memory-clause-room : goal.returns-in-Err-Memory-clause-room
 returns-in-Err-Memory-clause-room c = tt
 
@@ -100,9 +91,6 @@ returns-in-Err-Memory-clause-unchanged c = c.in-Err-Memory.ensures.unchanged
 
 pub returns-then-is_err-clause-taken : goal.returns-then-is_err-clause-taken
 returns-then-is_err-clause-taken c = tt
-
-pub returns-then-is_err-clause-count : goal.returns-then-is_err-clause-count
-returns-then-is_err-clause-count c = tt
 
 pub returns-then-is_err-clause-room : goal.returns-then-is_err-clause-room
 returns-then-is_err-clause-room c = tt

@@ -9,7 +9,7 @@ pub returns-in_err-fresh-clause-room : goal.returns-in_err-fresh-clause-room
 returns-in_err-fresh-clause-room c =
     let plan = c.args.plan.now in
     let runs = c.args.runs.now in
-    let few = entries_few plan runs c.requires.some (λ r there. (c.requires.blocks r there).0) in
+    let few = entries_few plan runs c.requires.given.some (λ r there. (c.requires.given.blocks r there).0) in
     let pages = needed_few (c.args.row.now.tail % 4096) (data_entries plan runs) in
     let same = subst (λ (xs : List Entry). needed (c.args.row.now.tail % 4096) c.deref.result.now ≡ needed (c.args.row.now.tail % 4096) xs) (c.deref.ensures.value ∙ c.in-Ok.ensures) refl in
-    omega (arith, few, pages, same, c.requires.count, c.in_err-fresh.ensures.room_left)
+    omega (arith, few, pages, same, c.requires.given.count, c.in_err-fresh.ensures.room_left)

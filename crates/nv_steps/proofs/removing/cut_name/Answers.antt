@@ -1,4 +1,4 @@
-use Rattle.std.proofs.Common.{◌≡◌, ◌∙◌, ◌∷◌, [], ◌≤◌, ◌%◌, refl, subst, sym}
+use Rattle.std.proofs.Common.{◌≡◌, ◌∙◌, ◌∷◌, [], ◌≤◌, ◌%◌, refl, subst, sym, arith}
 use Rattle.std.proofs.lemmas.Result.{err_from_is_err_and, IfOk-from_err}
 use Rattle.nv_alloc.specs.Taking.{all_blocks}
 use Rattle.nv_entry.specs.declared.entry.Entry.{Entry}
@@ -18,33 +18,29 @@ use Rattle.nv_steps.specs.Slots.{slot_in}
 use Rattle.nv_steps.proofs.removing.cut_name.Goals as goal
 
 pub name_entry-requires : goal.name_entry-requires
-name_entry-requires g c = record { some = c.requires.name.some; fits = c.requires.name.short }
+name_entry-requires g c = record { some = c.requires.given.1.some; fits = c.requires.given.1.short }
 
-pub append_less-requires-clause-stands : goal.append_less-requires-clause-stands
-append_less-requires-clause-stands g c = c.requires.stands
-
-pub append_less-requires-clause-can : goal.append_less-requires-clause-can
-append_less-requires-clause-can g c = c.requires.can
-
-pub append_less-requires-clause-differ : goal.append_less-requires-clause-differ
-append_less-requires-clause-differ g c = c.requires.differ
-
-pub append_less-requires-clause-given : goal.append_less-requires-clause-given
-append_less-requires-clause-given g c = subst (λ (x : Entry). AreGiven (x ∷ [])) (sym c.name_entry.ensures) (refl, tt)
+pub append_less-requires : goal.append_less-requires
+append_less-requires g c =
+    record {
+      stands = c.requires.stands;
+      can = c.requires.can;
+      given = (c.requires.given.0, (subst (λ (x : Entry). AreGiven (x ∷ [])) (sym c.name_entry.ensures) (refl, tt)), omega arith);
+    }
 
 pub returns-clause-cut : goal.returns-clause-cut
 returns-clause-cut g c =
     cuts_name c.args.gone.now.inode c.args.gone.now.name.now c.args.gone.now.time (subst (λ (x : Entry). AppendsLess (g.P.Pmem.region c.args.memory.now) (g.P.Pmem.region c.append_less.new.memory) c.args.tables.now.layout c.args.free.now c.append_less.new.free c.args.cpu c.args.directory.now c.append_less.new.row c.args.gone.now.inode (x ∷ [])) c.name_entry.ensures c.in_ok-append_less.ensures.appended)
     c.remove_name.ensures.row c.remove_name.ensures.once
 
-pub returns-clause-room : goal.returns-clause-room
-returns-clause-room g c = c.in_ok-append_less.ensures.room
-
 pub returns-clause-needs : goal.returns-clause-needs
 returns-clause-needs g c =
     record {
-      enough = subst (λ (x : Entry). needed (c.args.directory.now.tail % 4096) (x ∷ []) ≤ all_blocks c.args.free.now.pools) c.name_entry.ensures c.in_ok-append_less.ensures.needs.enough;
-      refused = tt;
+      needs = record {
+        enough = subst (λ (x : Entry). needed (c.args.directory.now.tail % 4096) (x ∷ []) ≤ all_blocks c.args.free.now.pools) c.name_entry.ensures c.in_ok-append_less.ensures.needs.enough;
+        refused = tt;
+      };
+      room = c.in_ok-append_less.ensures.needs.room;
     }
 
 pub returns-clause-kept : goal.returns-clause-kept
@@ -59,16 +55,16 @@ returns-clause-inode g c = c.remove_name.ensures.row.rest.inode ∙ c.in_ok-appe
 pub returns-in_err-append_less-clause-cut : goal.returns-in_err-append_less-clause-cut
 returns-in_err-append_less-clause-cut g c = IfOk-from_err c.from_residual.result _ c.from_residual.ensures.0
 
-pub returns-in_err-append_less-clause-room : goal.returns-in_err-append_less-clause-room
-returns-in_err-append_less-clause-room g c = IfOk-from_err c.from_residual.result _ c.from_residual.ensures.0
-
 pub returns-in_err-append_less-clause-needs : goal.returns-in_err-append_less-clause-needs
 returns-in_err-append_less-clause-needs g c =
     record {
-      enough = IfOk-from_err c.from_residual.result _ c.from_residual.ensures.0;
-      refused = let w = err_from_is_err_and c.from_residual.result c.from_residual.ensures.1 in
-          refused_by c.from_residual.result c.in_err-append_less.field-0.0 w.0 (λ (e : Refusal). RefusesStep e (needed (c.args.directory.now.tail % 4096) (name_entries Remove c.args.gone.now.inode c.args.gone.now.name.now c.args.gone.now.time)) c.args.free.now) w.1 w.2
-          (subst (λ (x : Entry). RefusesStep c.in_err-append_less.field-0.0 (needed (c.args.directory.now.tail % 4096) (x ∷ [])) c.args.free.now) c.name_entry.ensures c.in_err-append_less.ensures.needs.refused);
+      needs = record {
+        enough = IfOk-from_err c.from_residual.result _ c.from_residual.ensures.0;
+        refused = let w = err_from_is_err_and c.from_residual.result c.from_residual.ensures.1 in
+            refused_by c.from_residual.result c.in_err-append_less.field-0.0 w.0 (λ (e : Refusal). RefusesStep e (needed (c.args.directory.now.tail % 4096) (name_entries Remove c.args.gone.now.inode c.args.gone.now.name.now c.args.gone.now.time)) c.args.free.now) w.1 w.2
+            (subst (λ (x : Entry). RefusesStep c.in_err-append_less.field-0.0 (needed (c.args.directory.now.tail % 4096) (x ∷ [])) c.args.free.now) c.name_entry.ensures c.in_err-append_less.ensures.needs.refused);
+      };
+      room = IfOk-from_err c.from_residual.result _ c.from_residual.ensures.0;
     }
 
 pub returns-in_err-append_less-clause-kept : goal.returns-in_err-append_less-clause-kept

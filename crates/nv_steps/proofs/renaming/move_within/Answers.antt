@@ -26,20 +26,18 @@ returns-clause-moved g c =
     moves_within c.args.moved.now.inode c.args.moved.now.name.now c.args.moved.now.other.now c.args.moved.now.time same both c.length.result (c.length.ensures.value ∙ ap entry_length c.name_entry-2.ensures) c.remove_name.ensures.row c.remove_name.ensures.once c.add_name.ensures.row c.add_name.ensures.once c.len-names.ensures.each_once
 
 pub name_entry-requires : goal.name_entry-requires
-name_entry-requires g c = record { some = c.requires.name.some; fits = c.requires.name.short }
+name_entry-requires g c = record { some = c.requires.given.0.some; fits = c.requires.given.0.short }
 
 pub name_entry-requires-2 : goal.name_entry-requires-2
-name_entry-requires-2 g c = record { some = c.requires.other.some; fits = c.requires.other.short }
+name_entry-requires-2 g c = record { some = c.requires.given.1.some; fits = c.requires.given.1.short }
 
-pub append_log-requires-clause-cpu : goal.append_log-requires-clause-cpu
-append_log-requires-clause-cpu g c = c.requires.cpu
-
-pub append_log-requires-clause-stands : goal.append_log-requires-clause-stands
-append_log-requires-clause-stands g c = record { laid = c.requires.stands.laid; lists = c.requires.stands.lists; number = c.requires.stands.number; whole = c.requires.stands.whole; inside = c.requires.stands.inside; aligned = c.requires.stands.aligned; offset = c.requires.stands.offset; blocks = c.requires.stands.blocks; in_blocks = c.requires.stands.in_blocks; used = c.requires.stands.used }
-
-pub append_log-requires-clause-given : goal.append_log-requires-clause-given
-append_log-requires-clause-given g c =
-    subst (λ (x : Entry). AreGiven (x ∷ c.name_entry-2.result ∷ [])) (sym c.name_entry.ensures) (subst (λ (x : Entry). AreGiven (Name (record { operation = Remove; inode = c.args.moved.now.inode; time = c.args.moved.now.time; name = c.args.moved.now.name.now }) ∷ x ∷ [])) (sym c.name_entry-2.ensures) (refl, (refl, tt)))
+pub append_log-requires : goal.append_log-requires
+append_log-requires g c =
+    record {
+      cpu_below = c.requires.cpu_below;
+      stands = record { laid = c.requires.stands.laid; lists = c.requires.stands.lists; number = c.requires.stands.number; whole = c.requires.stands.whole; inside = c.requires.stands.inside; aligned = c.requires.stands.aligned; offset = c.requires.stands.offset; blocks = c.requires.stands.blocks; in_blocks = c.requires.stands.in_blocks; used = c.requires.stands.used };
+      given = (subst (λ (x : Entry). AreGiven (x ∷ c.name_entry-2.result ∷ [])) (sym c.name_entry.ensures) (subst (λ (x : Entry). AreGiven (Name (record { operation = Remove; inode = c.args.moved.now.inode; time = c.args.moved.now.time; name = c.args.moved.now.name.now }) ∷ x ∷ [])) (sym c.name_entry-2.ensures) (refl, (refl, tt))));
+    }
 
 pub returns-in_err-append_log-clause-needs : goal.returns-in_err-append_log-clause-needs
 returns-in_err-append_log-clause-needs g c =

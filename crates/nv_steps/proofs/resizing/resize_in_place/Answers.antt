@@ -11,23 +11,22 @@ use Rattle.nv_steps.proofs.Refusals.{memory_goes_on}
 use Rattle.nv_steps.proofs.CutFile.{cut_as, cut_resizes, gives_as, left_sized, own_grown, shows_with, stands_with}
 use Rattle.nv_steps.proofs.resizing.resize_in_place.Goals as goal
 
-pub append_log-requires-clause-stands : goal.append_log-requires-clause-stands
-append_log-requires-clause-stands g c = stands_with c.reserve.ensures.same c.requires.can.stands
-
 pub give_pages-requires-clause-own : goal.give_pages-requires-clause-own
-give_pages-requires-clause-own g c = own_grown c.reserve.ensures.same c.in_ok-append_log.ensures.appended c.requires.can.own
+give_pages-requires-clause-own g c = own_grown c.reserve.ensures.same c.in_ok-append_log.ensures.appended c.requires.can.can.own
 
 pub returns-clause-resized : goal.returns-clause-resized
 returns-clause-resized g c =
     let same = c.reserve.ensures.same in
-    cut_resizes c.args.attributes c.requires.can c.requires.stays (record { sup = same.sup; pools = same.pools }) c.in_ok-append_log.ensures.appended
+    cut_resizes c.args.attributes c.requires.can.can c.requires.can.ends (record { sup = same.sup; pools = same.pools }) c.in_ok-append_log.ensures.appended
     (record { has = numbered c.numbers_with-row.ensures; head = refl; tail = refl; pages = refl }) (cut_as c.append_log.new.row.index c.cut.new.self c.div_ceil-first.ensures c.cut.ensures.blocks) (gives_as c.div_ceil-first.ensures c.div_ceil-end.ensures c.give_pages.ensures.given)
 
-pub append_log-requires-clause-cpu : goal.append_log-requires-clause-cpu
-append_log-requires-clause-cpu g c = let same = c.reserve.ensures.same in subst (λ (s : Super). c.args.cpu < s.cpus) (sym same.sup) c.requires.cpu
-
-pub append_log-requires-clause-given : goal.append_log-requires-clause-given
-append_log-requires-clause-given g c = (refl, tt)
+pub append_log-requires : goal.append_log-requires
+append_log-requires g c =
+    record {
+      cpu_below = (let same = c.reserve.ensures.same in subst (λ (s : Super). c.args.cpu < s.cpus) (sym same.sup) c.requires.cpu);
+      stands = (stands_with c.reserve.ensures.same c.requires.can.can.stands);
+      given = ((refl, tt));
+    }
 
 pub returns-in_err-append_log-clause-kept : goal.returns-in_err-append_log-clause-kept
 returns-in_err-append_log-clause-kept g c =
@@ -95,13 +94,13 @@ pub returns-in_err-append_log-clause-any_stop : goal.returns-in_err-append_log-c
 returns-in_err-append_log-clause-any_stop g c held h shows settled left may =
     let lists = c.reserve.ensures.same in
     let same : SamePools c.args.free.now c.reserve.new.self = record { sup = lists.sup; pools = lists.pools } in
-    left_sized c.args.attributes c.requires.can c.requires.stays same shows left (c.append_log.ensures.any_stop held h (shows_with c.args.attributes c.requires.can shows same) (omega arith) settled left may)
+    left_sized c.args.attributes c.requires.can.can c.requires.can.ends same shows left (c.append_log.ensures.any_stop held h (shows_with c.args.attributes c.requires.can.can shows same) (omega arith) settled left may)
 
 pub returns-clause-any_stop : goal.returns-clause-any_stop
 returns-clause-any_stop g c held h shows settled left may =
     let lists = c.reserve.ensures.same in
     let same : SamePools c.args.free.now c.reserve.new.self = record { sup = lists.sup; pools = lists.pools } in
-    left_sized c.args.attributes c.requires.can c.requires.stays same shows left (c.append_log.ensures.any_stop held h (shows_with c.args.attributes c.requires.can shows same) (omega arith) settled left may)
+    left_sized c.args.attributes c.requires.can.can c.requires.can.ends same shows left (c.append_log.ensures.any_stop held h (shows_with c.args.attributes c.requires.can.can shows same) (omega arith) settled left may)
 
 pub returns-then-is_err-clause-wrote : goal.returns-then-is_err-clause-wrote
 returns-then-is_err-clause-wrote g c held h shows at whole away = refl
@@ -110,10 +109,10 @@ pub returns-in_err-append_log-clause-wrote : goal.returns-in_err-append_log-clau
 returns-in_err-append_log-clause-wrote g c held h shows =
     let lists = c.reserve.ensures.same in
     let same : SamePools c.args.free.now c.reserve.new.self = record { sup = lists.sup; pools = lists.pools } in
-    c.append_log.ensures.wrote held h (shows_with c.args.attributes c.requires.can shows same) (omega arith)
+    c.append_log.ensures.wrote held h (shows_with c.args.attributes c.requires.can.can shows same) (omega arith)
 
 pub returns-clause-wrote : goal.returns-clause-wrote
 returns-clause-wrote g c held h shows =
     let lists = c.reserve.ensures.same in
     let same : SamePools c.args.free.now c.reserve.new.self = record { sup = lists.sup; pools = lists.pools } in
-    c.append_log.ensures.wrote held h (shows_with c.args.attributes c.requires.can shows same) (omega arith)
+    c.append_log.ensures.wrote held h (shows_with c.args.attributes c.requires.can.can shows same) (omega arith)

@@ -1,6 +1,7 @@
 use Rattle.std.proofs.Common.{◌∙◌, List, ℕ, refl, sym, subst}
 use Rattle.nv_mounted.proofs.BytesKept.{mixed_size}
 use Rattle.nv_bytes.specs.Bytes.{byte_after, file_byte}
+use Rattle.nv_bytes.specs.Storing.{AreFresh}
 use Rattle.nv_region.specs.Region.{Region}
 use Rattle.nv_steps.specs.Written.{AreSmall, Commits, entry_blocks}
 use Rattle.nv_steps.proofs.Committed.{commits}
@@ -13,8 +14,14 @@ use Rattle.nv_steps.proofs.Stores.{data_stores, data_then_log}
 use Rattle.nv_steps.proofs.storing_data.commit_data.Goals as goal
 use Rattle.nv_bytes.specs.Data.{data_bytes}
 
-pub store_data-requires-clause-pages : goal.store_data-requires-clause-pages
-store_data-requires-clause-pages g c = subst AreSmall (sym c.deref.ensures.value) c.requires.pages
+pub store_data-requires : goal.store_data-requires
+store_data-requires g c =
+    record {
+      mapped = c.requires.given.mapped;
+      fresh = subst (λ (es : List Entry). AreFresh (g.P.Pmem.region c.args.memory.now) c.args.index.now (entry_blocks es)) (sym c.deref.ensures.value) c.requires.given.fresh;
+      pages = subst AreSmall (sym c.deref.ensures.value) c.requires.given.pages;
+      small = c.requires.given.small;
+    }
 
 pub returns-clause-commits : goal.returns-clause-commits
 returns-clause-commits g c l inode =

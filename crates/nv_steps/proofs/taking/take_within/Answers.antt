@@ -20,27 +20,26 @@ use Rattle.nv_steps.specs.Slots.{slot_in}
 use Rattle.nv_steps.proofs.taking.take_within.Goals as goal
 
 pub name_entry-requires : goal.name_entry-requires
-name_entry-requires g c = record { some = c.requires.name.some; fits = c.requires.name.short }
+name_entry-requires g c = record { some = c.requires.given.1.some; fits = c.requires.given.1.short }
 
 pub name_entry-requires-2 : goal.name_entry-requires-2
-name_entry-requires-2 g c = record { some = c.requires.other.some; fits = c.requires.other.short }
+name_entry-requires-2 g c = record { some = c.requires.given.2.some; fits = c.requires.given.2.short }
 
 pub name_entry-requires-3 : goal.name_entry-requires-3
-name_entry-requires-3 g c = record { some = c.requires.other.some; fits = c.requires.other.short }
+name_entry-requires-3 g c = record { some = c.requires.given.2.some; fits = c.requires.given.2.short }
 
-pub append_less-requires-clause-stands : goal.append_less-requires-clause-stands
-append_less-requires-clause-stands g c = let s = c.requires.stands in record { laid = s.laid; lists = s.lists; number = s.number; whole = s.whole; inside = s.inside; aligned = s.aligned; offset = s.offset; blocks = s.blocks; in_blocks = s.in_blocks; used = s.used }
-
-pub append_less-requires-clause-can : goal.append_less-requires-clause-can
-append_less-requires-clause-can g c = let a = c.requires.can in record { cpu_below = a.cpu_below; journal_empty = a.journal_empty; number = a.number; in_data = a.in_data }
-
-pub append_less-requires-clause-differ : goal.append_less-requires-clause-differ
-append_less-requires-clause-differ g c = c.requires.differ
-
-pub append_less-requires-clause-given : goal.append_less-requires-clause-given
-append_less-requires-clause-given g c =
-    let three : c.name_entry.result ∷ c.name_entry-2.result ∷ c.name_entry-3.result ∷ [] ≡ take_entries c.args.moved.now.inode c.args.gone.inode c.args.moved.now.name.now c.args.moved.now.other.now c.args.moved.now.time = (λ t. c.name_entry.ensures t ∷ c.name_entry-2.ensures t ∷ c.name_entry-3.ensures t ∷ []) in
-    subst AreGiven (sym three) (refl, (refl, (refl, tt)))
+pub append_less-requires : goal.append_less-requires
+append_less-requires g c =
+    record {
+      stands = (let s = c.requires.stands in record { laid = s.laid; lists = s.lists; number = s.number; whole = s.whole; inside = s.inside; aligned = s.aligned; offset = s.offset; blocks = s.blocks; in_blocks = s.in_blocks; used = s.used });
+      can = (let a = c.requires.can in record { cpu_below = a.cpu_below; journal_empty = a.journal_empty; number = a.number; in_data = a.in_data });
+      given = (
+        c.requires.given.0,
+        (let three : c.name_entry.result ∷ c.name_entry-2.result ∷ c.name_entry-3.result ∷ [] ≡ take_entries c.args.moved.now.inode c.args.gone.inode c.args.moved.now.name.now c.args.moved.now.other.now c.args.moved.now.time = (λ t. c.name_entry.ensures t ∷ c.name_entry-2.ensures t ∷ c.name_entry-3.ensures t ∷ []) in
+            subst AreGiven (sym three) (refl, (refl, (refl, tt)))),
+        omega arith,
+      );
+    }
 
 pub returns-clause-taken : goal.returns-clause-taken
 returns-clause-taken g c =
@@ -49,15 +48,15 @@ returns-clause-taken g c =
     takes_within c.args.moved.now.inode c.args.gone.inode c.args.moved.now.name.now c.args.moved.now.other.now c.args.moved.now.time (more_names c.args.directory.now c.reserve.new.self c.reserve.ensures.names) grew c.length.result (c.length.ensures.value ∙ ap entry_length c.name_entry-3.ensures)
     c.remove_name.ensures.row c.remove_name.ensures.once c.remove_name-2.ensures.row c.add_name.ensures.row c.add_name.ensures.once c.len-names.ensures.each_once
 
-pub returns-clause-room : goal.returns-clause-room
-returns-clause-room g c = c.in_ok-append_less.ensures.room
-
 pub returns-clause-needs : goal.returns-clause-needs
 returns-clause-needs g c =
     record {
-      enough = let three : c.name_entry.result ∷ c.name_entry-2.result ∷ c.name_entry-3.result ∷ [] ≡ take_entries c.args.moved.now.inode c.args.gone.inode c.args.moved.now.name.now c.args.moved.now.other.now c.args.moved.now.time = (λ t. c.name_entry.ensures t ∷ c.name_entry-2.ensures t ∷ c.name_entry-3.ensures t ∷ []) in
-          subst (λ (es : List Entry). needed (c.args.directory.now.tail % 4096) es ≤ all_blocks c.args.free.now.pools) three c.in_ok-append_less.ensures.needs.enough;
-      refused = tt;
+      needs = record {
+        enough = let three : c.name_entry.result ∷ c.name_entry-2.result ∷ c.name_entry-3.result ∷ [] ≡ take_entries c.args.moved.now.inode c.args.gone.inode c.args.moved.now.name.now c.args.moved.now.other.now c.args.moved.now.time = (λ t. c.name_entry.ensures t ∷ c.name_entry-2.ensures t ∷ c.name_entry-3.ensures t ∷ []) in
+            subst (λ (es : List Entry). needed (c.args.directory.now.tail % 4096) es ≤ all_blocks c.args.free.now.pools) three c.in_ok-append_less.ensures.needs.enough;
+        refused = tt;
+      };
+      room = c.in_ok-append_less.ensures.needs.room;
     }
 
 pub returns-clause-kept : goal.returns-clause-kept
@@ -88,17 +87,17 @@ returns-clause-any_stop g c held h shows settled left may =
 pub returns-in_err-append_less-clause-taken : goal.returns-in_err-append_less-clause-taken
 returns-in_err-append_less-clause-taken g c = IfOk-from_err c.from_residual.result _ c.from_residual.ensures.0
 
-pub returns-in_err-append_less-clause-room : goal.returns-in_err-append_less-clause-room
-returns-in_err-append_less-clause-room g c = IfOk-from_err c.from_residual.result _ c.from_residual.ensures.0
-
 pub returns-in_err-append_less-clause-needs : goal.returns-in_err-append_less-clause-needs
 returns-in_err-append_less-clause-needs g c =
     record {
-      enough = IfOk-from_err c.from_residual.result _ c.from_residual.ensures.0;
-      refused = let three : c.name_entry.result ∷ c.name_entry-2.result ∷ c.name_entry-3.result ∷ [] ≡ take_entries c.args.moved.now.inode c.args.gone.inode c.args.moved.now.name.now c.args.moved.now.other.now c.args.moved.now.time = (λ t. c.name_entry.ensures t ∷ c.name_entry-2.ensures t ∷ c.name_entry-3.ensures t ∷ []) in
-          let w = err_from_is_err_and c.from_residual.result c.from_residual.ensures.1 in
-          refused_by c.from_residual.result c.in_err-append_less.field-0.0 w.0 (λ (e : Refusal). RefusesStep e (needed (c.args.directory.now.tail % 4096) (take_entries c.args.moved.now.inode c.args.gone.inode c.args.moved.now.name.now c.args.moved.now.other.now c.args.moved.now.time)) c.args.free.now) w.1 w.2
-          (subst (λ (es : List Entry). RefusesStep c.in_err-append_less.field-0.0 (needed (c.args.directory.now.tail % 4096) es) c.args.free.now) three c.in_err-append_less.ensures.needs.refused);
+      needs = record {
+        enough = IfOk-from_err c.from_residual.result _ c.from_residual.ensures.0;
+        refused = let three : c.name_entry.result ∷ c.name_entry-2.result ∷ c.name_entry-3.result ∷ [] ≡ take_entries c.args.moved.now.inode c.args.gone.inode c.args.moved.now.name.now c.args.moved.now.other.now c.args.moved.now.time = (λ t. c.name_entry.ensures t ∷ c.name_entry-2.ensures t ∷ c.name_entry-3.ensures t ∷ []) in
+            let w = err_from_is_err_and c.from_residual.result c.from_residual.ensures.1 in
+            refused_by c.from_residual.result c.in_err-append_less.field-0.0 w.0 (λ (e : Refusal). RefusesStep e (needed (c.args.directory.now.tail % 4096) (take_entries c.args.moved.now.inode c.args.gone.inode c.args.moved.now.name.now c.args.moved.now.other.now c.args.moved.now.time)) c.args.free.now) w.1 w.2
+            (subst (λ (es : List Entry). RefusesStep c.in_err-append_less.field-0.0 (needed (c.args.directory.now.tail % 4096) es) c.args.free.now) three c.in_err-append_less.ensures.needs.refused);
+      };
+      room = IfOk-from_err c.from_residual.result _ c.from_residual.ensures.0;
     }
 
 pub returns-in_err-append_less-clause-kept : goal.returns-in_err-append_less-clause-kept
@@ -134,14 +133,14 @@ returns-in_err-append_less-clause-any_stop g c held h shows settled left may =
 pub returns-then-is_err-clause-taken : goal.returns-then-is_err-clause-taken
 returns-then-is_err-clause-taken g c = tt
 
-pub returns-then-is_err-clause-room : goal.returns-then-is_err-clause-room
-returns-then-is_err-clause-room g c = tt
-
 pub returns-then-is_err-clause-needs : goal.returns-then-is_err-clause-needs
 returns-then-is_err-clause-needs g c =
     record {
-      enough = tt;
-      refused = inl refl;
+      needs = record {
+        enough = tt;
+        refused = inl refl;
+      };
+      room = tt;
     }
 
 pub returns-then-is_err-clause-kept : goal.returns-then-is_err-clause-kept

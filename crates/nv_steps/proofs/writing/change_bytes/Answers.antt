@@ -9,7 +9,7 @@ use Rattle.nv_bytes.specs.Bytes.{byte_after, file_byte}
 use Rattle.nv_logpage.specs.Append.{CanAppend}
 use Rattle.nv_radix.specs.Pages.{block_at}
 use Rattle.nv_steps.specs.Writes.{CanGive}
-use Rattle.nv_steps.proofs.PlanRight.{plan_right}
+use Rattle.nv_steps.proofs.PlanRight.{ending_inside, plan_right}
 use Rattle.nv_steps.proofs.Refusals.{memory_goes_on, no_space_goes_on}
 use Rattle.nv_steps.proofs.PreparedBlocks.{prepared_sup}
 use Rattle.nv_steps.proofs.WriteFollows.{IsRight}
@@ -25,38 +25,37 @@ use Rattle.nv_bytes.specs.Data.{data_bytes}
 pub returns-in-Err-NoSpace-clause-refused : goal.returns-in-Err-NoSpace-clause-refused
 returns-in-Err-NoSpace-clause-refused g c = inr (inr (refl, c.in-Err-NoSpace.ensures.refused c.in-Err-NoSpace.field-0-is))
 
-pub commit_data-requires-clause-mapped : goal.commit_data-requires-clause-mapped
-commit_data-requires-clause-mapped g c = inside_as (g.P.Pmem.region c.args.memory.now) c.args.row.now.index c.prepare_data.new.row.index c.prepare_data.ensures.row.0.index c.requires.file.inside
-
-pub commit_data-requires-clause-fresh : goal.commit_data-requires-clause-fresh
-commit_data-requires-clause-fresh g c =
-    let right = subst (IsRight c.args.row.now) (sym c.requires.plan) (plan_right c.args.row.now (block_at c.args.row.now.index) c.args.change.now.offset (length (data_bytes c.args.change.now.content)) c.args.plan.now.time c.requires.file.small c.requires.some c.requires.fits) in
-    blocks_fresh c.requires.stands c.requires.file right c.requires.cpu c.in-Ok.ensures.prepared c.prepare_data.new.row.index c.prepare_data.ensures.row.0.index
-
-pub commit_data-requires-clause-pages : goal.commit_data-requires-clause-pages
-commit_data-requires-clause-pages g c =
-    let right = subst (IsRight c.args.row.now) (sym c.requires.plan) (plan_right c.args.row.now (block_at c.args.row.now.index) c.args.change.now.offset (length (data_bytes c.args.change.now.content)) c.args.plan.now.time c.requires.file.small c.requires.some c.requires.fits) in
-    entries_small c.requires.stands c.requires.file right c.requires.cpu c.in-Ok.ensures.prepared
-
-pub commit_data-requires-clause-can : goal.commit_data-requires-clause-can
-commit_data-requires-clause-can g c =
-    let right = subst (IsRight c.args.row.now) (sym c.requires.plan) (plan_right c.args.row.now (block_at c.args.row.now.index) c.args.change.now.offset (length (data_bytes c.args.change.now.content)) c.args.plan.now.time c.requires.file.small c.requires.some c.requires.fits) in
-    subst (λ (t : ℕ). CanAppend (g.P.Pmem.region c.args.memory.now) t c.in-Ok.ready.log.entries.items c.in-Ok.ready.log.fresh.items) (sym c.prepare_data.ensures.row.0.tail) (can_append_entries c.requires.stands c.requires.file right c.requires.cpu c.in-Ok.ensures.prepared)
+pub commit_data-requires : goal.commit_data-requires
+commit_data-requires g c =
+    record {
+      can = (let right = subst (IsRight c.args.row.now) (sym c.requires.plan_is) (plan_right c.args.row.now (block_at c.args.row.now.index) c.args.change.now.offset (length (data_bytes c.args.change.now.content)) c.args.plan.now.time c.requires.file.small c.requires.some c.requires.fits) in
+          subst (λ (t : ℕ). CanAppend (g.P.Pmem.region c.args.memory.now) t c.in-Ok.ready.log.entries.items c.in-Ok.ready.log.fresh.items) (sym c.prepare_data.ensures.row.0.tail) (can_append_entries c.requires.stands c.requires.file right c.requires.cpu_below c.in-Ok.ensures.prepared));
+      whole = omega (arith, c.slot_of_row-slot.ensures.whole);
+      inside = omega (arith, c.slot_of_row-slot.ensures.inside, c.requires.stands.blocks);
+      given = record {
+        mapped = (inside_as (g.P.Pmem.region c.args.memory.now) c.args.row.now.index c.prepare_data.new.row.index c.prepare_data.ensures.row.0.index c.requires.file.inside);
+        fresh = (let right = subst (IsRight c.args.row.now) (sym c.requires.plan_is) (plan_right c.args.row.now (block_at c.args.row.now.index) c.args.change.now.offset (length (data_bytes c.args.change.now.content)) c.args.plan.now.time c.requires.file.small c.requires.some c.requires.fits) in
+            blocks_fresh c.requires.stands c.requires.file right c.requires.cpu_below c.in-Ok.ensures.prepared c.prepare_data.new.row.index c.prepare_data.ensures.row.0.index);
+        pages = (let right = subst (IsRight c.args.row.now) (sym c.requires.plan_is) (plan_right c.args.row.now (block_at c.args.row.now.index) c.args.change.now.offset (length (data_bytes c.args.change.now.content)) c.args.plan.now.time c.requires.file.small c.requires.some c.requires.fits) in
+            entries_small c.requires.stands c.requires.file right c.requires.cpu_below c.in-Ok.ensures.prepared);
+        small = omega (arith, c.requires.fits);
+      };
+    }
 
 pub settle_data-requires-clause-ready : goal.settle_data-requires-clause-ready
 settle_data-requires-clause-ready g c =
-    let right = subst (IsRight c.args.row.now) (sym c.requires.plan) (plan_right c.args.row.now (block_at c.args.row.now.index) c.args.change.now.offset (length (data_bytes c.args.change.now.content)) c.args.plan.now.time c.requires.file.small c.requires.some c.requires.fits) in
-    pages_settled c.requires.stands c.requires.file right c.requires.cpu c.in-Ok.ensures.prepared c.prepare_data.new.row.index c.in-Ok.ensures.ready.0 c.in-Ok.ensures.ready.1
+    let right = subst (IsRight c.args.row.now) (sym c.requires.plan_is) (plan_right c.args.row.now (block_at c.args.row.now.index) c.args.change.now.offset (length (data_bytes c.args.change.now.content)) c.args.plan.now.time c.requires.file.small c.requires.some c.requires.fits) in
+    pages_settled c.requires.stands c.requires.file right c.requires.cpu_below c.in-Ok.ensures.prepared c.prepare_data.new.row.index c.in-Ok.ensures.ready.0 c.in-Ok.ensures.ready.1
 
 pub settle_data-requires-clause-once : goal.settle_data-requires-clause-once
 settle_data-requires-clause-once g c =
-    let right = subst (IsRight c.args.row.now) (sym c.requires.plan) (plan_right c.args.row.now (block_at c.args.row.now.index) c.args.change.now.offset (length (data_bytes c.args.change.now.content)) c.args.plan.now.time c.requires.file.small c.requires.some c.requires.fits) in
-    (told c.requires.stands c.requires.file right c.requires.cpu c.in-Ok.ensures.prepared).pages_once
+    let right = subst (IsRight c.args.row.now) (sym c.requires.plan_is) (plan_right c.args.row.now (block_at c.args.row.now.index) c.args.change.now.offset (length (data_bytes c.args.change.now.content)) c.args.plan.now.time c.requires.file.small c.requires.some c.requires.fits) in
+    (told c.requires.stands c.requires.file right c.requires.cpu_below c.in-Ok.ensures.prepared).pages_once
 
 pub give_all-requires-clause-can : goal.give_all-requires-clause-can
 give_all-requires-clause-can g c =
-    let right = subst (IsRight c.args.row.now) (sym c.requires.plan) (plan_right c.args.row.now (block_at c.args.row.now.index) c.args.change.now.offset (length (data_bytes c.args.change.now.content)) c.args.plan.now.time c.requires.file.small c.requires.some c.requires.fits) in
-    subst (CanGive c.prepare_data.new.free) (sym (c.deref.ensures.value ∙ c.in-Ok.ensures.replaced)) (can_give_replaced c.requires.stands c.requires.file right c.requires.cpu c.in-Ok.ensures.prepared)
+    let right = subst (IsRight c.args.row.now) (sym c.requires.plan_is) (plan_right c.args.row.now (block_at c.args.row.now.index) c.args.change.now.offset (length (data_bytes c.args.change.now.content)) c.args.plan.now.time c.requires.file.small c.requires.some c.requires.fits) in
+    subst (CanGive c.prepare_data.new.free) (sym (c.deref.ensures.value ∙ c.in-Ok.ensures.replaced.0)) (can_give_replaced c.requires.stands c.requires.file right c.requires.cpu_below c.in-Ok.ensures.prepared)
 
 pub returns-in-Ok-commit_data-clause-writes : goal.returns-in-Ok-commit_data-clause-writes
 returns-in-Ok-commit_data-clause-writes g c =
@@ -66,15 +65,15 @@ returns-in-Ok-commit_data-clause-writes g c =
     let mid = c.prepare_data.new.row in
     let same = c.prepare_data.ensures.row.0 in
     let n = c.args.change.now in
-    let right = subst (IsRight row) (sym c.requires.plan) (plan_right row (block_at row.index) n.offset (length (data_bytes n.content)) c.args.plan.now.time c.requires.file.small c.requires.some c.requires.fits) in
+    let right = subst (IsRight row) (sym c.requires.plan_is) (plan_right row (block_at row.index) n.offset (length (data_bytes n.content)) c.args.plan.now.time c.requires.file.small c.requires.some c.requires.fits) in
     let entries = c.in-Ok.ready.log.entries.items in
     let fresh = c.in-Ok.ready.log.fresh.items in
     let bytes : ℕ → ℕ = byte_after n.offset (data_bytes n.content) n.size (file_byte R mid.index) in
     let done = commits_as R S c.args.tables.now.layout row.inode mid.inode c.slot_of_row-slot.result row.tail mid.tail bytes entries fresh same.inode same.tail c.slot_of_row-slot.ensures.value (c.in-Ok-commit_data.ensures.commits c.args.tables.now.layout row.inode) in
     let has = has_written row mid c.settle_data.new.row c.args.plan.now entries fresh c.in-Ok-commit_data.end same c.prepare_data.ensures.row.1 c.in-Ok-commit_data.ensures.end c.settle_data.ensures in
-    let joins = subst (λ (xs : List Run). JoinAll c.prepare_data.new.free xs c.give_all.new.free) (c.deref.ensures.value ∙ c.in-Ok.ensures.replaced) c.give_all.ensures.given in
-    writes_file c.requires.stands c.requires.kind c.requires.file c.requires.cpu right c.in-Ok.ensures.prepared done has c.give_all.new.free joins n.offset c.args.plan.now.time (data_bytes n.content) c.requires.some c.requires.plan
-    (λ x. bytes_as R row.index mid.index n.offset n.size row.numbers.size (data_bytes n.content) same.index c.requires.size x)
+    let joins = subst (λ (xs : List Run). JoinAll c.prepare_data.new.free xs c.give_all.new.free) (c.deref.ensures.value ∙ c.in-Ok.ensures.replaced.0) c.give_all.ensures.given in
+    writes_file c.requires.stands c.requires.kind c.requires.file c.requires.cpu_below right c.in-Ok.ensures.prepared done has c.give_all.new.free joins n.offset c.args.plan.now.time (data_bytes n.content) c.requires.some c.requires.plan_is
+    (λ x. bytes_as R row.index mid.index n.offset n.size row.numbers.size (data_bytes n.content) same.index c.requires.size_is x)
 
 pub returns-in-Ok-commit_data-clause-kept : goal.returns-in-Ok-commit_data-clause-kept
 returns-in-Ok-commit_data-clause-kept g c =
@@ -178,11 +177,11 @@ returns-in-Ok-commit_data-clause-any_stop g c held h shows settled left may =
     let mid = c.prepare_data.new.row in
     let same = c.prepare_data.ensures.row.0 in
     let n = c.args.change.now in
-    let right = subst (IsRight row) (sym c.requires.plan) (plan_right row (block_at row.index) n.offset (length (data_bytes n.content)) c.args.plan.now.time c.requires.file.small c.requires.some c.requires.fits) in
+    let right = subst (IsRight row) (sym c.requires.plan_is) (plan_right row (block_at row.index) n.offset (length (data_bytes n.content)) c.args.plan.now.time c.requires.file.small c.requires.some c.requires.fits) in
     let p = c.in-Ok.ensures.prepared in
-    left_write c.requires.stands c.requires.kind c.requires.file c.requires.cpu right p shows c.slot_of_row-slot.result mid.tail mid.inode same.inode same.tail c.slot_of_row-slot.ensures.value
-    (byte_after n.offset (data_bytes n.content) n.size (file_byte R mid.index)) n.offset c.args.plan.now.time (data_bytes n.content) c.requires.some c.requires.plan (λ x. bytes_as R row.index mid.index n.offset n.size row.numbers.size (data_bytes n.content) same.index c.requires.size x) left
-    (c.commit_data.ensures.any_stop c.args.tables.now.layout held row.inode h (can_there c.requires.stands c.requires.kind c.requires.file c.requires.cpu right p shows c.slot_of_row-slot.result mid.tail mid.inode same.inode same.tail c.slot_of_row-slot.ensures.value) (data_free shows c.requires.stands.lists c.requires.cpu right p) settled left may)
+    left_write c.requires.stands c.requires.kind c.requires.file c.requires.cpu_below right p shows c.slot_of_row-slot.result mid.tail mid.inode same.inode same.tail c.slot_of_row-slot.ensures.value
+    (byte_after n.offset (data_bytes n.content) n.size (file_byte R mid.index)) n.offset c.args.plan.now.time (data_bytes n.content) c.requires.some c.requires.plan_is (λ x. bytes_as R row.index mid.index n.offset n.size row.numbers.size (data_bytes n.content) same.index c.requires.size_is x) left
+    (c.commit_data.ensures.any_stop c.args.tables.now.layout held row.inode h (can_there c.requires.stands c.requires.kind c.requires.file c.requires.cpu_below right p shows c.slot_of_row-slot.result mid.tail mid.inode same.inode same.tail c.slot_of_row-slot.ensures.value) (data_free shows c.requires.stands.lists c.requires.cpu_below right p) settled left may)
 
 pub returns-clause-any_stop : goal.returns-clause-any_stop
 returns-clause-any_stop g c held h shows settled left may =
@@ -191,11 +190,11 @@ returns-clause-any_stop g c held h shows settled left may =
     let mid = c.prepare_data.new.row in
     let same = c.prepare_data.ensures.row.0 in
     let n = c.args.change.now in
-    let right = subst (IsRight row) (sym c.requires.plan) (plan_right row (block_at row.index) n.offset (length (data_bytes n.content)) c.args.plan.now.time c.requires.file.small c.requires.some c.requires.fits) in
+    let right = subst (IsRight row) (sym c.requires.plan_is) (plan_right row (block_at row.index) n.offset (length (data_bytes n.content)) c.args.plan.now.time c.requires.file.small c.requires.some c.requires.fits) in
     let p = c.in-Ok.ensures.prepared in
-    left_write c.requires.stands c.requires.kind c.requires.file c.requires.cpu right p shows c.slot_of_row-slot.result mid.tail mid.inode same.inode same.tail c.slot_of_row-slot.ensures.value
-    (byte_after n.offset (data_bytes n.content) n.size (file_byte R mid.index)) n.offset c.args.plan.now.time (data_bytes n.content) c.requires.some c.requires.plan (λ x. bytes_as R row.index mid.index n.offset n.size row.numbers.size (data_bytes n.content) same.index c.requires.size x) left
-    (c.commit_data.ensures.any_stop c.args.tables.now.layout held row.inode h (can_there c.requires.stands c.requires.kind c.requires.file c.requires.cpu right p shows c.slot_of_row-slot.result mid.tail mid.inode same.inode same.tail c.slot_of_row-slot.ensures.value) (data_free shows c.requires.stands.lists c.requires.cpu right p) settled left may)
+    left_write c.requires.stands c.requires.kind c.requires.file c.requires.cpu_below right p shows c.slot_of_row-slot.result mid.tail mid.inode same.inode same.tail c.slot_of_row-slot.ensures.value
+    (byte_after n.offset (data_bytes n.content) n.size (file_byte R mid.index)) n.offset c.args.plan.now.time (data_bytes n.content) c.requires.some c.requires.plan_is (λ x. bytes_as R row.index mid.index n.offset n.size row.numbers.size (data_bytes n.content) same.index c.requires.size_is x) left
+    (c.commit_data.ensures.any_stop c.args.tables.now.layout held row.inode h (can_there c.requires.stands c.requires.kind c.requires.file c.requires.cpu_below right p shows c.slot_of_row-slot.result mid.tail mid.inode same.inode same.tail c.slot_of_row-slot.ensures.value) (data_free shows c.requires.stands.lists c.requires.cpu_below right p) settled left may)
 
 pub returns-in-Err-NoSpace-clause-wrote : goal.returns-in-Err-NoSpace-clause-wrote
 returns-in-Err-NoSpace-clause-wrote g c held h shows at whole away = refl
@@ -209,9 +208,9 @@ returns-in-Ok-commit_data-clause-wrote g c held h shows =
     let mid = c.prepare_data.new.row in
     let same = c.prepare_data.ensures.row.0 in
     let n = c.args.change.now in
-    let right = subst (IsRight row) (sym c.requires.plan) (plan_right row (block_at row.index) n.offset (length (data_bytes n.content)) c.args.plan.now.time c.requires.file.small c.requires.some c.requires.fits) in
+    let right = subst (IsRight row) (sym c.requires.plan_is) (plan_right row (block_at row.index) n.offset (length (data_bytes n.content)) c.args.plan.now.time c.requires.file.small c.requires.some c.requires.fits) in
     let p = c.in-Ok.ensures.prepared in
-    c.commit_data.ensures.wrote c.args.tables.now.layout held row.inode h (can_there c.requires.stands c.requires.kind c.requires.file c.requires.cpu right p shows c.slot_of_row-slot.result mid.tail mid.inode same.inode same.tail c.slot_of_row-slot.ensures.value) (data_free shows c.requires.stands.lists c.requires.cpu right p)
+    c.commit_data.ensures.wrote c.args.tables.now.layout held row.inode h (can_there c.requires.stands c.requires.kind c.requires.file c.requires.cpu_below right p shows c.slot_of_row-slot.result mid.tail mid.inode same.inode same.tail c.slot_of_row-slot.ensures.value) (data_free shows c.requires.stands.lists c.requires.cpu_below right p)
 
 pub returns-clause-wrote : goal.returns-clause-wrote
 returns-clause-wrote g c held h shows =
@@ -219,6 +218,11 @@ returns-clause-wrote g c held h shows =
     let mid = c.prepare_data.new.row in
     let same = c.prepare_data.ensures.row.0 in
     let n = c.args.change.now in
-    let right = subst (IsRight row) (sym c.requires.plan) (plan_right row (block_at row.index) n.offset (length (data_bytes n.content)) c.args.plan.now.time c.requires.file.small c.requires.some c.requires.fits) in
+    let right = subst (IsRight row) (sym c.requires.plan_is) (plan_right row (block_at row.index) n.offset (length (data_bytes n.content)) c.args.plan.now.time c.requires.file.small c.requires.some c.requires.fits) in
     let p = c.in-Ok.ensures.prepared in
-    c.commit_data.ensures.wrote c.args.tables.now.layout held row.inode h (can_there c.requires.stands c.requires.kind c.requires.file c.requires.cpu right p shows c.slot_of_row-slot.result mid.tail mid.inode same.inode same.tail c.slot_of_row-slot.ensures.value) (data_free shows c.requires.stands.lists c.requires.cpu right p)
+    c.commit_data.ensures.wrote c.args.tables.now.layout held row.inode h (can_there c.requires.stands c.requires.kind c.requires.file c.requires.cpu_below right p shows c.slot_of_row-slot.result mid.tail mid.inode same.inode same.tail c.slot_of_row-slot.ensures.value) (data_free shows c.requires.stands.lists c.requires.cpu_below right p)
+
+pub prepare_data-requires : goal.prepare_data-requires
+prepare_data-requires g c =
+    let right = subst (IsRight c.args.row.now) (sym c.requires.plan_is) (plan_right c.args.row.now (block_at c.args.row.now.index) c.args.change.now.offset (length (data_bytes c.args.change.now.content)) c.args.plan.now.time c.requires.file.small c.requires.some c.requires.fits) in
+    record { cpu_below = c.requires.cpu_below; pages = right.top; ending = ending_inside right; given = right.some }

@@ -31,61 +31,48 @@ pub give_back-requires : goal.give_back-requires
 give_back-requires g c =
     last_used c.self.inside.rows.items c.lend-row.new.self.items c.args.inode c.clean_log-cleaned.new.row (in_use c.self.inside.rows.items c.args.inode c.lend-row.result c.lend-row.ensures.row) c.lend-row.ensures.lent (c.clean_log-cleaned.ensures.file.inode ∙ c.lend-row.ensures.number)
 
-pub clean_log-cleaned-requires-clause-stands : goal.clean_log-cleaned-requires-clause-stands
-clean_log-cleaned-requires-clause-stands g c =
-    let runs : c.self.inside.stopped ≡ false = ap (λ (m : Mount g.row.P.Denot). m.stopped) c.self.view_is ∙ c.in_ok-cleanable.ensures.runs in
-    let writes : c.self.inside.read_only ≡ false = ap (λ (m : Mount g.row.P.Denot). m.read_only) c.self.view_is ∙ c.in_ok-cleanable.ensures.writes in
-    let rows = c.self.inside.rows.items in
-    let inode = c.args.inode in
-    let at = at_place rows inode ∙ c.lend-row.ensures.row in
-    let there = stands rows (place_in rows inode) c.lend-row.result at in
-    stands_right c.self.invariant.0 runs writes c.lend-row.result there
-
-pub clean_log-cleaned-requires-clause-blocks : goal.clean_log-cleaned-requires-clause-blocks
-clean_log-cleaned-requires-clause-blocks g c =
-    let runs : c.self.inside.stopped ≡ false = ap (λ (m : Mount g.row.P.Denot). m.stopped) c.self.view_is ∙ c.in_ok-cleanable.ensures.runs in
-    let writes : c.self.inside.read_only ≡ false = ap (λ (m : Mount g.row.P.Denot). m.read_only) c.self.view_is ∙ c.in_ok-cleanable.ensures.writes in
-    has_blocks c.self.invariant.0 runs writes c.len-end.ensures.short
-
-pub clean_log-cleaned-requires-clause-right : goal.clean_log-cleaned-requires-clause-right
-clean_log-cleaned-requires-clause-right g c =
-    let runs : c.self.inside.stopped ≡ false = ap (λ (m : Mount g.row.P.Denot). m.stopped) c.self.view_is ∙ c.in_ok-cleanable.ensures.runs in
-    let writes : c.self.inside.read_only ≡ false = ap (λ (m : Mount g.row.P.Denot). m.read_only) c.self.view_is ∙ c.in_ok-cleanable.ensures.writes in
-    let rows = c.self.inside.rows.items in
-    let inode = c.args.inode in
-    let at = at_place rows inode ∙ c.lend-row.ensures.row in
-    let there = stands rows (place_in rows inode) c.lend-row.result at in
-    right_log c.self.invariant.0 runs writes c.lend-row.result there
-
-pub clean_log-cleaned-requires-clause-inside : goal.clean_log-cleaned-requires-clause-inside
-clean_log-cleaned-requires-clause-inside g c =
-    let runs : c.self.inside.stopped ≡ false = ap (λ (m : Mount g.row.P.Denot). m.stopped) c.self.view_is ∙ c.in_ok-cleanable.ensures.runs in
-    let writes : c.self.inside.read_only ≡ false = ap (λ (m : Mount g.row.P.Denot). m.read_only) c.self.view_is ∙ c.in_ok-cleanable.ensures.writes in
-    let rows = c.self.inside.rows.items in
-    let inode = c.args.inode in
-    let at = at_place rows inode ∙ c.lend-row.ensures.row in
-    let there = stands rows (place_in rows inode) c.lend-row.result at in
-    end_inside c.self.invariant.0 runs writes c.lend-row.result there
-
-pub clean_log-cleaned-requires-clause-own : goal.clean_log-cleaned-requires-clause-own
-clean_log-cleaned-requires-clause-own g c =
-    let runs : c.self.inside.stopped ≡ false = ap (λ (m : Mount g.row.P.Denot). m.stopped) c.self.view_is ∙ c.in_ok-cleanable.ensures.runs in
-    let writes : c.self.inside.read_only ≡ false = ap (λ (m : Mount g.row.P.Denot). m.read_only) c.self.view_is ∙ c.in_ok-cleanable.ensures.writes in
-    let rows = c.self.inside.rows.items in
-    let inode = c.args.inode in
-    let at = at_place rows inode ∙ c.lend-row.ensures.row in
-    let there = stands rows (place_in rows inode) c.lend-row.result at in
-    own_pages c.self.invariant.0 runs writes c.lend-row.result there
-
-pub clean_log-cleaned-requires-clause-before_last : goal.clean_log-cleaned-requires-clause-before_last
-clean_log-cleaned-requires-clause-before_last g c =
-    let runs : c.self.inside.stopped ≡ false = ap (λ (m : Mount g.row.P.Denot). m.stopped) c.self.view_is ∙ c.in_ok-cleanable.ensures.runs in
-    let writes : c.self.inside.read_only ≡ false = ap (λ (m : Mount g.row.P.Denot). m.read_only) c.self.view_is ∙ c.in_ok-cleanable.ensures.writes in
-    let rows = c.self.inside.rows.items in
-    let inode = c.args.inode in
-    let at = at_place rows inode ∙ c.lend-row.ensures.row in
-    let there = stands rows (place_in rows inode) c.lend-row.result at in
-    known_before_last c.self.invariant.0 runs writes c.lend-row.result there c.args.known (known_here g.P.Pmem.region c.self.view_is c.args.known c.lend-row.ensures.number c.requires)
+pub clean_log-cleaned-requires : goal.clean_log-cleaned-requires
+clean_log-cleaned-requires g c =
+    record {
+      stands = (let runs : c.self.inside.stopped ≡ false = ap (λ (m : Mount g.row.P.Denot). m.stopped) c.self.view_is ∙ c.in_ok-cleanable.ensures.runs in
+          let writes : c.self.inside.read_only ≡ false = ap (λ (m : Mount g.row.P.Denot). m.read_only) c.self.view_is ∙ c.in_ok-cleanable.ensures.writes in
+          let rows = c.self.inside.rows.items in
+          let inode = c.args.inode in
+          let at = at_place rows inode ∙ c.lend-row.ensures.row in
+          let there = stands rows (place_in rows inode) c.lend-row.result at in
+          stands_right c.self.invariant.0 runs writes c.lend-row.result there);
+      blocks = (let runs : c.self.inside.stopped ≡ false = ap (λ (m : Mount g.row.P.Denot). m.stopped) c.self.view_is ∙ c.in_ok-cleanable.ensures.runs in
+          let writes : c.self.inside.read_only ≡ false = ap (λ (m : Mount g.row.P.Denot). m.read_only) c.self.view_is ∙ c.in_ok-cleanable.ensures.writes in
+          has_blocks c.self.invariant.0 runs writes c.len-end.ensures.short);
+      right = (let runs : c.self.inside.stopped ≡ false = ap (λ (m : Mount g.row.P.Denot). m.stopped) c.self.view_is ∙ c.in_ok-cleanable.ensures.runs in
+          let writes : c.self.inside.read_only ≡ false = ap (λ (m : Mount g.row.P.Denot). m.read_only) c.self.view_is ∙ c.in_ok-cleanable.ensures.writes in
+          let rows = c.self.inside.rows.items in
+          let inode = c.args.inode in
+          let at = at_place rows inode ∙ c.lend-row.ensures.row in
+          let there = stands rows (place_in rows inode) c.lend-row.result at in
+          right_log c.self.invariant.0 runs writes c.lend-row.result there);
+      inside = (let runs : c.self.inside.stopped ≡ false = ap (λ (m : Mount g.row.P.Denot). m.stopped) c.self.view_is ∙ c.in_ok-cleanable.ensures.runs in
+          let writes : c.self.inside.read_only ≡ false = ap (λ (m : Mount g.row.P.Denot). m.read_only) c.self.view_is ∙ c.in_ok-cleanable.ensures.writes in
+          let rows = c.self.inside.rows.items in
+          let inode = c.args.inode in
+          let at = at_place rows inode ∙ c.lend-row.ensures.row in
+          let there = stands rows (place_in rows inode) c.lend-row.result at in
+          end_inside c.self.invariant.0 runs writes c.lend-row.result there);
+      own = (let runs : c.self.inside.stopped ≡ false = ap (λ (m : Mount g.row.P.Denot). m.stopped) c.self.view_is ∙ c.in_ok-cleanable.ensures.runs in
+          let writes : c.self.inside.read_only ≡ false = ap (λ (m : Mount g.row.P.Denot). m.read_only) c.self.view_is ∙ c.in_ok-cleanable.ensures.writes in
+          let rows = c.self.inside.rows.items in
+          let inode = c.args.inode in
+          let at = at_place rows inode ∙ c.lend-row.ensures.row in
+          let there = stands rows (place_in rows inode) c.lend-row.result at in
+          own_pages c.self.invariant.0 runs writes c.lend-row.result there);
+      before_last = (let runs : c.self.inside.stopped ≡ false = ap (λ (m : Mount g.row.P.Denot). m.stopped) c.self.view_is ∙ c.in_ok-cleanable.ensures.runs in
+          let writes : c.self.inside.read_only ≡ false = ap (λ (m : Mount g.row.P.Denot). m.read_only) c.self.view_is ∙ c.in_ok-cleanable.ensures.writes in
+          let rows = c.self.inside.rows.items in
+          let inode = c.args.inode in
+          let at = at_place rows inode ∙ c.lend-row.ensures.row in
+          let there = stands rows (place_in rows inode) c.lend-row.result at in
+          known_before_last c.self.invariant.0 runs writes c.lend-row.result there c.args.known (known_here g.P.Pmem.region c.self.view_is c.args.known c.lend-row.ensures.number c.requires));
+    }
 
 pub invariant_of-self : goal.invariant_of-self
 invariant_of-self g c =
@@ -213,7 +200,7 @@ returns-in-Ok-clause-settled g c = c.in-Ok.ensures.settled (c.self.invariant.2 (
 pub returns-in-Err-clause-refused : goal.returns-in-Err-clause-refused
 returns-in-Err-clause-refused g c still =
     let writes : c.self.inside.read_only ≡ false = ap (λ (m : Mount g.row.P.Denot). m.read_only) c.self.view_is ∙ c.in_ok-cleanable.ensures.writes in
-    step_refused _ c.in-Err.refusal (inode_there g.P.Pmem.region c.self.view_is writes c.args.inode c.lend-row.result c.lend-row.ensures.row) c.in-Err.ensures.refused
+    step_refused _ c.in-Err.refusal (inode_there g.P.Pmem.region c.self.view_is writes c.args.inode c.lend-row.result c.lend-row.ensures.row) c.in-Err.ensures.refused.why
 
 pub returns-in-Err-clause-allowed : goal.returns-in-Err-clause-allowed
 returns-in-Err-clause-allowed g c = tt

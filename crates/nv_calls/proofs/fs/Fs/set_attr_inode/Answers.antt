@@ -69,15 +69,6 @@ returns-in_err-in_use-clause-call g c =
     refused_later g.P.Pmem.region g.P.Pmem.fuse c.args.self.now c.from_residual-in_err-in_use.result c.in_err-in_use.field-0.0 w.0 w.1 w.2 c.in_ok-writable.ensures.runs
     (λ is. let clash : NotFound ≡ Stopped = sym c.in_err-in_use.ensures.missing.0 ∙ is in cc)
 
-pub change_attributes-changed-requires-clause-stands : goal.change_attributes-changed-requires-clause-stands
-change_attributes-changed-requires-clause-stands g c =
-    let runs : c.self.inside.stopped ≡ false = ap (λ (m : Mount g.row.P.Denot). m.stopped) c.self.view_is ∙ c.in_ok-writable.ensures.runs in
-    let writes : c.self.inside.read_only ≡ false = ap (λ (m : Mount g.row.P.Denot). m.read_only) c.self.view_is ∙ c.in_ok-writable.ensures.writes in
-    let rows = c.self.inside.rows.items in
-    let inode = c.args.inode in
-    let at = at_place rows inode ∙ c.lend-row.ensures.row in
-    stands_right c.self.invariant.0 runs writes c.lend-row.result (stands c.self.inside.rows.items (place_in rows inode) c.lend-row.result at)
-
 pub invariant_of-self : goal.invariant_of-self
 invariant_of-self g c =
     let runs : c.self.inside.stopped ≡ false = ap (λ (m : Mount g.row.P.Denot). m.stopped) c.self.view_is ∙ c.in_ok-writable.ensures.runs in
@@ -101,16 +92,19 @@ invariant_of-self-in-Err g c =
       settled_or_stopped g.P.Pmem.region g.P.Pmem.may_hold c.in-Err.refusal c.is_stop-self-inside.result c.is_stop-self-inside.ensures.no (λ off. (c.in-Err.ensures.unchanged off).memory) (c.self.invariant.2 runs),
     )
 
-pub change_attributes-changed-requires-clause-cpu : goal.change_attributes-changed-requires-clause-cpu
-change_attributes-changed-requires-clause-cpu g c =
-    let low : c.cpu.inside.0 < c.self.inside.tables.layout.sup.cpus = subst (λ (m : Mount g.row.P.Denot). c.cpu.inside.0 < m.sup.cpus) (sym c.self.view_is) c.in_ok-writable.ensures.cpu in
-    low_pools c.self.invariant.0 c.cpu.inside.0 low
-
-pub change_attributes-changed-requires-clause-mode : goal.change_attributes-changed-requires-clause-mode
-change_attributes-changed-requires-clause-mode g c = low_bits c.args.mode
-
-pub change_attributes-changed-requires-clause-size : goal.change_attributes-changed-requires-clause-size
-change_attributes-changed-requires-clause-size g c = refl
+pub change_attributes-changed-requires : goal.change_attributes-changed-requires
+change_attributes-changed-requires g c =
+    record {
+      cpu_below = (let low : c.cpu.inside.0 < c.self.inside.tables.layout.sup.cpus = subst (λ (m : Mount g.row.P.Denot). c.cpu.inside.0 < m.sup.cpus) (sym c.self.view_is) c.in_ok-writable.ensures.cpu in
+          low_pools c.self.invariant.0 c.cpu.inside.0 low);
+      stands = (let runs : c.self.inside.stopped ≡ false = ap (λ (m : Mount g.row.P.Denot). m.stopped) c.self.view_is ∙ c.in_ok-writable.ensures.runs in
+          let writes : c.self.inside.read_only ≡ false = ap (λ (m : Mount g.row.P.Denot). m.read_only) c.self.view_is ∙ c.in_ok-writable.ensures.writes in
+          let rows = c.self.inside.rows.items in
+          let inode = c.args.inode in
+          let at = at_place rows inode ∙ c.lend-row.ensures.row in
+          stands_right c.self.invariant.0 runs writes c.lend-row.result (stands c.self.inside.rows.items (place_in rows inode) c.lend-row.result at));
+      given = ((low_bits c.args.mode), refl);
+    }
 
 pub returns-in-Ok-clause-allowed : goal.returns-in-Ok-clause-allowed
 returns-in-Ok-clause-allowed g c =

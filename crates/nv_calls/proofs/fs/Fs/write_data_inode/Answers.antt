@@ -83,31 +83,6 @@ returns-then-count-eq0-clause-allowed g c =
     write_none g.P.Pmem.region c.self.view_is c.cpu.inside.0 (c.args.offset + length (data_bytes c.args.content)) count c.in_ok-writable.ensures.passed c.args.inode (large_of_inode c.args.offset (length (data_bytes c.args.content)) c.saturating_add.result (rw c.len-count.ensures at c.saturating_add.ensures) (tree_of (g.P.Pmem.region c.self.inside.memory) c.self.inside.rows.items) c.args.inode ∙ c.in_ok-resizable_inode.ensures.refused (g.P.Pmem.region c.self.inside.memory)) (needs.none (rw c.len-count.ensures at c.if-count-eq0.true))
     )
 
-pub change_bytes-changed-requires-clause-stands : goal.change_bytes-changed-requires-clause-stands
-change_bytes-changed-requires-clause-stands g c =
-    let runs : c.self.inside.stopped ≡ false = ap (λ (m : Mount g.row.P.Denot). m.stopped) c.self.view_is ∙ c.in_ok-writable.ensures.runs in
-    let writes : c.self.inside.read_only ≡ false = ap (λ (m : Mount g.row.P.Denot). m.read_only) c.self.view_is ∙ c.in_ok-writable.ensures.writes in
-    let rows = c.self.inside.rows.items in
-    let inode = c.args.inode in
-    let at = at_place rows inode ∙ c.lend-row.ensures.row in
-    stands_right c.self.invariant.0 runs writes c.lend-row.result (stands c.self.inside.rows.items (place_in rows inode) c.lend-row.result at)
-
-pub change_bytes-changed-requires-clause-kind : goal.change_bytes-changed-requires-clause-kind
-change_bytes-changed-requires-clause-kind g c =
-    let rows = c.self.inside.rows.items in
-    let inode = c.args.inode in
-    let at = at_place rows inode ∙ c.lend-row.ensures.row in
-    subst (λ (r : Row). r.kind ≡ File) (same_Some _ _ (sym c.in_ok-resizable_inode.ensures.row ∙ c.lend-row.ensures.row)) c.in_ok-resizable_inode.ensures.file
-
-pub change_bytes-changed-requires-clause-file : goal.change_bytes-changed-requires-clause-file
-change_bytes-changed-requires-clause-file g c =
-    let runs : c.self.inside.stopped ≡ false = ap (λ (m : Mount g.row.P.Denot). m.stopped) c.self.view_is ∙ c.in_ok-writable.ensures.runs in
-    let writes : c.self.inside.read_only ≡ false = ap (λ (m : Mount g.row.P.Denot). m.read_only) c.self.view_is ∙ c.in_ok-writable.ensures.writes in
-    let rows = c.self.inside.rows.items in
-    let inode = c.args.inode in
-    let at = at_place rows inode ∙ c.lend-row.ensures.row in
-    file_stands c.self.invariant.0 runs writes c.lend-row.result (stands c.self.inside.rows.items (place_in rows inode) c.lend-row.result at)
-
 pub invariant_of-self : goal.invariant_of-self
 invariant_of-self g c =
     let runs : c.self.inside.stopped ≡ false = ap (λ (m : Mount g.row.P.Denot). m.stopped) c.self.view_is ∙ c.in_ok-writable.ensures.runs in
@@ -140,22 +115,32 @@ new-plan-requires-clause-small g c =
     let ends = ends_small c.args.offset (length (data_bytes c.args.content)) c.saturating_add.result (rw c.len-count.ensures at c.saturating_add.ensures) c.in_ok-resizable_inode.ensures.most in
     omega (arith, ends, c.len-count.ensures)
 
-pub change_bytes-changed-requires-clause-cpu : goal.change_bytes-changed-requires-clause-cpu
-change_bytes-changed-requires-clause-cpu g c =
-    let low : c.cpu.inside.0 < c.self.inside.tables.layout.sup.cpus = subst (λ (m : Mount g.row.P.Denot). c.cpu.inside.0 < m.sup.cpus) (sym c.self.view_is) c.in_ok-writable.ensures.cpu in
-    low_pools c.self.invariant.0 c.cpu.inside.0 low
-
-pub change_bytes-changed-requires-clause-some : goal.change_bytes-changed-requires-clause-some
-change_bytes-changed-requires-clause-some g c = omega (arith, c.if-count-eq0.false, c.len-count.ensures)
-
-pub change_bytes-changed-requires-clause-fits : goal.change_bytes-changed-requires-clause-fits
-change_bytes-changed-requires-clause-fits g c = ends_small c.args.offset (length (data_bytes c.args.content)) c.saturating_add.result (rw c.len-count.ensures at c.saturating_add.ensures) c.in_ok-resizable_inode.ensures.most
-
-pub change_bytes-changed-requires-clause-size : goal.change_bytes-changed-requires-clause-size
-change_bytes-changed-requires-clause-size g c = refl
-
-pub change_bytes-changed-requires-clause-plan : goal.change_bytes-changed-requires-clause-plan
-change_bytes-changed-requires-clause-plan g c = planned (block_at c.lend-row.result.index) c.lend-row.result.numbers.size c.args.offset (length (data_bytes c.args.content)) c.time.inside.0 c.new-plan.result (rw c.len-count.ensures at c.new-plan.ensures)
+pub change_bytes-changed-requires : goal.change_bytes-changed-requires
+change_bytes-changed-requires g c =
+    record {
+      cpu_below = (let low : c.cpu.inside.0 < c.self.inside.tables.layout.sup.cpus = subst (λ (m : Mount g.row.P.Denot). c.cpu.inside.0 < m.sup.cpus) (sym c.self.view_is) c.in_ok-writable.ensures.cpu in
+          low_pools c.self.invariant.0 c.cpu.inside.0 low);
+      stands = (let runs : c.self.inside.stopped ≡ false = ap (λ (m : Mount g.row.P.Denot). m.stopped) c.self.view_is ∙ c.in_ok-writable.ensures.runs in
+          let writes : c.self.inside.read_only ≡ false = ap (λ (m : Mount g.row.P.Denot). m.read_only) c.self.view_is ∙ c.in_ok-writable.ensures.writes in
+          let rows = c.self.inside.rows.items in
+          let inode = c.args.inode in
+          let at = at_place rows inode ∙ c.lend-row.ensures.row in
+          stands_right c.self.invariant.0 runs writes c.lend-row.result (stands c.self.inside.rows.items (place_in rows inode) c.lend-row.result at));
+      kind = (let rows = c.self.inside.rows.items in
+          let inode = c.args.inode in
+          let at = at_place rows inode ∙ c.lend-row.ensures.row in
+          subst (λ (r : Row). r.kind ≡ File) (same_Some _ _ (sym c.in_ok-resizable_inode.ensures.row ∙ c.lend-row.ensures.row)) c.in_ok-resizable_inode.ensures.file);
+      file = (let runs : c.self.inside.stopped ≡ false = ap (λ (m : Mount g.row.P.Denot). m.stopped) c.self.view_is ∙ c.in_ok-writable.ensures.runs in
+          let writes : c.self.inside.read_only ≡ false = ap (λ (m : Mount g.row.P.Denot). m.read_only) c.self.view_is ∙ c.in_ok-writable.ensures.writes in
+          let rows = c.self.inside.rows.items in
+          let inode = c.args.inode in
+          let at = at_place rows inode ∙ c.lend-row.ensures.row in
+          file_stands c.self.invariant.0 runs writes c.lend-row.result (stands c.self.inside.rows.items (place_in rows inode) c.lend-row.result at));
+      some = (omega (arith, c.if-count-eq0.false, c.len-count.ensures));
+      fits = (ends_small c.args.offset (length (data_bytes c.args.content)) c.saturating_add.result (rw c.len-count.ensures at c.saturating_add.ensures) c.in_ok-resizable_inode.ensures.most);
+      size_is = refl;
+      plan_is = (planned (block_at c.lend-row.result.index) c.lend-row.result.numbers.size c.args.offset (length (data_bytes c.args.content)) c.time.inside.0 c.new-plan.result (rw c.len-count.ensures at c.new-plan.ensures));
+    }
 
 pub returns-in-Ok-clause-allowed : goal.returns-in-Ok-clause-allowed
 returns-in-Ok-clause-allowed g c =
