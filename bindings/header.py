@@ -21,7 +21,19 @@ WIDTH = 110
 PLAIN = {"u32": "uint32_t", "u64": "uint64_t", "usize": "size_t", "*mut u8": "void *", "*mut u64": "uint64_t *"}
 # The structs, in the order in which they are needed, and the files of the calls, in the order of the header.
 STRUCTS = ("NovaFs", "NovaImage", "NovaNumbers", "NovaSpace", "NovaCleaned")
-FILES = ("opening", "saving", "numbers", "reading", "listing", "by_number", "names", "files", "files_by_number", "cleaning")
+FILES = (
+    "opening",
+    "saving",
+    "numbers",
+    "reading",
+    "listing",
+    "by_number",
+    "names",
+    "names_by_number",
+    "files",
+    "files_by_number",
+    "cleaning",
+)
 # How the statuses of an enum's variants are named.
 PREFIXES = {"Refusal": "", "SuperFault": "SUPER_", "RecoverError": "RECOVER_", "FormatRefusal": "FORMAT_"}
 

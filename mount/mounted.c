@@ -65,4 +65,4 @@ void tell(struct stat *out, const nova_numbers *n)
     out->st_atim = out->st_ctim = out->st_mtim;
 }
 
-int numbers_of(uint64_t id, nova_numbers *out) { return error_of(nova_stat_inode(&fs, number_of(node_of(id)), out)); }
+int numbers_of(uint64_t id, nova_numbers *out) { return error_of(nova_stat_inode(&fs, number_in(id), out)); }

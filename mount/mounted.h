@@ -4,6 +4,7 @@
 
 #include <stdbool.h>
 #include <stdint.h>
+#include <string.h>
 #include <sys/stat.h>
 #include <sys/types.h>
 #include <time.h>
@@ -18,7 +19,9 @@ enum { LONGEST_NAME = 255 };
 extern nova_fs fs;
 extern nova_space space;
 
+/* A path, and a name with a 0 behind it, as the calls of nova.h take them. */
 #define PATH(path) (path).bytes, (path).length
+#define NAME(name) (const uint8_t *)(name), strlen(name)
 
 /* The error of a status: 0, or an errno. */
 int error_of(uint32_t status);
@@ -35,6 +38,9 @@ extern uint64_t changes;
 
 /* Tells the numbers of an inode as the system wants them. */
 void tell(struct stat *out, const nova_numbers *n);
+
+/* The number of an inode that the kernel has; or 0, which no inode has. */
+static inline uint64_t number_in(uint64_t id) { return number_of(node_of(id)); }
 
 /* The numbers of an inode that the kernel has: 0, or an errno. */
 int numbers_of(uint64_t id, nova_numbers *out);

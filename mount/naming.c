@@ -12,9 +12,6 @@
 #include "mounted.h"
 #include "room.h"
 
-/* The paths of this operation: of the name that it is on, and of another. */
-static struct path path, other_path;
-
 /* ---- new names */
 
 static void reply_entry(fuse_req_t request, int error, const struct fuse_entry_param *entry)
@@ -25,49 +22,40 @@ static void reply_entry(fuse_req_t request, int error, const struct fuse_entry_p
         forget_node(entry->ino, 1);
 }
 
-static int owned_by_caller(fuse_req_t request, uint64_t number, mode_t mode)
+typedef uint32_t making(nova_fs *, uint64_t, uint64_t, const uint8_t *, size_t, uint32_t, uint64_t, uint64_t *);
+typedef uint32_t removing(nova_fs *, uint64_t, uint64_t, const uint8_t *, size_t, uint64_t);
+
+static int owned_by_caller(fuse_req_t request, fuse_ino_t directory, const char *name, uint64_t number, mode_t mode)
 {
     const struct fuse_ctx *caller = fuse_req_ctx(request);
     if (!caller->uid && !caller->gid)
         return 0;
-    return error_of(WITH_ROOM(&path, nova_set_attr_inode(&fs, cpu(), number, mode & 07777, caller->uid, caller->gid, now())));
-}
-
-typedef uint32_t making(nova_fs *, uint64_t, const uint8_t *, size_t, uint32_t, uint64_t);
-typedef uint32_t removing(nova_fs *, uint64_t, const uint8_t *, size_t, uint64_t);
-
-/* The number of the inode that was made just now: the kernel may have it as that of another. */
-static uint64_t number_made(void)
-{
-    nova_numbers made = {.inode = 0};
-    (void)nova_stat(&fs, PATH(path), &made);
-    renew_number(made.inode);
-    return made.inode;
+    return error_of(WITH_ROOM_IN(directory, name,
+                                 nova_set_attr_inode(&fs, cpu(), number, mode & 07777, caller->uid, caller->gid, now())));
 }
 
 /* Makes an inode in the table of a CPU that has room, and finds it. It goes again where it can't be given to the caller. */
 static int make(fuse_req_t request, fuse_ino_t directory, const char *name, mode_t mode, making *call, removing *undo,
                 struct fuse_entry_param *entry)
 {
-    int error = path_in(directory, name, &path);
-    if (error)
-        return error;
+    uint64_t parent = number_in(directory), number = 0;
     uint32_t status = NOVA_NO_INODES;
     for (uint64_t tries = 0; status == NOVA_NO_INODES && tries < space.cpus; tries++)
-        status = WITH_ROOM(&path, call(&fs, cpu(), PATH(path), mode & 07777, now()));
-    error = written(status);
+        status = WITH_ROOM_IN(directory, name, call(&fs, cpu(), parent, NAME(name), mode & 07777, now(), &number));
+    int error = written(status);
     if (error)
         return error;
-    uint64_t number = number_made();
-    if ((error = owned_by_caller(request, number, mode)) || (error = find_inode(number, directory, name, entry)))
-        undo(&fs, cpu(), PATH(path), now());
+    /* The kernel may have the number as that of another. */
+    renew_number(number);
+    if ((error = owned_by_caller(request, directory, name, number, mode)) || (error = find_inode(number, directory, name, entry)))
+        undo(&fs, cpu(), parent, NAME(name), now());
     return error;
 }
 
 void on_create(fuse_req_t request, fuse_ino_t directory, const char *name, mode_t mode, struct fuse_file_info *file)
 {
     struct fuse_entry_param entry;
-    int error = make(request, directory, name, mode, nova_create, nova_unlink, &entry);
+    int error = make(request, directory, name, mode, nova_create_inode, nova_unlink_inode, &entry);
     if (error) {
         fuse_reply_err(request, error);
         return;
@@ -85,14 +73,14 @@ void on_mknod(fuse_req_t request, fuse_ino_t directory, const char *name, mode_t
 {
     (void)device;
     struct fuse_entry_param entry;
-    int error = S_ISREG(mode) ? make(request, directory, name, mode, nova_create, nova_unlink, &entry) : EOPNOTSUPP;
+    int error = S_ISREG(mode) ? make(request, directory, name, mode, nova_create_inode, nova_unlink_inode, &entry) : EOPNOTSUPP;
     reply_entry(request, error, &entry);
 }
 
 void on_mkdir(fuse_req_t request, fuse_ino_t directory, const char *name, mode_t mode)
 {
     struct fuse_entry_param entry;
-    reply_entry(request, make(request, directory, name, mode, nova_mkdir, nova_rmdir, &entry), &entry);
+    reply_entry(request, make(request, directory, name, mode, nova_mkdir_inode, nova_rmdir_inode, &entry), &entry);
 }
 
 void on_symlink(fuse_req_t request, const char *to, fuse_ino_t directory, const char *name)
@@ -103,13 +91,10 @@ void on_symlink(fuse_req_t request, const char *to, fuse_ino_t directory, const 
 
 static int link_to(fuse_ino_t id, fuse_ino_t directory, const char *name, struct fuse_entry_param *entry)
 {
-    const struct node *node = node_of(id);
-    int error = path_of(node, &path);
-    if (error || (error = path_in(directory, name, &other_path)))
-        return error;
-    error = written(WITH_ROOM(&other_path, nova_link(&fs, cpu(), PATH(path), PATH(other_path), now())));
-    if (!error && (error = find_inode(node->number, directory, name, entry)))
-        nova_unlink(&fs, cpu(), PATH(other_path), now());
+    uint64_t number = number_in(id), parent = number_in(directory);
+    int error = written(WITH_ROOM_IN(directory, name, nova_link_inode(&fs, cpu(), number, parent, NAME(name), now())));
+    if (!error && (error = find_inode(number, directory, name, entry)))
+        nova_unlink_inode(&fs, cpu(), parent, NAME(name), now());
     return error;
 }
 
@@ -128,22 +113,19 @@ static bool is_in_use(uint64_t number, fuse_ino_t directory, const char *name)
     return node && node->opens && has_only_name(node, directory, name);
 }
 
-/* Gives a file one more name, under which it stays while it is open. Where it may have no more links it has other names, which
- * aren't known, and stays without. */
-static int keep(uint64_t number, fuse_ino_t directory, const struct path *shown)
+/* Gives a file one more name beside the one that is shown, under which it stays while it is open. Where it may have no more links
+ * it has other names, which aren't known, and stays without. */
+static int keep(uint64_t number, fuse_ino_t directory, const char *shown)
 {
-    static struct path hidden;
     static uint32_t count;
     char name[sizeof HIDDEN + 32];
+    uint64_t parent = number_in(directory);
     uint32_t status;
     do {
         snprintf(name, sizeof name, HIDDEN "%08" PRIx64 "%08" PRIx32, number, count++);
-        int error = path_in(directory, name, &hidden);
-        if (error)
-            return error;
         if (!give_name(number, directory, name, true))
             return ENOMEM;
-        status = WITH_ROOM(shown, nova_link(&fs, cpu(), PATH(*shown), PATH(hidden), now()));
+        status = WITH_ROOM_IN(directory, shown, nova_link_inode(&fs, cpu(), number, parent, NAME(name), now()));
         if (status)
             drop_name(number, directory, name);
     } while (status == NOVA_EXISTS);
@@ -153,24 +135,24 @@ static int keep(uint64_t number, fuse_ino_t directory, const struct path *shown)
 /* Takes that name away. */
 static void let_go(const struct node *node)
 {
-    static struct path hidden;
     const char *name;
     uint64_t directory = node ? hidden_name(node, &name) : 0;
-    if (directory && !path_in(directory, name, &hidden) &&
-        !written(WITH_ROOM(&hidden, nova_unlink(&fs, cpu(), PATH(hidden), now()))))
+    if (directory && !written(WITH_ROOM_IN(directory, name,
+                                           nova_unlink_inode(&fs, cpu(), number_in(directory), NAME(name), now()))))
         drop_name(node->number, directory, name);
 }
 
 static int take_away(fuse_ino_t directory, const char *name, removing *call)
 {
     nova_numbers gone;
-    int error = path_in(directory, name, &path);
-    if (error || (error = error_of(nova_stat(&fs, PATH(path), &gone))))
+    uint64_t parent = number_in(directory);
+    int error = error_of(nova_lookup_inode(&fs, parent, NAME(name), &gone));
+    if (error)
         return error;
     bool is_kept = is_in_use(gone.inode, directory, name);
-    if (is_kept && (error = keep(gone.inode, directory, &path)))
+    if (is_kept && (error = keep(gone.inode, directory, name)))
         return error;
-    error = written(WITH_ROOM(&path, call(&fs, cpu(), PATH(path), now())));
+    error = written(WITH_ROOM_IN(directory, name, call(&fs, cpu(), parent, NAME(name), now())));
     if (!error)
         drop_name(gone.inode, directory, name);
     else if (is_kept)
@@ -180,12 +162,12 @@ static int take_away(fuse_ino_t directory, const char *name, removing *call)
 
 void on_unlink(fuse_req_t request, fuse_ino_t directory, const char *name)
 {
-    fuse_reply_err(request, take_away(directory, name, nova_unlink));
+    fuse_reply_err(request, take_away(directory, name, nova_unlink_inode));
 }
 
 void on_rmdir(fuse_req_t request, fuse_ino_t directory, const char *name)
 {
-    fuse_reply_err(request, take_away(directory, name, nova_rmdir));
+    fuse_reply_err(request, take_away(directory, name, nova_rmdir_inode));
 }
 
 void on_release(fuse_req_t request, fuse_ino_t id, struct fuse_file_info *file)
@@ -200,6 +182,9 @@ void on_release(fuse_req_t request, fuse_ino_t id, struct fuse_file_info *file)
 }
 
 /* ---- names that move */
+
+/* The paths of the old name and of the new one. */
+static struct path path, other_path;
 
 static uint32_t move(void)
 {
@@ -219,7 +204,7 @@ static int move_to(uint64_t number, fuse_ino_t other_directory, const char *othe
 {
     int error;
     bool is_kept = is_in_use(gone, other_directory, other);
-    if (is_kept && (error = keep(gone, other_directory, &other_path)))
+    if (is_kept && (error = keep(gone, other_directory, other)))
         return error;
     error = give_name(number, other_directory, other, false) ? 0 : ENOMEM;
     if (!error && (error = written(may_replace ? replace() : move())))
@@ -236,11 +221,11 @@ static int rename_to(fuse_ino_t directory, const char *name, fuse_ino_t other_di
     nova_numbers moved, gone = {.inode = 0};
     int error = path_in(directory, name, &path);
     if (error || (error = path_in(other_directory, other, &other_path)) ||
-        (error = error_of(nova_stat(&fs, PATH(path), &moved))))
+        (error = error_of(nova_lookup_inode(&fs, number_in(directory), NAME(name), &moved))))
         return error;
     /* Where there is nothing yet, it isn't found. */
     if (may_replace)
-        (void)nova_stat(&fs, PATH(other_path), &gone);
+        (void)nova_lookup_inode(&fs, number_in(other_directory), NAME(other), &gone);
     if (gone.inode == moved.inode)
         return 0;
     error = move_to(moved.inode, other_directory, other, gone.inode, may_replace);

@@ -1,7 +1,7 @@
 /* The inodes that the kernel has, with the names under which it was told of them.
  *
  * The kernel names an inode by an id, which is its number in the image: but where the kernel still has an inode that is gone, the
- * next one of that number gets another id. The calls of nova.h on what an inode holds take numbers, and those on names take paths.
+ * next one of that number gets another id. Most calls of nova.h take numbers, but those that rename and those that clean take paths.
  * So each node has names too, each of which leads to the node of a directory. A node is kept while the kernel has it, or while
  * names lead to it: what the kernel forgets goes.
  */

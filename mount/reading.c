@@ -30,12 +30,9 @@ static int tell_entry(const nova_numbers *numbers, fuse_ino_t directory, const c
 
 int find(fuse_ino_t directory, const char *name, struct fuse_entry_param *out)
 {
-    static struct path path;
     nova_numbers numbers;
-    int error = path_in(directory, name, &path);
-    if (error || (error = error_of(nova_stat(&fs, PATH(path), &numbers))))
-        return error;
-    return tell_entry(&numbers, directory, name, out);
+    int error = error_of(nova_lookup_inode(&fs, number_in(directory), NAME(name), &numbers));
+    return error ? error : tell_entry(&numbers, directory, name, out);
 }
 
 int find_inode(uint64_t number, fuse_ino_t directory, const char *name, struct fuse_entry_param *out)
@@ -105,7 +102,7 @@ void on_read(fuse_req_t request, fuse_ino_t id, size_t count, off_t offset, stru
     size_t done = 0;
     int error = ENOMEM;
     if (has_room(count))
-        error = error_of(nova_read_inode(&fs, number_of(node_of(id)), (uint64_t)offset, buffer.bytes, count, &done));
+        error = error_of(nova_read_inode(&fs, number_in(id), (uint64_t)offset, buffer.bytes, count, &done));
     if (error)
         fuse_reply_err(request, error);
     else

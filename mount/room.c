@@ -29,10 +29,17 @@ bool has_room_now(uint32_t status, const struct path *path)
     return clean(path->bytes, directory ? directory : 1) || has_freed;
 }
 
+/* The path of what a call is on that has no path of its own. */
+static struct path path;
+
 bool has_room_for(uint32_t status, const struct node *node)
 {
-    static struct path path;
     return status == NOVA_NO_SPACE && !path_of(node, &path) && has_room_now(status, &path);
+}
+
+bool has_room_in(uint32_t status, uint64_t directory, const char *name)
+{
+    return status == NOVA_NO_SPACE && !path_in(directory, name, &path) && has_room_now(status, &path);
 }
 
 int written(uint32_t status)

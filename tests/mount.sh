@@ -248,8 +248,10 @@ rm -r "$at/r"
 long=$(printf 'n%.0s' {1..200})
 (cd "$at/f" && for _ in {1..20}; do mkdir "$long" && cd "$long" || exit; done && echo deep >file && [ "$(cat file)" = deep ])
 holds "a path of 4,000 bytes" $?
-(cd "$at/f" && for _ in {1..21}; do [ -d "$long" ] || mkdir "$long" && cd "$long" || exit; done) 2>long.said
-holds "a longer one is refused" $((!$?))
+(cd "$at/f" && for _ in {1..21}; do [ -d "$long" ] || mkdir "$long" && cd "$long" || exit; done && echo deeper >file && [ "$(cat file)" = deeper ])
+holds "a path of more than 4,096 bytes" $?
+(cd "$at/f" && for _ in {1..21}; do cd "$long" || exit 0; done && mv file other) 2>long.said
+holds "a rename by such a path is refused" $((!$?))
 grep -q 'File name too long' long.said
 holds "by ENAMETOOLONG" $?
 mkdir "$at/many" && (cd "$at/many" && touch {1..2000} && [ "$(ls | wc -l)" = 2000 ] && find . -type f -delete && [ -z "$(ls)" ])

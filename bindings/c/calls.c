@@ -147,6 +147,31 @@ static void changes_by_number(void)
     printf("read %.*s\n", (int)used, room);
 }
 
+/* Names by the number of their directory, as which 2 and then 4 serve. */
+static void names_by_number(void)
+{
+    uint64_t made = 0;
+    numbers_told("c in 2", nova_lookup_inode(&fs, 2, BYTES("c"), &numbers));
+    numbers_told("c in 1", nova_lookup_inode(&fs, 1, BYTES("c"), &numbers));
+    numbers_told("c in 3", nova_lookup_inode(&fs, 3, BYTES("c"), &numbers));
+    numbers_told("c in 9", nova_lookup_inode(&fs, 9, BYTES("c"), &numbers));
+    numbers_told("d/c in 1", nova_lookup_inode(&fs, 1, BYTES("d/c"), &numbers));
+    SAYS(nova_mkdir_inode(&fs, 0, 2, BYTES("e"), 0755, 13, &made));
+    SAYS(nova_mkdir_inode(&fs, 0, 2, BYTES("c"), 0755, 13, &made));
+    printf("made %ju\n", (uintmax_t)made);
+    SAYS(nova_create_inode(&fs, 1, 4, BYTES("f"), 0644, 14, &made));
+    printf("made %ju\n", (uintmax_t)made);
+    SAYS(nova_link_inode(&fs, 0, 5, 2, BYTES("g"), 15));
+    SAYS(nova_link_inode(&fs, 0, 4, 2, BYTES("h"), 15));
+    SAYS(nova_unlink_inode(&fs, 0, 4, BYTES("f"), 16));
+    SAYS(nova_unlink_inode(&fs, 0, 2, BYTES("e"), 16));
+    numbers_told("g in 2", nova_lookup_inode(&fs, 2, BYTES("g"), &numbers));
+    SAYS(nova_rmdir_inode(&fs, 0, 2, BYTES("g"), 17));
+    SAYS(nova_rmdir_inode(&fs, 0, 2, BYTES("e"), 17));
+    SAYS(nova_unlink_inode(&fs, 0, 2, BYTES("g"), 18));
+    names_of("/d");
+}
+
 static bool is_written(const char *path, const uint8_t *bytes, size_t length)
 {
     FILE *file = fopen(path, "wb");
@@ -173,6 +198,7 @@ int main(int count, char **words)
     looks();
     looks_by_number();
     changes_by_number();
+    names_by_number();
     SAYS(nova_report(&fs, room, sizeof room, &used));
     SAYS(nova_save(&fs, image, LENGTH - 1));
     SAYS(nova_save(&fs, image, LENGTH));

@@ -158,6 +158,13 @@ uint32_t nova_report(nova_fs *fs, uint8_t *text, size_t text_length, size_t *use
  * use has the number. */
 uint32_t nova_stat_inode(nova_fs *fs, uint64_t inode, nova_numbers *out);
 
+/* The numbers of the inode that a name of the directory of this number stands for. It takes no memory.
+ * Statuses, the first that applies, with out as before: 16 where the handle is closed, 6 where no path can
+ * say the name, 1 where no inode in use has the directory's number and 3 where a file has it, 1 where no
+ * inode in use has the name. */
+uint32_t nova_lookup_inode(nova_fs *fs, uint64_t directory, const uint8_t *name, size_t name_length,
+                           nova_numbers *out);
+
 /* Puts the bytes of the file of this number into a buffer, from an offset on up to its size, as many as fit.
  * done says how many these are, and the rest of the buffer stays. It takes no memory.
  * Statuses, the first that applies, with buffer and done as before: 16 where the handle is closed, 1 where no
@@ -230,6 +237,52 @@ uint32_t nova_rename(nova_fs *fs, uint64_t cpu, const uint8_t *path, size_t path
  * Besides these 14 where memory was refused. All leave everything as it was. */
 uint32_t nova_replace(nova_fs *fs, uint64_t cpu, const uint8_t *path, size_t path_length, const uint8_t
                       *other, size_t other_length, uint64_t time);
+
+/* Makes a file of this mode, of which the low 12 bits are kept, with this name in the directory of this
+ * number. inode says the new number.
+ * Statuses, the first that applies, with inode as before: 16 where the handle is closed, 13 where there is no
+ * CPU of that number, 10 where the mount has faults, 6 where no path can say the name, 1 where no inode in
+ * use has the directory's number and 3 where a file has it, 2 where an inode in use has the name, 8 where the
+ * CPU's table has no unused slot, in version 1, 7 where too few blocks are free. Besides these 14 where
+ * memory was refused. All leave everything as it was. */
+uint32_t nova_create_inode(nova_fs *fs, uint64_t cpu, uint64_t directory, const uint8_t *name, size_t
+                           name_length, uint32_t mode, uint64_t time, uint64_t *inode);
+
+/* Makes a directory of this mode, of which the low 12 bits are kept, with this name in the directory of this
+ * number. inode says the new number.
+ * Statuses, the first that applies, with inode as before: 16 where the handle is closed, 13 where there is no
+ * CPU of that number, 10 where the mount has faults, 6 where no path can say the name, 1 where no inode in
+ * use has the directory's number and 3 where a file has it, 2 where an inode in use has the name, 8 where the
+ * CPU's table has no unused slot, in version 1, 7 where too few blocks are free. Besides these 14 where
+ * memory was refused. All leave everything as it was. */
+uint32_t nova_mkdir_inode(nova_fs *fs, uint64_t cpu, uint64_t directory, const uint8_t *name, size_t
+                          name_length, uint32_t mode, uint64_t time, uint64_t *inode);
+
+/* Takes a name of a file out of the directory of this number, and with the last one the file.
+ * Statuses, the first that applies: 16 where the handle is closed, 13 where there is no CPU of that number,
+ * 10 where the mount has faults, 6 where no path can say the name, 1 where no inode in use has the
+ * directory's number and 3 where a file has it, 1 where no inode in use has the name, 4 for a directory, 7
+ * where too few blocks are free. Besides these 14 where memory was refused. All leave everything as it was. */
+uint32_t nova_unlink_inode(nova_fs *fs, uint64_t cpu, uint64_t directory, const uint8_t *name, size_t
+                           name_length, uint64_t time);
+
+/* Takes a directory without names away, and its name in the directory of this number.
+ * Statuses, the first that applies: 16 where the handle is closed, 13 where there is no CPU of that number,
+ * 10 where the mount has faults, 6 where no path can say the name, 1 where no inode in use has the
+ * directory's number and 3 where a file has it, 1 where no inode in use has the name, 3 for a file, 5 where
+ * names are in it, 7 where too few blocks are free. Besides these 14 where memory was refused. All leave
+ * everything as it was. */
+uint32_t nova_rmdir_inode(nova_fs *fs, uint64_t cpu, uint64_t directory, const uint8_t *name, size_t
+                          name_length, uint64_t time);
+
+/* Gives the file of this number one name more, in the directory of this number.
+ * Statuses, the first that applies: 16 where the handle is closed, 13 where there is no CPU of that number,
+ * 10 where the mount has faults, 6 where no path can say the name, 1 where no inode in use has the
+ * directory's number and 3 where a file has it, 1 where no inode in use has the file's number and 4 where a
+ * directory has it, 2 where an inode in use has the name, 11 where the file has 1,000 links, 7 where too few
+ * blocks are free. Besides these 14 where memory was refused. All leave everything as it was. */
+uint32_t nova_link_inode(nova_fs *fs, uint64_t cpu, uint64_t inode, uint64_t directory, const uint8_t *name,
+                         size_t name_length, uint64_t time);
 
 /* Writes bytes into a file, from an offset on. A gap between the old end and the offset is zeros. No bytes
  * change nothing.

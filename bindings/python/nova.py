@@ -98,6 +98,12 @@ _CALLS = {
     "stat_inode": (c_uint64, POINTER(_Numbers)),
     "read_inode": (c_uint64, c_uint64, *_ROOM, *_USED),
     "list_inode": (c_uint64, *_ROOM, *_USED),
+    "lookup_inode": (c_uint64, *_PATH, POINTER(_Numbers)),
+    "create_inode": (c_uint64, c_uint64, *_PATH, c_uint32, c_uint64, POINTER(c_uint64)),
+    "mkdir_inode": (c_uint64, c_uint64, *_PATH, c_uint32, c_uint64, POINTER(c_uint64)),
+    "link_inode": (c_uint64, c_uint64, c_uint64, *_PATH, c_uint64),
+    "unlink_inode": (c_uint64, c_uint64, *_PATH, c_uint64),
+    "rmdir_inode": (c_uint64, c_uint64, *_PATH, c_uint64),
     "write_inode": (c_uint64, c_uint64, c_uint64, *_ROOM, c_uint64),
     "set_size_inode": (c_uint64, c_uint64, c_uint64, c_uint64),
     "set_attr_inode": (c_uint64, c_uint64, c_uint32, c_uint32, c_uint32, c_uint64),
@@ -193,6 +199,10 @@ class Nova:
     def list_inode(self, inode):
         return _names_of(self._told("list_inode", inode))
 
+    def lookup_inode(self, directory, name):
+        """What a name of the directory of this number stands for."""
+        return self._numbers("lookup_inode", directory, *_of_path(name))
+
     def create(self, path, mode=0o644, cpu=0, time=None):
         self._call("create", cpu, *_of_path(path), mode, _of_time(time))
 
@@ -218,6 +228,22 @@ class Nova:
 
     def set_attr_inode(self, inode, mode, owner, group, cpu=0, time=None):
         self._call("set_attr_inode", cpu, inode, mode, owner, group, _of_time(time))
+
+    def create_inode(self, directory, name, mode=0o644, cpu=0, time=None):
+        """Makes a file with this name in the directory of this number: the file's number."""
+        return self._made("create_inode", cpu, directory, *_of_path(name), mode, _of_time(time))
+
+    def mkdir_inode(self, directory, name, mode=0o755, cpu=0, time=None):
+        return self._made("mkdir_inode", cpu, directory, *_of_path(name), mode, _of_time(time))
+
+    def link_inode(self, inode, directory, name, cpu=0, time=None):
+        self._call("link_inode", cpu, inode, directory, *_of_path(name), _of_time(time))
+
+    def unlink_inode(self, directory, name, cpu=0, time=None):
+        self._call("unlink_inode", cpu, directory, *_of_path(name), _of_time(time))
+
+    def rmdir_inode(self, directory, name, cpu=0, time=None):
+        self._call("rmdir_inode", cpu, directory, *_of_path(name), _of_time(time))
 
     def link(self, path, other, cpu=0, time=None):
         self._call("link", cpu, *_of_path(path), *_of_path(other), _of_time(time))
@@ -250,6 +276,12 @@ class Nova:
         out = _Numbers()
         self._call(name, *words, byref(out))
         return Stat(*(getattr(out, field) for field in Stat._fields))
+
+    def _made(self, name, *words):
+        """The number of what a call makes."""
+        made = c_uint64()
+        self._call(name, *words, byref(made))
+        return made.value
 
     def _bytes(self, count, name, *words):
         """At most so many bytes that a call reads."""

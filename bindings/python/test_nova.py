@@ -75,6 +75,20 @@ class Calls(unittest.TestCase):
         self.assertEqual(self.refusal(self.fs.set_size_inode, 99, 0), (1, errno.ENOENT))
         self.assertEqual(self.refusal(self.fs.set_attr_inode, inode, 0, 0, 0, cpu=2), (13, errno.EINVAL))
 
+    def test_names_are_made_and_taken_in_a_directory_by_its_number(self):
+        directory = self.fs.mkdir_inode(1, "d", 0o700, time=1)
+        file = self.fs.create_inode(directory, b"a", 0o640, cpu=1, time=2)
+        self.assertEqual(self.fs.lookup_inode(directory, "a"), self.fs.stat("/d/a"))
+        self.assertEqual(self.fs.stat("/d/a").inode, file)
+        self.fs.link_inode(file, 1, "b")
+        self.fs.unlink_inode(directory, "a")
+        self.assertEqual(self.refusal(self.fs.unlink_inode, 1, "d"), (4, errno.EISDIR))
+        self.fs.rmdir_inode(1, "d")
+        self.assertEqual(self.fs.list("/"), [(b"b", file)])
+        self.assertEqual(self.refusal(self.fs.lookup_inode, 1, "d"), (1, errno.ENOENT))
+        self.assertEqual(self.refusal(self.fs.create_inode, file, "a"), (3, errno.ENOTDIR))
+        self.assertEqual(self.refusal(self.fs.mkdir_inode, 1, "b"), (2, errno.EEXIST))
+
     def test_refusals_have_a_status_and_an_errno(self):
         self.assertEqual(self.refusal(self.fs.stat, "/none"), (1, errno.ENOENT))
         self.assertEqual(self.refusal(self.fs.mkdir, "/a/b"), (1, errno.ENOENT))

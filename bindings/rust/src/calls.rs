@@ -76,6 +76,12 @@ unsafe extern "C" {
     pub fn nova_set_size_inode(fs: &mut Handle, cpu: u64, inode: u64, size: u64, time: u64) -> u32;
     pub fn nova_set_attr_inode(fs: &mut Handle, cpu: u64, inode: u64, mode: u32, owner: u32, group: u32, time: u64) -> u32;
     pub fn nova_list_inode(fs: &mut Handle, inode: u64, names: *mut u8, names_length: usize, used: &mut usize) -> u32;
+    pub fn nova_lookup_inode(fs: &mut Handle, directory: u64, name: *const u8, name_length: usize, out: &mut Numbers) -> u32;
+    pub fn nova_create_inode(fs: &mut Handle, cpu: u64, directory: u64, name: *const u8, name_length: usize, mode: u32, time: u64, inode: &mut u64) -> u32;
+    pub fn nova_mkdir_inode(fs: &mut Handle, cpu: u64, directory: u64, name: *const u8, name_length: usize, mode: u32, time: u64, inode: &mut u64) -> u32;
+    pub fn nova_link_inode(fs: &mut Handle, cpu: u64, inode: u64, directory: u64, name: *const u8, name_length: usize, time: u64) -> u32;
+    pub fn nova_unlink_inode(fs: &mut Handle, cpu: u64, directory: u64, name: *const u8, name_length: usize, time: u64) -> u32;
+    pub fn nova_rmdir_inode(fs: &mut Handle, cpu: u64, directory: u64, name: *const u8, name_length: usize, time: u64) -> u32;
     pub fn nova_create(fs: &mut Handle, cpu: u64, path: *const u8, path_length: usize, mode: u32, time: u64) -> u32;
     pub fn nova_mkdir(fs: &mut Handle, cpu: u64, path: *const u8, path_length: usize, mode: u32, time: u64) -> u32;
     pub fn nova_write(fs: &mut Handle, cpu: u64, path: *const u8, path_length: usize, offset: u64, bytes: *const u8, bytes_length: usize, time: u64) -> u32;

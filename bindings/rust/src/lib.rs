@@ -181,6 +181,16 @@ impl Fs {
         Ok(names_of(&told))
     }
 
+    /// The numbers of the inode that a name of the directory of this number stands for.
+    pub fn lookup_inode(&mut self, directory: u64, name: &[u8]) -> Answer<Numbers> {
+        let mut out = Numbers::default();
+        // SAFETY: as above.
+        check(unsafe {
+            calls::nova_lookup_inode(&mut self.0, directory, name.as_ptr(), name.len(), &mut out)
+        })?;
+        Ok(out)
+    }
+
     /// Makes a file with one name.
     pub fn create(&mut self, cpu: u64, path: &[u8], mode: u32, time: u64) -> Answer<()> {
         // SAFETY: as above, also below.
@@ -287,6 +297,92 @@ impl Fs {
     ) -> Answer<()> {
         check(unsafe {
             calls::nova_set_attr_inode(&mut self.0, cpu, inode, mode, owner, group, time)
+        })
+    }
+
+    /// Makes a file with this name in the directory of this number: the file's number.
+    pub fn create_inode(
+        &mut self,
+        cpu: u64,
+        directory: u64,
+        name: &[u8],
+        mode: u32,
+        time: u64,
+    ) -> Answer<u64> {
+        let mut inode = 0;
+        check(unsafe {
+            calls::nova_create_inode(
+                &mut self.0,
+                cpu,
+                directory,
+                name.as_ptr(),
+                name.len(),
+                mode,
+                time,
+                &mut inode,
+            )
+        })?;
+        Ok(inode)
+    }
+
+    /// Makes a directory with this name in the directory of this number: the new one's number.
+    pub fn mkdir_inode(
+        &mut self,
+        cpu: u64,
+        directory: u64,
+        name: &[u8],
+        mode: u32,
+        time: u64,
+    ) -> Answer<u64> {
+        let mut inode = 0;
+        check(unsafe {
+            calls::nova_mkdir_inode(
+                &mut self.0,
+                cpu,
+                directory,
+                name.as_ptr(),
+                name.len(),
+                mode,
+                time,
+                &mut inode,
+            )
+        })?;
+        Ok(inode)
+    }
+
+    /// Gives the file of this number one name more, in the directory of this number.
+    pub fn link_inode(
+        &mut self,
+        cpu: u64,
+        inode: u64,
+        directory: u64,
+        name: &[u8],
+        time: u64,
+    ) -> Answer<()> {
+        check(unsafe {
+            calls::nova_link_inode(
+                &mut self.0,
+                cpu,
+                inode,
+                directory,
+                name.as_ptr(),
+                name.len(),
+                time,
+            )
+        })
+    }
+
+    /// Takes a name of a file out of the directory of this number, and with the last one the file.
+    pub fn unlink_inode(&mut self, cpu: u64, directory: u64, name: &[u8], time: u64) -> Answer<()> {
+        check(unsafe {
+            calls::nova_unlink_inode(&mut self.0, cpu, directory, name.as_ptr(), name.len(), time)
+        })
+    }
+
+    /// Takes a directory away that has no names, by its name in the directory of this number.
+    pub fn rmdir_inode(&mut self, cpu: u64, directory: u64, name: &[u8], time: u64) -> Answer<()> {
+        check(unsafe {
+            calls::nova_rmdir_inode(&mut self.0, cpu, directory, name.as_ptr(), name.len(), time)
         })
     }
 

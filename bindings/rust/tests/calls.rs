@@ -100,6 +100,24 @@ fn an_inode_is_changed_by_its_number() -> Result<(), Refused> {
 }
 
 #[test]
+fn names_are_made_and_taken_in_a_directory_by_its_number() -> Result<(), Refused> {
+    let mut fs = Fs::format(64, 2, 1, 0)?;
+    let directory = fs.mkdir_inode(0, 1, b"d", 0o700, 1)?;
+    let file = fs.create_inode(1, directory, b"a", 0o640, 2)?;
+    assert_eq!(fs.lookup_inode(directory, b"a")?, fs.stat(b"/d/a")?);
+    assert_eq!(fs.stat(b"/d/a")?.inode, file);
+    fs.link_inode(0, file, 1, b"b", 3)?;
+    fs.unlink_inode(0, directory, b"a", 4)?;
+    assert_eq!(fs.unlink_inode(0, 1, b"d", 5), Err(Refused(4)));
+    fs.rmdir_inode(0, 1, b"d", 5)?;
+    assert_eq!(names(&mut fs, b"/"), [b"b"]);
+    assert_eq!(fs.lookup_inode(1, b"d"), Err(Refused(1)));
+    assert_eq!(fs.create_inode(0, file, b"a", 0o644, 6), Err(Refused(3)));
+    assert_eq!(fs.mkdir_inode(0, 1, b"b", 0o755, 6), Err(Refused(2)));
+    Ok(())
+}
+
+#[test]
 fn refusals_have_their_status() -> Result<(), Refused> {
     let mut fs = Fs::format(64, 2, 1, 0)?;
     assert_eq!(fs.stat(b"/none"), Err(Refused(1)));

@@ -59,6 +59,16 @@ fn write_by_number(fs: &mut Fs<MemRegion>, cpu: Cpu) -> std::result::Result<(), 
     fs.set_attr_inode(cpu, inode, 384, 7, 8, Time(16))
 }
 
+fn name_by_number<R: Print>(rt: &R, fs: &mut Fs<MemRegion>, cpu: Cpu) -> Result<()> {
+    let notes = fs.mkdir_inode(cpu, 1, b"notes", 493, Time(17))?;
+    let first = fs.create_inode(cpu, notes, b"first", 420, Time(18))?;
+    fs.link_inode(cpu, first, 1, b"second", Time(19))?;
+    fs.unlink_inode(cpu, notes, b"first", Time(20))?;
+    fs.rmdir_inode(cpu, 1, b"notes", Time(21))?;
+    let second = fs.lookup_inode(1, b"second")?;
+    Ok(println!(rt; "second is inode {}", second.inode)?)
+}
+
 fn clean<R: Print>(rt: &R, fs: &mut Fs<MemRegion>) -> Result<()> {
     if fs.dead_pages(1)?.is_none() {
         println!(rt; "the log of / needs its pages")?;
@@ -105,6 +115,7 @@ fn make_calls<R: Print>(rt: &R, fs: &mut Fs<MemRegion>) -> Result<()> {
     look(rt, fs)?;
     look_at_blocks(rt, fs)?;
     write_by_number(fs, Cpu(1))?;
+    name_by_number(rt, fs, Cpu(1))?;
     upgrade(rt, fs)
 }
 

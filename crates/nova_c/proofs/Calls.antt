@@ -58,9 +58,13 @@ module _ (a b m n : Mount Region) (before : a ≡ b) (after : n ≡ m) where
       → b.stopped ≡ false → b.read_only ≡ false → LeavesOnly n.memory (as_it_reads n.memory) (LeavesGrowing cpu makes logs b.memory b names)
   growing_stop_of cpu makes logs names = any_stop_by (λ R k. LeavesGrowing cpu makes logs R k names)
 
+  -- what it leaves of the logs
+  pub logged_by : (Logged : Region → Mount Region → Region → Type 0) → Logged a.memory a m.memory → Logged b.memory b n.memory
+  logged_by Logged is =
+      subst (λ (k : Mount Region). Logged k.memory k n.memory) before (subst (λ (k : Mount Region). Logged a.memory a k.memory) (sym after) is)
+
   pub logs_of : (logs : Logs Region) (names : List (List ℕ)) → logs a.memory a names m.memory → logs b.memory b names n.memory
-  logs_of logs names is =
-      subst (λ (k : Mount Region). logs k.memory k names n.memory) before (subst (λ (k : Mount Region). logs a.memory a names k.memory) (sym after) is)
+  logs_of logs names = logged_by (λ R k. logs R k names)
 
   pub changed_of : (tree : Mount Region → Tree) → SameTree (shown m) (tree a) → SameTree (shown n) (tree b)
   changed_of tree same = subst (λ (k : Mount Region). SameTree (shown n) (tree k)) before (subst (λ (k : Mount Region). SameTree (shown k) (tree a)) (sym after) same)

@@ -5,3 +5,4 @@ pub mod Mounted
 pub mod Handles
 pub mod Refused
 pub mod Told
+pub mod NewInodes

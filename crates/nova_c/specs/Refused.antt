@@ -1,5 +1,5 @@
 -- Why each call on a mount is refused: the first refusal that applies.
-use Rattle.std.specs.Prelude.{ℕ, Option}
+use Rattle.std.specs.Prelude.{ℕ, List, Option}
 use Rattle.nv_region.specs.Region.{Region}
 use Rattle.nv_tree.specs.Refusals.{Path, first_refusal, clean_tests, create_tests, link_tests, list_tests, read_tests, rename_tests, rmdir_tests, set_attr_tests, set_size_tests, stat_tests}
 use Rattle.nv_tree.specs.Refusals.{unlink_tests, write_tests}
@@ -13,6 +13,7 @@ use Rattle.nv_calls.specs.ChangesByNumber.{attributes_inode_blocks, resized_inod
 use Rattle.nv_calls.specs.LinkCalls.{link_blocks}
 use Rattle.nv_calls.specs.MoveCalls.{rename_blocks}
 use Rattle.nv_calls.specs.NameCalls.{create_blocks, name_blocks}
+use Rattle.nv_calls.specs.NamesByNumber.{create_inode_blocks, create_inode_tests, entry_blocks, link_inode_blocks, link_inode_tests, lookup_inode_tests, rmdir_inode_tests, unlink_inode_blocks, unlink_inode_tests}
 use Rattle.nv_calls.specs.ReplaceBlocks.{replace_blocks}
 use Rattle.nv_calls.specs.SizeCall.{resized_blocks}
 use Rattle.nv_calls.specs.UnlinkCalls.{unlink_blocks}
@@ -93,3 +94,23 @@ set_size_inode_refusal m cpu i size = first_refusal (set_size_inode_tests (world
 -- of `set_attr_inode`
 abbrev pub set_attr_inode_refusal : Mount Region → ℕ → ℕ → Option Refusal
 set_attr_inode_refusal m cpu i = first_refusal (set_attr_inode_tests (world_of m) (shown m) cpu i (attributes_inode_blocks m.rows i))
+
+-- of `lookup_inode`, by the directory's number and the name
+abbrev pub lookup_inode_refusal : Mount Region → ℕ → List ℕ → Option Refusal
+lookup_inode_refusal m d name = first_refusal (lookup_inode_tests (shown m) d name)
+
+-- of `create_inode` and `mkdir_inode`
+abbrev pub create_inode_refusal : Mount Region → ℕ → ℕ → List ℕ → Option Refusal
+create_inode_refusal m cpu d name = first_refusal (create_inode_tests (world_of m) (shown m) cpu d name (create_inode_blocks m.layout m.rows cpu d name))
+
+-- of `unlink_inode`
+abbrev pub unlink_inode_refusal : Mount Region → ℕ → ℕ → List ℕ → Option Refusal
+unlink_inode_refusal m cpu d name = first_refusal (unlink_inode_tests (world_of m) (shown m) cpu d name (unlink_inode_blocks m.rows (shown m) d name))
+
+-- of `rmdir_inode`
+abbrev pub rmdir_inode_refusal : Mount Region → ℕ → ℕ → List ℕ → Option Refusal
+rmdir_inode_refusal m cpu d name = first_refusal (rmdir_inode_tests (world_of m) (shown m) cpu d name (entry_blocks m.rows d name))
+
+-- of `link_inode`, by the file's number too
+abbrev pub link_inode_refusal : Mount Region → ℕ → ℕ → ℕ → List ℕ → Option Refusal
+link_inode_refusal m cpu i d name = first_refusal (link_inode_tests (world_of m) (shown m) cpu i d name (link_inode_blocks m.rows i d name))

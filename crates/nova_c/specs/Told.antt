@@ -9,6 +9,7 @@ use Rattle.nv_tree.specs.Tree.{Tree}
 use Rattle.nv_tree.specs.declared.stat.Stat.{Stat}
 use Rattle.nv_calls.specs.ByNumber.{IsInodeStat, ListsInode}
 use Rattle.nv_calls.specs.Listing.{ListsNamesIn}
+use Rattle.nv_calls.specs.NamesByNumber.{IsStatNamed}
 use Rattle.nv_tree.specs.Stat.{IsStat}
 use Rattle.nv_calls.specs.Mount.{Mount, told as outcome_told}
 use Rattle.nv_report.specs.Texts.{IsPartText}
@@ -37,6 +38,12 @@ pub record TellsNumbers (t : Tree) (names : List (List ℕ)) (n : NovaNumbers) :
 pub record TellsInodeNumbers (t : Tree) (i : ℕ) (n : NovaNumbers) : Type 0 where
   pub stat : Stat
   pub is : IsInodeStat t i stat
+  pub crosses : n ≡ told stat
+
+-- These are the numbers of the inode that a name of the directory of this number stands for.
+pub record TellsNamedNumbers (t : Tree) (d : ℕ) (name : List ℕ) (n : NovaNumbers) : Type 0 where
+  pub stat : Stat
+  pub is : IsStatNamed t d name stat
   pub crosses : n ≡ told stat
 
 -- How much there is of what in a mount.

@@ -1,12 +1,13 @@
-//! The calls that read, for an inode's number in place of a path: also of one that no path leads to.
+//! The calls that read, for an inode's number in place of a path: also of one that no path leads to. `nova_lookup_inode` is given
+//! that of a directory.
 
 ghost use Rattle.std.specs.Prelude.{◌≡◌, ◌≢◌, ◌⊎◌, Option, IfOk, IfErr, OnOk, false};
 ghost use Rattle.nv_tree.specs.Refusals.{IsReadRefusedBy};
 ghost use Rattle.nv_calls.specs.ByNumber.{IsInodeReadInto};
 ghost use Rattle.nova_c.specs.Codes.{TellsRefusal};
 ghost use Rattle.nova_c.specs.Handles.{IsClosed, IsOpen, IsRunning, KeepsAll, TellsClosed, shown};
-ghost use Rattle.nova_c.specs.Refused.{list_inode_refusal, read_inode_refusal, stat_inode_refusal};
-ghost use Rattle.nova_c.specs.Told.{LacksRoom, PutsBytes, TellsInodeNames, TellsInodeNumbers};
+ghost use Rattle.nova_c.specs.Refused.{list_inode_refusal, lookup_inode_refusal, read_inode_refusal, stat_inode_refusal};
+ghost use Rattle.nova_c.specs.Told.{LacksRoom, PutsBytes, TellsInodeNames, TellsInodeNumbers, TellsNamedNumbers};
 
 use crate::codes::{CLOSED, DONE, MEMORY, code};
 use crate::handle::{Mounted, NovaFs};
@@ -34,6 +35,41 @@ pub extern "C" fn nova_stat_inode(
     match fs.take(alloc) {
         Some(mount) => {
             let found = mount.stat_inode(inode);
+            fs.put(mount);
+            match found {
+                Ok(stat) => {
+                    *out = numbers_of(&stat);
+                    DONE
+                }
+                Err(refusal) => code(refusal),
+            }
+        }
+        None => CLOSED,
+    }
+}
+
+/// The numbers of the inode that a name of the directory of this number stands for. It takes no memory.
+///
+/// Statuses, the first that applies, with `out` as before: 16 where the handle is closed, 6 where no path can say the name, 1 where
+/// no inode in use has the directory's number and 3 where a file has it, 1 where no inode in use has the name.
+#[unsafe(no_mangle)]
+pub extern "C" fn nova_lookup_inode(
+    alloc: Global,
+    fs: &mut NovaFs,
+    directory: u64,
+    name: &[u8],
+    out: &mut NovaNumbers,
+) -> u32
+    ensures found { IsOpen fs.old → result ≡ 0 → TellsNamedNumbers (shown fs.old.mount) directory name.now out.new }
+    ensures allowed { IsOpen fs.old → result ≡ 0 → lookup_inode_refusal fs.old.mount directory name.now ≡ Option.None }
+    ensures refused { IsRunning fs.old → result ≢ 0 → TellsRefusal (λ e. lookup_inode_refusal fs.old.mount directory name.now ≡ Option.Some e) result }
+    ensures untouched { result ≢ 0 → out.new ≡ out.old }
+    ensures same { IsOpen fs.old → KeepsAll fs.old fs.new }
+    ensures closed { IsClosed fs.old → TellsClosed fs.new result }
+{
+    match fs.take(alloc) {
+        Some(mount) => {
+            let found = mount.lookup_inode(directory, name);
             fs.put(mount);
             match found {
                 Ok(stat) => {

@@ -17,6 +17,7 @@ mod image;
 mod listing;
 mod loose;
 mod names;
+mod names_by_number;
 mod numbers;
 mod opening;
 mod reading;
