@@ -13,16 +13,6 @@ mkdir "$room"
 image=$room/image
 host=$folder/host
 
-# told NAME STATUS OUTPUT ERRORS WORD..: runs the program with these words.
-told() {
-    local name=$1 status=$2 output=$3 errors=$4
-    shift 4
-    "$program" "$@" >"$folder/out" 2>"$folder/err" </dev/null
-    same "$name: status" "$status" "$?"
-    same "$name: output" "$output" "$(cat "$folder/out")"
-    same "$name: errors" "$errors" "$(cat "$folder/err")"
-}
-
 # done_by WORD..: a command that says nothing, at time 7; the image has no fault behind it, and nothing else is in its folder.
 done_by() {
     local command=$1

@@ -137,6 +137,7 @@ LIMIT_PHRASES = (
     (r"^/// ([\d,]{7,}) pages\.$", "pages"),
     (r"would have more than ([\d,]+\d) bytes", "size"),
     (r"size above ([\d,]+\d)|size is above ([\d,]+\d)", "size"),
+    (r"requires size \{ e\.now\.size ≤ (\d+) \}", "size"),
 )
 # Files that name a limit at least.
 LIMIT_FILES = (
@@ -149,6 +150,7 @@ LIMIT_FILES = (
     "crates/nv_tree/specs/Sentences.antt",
     "crates/nv_radix/src/lib.rt",
     "crates/nv_radix/src/row.rt",
+    "crates/nv_scan/src/in_a_row.rt",
     "crates/nv_args/src/command_line.rt",
     "crates/nv_script/src/formatting.rt",
     "crates/nv_script/specs/Formatting.antt",
@@ -190,6 +192,8 @@ OTHER_MEANINGS = (
     r"\(2 \^ 30 < length \w+(?:\.\w+)?\)",
     r"^  pub small : length m\.bytes\.now ≤ 2 \^ 30$",
     r"with more than 1,073,741,824 bytes|^/// (?:bytes would end behind )?1,073,741,824(?: bytes)?, 7 where|would end behind 1,073,741,824|Errors: `Length` for more than 1,073,741,824 bytes",
+    # The bytes from which on one read is shared by threads.
+    r"^const LONG: usize = 262_144;$",
     # A field of 16 bits in a word.
     r"65_?536 \*|/ 65_?536 |\* 65_?536\b|\+ 65_536 \*",
     # Letters behind a size, rows of names, bytes of a page in digits, lengths of texts.

@@ -34,6 +34,16 @@ same() {
     [ "$2" = "$3" ] || diff <(printf '%s\n' "$2") <(printf '%s\n' "$3") | sed 's/^/    /'
 }
 
+# told NAME STATUS OUTPUT ERRORS WORD..: runs $program with these words, and compares what it says.
+told() {
+    local name=$1 status=$2 output=$3 errors=$4
+    shift 4
+    "$program" "$@" >"$folder/out" 2>"$folder/err" </dev/null
+    same "$name: status" "$status" "$?"
+    same "$name: output" "$output" "$(cat "$folder/out")"
+    same "$name: errors" "$errors" "$(cat "$folder/err")"
+}
+
 # sums_of FILE: the two numbers of its last line, if that is 'N passed, M failed'; else nothing.
 sums_of() {
     tail -n 1 "$1" | sed -nE 's/^([0-9]+) passed, ([0-9]+) failed$/\1 \2/p'

@@ -18,16 +18,6 @@ chmod 755 "$folder"
 install -m 755 "$program" "$folder/nova"
 program=$folder/nova
 
-# told NAME STATUS OUTPUT ERRORS WORD..: runs the program with these words.
-told() {
-    local name=$1 status=$2 output=$3 errors=$4
-    shift 4
-    "$program" "$@" >"$folder/out" 2>"$folder/err" </dev/null
-    same "$name: status" "$status" "$?"
-    same "$name: output" "$output" "$(cat "$folder/out")"
-    same "$name: errors" "$errors" "$(cat "$folder/err")"
-}
-
 sum() {
     sha256sum <"$1"
 }

@@ -5,110 +5,37 @@ holes, directories without names, long names, modes and times. What is refused l
     tests/untar.py [PROGRAM] [COUNT]     closes with 'N passed, M failed', and tells how long COUNT files of 4 KiB take,
                                          10,000 if left out, on 8 CPUs, which have 16,384 inodes
 """
-import hashlib
-import os
-import pathlib
+import io
 import shutil
 import subprocess
 import sys
 import tarfile
 import tempfile
-import io
-import time
+from pathlib import Path
 
-ROOT = pathlib.Path(__file__).resolve().parent.parent
-BLOCK = 4096
-
-# What 10,000 files of 4 KiB may take on a busy machine, in seconds, of several tries the shortest. On a quiet one it is 1.
-MOST_SECONDS = 10.0
-TRIES = 3
-
-passed = failed = 0
-
-
-def same(name, wanted, found):
-    global passed, failed
-    if wanted == found:
-        passed += 1
-    else:
-        failed += 1
-        print(f"FAILED {name}: {found!r} in place of {wanted!r}")
-
-
-def nova(program, *words, given=b""):
-    return subprocess.run([program, *map(str, words)], input=given, capture_output=True)
-
-
-def made_image(program, place, blocks, tables=1, cpus=1):
-    done = nova(program, "mkfs", place, "--blocks", blocks, "--cpus", cpus, "--tables", tables, "--force")
-    assert done.returncode == 0, done.stderr
-
-
-def archive_of(folder, *words):
-    return subprocess.run(["tar", "-C", folder, *words, "-cf", "-", "."], check=True, capture_output=True).stdout
-
-
-def shown(folder):
-    """Each path below a folder with what stands there: kind, mode, time in seconds, bytes, and which paths are one file."""
-    first, found = {}, {}
-    for path in sorted(pathlib.Path(folder).rglob("*")) + [pathlib.Path(folder)]:
-        name, stat = str(path.relative_to(folder)), path.lstat()
-        bytes_there = path.read_bytes() if path.is_file() else None
-        one = first.setdefault(stat.st_ino, name)
-        found[name] = (path.is_dir(), oct(stat.st_mode & 0o7777), int(stat.st_mtime), bytes_there, one)
-    return found
-
-
-def given_back(program, image, folder):
-    written = nova(program, "tar", image)
-    same(f"tar of {image.name}: status", 0, written.returncode)
-    folder.mkdir()
-    subprocess.run(["tar", "-C", folder, "-xpf", "-"], input=written.stdout, check=True)
-    return shown(folder)
-
-
-def hard_tree(folder):
-    (folder / "empty").mkdir(mode=0o700)
-    (folder / "deep" / "er").mkdir(parents=True)
-    (folder / "file").write_bytes(b"words\n")
-    (folder / "none").write_bytes(b"")
-    os.link(folder / "file", folder / "deep" / "same")
-    with open(folder / "hole", "wb") as file:
-        file.seek(3 * BLOCK)
-        file.write(b"behind")
-    (folder / "deep" / "er" / ("n" * 200)).write_bytes(bytes(range(256)) * 40)
-    long = folder
-    for part in ("a" * 90, "b" * 90):
-        long = long / part
-        long.mkdir()
-    (long / ("c" * 90)).write_bytes(b"long")
-    os.chmod(folder / "file", 0o640)
-    os.chmod(folder / "none", 0o4755)
-    for place, when in (("file", 1000000), ("empty", 2000000), ("deep", 3000000), (".", 4000000)):
-        os.utime(folder / place, (when, when))
+import trees
+from trees import BLOCK, archive_of, given_back, is_refused, made_image, nova, same, says_nothing, shown, sum_of
 
 
 def whole_tree(program, room, form):
-    tree, image = room / "tree", room / f"{form}.img"
-    made_image(program, image, 256)
+    tree, image = room / "tree", made_image(program, room / f"{form}.img")
     archive = archive_of(tree, f"--format={form}")
     done = nova(program, "untar", image, given=archive)
-    same(f"{form}: answer", (0, b"", b""), (done.returncode, done.stdout, done.stderr))
+    says_nothing(f"{form}", done)
     same(f"{form}: check", 0, nova(program, "check", image).returncode)
-    same(f"{form}: tree", shown(tree), given_back(program, image, room / form))
+    same(f"{form}: tree", shown(tree), shown(given_back(program, image, room / form)))
     # Once more, over what is there.
     done = nova(program, "untar", image, given=archive)
-    same(f"{form} again: answer", (0, b"", b""), (done.returncode, done.stdout, done.stderr))
-    same(f"{form} again: tree", shown(tree), given_back(program, image, room / f"{form}-again"))
+    says_nothing(f"{form} again", done)
+    same(f"{form} again: tree", shown(tree), shown(given_back(program, image, room / f"{form}-again")))
 
 
 def below_a_path(program, room):
-    image = room / "below.img"
-    made_image(program, image, 256)
+    image = made_image(program, room / "below.img")
     same("mkdir", 0, nova(program, "mkdir", image, "/d", "--time", 7).returncode)
     done = nova(program, "untar", image, "/d/e", given=archive_of(room / "tree"))
-    same("below: answer", (0, b"", b""), (done.returncode, done.stdout, done.stderr))
-    there = given_back(program, image, room / "below")
+    says_nothing("below", done)
+    there = shown(given_back(program, image, room / "below"))
     same("below: tree", sorted(shown(room / "tree")), sorted(n[4:] if n != "d/e" else "." for n in there if n.startswith("d/e")))
 
 
@@ -128,11 +55,10 @@ def archive_with(*members):
 
 
 def refusals(program, room):
-    image = room / "refused.img"
-    made_image(program, image, 64)
+    image = made_image(program, room / "refused.img", 64)
     nova(program, "mkdir", image, "/d", "--time", 7)
     nova(program, "mkdir", image, "/d/e", "--time", 7)
-    before = hashlib.sha256(image.read_bytes()).digest()
+    before = sum_of(image)
     file = ("first", tarfile.REGTYPE, b"bytes")
     for name, members, told in (
         ("a part ..", [file, ("a/../b", tarfile.REGTYPE, b"")], "refused BadName\nmember a/../b\n"),
@@ -143,12 +69,12 @@ def refusals(program, room):
         ("too many bytes", [file, ("large", tarfile.REGTYPE, bytes(64 * BLOCK))], "refused NoSpace\nmember large\n"),
     ):
         done = nova(program, "untar", image, given=archive_with(*members))
-        same(f"{name}: answer", (2, b"", told), (done.returncode, done.stdout, done.stderr.decode()))
-        same(f"{name}: image", before, hashlib.sha256(image.read_bytes()).digest())
+        is_refused(f"{name}", told, done)
+        same(f"{name}: image", before, sum_of(image))
     done = nova(program, "untar", image, given=archive_with(file)[:700])
     same("cut off: status", 2, done.returncode)
     same("cut off: errors", "cannot read -\nthe archive is cut off\n", done.stderr.decode())
-    same("cut off: image", before, hashlib.sha256(image.read_bytes()).digest())
+    same("cut off: image", before, sum_of(image))
 
 
 def numbers(program, image, count):
@@ -159,38 +85,36 @@ def numbers(program, image, count):
 
 def by_cpus(program, room):
     """Two CPUs have 62 unused inodes. Without a CPU all of them are made, and by a named one its own."""
-    image = room / "cpus.img"
-    made_image(program, image, 512, cpus=2)
+    image = made_image(program, room / "cpus.img", 512, cpus=2, tables=1)
     before = image.read_bytes()
     files = [(f"f{k}", tarfile.REGTYPE, b"bytes") for k in range(63)]
     for words, most, whose in (((), 62, range(2, 64)), (("--cpu", 0), 31, range(2, 64, 2)), (("--cpu", 1), 31, range(3, 64, 2))):
         done = nova(program, "untar", image, *words, given=archive_with(*files[: most + 1]))
-        same(f"by {words}: too many", (2, b"", f"refused NoInodes\nmember f{most}\n"), (done.returncode, done.stdout, done.stderr.decode()))
+        is_refused(f"by {words}: too many", f"refused NoInodes\nmember f{most}\n", done)
         same(f"by {words}: image", True, image.read_bytes() == before)
         done = nova(program, "untar", image, *words, given=archive_with(*files[:most]))
-        same(f"by {words}: answer", (0, b"", b""), (done.returncode, done.stdout, done.stderr))
+        says_nothing(f"by {words}", done)
         same(f"by {words}: check", 0, nova(program, "check", image).returncode)
         same(f"by {words}: inodes", list(whose), sorted(numbers(program, image, most)))
         image.write_bytes(before)
     done = nova(program, "untar", image, "--cpu", 2, given=archive_with(files[0]))
-    same("no such CPU", (2, b"", b"refused BadCpu\nmember f0\n"), (done.returncode, done.stdout, done.stderr))
+    is_refused("no such CPU", "refused BadCpu\nmember f0\n", done)
     # The directories on the way come from the other table too.
     deep = "/".join(f"d{k}" for k in range(60))
     done = nova(program, "untar", image, given=archive_with((f"{deep}/file", tarfile.REGTYPE, b"")))
-    same("a long way", (0, b"", b""), (done.returncode, done.stdout, done.stderr))
+    says_nothing("a long way", done)
     same("a long way: check", 0, nova(program, "check", image).returncode)
     # What is there is written anew where no inode is left.
     done = nova(program, "untar", image, given=archive_with(("last", tarfile.REGTYPE, b"1")))
-    same("the last inode", (0, b"", b""), (done.returncode, done.stdout, done.stderr))
+    says_nothing("the last inode", done)
     done = nova(program, "untar", image, given=archive_with(("last", tarfile.REGTYPE, b"22"), ("link", tarfile.LNKTYPE, "last")))
-    same("no inode is left", (0, b"", b""), (done.returncode, done.stdout, done.stderr))
+    says_nothing("no inode is left", done)
     same("no inode is left: bytes", b"22", nova(program, "cat", image, "/link").stdout)
 
 
 def one_save(program, room):
     """All members are made before the image is saved, once. It is left out where strace can't be had."""
-    image, trace = room / "saved.img", room / "trace"
-    made_image(program, image, 512, cpus=2)
+    image, trace = made_image(program, room / "saved.img", 512, cpus=2, tables=1), room / "trace"
     words = ["strace", "-o", str(trace), "-e", "trace=rename,renameat,renameat2", program, "untar", str(image)]
     given = archive_with(*[(f"f{k}", tarfile.REGTYPE, b"bytes") for k in range(62)])
     if shutil.which("strace") is None or subprocess.run(words, input=given, capture_output=True).returncode != 0:
@@ -201,36 +125,19 @@ def one_save(program, room):
 
 
 def many_files(program, room, count):
-    """In 100 directories, into an image of 256 MiB."""
-    tree, image, other = room / "many", room / "many.img", room / "other.img"
-    for k in range(count):
-        folder = tree / f"d{k % 100}"
-        folder.mkdir(parents=True, exist_ok=True)
-        (folder / f"f{k}").write_bytes(k.to_bytes(4, "little") * (BLOCK // 4))
-    archive, taken = archive_of(tree), []
-    while not taken or min(taken) > MOST_SECONDS and len(taken) < TRIES:
-        made_image(program, image, 65536, tables=64, cpus=8)
-        began = time.monotonic()
-        done = nova(program, "untar", image, given=archive)
-        taken.append(time.monotonic() - began)
-        same("many files: answer", (0, b"", b""), (done.returncode, done.stdout, done.stderr))
-    same("many files: check", 0, nova(program, "check", image).returncode)
-    same("many files: tree", shown(tree), given_back(program, image, room / "many-back"))
-    made_image(program, other, 65536, tables=64, cpus=8)
+    tree, image, other = trees.many_files(room / "many", count), room / "many.img", room / "other.img"
+    trees.timed(program, image, count, "untar", image, given=archive_of(tree))
+    same("many files: tree", shown(tree), shown(given_back(program, image, room / "many-back")))
+    made_image(program, other, 65536, cpus=8, tables=64)
     same("many files: put -r", 0, nova(program, "put", "-r", other, tree, "/").returncode)
-    done = nova(program, "diff", image, other)
-    same("many files: diff", (0, b"", b""), (done.returncode, done.stdout, done.stderr))
-    print(f"{count} files of 4 KiB: {min(taken):.2f} s")
-    same(f"many files: {min(taken):.2f} s", True, count > 10000 or min(taken) <= MOST_SECONDS)
+    says_nothing("many files: diff", nova(program, "diff", image, other))
 
 
 def main():
-    program = str(pathlib.Path(sys.argv[1]).resolve()) if len(sys.argv) > 1 else str(ROOT / "crates/nova/out/nova")
-    count = int(sys.argv[2]) if len(sys.argv) > 2 else 10000
+    program, count = trees.asked()
     with tempfile.TemporaryDirectory() as folder:
-        room = pathlib.Path(folder)
-        (room / "tree").mkdir()
-        hard_tree(room / "tree")
+        room = Path(folder)
+        trees.hard_tree(room / "tree")
         for form in ("gnu", "pax"):
             whole_tree(program, room, form)
         below_a_path(program, room)
@@ -238,8 +145,7 @@ def main():
         by_cpus(program, room)
         one_save(program, room)
         many_files(program, room, count)
-    print(f"{passed} passed, {failed} failed")
-    return 1 if failed else 0
+    return trees.close()
 
 
 if __name__ == "__main__":
